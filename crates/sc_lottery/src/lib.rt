@@ -1,0 +1,16 @@
+//! The lottery: one seeded draw for each student, the same at every school.
+//!
+//! A draw depends on the seed and the student's number alone, so it never changes while papers are
+//! amended.
+#![tactic(auto)]
+
+mod draws;
+mod number;
+mod seed;
+
+pub use draws::draw;
+pub use number::StudentNumber;
+pub use seed::{Seed, SeedError};
+
+#[cfg(test)]
+mod tests;
