@@ -1,0 +1,55 @@
+-- The fields of the type `Papers` stay sound where a student goes, or where what they hold of a student or a school changes.
+use Rattle.std.proofs.Common.{◌≡◌, ℕ, ◌≤◌, nat_eq, Some, refl, ap, ◌∙◌}
+use Rattle.std.specs.Prelude.{position, remove}
+use Rattle.std.specs.Map.{keys_of, remove_entry, set_value}
+use Rattle.std.proofs.lemmas.Map.{keys-set_value}
+use Rattle.sc_lottery.specs.Draw.{draw}
+use Rattle.sc_papers.specs.Inside.{IsSound, market_of}
+use Rattle.sc_papers.specs.Verdict.{without_student}
+use Rattle.sc_papers.specs.WellFormed.{IsProper, IsShort}
+use Rattle.sc_papers.specs.declared.papers.Papers.TheInside.{Inside}
+use Rattle.sc_papers.specs.declared.records.School.{School}
+use Rattle.sc_papers.specs.declared.records.Student.{Student}
+use Rattle.sc_papers.proofs.Changing.{put_school, put_student, remove-found, WellFormed-put_school, WellFormed-put_student, WellFormed-without_student, WithinLimits-put_school, WithinLimits-put_student, WithinLimits-without_student}
+
+-- a student goes, and the draw at the student's place
+pub IsSound-withdrawn : (old new : Inside) (i place : ℕ) → IsSound old
+    → new.seed ≡ old.seed → new.schools ≡ old.schools → new.students.entries ≡ remove_entry (nat_eq i) old.students.entries
+    → Some place ≡ position (nat_eq i) (keys_of old.students.entries) → new.draws.items ≡ remove old.draws.items place
+    → IsSound new
+IsSound-withdrawn old new i place sound seed schools left found drawn =
+    let after : market_of new ≡ without_student (market_of old) i = rw (seed, schools, left) refl in
+    record {
+      well_formed = rw after (WellFormed-without_student (market_of old) i sound.well_formed);
+      within_limits = rw after (WithinLimits-without_student (market_of old) i sound.within_limits);
+      draws =
+          let draws_before = sound.draws in
+          drawn ∙ ap (λ ds. remove ds place) draws_before ∙ remove-found (draw old.seed) (nat_eq i) old.students.entries place found
+          ∙ rw (seed, left) refl;
+    }
+
+-- what the papers hold of a student changes
+pub IsSound-put_student : (old new : Inside) (i : ℕ) (student : Student) → IsSound old → IsProper (market_of old) student → IsShort student
+    → new.seed ≡ old.seed → new.schools ≡ old.schools → new.students.entries ≡ set_value (nat_eq i) old.students.entries student
+    → new.draws ≡ old.draws
+    → IsSound new
+IsSound-put_student old new i student sound proper short seed schools put draws =
+    let after : market_of new ≡ put_student (market_of old) i student = rw (seed, schools, put) refl in
+    record {
+      well_formed = rw after (WellFormed-put_student (market_of old) i student sound.well_formed proper);
+      within_limits = rw after (WithinLimits-put_student (market_of old) i student sound.within_limits short);
+      draws = rw (draws, seed, put, keys-set_value (nat_eq i) old.students.entries student) sound.draws;
+    }
+
+-- what the papers hold of a school changes
+pub IsSound-put_school : (old new : Inside) (s : ℕ) (school : School) → IsSound old → school.seats ≤ 10000
+    → new.seed ≡ old.seed → new.students ≡ old.students → new.schools.entries ≡ set_value (nat_eq s) old.schools.entries school
+    → new.draws ≡ old.draws
+    → IsSound new
+IsSound-put_school old new s school sound seats seed students put draws =
+    let after : market_of new ≡ put_school (market_of old) s school = rw (seed, students, put) refl in
+    record {
+      well_formed = rw after (WellFormed-put_school (market_of old) s school sound.well_formed);
+      within_limits = rw after (WithinLimits-put_school (market_of old) s school sound.within_limits seats);
+      draws = rw (draws, seed, students) sound.draws;
+    }

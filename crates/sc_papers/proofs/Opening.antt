@@ -1,0 +1,81 @@
+-- A school that may be added leaves the papers well-formed and within their limits.
+use Rattle.std.proofs.Common.{◌≡◌, ℕ, ◌<◌, ◌≤◌, nat_eq, false, List, [], ◌∷◌, ◌++◌, length, None, refl, sym, ap, ◌∙◌, arith, length-append}
+use Rattle.std.specs.Prelude.{nat_lt, nat_le}
+use Rattle.std.specs.Map.{lookup}
+use Rattle.indexmap.specs.IndexMap.{insert_entry}
+use Rattle.indexmap.proofs.CallerLemmas.{insert_entry-new}
+use Rattle.std.proofs.lemmas.Bool.Decides.{nat_tests}
+use Rattle.std.proofs.lemmas.Cmp.{nat_eq_equiv}
+use Rattle.std.proofs.lemmas.List.Elements.{All-push}
+use Rattle.std.proofs.lemmas.Map.Keys.{IsDistinct-push}
+use Rattle.sc_papers.specs.Inside.{IsSound, market_of}
+use Rattle.sc_papers.specs.Market.{Market, is_school, schools_of}
+use Rattle.sc_papers.specs.Verdict.{refuse_if, school_verdict, with_school}
+use Rattle.sc_papers.specs.WellFormed.{WellFormed, WithinLimits}
+use Rattle.sc_papers.specs.declared.papers.Papers.TheInside.{Inside}
+use Rattle.sc_papers.specs.declared.records.School.{School}
+use Rattle.sc_papers.specs.declared.school_refusal.SchoolRefusal.TheVariants.{SchoolExists, TooManySchools, SchoolsClosed}
+use Rattle.sc_papers.proofs.Objections.{first_of-none, refuse_if-none}
+use Rattle.sc_papers.proofs.Entering.{is_some-false, keys_of-push, list_any-keys}
+
+-- what it takes to be added
+pub record MayOpen (m : Market) (s : ℕ) : Type 0 where
+  pub new : lookup (nat_eq s) m.schools ≡ None
+  pub room : length m.schools < 5000
+  pub early : length m.students ≡ 0
+
+-- nothing said against it, the school may
+pub MayOpen-allowed : (m : Market) (s : ℕ) → school_verdict m s ≡ None → MayOpen m s
+MayOpen-allowed m s allowed =
+    let objections =
+    refuse_if (is_school m s) SchoolExists
+    ∷ refuse_if (nat_le 5000 (length m.schools)) TooManySchools
+    ∷ refuse_if (nat_lt 0 (length m.students)) SchoolsClosed
+    ∷ []
+    in
+    let none = first_of-none objections allowed in
+    let room : nat_le 5000 (length m.schools) ≡ false = refuse_if-none (nat_le 5000 (length m.schools)) TooManySchools none.1.0 in
+    let early : nat_lt 0 (length m.students) ≡ false = refuse_if-none (nat_lt 0 (length m.students)) SchoolsClosed none.1.1.0 in
+    record {
+      new = is_some-false (lookup (nat_eq s) m.schools) (refuse_if-none (is_school m s) SchoolExists none.0);
+      room = grind (arith, nat_tests);
+      early = grind (arith, nat_tests);
+    }
+
+-- the papers stay well-formed
+pub WellFormed-with_school : (m : Market) (s : ℕ) (school : School) → WellFormed m → MayOpen m s → WellFormed (with_school m s school)
+WellFormed-with_school m s school formed may = record {
+  schools_differ = rw (keys_of-push m.schools (s, school)) (IsDistinct-push nat_eq_equiv (schools_of m) s formed.schools_differ (list_any-keys s m.schools may.new));
+  students_differ = formed.students_differ;
+  students_proper = λ k d here. let early = may.early in absurd (omega arith);
+}
+
+-- and within the limits
+pub WithinLimits-with_school : (m : Market) (s : ℕ) (school : School) → WithinLimits m → MayOpen m s → school.seats ≤ 10000 → WithinLimits (with_school m s school)
+WithinLimits-with_school m s school within may seats = record {
+  schools = let room = may.room in omega (arith, length-append m.schools ((s, school) ∷ []));
+  seats = All-push (λ (entry : ℕ × School). entry.1.seats ≤ 10000) m.schools (s, school) within.seats seats;
+  students = within.students;
+  lists = within.lists;
+}
+
+-- a school that is new comes last
+pub market_of-opened : (old new : Inside) (s : ℕ) (school : School) → MayOpen (market_of old) s
+    → new.seed ≡ old.seed → new.students ≡ old.students → new.schools.entries ≡ insert_entry nat_eq old.schools.entries s school
+    → market_of new ≡ with_school (market_of old) s school
+market_of-opened old new s school may seed students inserted =
+    let last = inserted ∙ insert_entry-new nat_eq old.schools s school may.new in
+    rw (seed, students, last) refl
+
+-- the fields stay sound
+pub IsSound-opened : (old new : Inside) (s : ℕ) (school : School) → IsSound old → MayOpen (market_of old) s → school.seats ≤ 10000
+    → new.seed ≡ old.seed → new.students ≡ old.students → new.schools.entries ≡ insert_entry nat_eq old.schools.entries s school
+    → new.draws ≡ old.draws
+    → IsSound new
+IsSound-opened old new s school sound may seats seed students inserted draws =
+    let after = market_of-opened old new s school may seed students inserted in
+    record {
+      well_formed = rw after (WellFormed-with_school (market_of old) s school sound.well_formed may);
+      within_limits = rw after (WithinLimits-with_school (market_of old) s school sound.within_limits may seats);
+      draws = rw (draws, seed, students) sound.draws;
+    }

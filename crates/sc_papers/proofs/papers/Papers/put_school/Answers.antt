@@ -1,0 +1,17 @@
+use Rattle.std.proofs.Common.{◌≡◌, None, refl, ◌∙◌, ap}
+use Rattle.sc_papers.specs.Inside.{market_of}
+use Rattle.sc_papers.specs.Market.{Market}
+use Rattle.sc_papers.specs.Verdict.{school_verdict, with_school}
+use Rattle.sc_papers.proofs.Opening.{IsSound-opened, MayOpen-allowed, market_of-opened}
+use Rattle.sc_papers.proofs.papers.Papers.put_school.Goals as goal
+
+pub invariant_of-self-2 : goal.invariant_of-self-2
+invariant_of-self-2 c =
+    let allowed : school_verdict (market_of c.self.inside) c.args.number ≡ None = ap (λ (m : Market). school_verdict m c.args.number) c.self.view_is ∙ c.requires.allowed in
+    IsSound-opened c.self.inside _ c.args.number c.args.school c.self.invariant (MayOpen-allowed (market_of c.self.inside) c.args.number allowed) c.requires.seats refl refl c.in_ok-insert.ensures.entries refl
+
+pub returns-clause-added : goal.returns-clause-added
+returns-clause-added c =
+    let allowed : school_verdict (market_of c.self.inside) c.args.number ≡ None = ap (λ (m : Market). school_verdict m c.args.number) c.self.view_is ∙ c.requires.allowed in
+    market_of-opened c.self.inside (record { seed = c.self.inside.seed; schools = c.insert.new.self; students = c.self.inside.students; draws = c.self.inside.draws }) c.args.number c.args.school (MayOpen-allowed (market_of c.self.inside) c.args.number allowed) refl refl c.in_ok-insert.ensures.entries
+    ∙ ap (λ (m : Market). with_school m c.args.number c.args.school) c.self.view_is

@@ -1,0 +1,13 @@
+-- An assignment as contracts see it: pairs of a student and a school, in order of first entry.
+use Rattle.std.specs.Prelude.{ℕ, nat_eq, Bool, List, Option}
+use Rattle.std.specs.Map.{lookup}
+use Rattle.indexmap.specs.IndexMap.{insert_entry}
+
+-- the school that the student has, if any
+abbrev pub assigned : List (ℕ × ℕ) → ℕ → Option ℕ
+assigned pairs i = lookup (nat_eq i) pairs
+
+-- the assignment that gives the student this school and everybody else what they had: a student who
+-- is there keeps the place in the order, and a new one comes last
+abbrev pub with_place : List (ℕ × ℕ) → ℕ → ℕ → List (ℕ × ℕ)
+with_place pairs i s = insert_entry nat_eq pairs i s

@@ -1,0 +1,34 @@
+-- Priority at a school: classes, keys, and who is ahead of whom.
+use Rattle.std.specs.Prelude.{ℕ, ◌==◌, Bool, ◌&&◌, ◌||◌, not, nat_lt, List, if◌then◌else◌}
+use Rattle.std.specs.List.{list_any}
+use Rattle.sc_lottery.specs.Draw.{draw}
+use Rattle.sc_papers.specs.Market.{Market, siblings_of, zone_of, zone_at}
+use Rattle.sc_papers.specs.declared.key.Key.{Key}
+
+-- whether two zones are the same zone; zone 0 is none and equals no zone
+abbrev pub same_zone : ℕ → ℕ → Bool
+same_zone a b = a == b && not (a == 0)
+
+-- the priority class, best first: 0 sibling and zone, 1 sibling, 2 zone, 3 neither (priority groups
+-- of the kind in Abdulkadiroğlu and Sönmez; the classes are this project's own)
+abbrev pub class_by : Bool → Bool → ℕ
+class_by sibling zone = if sibling then (if zone then 0 else 1) else (if zone then 2 else 3)
+
+-- the priority class of a student at a school
+abbrev pub class_at : Market → ℕ → ℕ → ℕ
+class_at m i s = class_by (list_any (λ t. t == s) (siblings_of m i)) (same_zone (zone_of m i) (zone_at m s))
+
+-- the key of a student at a school: class, draw, number
+unfoldable pub key_of : Market → ℕ → ℕ → Key
+key_of m i s = record { class = class_at m i s; draw = draw m.seed i; student = i }
+
+-- the smaller key is ahead: by class, then by draw, then by number
+abbrev pub is_before : Key → Key → Bool
+is_before a b =
+    if a.class == b.class then
+    (if a.draw == b.draw then nat_lt a.student b.student else nat_lt a.draw b.draw)
+    else nat_lt a.class b.class
+
+-- whether student i is ahead of student j at school s
+unfoldable pub is_ahead : Market → ℕ → ℕ → ℕ → Bool
+is_ahead m s i j = is_before (key_of m i s) (key_of m j s)

@@ -1,0 +1,14 @@
+pub use Rattle.sc_lottery.specs.Draw
+pub mod Market
+pub mod Key
+pub mod Refusal
+pub mod Verdict
+pub mod WellFormed
+pub mod Inside
+pub mod Assignment
+pub mod Matching
+pub mod Log
+pub mod Restriction
+pub mod Chain
+pub mod Progress
+pub mod Reordering

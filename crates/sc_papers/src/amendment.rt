@@ -1,0 +1,128 @@
+ghost use Rattle.std.specs.Prelude.{◌≡◌};
+ghost use Rattle.sc_papers.specs.Refusal.{code_of};
+ghost use Rattle.sc_papers.specs.declared.amendment.Refusal.TheVariants.{OutOfMemory};
+
+use crate::count::Count;
+use crate::school_list::SchoolList;
+use crate::school_no::SchoolNo;
+use crate::zone::Zone;
+use sc_lottery::StudentNumber;
+use std::alloc::AllocError;
+use std::error::Error;
+use std::fmt;
+
+/// A change to the papers. One amendment is the atomic step of the whole system.
+#[derive(Debug, Drop)]
+pub enum Amendment {
+    /// The student is put last in the order of entry.
+    Enter {
+        student: StudentNumber,
+        zone: Zone,
+        siblings: SchoolList,
+        choices: SchoolList,
+    },
+    /// The student is removed. The others keep their order.
+    Withdraw {
+        student: StudentNumber,
+    },
+    /// The student's choices are replaced. The place in the order of entry stays, and so do the zone
+    /// and the siblings.
+    Rerank {
+        student: StudentNumber,
+        choices: SchoolList,
+    },
+    /// The school has so many seats more.
+    Add {
+        school: SchoolNo,
+        count: Count,
+    },
+    /// The school has so many seats fewer.
+    Close {
+        school: SchoolNo,
+        count: Count,
+    },
+    /// The student's zone and siblings are replaced. The place in the order of entry stays, and so do
+    /// the choices.
+    Correct {
+        student: StudentNumber,
+        zone: Zone,
+        siblings: SchoolList,
+    },
+}
+
+/// Why an amendment is refused. The refusals are tested in the order of their codes, and want of
+/// memory comes last.
+#[derive(Clone, Copy, Debug, PartialEq, Eq)]
+pub enum Refusal {
+    /// A record of a script that is no amendment.
+    Shape,
+    /// The student is not in the papers.
+    UnknownStudent,
+    /// The student is already in the papers.
+    StudentExists,
+    /// There are no choices.
+    EmptyList,
+    /// More than 20 choices, or more than 20 siblings.
+    ListTooLong,
+    /// A named school is not in the papers: the first such school of its list.
+    UnknownSchool { school: SchoolNo },
+    /// A list names a school twice: the first school of the list that equals an earlier one.
+    SchoolTwice { school: SchoolNo },
+    /// There are 200,000 students.
+    RosterFull,
+    /// The school would have more than 10,000 seats.
+    TooManySeats,
+    /// The school would have fewer than 0 seats.
+    TooFewSeats,
+    /// A growth was refused.
+    OutOfMemory,
+}
+
+impl Refusal {
+    /// The refusal's number in the order of the tests, from 1 to 11.
+    pub fn code(self) -> u8
+        ensures { result ≡ code_of self }
+    {
+        match self {
+            Refusal::Shape => 1,
+            Refusal::UnknownStudent => 2,
+            Refusal::StudentExists => 3,
+            Refusal::EmptyList => 4,
+            Refusal::ListTooLong => 5,
+            Refusal::UnknownSchool { .. } => 6,
+            Refusal::SchoolTwice { .. } => 7,
+            Refusal::RosterFull => 8,
+            Refusal::TooManySeats => 9,
+            Refusal::TooFewSeats => 10,
+            Refusal::OutOfMemory => 11,
+        }
+    }
+}
+
+impl fmt::Display for Refusal {
+    fn fmt<W: fmt::Write>(&self, f: &mut fmt::Formatter<W>) -> fmt::Result {
+        match self {
+            Refusal::Shape => f.write_str("Shape"),
+            Refusal::UnknownStudent => f.write_str("UnknownStudent"),
+            Refusal::StudentExists => f.write_str("StudentExists"),
+            Refusal::EmptyList => f.write_str("EmptyList"),
+            Refusal::ListTooLong => f.write_str("ListTooLong"),
+            Refusal::UnknownSchool { school } => write!(f, "UnknownSchool {}", school.get()),
+            Refusal::SchoolTwice { school } => write!(f, "SchoolTwice {}", school.get()),
+            Refusal::RosterFull => f.write_str("RosterFull"),
+            Refusal::TooManySeats => f.write_str("TooManySeats"),
+            Refusal::TooFewSeats => f.write_str("TooFewSeats"),
+            Refusal::OutOfMemory => f.write_str("OutOfMemory"),
+        }
+    }
+}
+
+impl Error for Refusal {}
+
+impl From<AllocError> for Refusal {
+    ghost from_gives = { λ _ r. r ≡ OutOfMemory };
+
+    fn from(_error: AllocError) -> Self {
+        Refusal::OutOfMemory
+    }
+}

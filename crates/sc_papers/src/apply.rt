@@ -1,0 +1,49 @@
+//! Amendments taking effect.
+
+ghost use Rattle.std.specs.Prelude.{◌≡◌, None, OnOk, OnErr, IfErr};
+ghost use Rattle.sc_papers.specs.Verdict.{after, IsRefusal, verdict};
+
+use crate::amendment::{Amendment, Refusal};
+use crate::papers::Papers;
+use crate::records::Student;
+
+impl Papers {
+    /// Makes the amendment, or answers the first refusal that applies, as `check` does, or else want
+    /// of memory. After a refusal the papers are as before; the amendment is given up.
+    ///
+    /// The cost is that of `check`, with one draw of the lottery for a student who enters, and for one
+    /// who withdraws the shift that keeps the order. Only `Enter` takes memory.
+    pub fn apply(&mut self, amendment: Amendment) -> Result<(), Refusal>
+        ensures allowed { OnOk result (verdict self.old amendment ≡ None) }
+        ensures accepted { OnOk result (self.new ≡ after self.old amendment) }
+        ensures refused { IfErr result (IsRefusal (verdict self.old amendment)) }
+        ensures unchanged { OnErr result (self.new ≡ self.old) }
+    {
+        self.check(&amendment)?;
+        match amendment {
+            Amendment::Enter {
+                student,
+                zone,
+                siblings,
+                choices,
+            } => {
+                let record = Student {
+                    zone,
+                    siblings,
+                    choices,
+                };
+                self.enter(student, record)?;
+            }
+            Amendment::Withdraw { student } => self.withdraw(student),
+            Amendment::Rerank { student, choices } => self.rerank(student, choices),
+            Amendment::Add { school, count } => self.add_seats(school, count),
+            Amendment::Close { school, count } => self.close_seats(school, count),
+            Amendment::Correct {
+                student,
+                zone,
+                siblings,
+            } => self.correct(student, zone, siblings),
+        }
+        Ok(())
+    }
+}

@@ -1,0 +1,82 @@
+ghost use Rattle.std.specs.Prelude.{◌≡◌, ℕ, ◌==◌, List, [], length, slice_get, nat_eq, IfOk, OnOk, OnErr};
+ghost use Rattle.std.specs.List.{IsDistinct};
+ghost use Rattle.std.specs.Map.{keys_of};
+ghost use Rattle.sc_papers.specs.Assignment.{assigned, with_place};
+
+use crate::school_no::SchoolNo;
+use indexmap::IndexMap;
+use sc_lottery::StudentNumber;
+use std::alloc::{AllocError, Global};
+use std::marker::Model;
+
+/// Which students have which schools: a finite map, in order of first entry.
+#[derive(Drop)]
+pub struct Assignment {
+    places: IndexMap<StudentNumber, SchoolNo>,
+}
+
+impl Model for Assignment {
+    ghost Value = { List (ℕ × ℕ) };
+
+    ghost view = { λ a. a.places.entries };
+}
+
+impl Assignment {
+    /// Nobody has a school. It takes no memory.
+    pub fn new(alloc: Global) -> Self
+        ensures { result ≡ [] }
+    {
+        Assignment {
+            places: IndexMap::new(alloc),
+        }
+    }
+
+    /// Gives the student the school, in the place of any other. A refused growth changes nothing.
+    pub fn put(&mut self, student: StudentNumber, school: SchoolNo) -> Result<(), AllocError>
+        ensures put { OnOk result (self.new ≡ with_place self.old student school) }
+        ensures unchanged { OnErr result (self.new ≡ self.old) }
+    {
+        let _ = self.places.insert(student, school)?;
+        Ok(())
+    }
+
+    /// The school that the student has, if any. In constant time.
+    pub fn get(&self, student: StudentNumber) -> Option<SchoolNo>
+        ensures { result ≡ assigned self.now student }
+    {
+        self.places.get(&student).copied()
+    }
+
+    /// The pair at a position of the order of first entry, from 0. In constant time.
+    pub fn at(&self, position: usize) -> Option<(StudentNumber, SchoolNo)>
+        ensures { result ≡ slice_get self.now position }
+    {
+        self.places
+            .get_index(position)
+            .map(|(student, school)| (*student, *school))
+    }
+
+    /// How many students have a school.
+    pub fn len(&self) -> usize
+        ensures count { result ≡ length self.now }
+        ensures students_differ { IsDistinct nat_eq (keys_of self.now) }
+    {
+        self.places.len()
+    }
+
+    /// Whether nobody has a school.
+    pub fn is_empty(&self) -> bool
+        ensures { result ≡ (length self.now == 0) }
+    {
+        self.places.is_empty()
+    }
+
+    /// An equal assignment, or the error of a refused growth. The cost is its length.
+    pub fn copy(&self) -> Result<Self, AllocError>
+        ensures { IfOk result (λ copy. copy ≡ self.now) }
+    {
+        Ok(Assignment {
+            places: self.places.clone()?,
+        })
+    }
+}

@@ -1,0 +1,211 @@
+//! What can be said against an amendment.
+
+ghost use Rattle.std.specs.Prelude.{◌≡◌, [], not, find};
+ghost use Rattle.sc_papers.specs.Market.{is_school, seats_of};
+ghost use Rattle.sc_papers.specs.Verdict.{first_of, first_repeat, no_choices, objections_to_add, objections_to_close, objections_to_correct, objections_to_enter, objections_to_list, objections_to_rerank, objections_to_withdraw, too_long, twice_in, unknown_in, unknown_student, unless_refused, verdict};
+
+use crate::amendment::{Amendment, Refusal};
+use crate::count::Count;
+use crate::papers::Papers;
+use crate::school_no::SchoolNo;
+use crate::seats::Seats;
+use sc_lottery::StudentNumber;
+
+/// How many schools a list may have.
+const LONGEST_LIST: usize = 20;
+
+/// How many students there may be.
+const MOST_STUDENTS: usize = 200_000;
+
+/// The first school of the list that equals an earlier one.
+fn find_repeat(list: &[SchoolNo]) -> Option<SchoolNo>
+    ensures { result ≡ first_repeat [] list.now }
+{
+    for (place, school) in list.iter().enumerate() {
+        if list[..place].contains(school) {
+            return Some(*school);
+        }
+    }
+    None
+}
+
+/// The first school of the list that is not in the papers.
+fn find_unknown(papers: &Papers, list: &[SchoolNo]) -> Option<SchoolNo>
+    ensures { result ≡ find (λ s. not (is_school papers.now s)) list.now }
+{
+    list.iter()
+        .copied()
+        .find(|school| papers.school(*school).is_none())
+}
+
+fn check_length(list: &[SchoolNo]) -> Result<(), Refusal>
+    ensures { result ≡ unless_refused (too_long list.now) }
+{
+    if list.len() > LONGEST_LIST {
+        return Err(Refusal::ListTooLong);
+    }
+    Ok(())
+}
+
+fn check_some(choices: &[SchoolNo]) -> Result<(), Refusal>
+    ensures { result ≡ unless_refused (no_choices choices.now) }
+{
+    if choices.is_empty() {
+        return Err(Refusal::EmptyList);
+    }
+    Ok(())
+}
+
+fn check_known(papers: &Papers, list: &[SchoolNo]) -> Result<(), Refusal>
+    ensures { result ≡ unless_refused (unknown_in papers.now list.now) }
+{
+    match find_unknown(papers, list) {
+        Some(school) => Err(Refusal::UnknownSchool { school }),
+        None => Ok(()),
+    }
+}
+
+fn check_once(list: &[SchoolNo]) -> Result<(), Refusal>
+    ensures { result ≡ unless_refused (twice_in list.now) }
+{
+    match find_repeat(list) {
+        Some(school) => Err(Refusal::SchoolTwice { school }),
+        None => Ok(()),
+    }
+}
+
+fn check_student(papers: &Papers, student: StudentNumber) -> Result<(), Refusal>
+    ensures { result ≡ unless_refused (unknown_student papers.now student) }
+{
+    if papers.student(student).is_none() {
+        return Err(Refusal::UnknownStudent);
+    }
+    Ok(())
+}
+
+/// The tests of a list that comes alone, in the order of the refusals' codes.
+fn check_list(papers: &Papers, list: &[SchoolNo]) -> Result<(), Refusal>
+    ensures { result ≡ unless_refused (first_of (objections_to_list papers.now list.now)) }
+{
+    check_length(list)?;
+    check_known(papers, list)?;
+    check_once(list)?;
+    Ok(())
+}
+
+/// The tests of an `Enter`, in the order of the refusals' codes.
+fn check_enter(
+    papers: &Papers,
+    student: StudentNumber,
+    siblings: &[SchoolNo],
+    choices: &[SchoolNo],
+) -> Result<(), Refusal>
+    ensures { result ≡ unless_refused (first_of (objections_to_enter papers.now student siblings.now choices.now)) }
+{
+    if papers.student(student).is_some() {
+        return Err(Refusal::StudentExists);
+    }
+    check_some(choices)?;
+    check_length(choices)?;
+    check_length(siblings)?;
+    check_known(papers, choices)?;
+    check_known(papers, siblings)?;
+    check_once(choices)?;
+    check_once(siblings)?;
+    if papers.students_len() >= MOST_STUDENTS {
+        return Err(Refusal::RosterFull);
+    }
+    Ok(())
+}
+
+/// The tests of a `Withdraw`.
+fn check_withdraw(papers: &Papers, student: StudentNumber) -> Result<(), Refusal>
+    ensures { result ≡ unless_refused (first_of (objections_to_withdraw papers.now student)) }
+{
+    check_student(papers, student)?;
+    Ok(())
+}
+
+/// The tests of a `Rerank`, in the order of the refusals' codes.
+fn check_rerank(
+    papers: &Papers,
+    student: StudentNumber,
+    choices: &[SchoolNo],
+) -> Result<(), Refusal>
+    ensures { result ≡ unless_refused (first_of (objections_to_rerank papers.now student choices.now)) }
+{
+    check_student(papers, student)?;
+    check_some(choices)?;
+    check_list(papers, choices)?;
+    Ok(())
+}
+
+/// The tests of an `Add`, in the order of the refusals' codes.
+#[tactic(auto, unfolding(crate::specs::Market::seats_of))]
+fn check_add(papers: &Papers, school: SchoolNo, count: Count) -> Result<(), Refusal>
+    ensures { result ≡ unless_refused (first_of (objections_to_add papers.now school count)) }
+{
+    let Some(found) = papers.school(school) else {
+        return Err(Refusal::UnknownSchool { school });
+    };
+    if found.seats.get() + count.get() > Seats::GREATEST {
+        return Err(Refusal::TooManySeats);
+    }
+    Ok(())
+}
+
+/// The tests of a `Close`, in the order of the refusals' codes.
+#[tactic(auto, unfolding(crate::specs::Market::seats_of))]
+fn check_close(papers: &Papers, school: SchoolNo, count: Count) -> Result<(), Refusal>
+    ensures { result ≡ unless_refused (first_of (objections_to_close papers.now school count)) }
+{
+    let Some(found) = papers.school(school) else {
+        return Err(Refusal::UnknownSchool { school });
+    };
+    if found.seats.get() < count.get() {
+        return Err(Refusal::TooFewSeats);
+    }
+    Ok(())
+}
+
+/// The tests of a `Correct`, in the order of the refusals' codes.
+fn check_correct(
+    papers: &Papers,
+    student: StudentNumber,
+    siblings: &[SchoolNo],
+) -> Result<(), Refusal>
+    ensures { result ≡ unless_refused (first_of (objections_to_correct papers.now student siblings.now)) }
+{
+    check_student(papers, student)?;
+    check_list(papers, siblings)?;
+    Ok(())
+}
+
+impl Papers {
+    /// Whether the papers allow the amendment: `Ok`, or the first refusal that applies, in the order
+    /// of the refusals' codes. It takes no memory, and costs the lengths of the lists, a look-up
+    /// for each school named.
+    pub fn check(&self, amendment: &Amendment) -> Result<(), Refusal>
+        ensures { result ≡ unless_refused (verdict self.now amendment.now) }
+    {
+        match amendment {
+            Amendment::Enter {
+                student,
+                siblings,
+                choices,
+                ..
+            } => check_enter(self, *student, siblings.as_slice(), choices.as_slice()),
+            Amendment::Withdraw { student } => check_withdraw(self, *student),
+            Amendment::Rerank { student, choices } => {
+                check_rerank(self, *student, choices.as_slice())
+            }
+            Amendment::Add { school, count } => check_add(self, *school, *count),
+            Amendment::Close { school, count } => check_close(self, *school, *count),
+            Amendment::Correct {
+                student,
+                siblings,
+                ..
+            } => check_correct(self, *student, siblings.as_slice()),
+        }
+    }
+}

@@ -1,0 +1,43 @@
+//! The papers of a school choice: schools with their seats, students with their ranked lists, and
+//! the rules by which they are amended.
+//!
+//! A contract sees the papers as a `Market`: the seed, and the schools and the students in order of
+//! entry. Every definition about papers, matchings and logs stands in this crate's `specs/`.
+#![tactic(auto)]
+
+mod amendment;
+mod apply;
+mod assignment;
+mod check;
+mod count;
+mod key;
+pub mod laws;
+mod papers;
+#[cfg(test)]
+mod plain;
+#[cfg(test)]
+mod plain_tests;
+mod records;
+mod rejection;
+mod school_list;
+mod school_no;
+mod school_refusal;
+mod seats;
+mod zone;
+
+pub use amendment::{Amendment, Refusal};
+pub use assignment::Assignment;
+pub use count::Count;
+pub use key::Key;
+pub use papers::Papers;
+pub use records::{School, Student};
+pub use rejection::Rejection;
+pub use sc_lottery::{Seed, StudentNumber as StudentNo};
+pub use school_list::SchoolList;
+pub use school_no::SchoolNo;
+pub use school_refusal::SchoolRefusal;
+pub use seats::Seats;
+pub use zone::Zone;
+
+#[cfg(test)]
+mod tests;

@@ -1,0 +1,307 @@
+ghost use Rattle.std.specs.Prelude.{◌≡◌, ℕ, ◌+◌, ◌<◌, ◌≤◌, ◌↔◌, [], ◌∷◌, ◌++◌, length, slice_get, position, nat_eq, ◌==◌, ◌&&◌, if◌then◌else◌, OnOk, OnErr, IfErr, IfOk};
+ghost use Rattle.std.specs.Option.{option_copied};
+ghost use Rattle.std.specs.List.{list_any};
+ghost use Rattle.sc_papers.specs.Key.{class_by, same_zone};
+
+use crate::count::Count;
+use crate::key::Key;
+use crate::records::{School, Student};
+use crate::school_list::SchoolList;
+use crate::school_no::SchoolNo;
+use crate::school_refusal::SchoolRefusal;
+use crate::seats::Seats;
+use crate::zone::Zone;
+use indexmap::IndexMap;
+use sc_lottery::{Seed, StudentNumber, draw};
+use std::alloc::{AllocError, Global};
+use std::marker::Model;
+
+/// How many schools there may be.
+const MOST_SCHOOLS: usize = 5_000;
+
+/// The schools and the students of one school choice, and the seed of its lottery.
+///
+/// Look-ups by number and by position take constant time.
+#[derive(Drop)]
+pub struct Papers {
+    seed: Seed,
+    schools: IndexMap<SchoolNo, School>,
+    students: IndexMap<StudentNumber, Student>,
+    // Each student's draw, in order of entry, so that a key costs no block of the cipher.
+    draws: Vec<u64>,
+}
+
+impl Model for Papers {
+    ghost use Rattle.sc_papers.specs.Market.{Market};
+
+    ghost Value = { Market };
+
+    ghost use Rattle.sc_papers.specs.Inside.{market_of, IsSound};
+
+    ghost view = { market_of };
+
+    ghost invariant = { IsSound };
+}
+
+/// The priority class of this student at the school of this number.
+fn class_at(student: &Student, number: SchoolNo, school: School) -> u8
+    ensures { result ≡ class_by (list_any (λ t. t == number) student.now.siblings) (same_zone student.now.zone school.zone) }
+{
+    let sibling = student.siblings.as_slice().contains(&number);
+    let zone = student.zone == school.zone && student.zone.get() != 0;
+    match (sibling, zone) {
+        (true, true) => 0,
+        (true, false) => 1,
+        (false, true) => 2,
+        (false, false) => 3,
+    }
+}
+
+impl Papers {
+    ghost use Rattle.std.specs.Prelude.{◌≡◌, ℕ, ◌+◌, ◌-◌, ◌<◌, ◌≤◌, ◌↔◌, [], ◌∷◌, ◌++◌, length, slice_get, position, nat_eq, ◌&&◌, if◌then◌else◌};
+    ghost use Rattle.std.specs.Option.{option_copied};
+    ghost use Rattle.sc_papers.specs.Market.{Market, school_of, student_of, schools_of, students_of, seats_of, is_school, is_student};
+    ghost use Rattle.sc_papers.specs.Key.{key_of};
+    ghost use Rattle.sc_papers.specs.WellFormed.{WellFormed, WithinLimits};
+    ghost use Rattle.sc_papers.specs.Verdict.{first_of, objections_to_add, objections_to_close, objections_to_correct, objections_to_enter, objections_to_rerank, objections_to_withdraw, with_choices, with_home, with_seats, with_student, without_student, school_verdict, with_school, IsSchoolRefusal};
+    ghost use Rattle.std.specs.Prelude.{OnOk, OnErr, IfErr, IfOk};
+
+    /// Papers with this seed, no schools and no students. It takes no memory.
+    pub fn new(alloc: Global, seed: Seed) -> Self
+        ensures seed { result.seed ≡ seed }
+        ensures schools { result.schools ≡ [] }
+        ensures students { result.students ≡ [] }
+    {
+        Papers {
+            seed,
+            schools: IndexMap::new(alloc),
+            students: IndexMap::new(alloc),
+            draws: Vec::new(alloc),
+        }
+    }
+
+    /// Adds a school last, or answers the first refusal that applies: `SchoolExists`,
+    /// `TooManySchools` where there are 5,000, `SchoolsClosed` once a student has entered, and last
+    /// `OutOfMemory`. After a refusal the papers are as before.
+    pub fn add_school(
+        &mut self,
+        school: SchoolNo,
+        zone: Zone,
+        seats: Seats,
+    ) -> Result<(), SchoolRefusal>
+        ensures allowed { OnOk result (school_verdict self.old school ≡ None) }
+        ensures added { OnOk result (self.new ≡ with_school self.old school (record { zone = zone; seats = seats })) }
+        ensures refused { IfErr result (IsSchoolRefusal (school_verdict self.old school)) }
+        ensures unchanged { OnErr result (self.new ≡ self.old) }
+    {
+        if self.school(school).is_some() {
+            return Err(SchoolRefusal::SchoolExists);
+        }
+        if self.schools.len() >= MOST_SCHOOLS {
+            return Err(SchoolRefusal::TooManySchools);
+        }
+        if !self.students.is_empty() {
+            return Err(SchoolRefusal::SchoolsClosed);
+        }
+        prove!(seats.get() <= Seats::GREATEST);
+        self.put_school(school, School { zone, seats })?;
+        Ok(())
+    }
+
+    /// Puts a school that may be added last in the order of entry.
+    fn put_school(&mut self, number: SchoolNo, school: School) -> Result<(), AllocError>
+        requires allowed { school_verdict self.old number ≡ None }
+        requires seats { school.seats ≤ 10000 }
+        ensures added { OnOk result (self.new ≡ with_school self.old number school) }
+        ensures unchanged { OnErr result (self.new ≡ self.old) }
+    {
+        let _ = self.schools.insert(number, school)?;
+        Ok(())
+    }
+
+    /// Equal papers, or the error of a refused growth. One pass over the schools and the students; no
+    /// draw is made.
+    pub fn copy(&self) -> Result<Self, AllocError>
+        ensures { IfOk result (λ copy. copy ≡ self.now) }
+    {
+        Ok(Papers {
+            seed: self.seed,
+            schools: self.schools.clone()?,
+            students: self.students.clone()?,
+            draws: self.draws.clone()?,
+        })
+    }
+
+    /// The seed of the lottery.
+    pub fn seed(&self) -> Seed
+        ensures { result ≡ self.now.seed }
+    {
+        self.seed
+    }
+
+    /// How many schools there are.
+    pub fn schools_len(&self) -> usize
+        ensures { result ≡ length self.now.schools }
+    {
+        self.schools.len()
+    }
+
+    /// How many students there are. Papers are always well-formed and within their limits, and this
+    /// call tells its callers so.
+    pub fn students_len(&self) -> usize
+        ensures count { result ≡ length self.now.students }
+        ensures well_formed { WellFormed self.now }
+        ensures within_limits { WithinLimits self.now }
+    {
+        self.students.len()
+    }
+
+    /// What the papers hold of a school, or `None` where it is not in them. In constant time.
+    pub fn school(&self, school: SchoolNo) -> Option<School>
+        ensures { result ≡ school_of self.now school }
+    {
+        self.schools.get(&school).copied()
+    }
+
+    /// What the papers hold of a student, or `None` where the student is not in them. In constant
+    /// time.
+    pub fn student(&self, student: StudentNumber) -> Option<&Student>
+        ensures { option_copied result ≡ student_of self.now student }
+    {
+        self.students.get(&student)
+    }
+
+    /// The school at a position of the order of entry, from 0. In constant time.
+    pub fn school_at(&self, position: usize) -> Option<SchoolNo>
+        ensures { result ≡ slice_get (schools_of self.now) position }
+    {
+        self.schools.get_index(position).map(|(school, _)| *school)
+    }
+
+    /// The student at a position of the order of entry, from 0. In constant time.
+    pub fn student_at(&self, position: usize) -> Option<StudentNumber>
+        ensures { result ≡ slice_get (students_of self.now) position }
+    {
+        self.students
+            .get_index(position)
+            .map(|(student, _)| *student)
+    }
+
+    /// A school's position in the order of entry. In constant time.
+    pub fn school_position(&self, school: SchoolNo) -> Option<usize>
+        ensures { result ≡ position (nat_eq school) (schools_of self.now) }
+    {
+        self.schools.get_index_of(&school)
+    }
+
+    /// A student's position in the order of entry. In constant time.
+    pub fn student_position(&self, student: StudentNumber) -> Option<usize>
+        ensures { result ≡ position (nat_eq student) (students_of self.now) }
+    {
+        self.students.get_index_of(&student)
+    }
+
+    /// The student's key at the school, or `None` where either is not in the papers. The student
+    /// need not list the school. In constant time; no draw is made.
+    pub fn key(&self, student: StudentNumber, school: SchoolNo) -> Option<Key>
+        ensures { result ≡ (if is_student self.now student && is_school self.now school then Some (key_of self.now student school) else None) }
+    {
+        let (position, _, record) = self.students.get_full(&student)?;
+        let class = class_at(record, school, self.school(school)?);
+        let draw = self.draws[position];
+        Some(Key {
+            class,
+            draw,
+            student,
+        })
+    }
+
+    /// Puts a student who may enter last in the order of entry, with the one draw that it ever makes.
+    /// Both growths come first, so a refused one leaves the papers as they were.
+    pub(crate) fn enter(
+        &mut self,
+        number: StudentNumber,
+        student: Student,
+    ) -> Result<(), AllocError>
+        requires { first_of (objections_to_enter self.old number student.siblings student.choices) ≡ None }
+        ensures entered { OnOk result (self.new ≡ with_student self.old number student) }
+        ensures unchanged { OnErr result (self.new ≡ self.old) }
+    {
+        self.draws.reserve(1)?;
+        let _ = self.students.insert(number, student)?;
+        self.draws.push_reserved(draw(&self.seed, number));
+        Ok(())
+    }
+    /// Removes a student, and the student's draw. The others keep their order and their draws.
+    pub(crate) fn withdraw(&mut self, number: StudentNumber)
+        requires { first_of (objections_to_withdraw self.old number) ≡ None }
+        ensures { self.new ≡ without_student self.old number }
+    {
+        if let Some((position, _, _)) = self.students.shift_remove_full(&number) {
+            let _ = self.draws.remove(position);
+        }
+    }
+
+    /// Replaces a student's choices.
+    pub(crate) fn rerank(&mut self, number: StudentNumber, choices: SchoolList)
+        requires { first_of (objections_to_rerank self.old number choices) ≡ None }
+        ensures { self.new ≡ with_choices self.old number choices }
+    {
+        if let Some(student) = self.students.get_mut(&number) {
+            student.choices = choices;
+        }
+    }
+
+    /// Replaces a student's zone and siblings.
+    pub(crate) fn correct(&mut self, number: StudentNumber, zone: Zone, siblings: SchoolList)
+        requires { first_of (objections_to_correct self.old number siblings) ≡ None }
+        ensures { self.new ≡ with_home self.old number zone siblings }
+    {
+        if let Some(student) = self.students.get_mut(&number) {
+            student.zone = zone;
+            student.siblings = siblings;
+        }
+    }
+
+    /// Gives a school these seats.
+    fn put_seats(&mut self, number: SchoolNo, seats: Seats)
+        requires { seats ≤ 10000 }
+        ensures { self.new ≡ with_seats self.old number seats }
+    {
+        if let Some(school) = self.schools.get_mut(&number) {
+            school.seats = seats;
+        }
+    }
+
+    /// Gives a school so many seats more.
+    #[tactic(auto, unfolding(crate::specs::Market::seats_of))]
+    pub(crate) fn add_seats(&mut self, number: SchoolNo, count: Count)
+        requires { first_of (objections_to_add self.old number count) ≡ None }
+        ensures { self.new ≡ with_seats self.old number (seats_of self.old number + count) }
+    {
+        let before = self.seats_at(number);
+        if let Some(seats) = Seats::new(before + count.get()) {
+            self.put_seats(number, seats);
+        }
+    }
+
+    /// Takes so many seats of a school away.
+    pub(crate) fn close_seats(&mut self, number: SchoolNo, count: Count)
+        requires { first_of (objections_to_close self.old number count) ≡ None }
+        ensures { self.new ≡ with_seats self.old number (seats_of self.old number - count) }
+    {
+        let before = self.seats_at(number);
+        if let Some(seats) = Seats::new(before - count.get()) {
+            self.put_seats(number, seats);
+        }
+    }
+
+    /// How many seats a school has, 0 where it is not in the papers.
+    #[tactic(auto, unfolding(crate::specs::Market::seats_of))]
+    fn seats_at(&self, number: SchoolNo) -> u32
+        ensures value { result ≡ seats_of self.now number }
+        ensures greatest { result ≤ 10000 }
+    {
+        self.school(number).map_or(0, |school| school.seats.get())
+    }
+}

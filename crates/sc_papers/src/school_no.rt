@@ -1,0 +1,44 @@
+ghost use Rattle.std.specs.Prelude.{◌≡◌, ℕ, ◌≤◌, SomeIff};
+
+use std::marker::Model;
+
+/// A school's number, from 1 to 99,999.
+#[derive(Clone, Copy, Debug, PartialEq, Eq, PartialOrd, Ord, Hash)]
+pub struct SchoolNo {
+    number: u32,
+}
+
+impl Model for SchoolNo {
+    ghost Value = { ℕ };
+
+    ghost view = { λ n. n.number };
+
+    ghost invariant = { λ n. (1 ≤ n.number) × (n.number ≤ 99999) };
+
+    ghost inverse = { λ n. record { number = n } };
+}
+
+impl SchoolNo {
+    /// The greatest of its range.
+    pub const GREATEST: u32 = 99_999;
+
+    /// The number as a `SchoolNo`, or `None` outside 1 to 99,999.
+    pub fn new(number: u32) -> Option<Self>
+        ensures { SomeIff result ((1 ≤ number) × (number ≤ 99999)) number }
+    {
+        if 1 <= number && number <= Self::GREATEST {
+            Some(SchoolNo { number })
+        } else {
+            None
+        }
+    }
+
+    /// The number, from 1 to 99,999.
+    pub fn get(self) -> u32
+        ensures value { result ≡ self }
+        ensures least { 1 ≤ result }
+        ensures greatest { result ≤ 99999 }
+    {
+        self.number
+    }
+}

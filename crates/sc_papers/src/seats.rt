@@ -1,0 +1,43 @@
+ghost use Rattle.std.specs.Prelude.{◌≡◌, ℕ, ◌≤◌, SomeIff};
+
+use std::marker::Model;
+
+/// The seats of a school, from 0 to 10,000.
+#[derive(Clone, Copy, Debug, PartialEq, Eq, PartialOrd, Ord, Hash)]
+pub struct Seats {
+    number: u32,
+}
+
+impl Model for Seats {
+    ghost Value = { ℕ };
+
+    ghost view = { λ n. n.number };
+
+    ghost invariant = { λ n. n.number ≤ 10000 };
+
+    ghost inverse = { λ n. record { number = n } };
+}
+
+impl Seats {
+    /// The greatest of its range.
+    pub const GREATEST: u32 = 10_000;
+
+    /// The number as a `Seats`, or `None` outside 0 to 10,000.
+    pub fn new(number: u32) -> Option<Self>
+        ensures { SomeIff result (number ≤ 10000) number }
+    {
+        if number <= Self::GREATEST {
+            Some(Seats { number })
+        } else {
+            None
+        }
+    }
+
+    /// The number, from 0 to 10,000.
+    pub fn get(self) -> u32
+        ensures value { result ≡ self }
+        ensures greatest { result ≤ 10000 }
+    {
+        self.number
+    }
+}

@@ -1,0 +1,43 @@
+ghost use Rattle.std.specs.Prelude.{◌≡◌, ℕ, ◌≤◌, SomeIff};
+
+use std::marker::Model;
+
+/// A zone's number, from 0 to 9,999, where 0 means no zone.
+#[derive(Clone, Copy, Debug, PartialEq, Eq, PartialOrd, Ord, Hash)]
+pub struct Zone {
+    number: u32,
+}
+
+impl Model for Zone {
+    ghost Value = { ℕ };
+
+    ghost view = { λ n. n.number };
+
+    ghost invariant = { λ n. n.number ≤ 9999 };
+
+    ghost inverse = { λ n. record { number = n } };
+}
+
+impl Zone {
+    /// The greatest of its range.
+    pub const GREATEST: u32 = 9_999;
+
+    /// The number as a `Zone`, or `None` outside 0 to 9,999.
+    pub fn new(number: u32) -> Option<Self>
+        ensures { SomeIff result (number ≤ 9999) number }
+    {
+        if number <= Self::GREATEST {
+            Some(Zone { number })
+        } else {
+            None
+        }
+    }
+
+    /// The number, from 0 to 9,999.
+    pub fn get(self) -> u32
+        ensures value { result ≡ self }
+        ensures greatest { result ≤ 9999 }
+    {
+        self.number
+    }
+}
