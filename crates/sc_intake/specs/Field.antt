@@ -1,0 +1,71 @@
+-- What the fields of a record read as.
+use Rattle.std.specs.Prelude.{ℕ, ◌+◌, ◌-◌, ◌*◌, ◌==◌, Bool, ◌&&◌, ◌||◌, nat_le, List, [], ◌∷◌, ◌++◌, length, reverse, fold, if◌then◌else◌, Result, Ok, Err}
+use Rattle.std.specs.Char.{is_ascii_digit}
+use Rattle.std.specs.List.{list_all}
+use Rattle.sc_intake.specs.Fault.{◌>>=◌}
+use Rattle.sc_intake.specs.declared.fault.Cause.{Cause}
+use Rattle.sc_intake.specs.declared.fault.Cause.TheVariants.{Number, Range}
+
+-- the bytes that are left off at both ends of a field: space and tab
+abbrev pub is_blank : ℕ → Bool
+is_blank c = c == 32 || c == 9
+
+-- a text from its first byte that is no blank
+unfoldable pub without_front : List ℕ → List ℕ
+without_front [] = []
+without_front (c ∷ cs) = if is_blank c then without_front cs else c ∷ cs
+
+-- a text up to its last byte that is no blank
+unfoldable pub without_back : List ℕ → List ℕ
+without_back text = reverse (without_front (reverse text))
+
+-- a field without the blanks at both ends
+abbrev pub trimmed : List ℕ → List ℕ
+trimmed text = without_back (without_front text)
+
+-- a number is written as 1 to 9 decimal digits
+unfoldable pub is_number : List ℕ → Bool
+is_number text = nat_le 1 (length text) && nat_le (length text) 9 && list_all is_ascii_digit text
+
+-- the number that decimal digits write
+unfoldable pub decimal_of : List ℕ → ℕ
+decimal_of text = fold (λ n c. n * 10 + (c - 48)) 0 text
+
+-- the number that a text writes
+unfoldable pub number_of : List ℕ → Result ℕ Cause
+number_of text = if is_number text then Ok (decimal_of text) else Err Number
+
+-- a piece of a text as a word, where it has a byte
+abbrev pub word_of : List ℕ → List (List ℕ)
+word_of [] = []
+word_of (c ∷ cs) = (c ∷ cs) ∷ []
+
+-- the words of a text, after the bytes of a piece that has begun
+unfoldable pub words_after : List ℕ → List ℕ → List (List ℕ)
+words_after piece [] = word_of piece
+words_after piece (c ∷ cs) = if c == 32 then word_of piece ++ words_after [] cs else words_after (piece ++ c ∷ []) cs
+
+-- the words of a text: its pieces between the spaces, without the empty ones
+abbrev pub words : List ℕ → List (List ℕ)
+words text = words_after [] text
+
+-- the numbers that words write, after earlier ones
+unfoldable pub numbers_after : List ℕ → List (List ℕ) → Result (List ℕ) Cause
+numbers_after earlier [] = Ok earlier
+numbers_after earlier (w ∷ ws) = number_of w >>= λ n. numbers_after (earlier ++ n ∷ []) ws
+
+-- the numbers of a list: a text of numbers with spaces between them
+abbrev pub list_of : List ℕ → Result (List ℕ) Cause
+list_of text = numbers_after [] (words text)
+
+-- a number is within a range
+abbrev pub is_within : ℕ → ℕ → ℕ → Bool
+is_within least greatest n = nat_le least n && nat_le n greatest
+
+-- a number of a range
+abbrev pub within : ℕ → ℕ → ℕ → Result ℕ Cause
+within least greatest n = if is_within least greatest n then Ok n else Err Range
+
+-- the numbers of a list of schools
+abbrev pub all_schools : List ℕ → Result (List ℕ) Cause
+all_schools ns = if list_all (is_within 1 99999) ns then Ok ns else Err Range

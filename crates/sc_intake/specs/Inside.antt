@@ -1,0 +1,18 @@
+-- How the type `Records` keeps its place in a text. Other contracts see the place alone.
+use Rattle.std.specs.Prelude.{◌≡◌, true, false, []}
+use Rattle.csv.specs.Reading.{reader_state}
+use Rattle.csv.specs.Records.{fields_of}
+use Rattle.sc_intake.specs.Place.{Place}
+use Rattle.sc_intake.specs.Reading.{IsReading, records_of, unread}
+use Rattle.sc_intake.specs.declared.records.Records.TheInside.{Inside}
+
+-- the place: the record read last, and the records that are left
+abbrev pub place_of : Inside → Place
+place_of i = record {
+  current = fields_of i.fields;
+  left = elim i.stopped [ true ↦ [] | false ↦ records_of (reader_state i.reader) (unread i.reader) ];
+}
+
+-- what is true of the fields: a reader that has not stopped reads on
+abbrev pub IsSound : Inside → Type 0
+IsSound i = i.stopped ≡ false → IsReading i.reader

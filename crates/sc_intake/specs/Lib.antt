@@ -1,0 +1,11 @@
+pub mod Fault
+pub mod Field
+pub mod File
+pub mod Place
+pub mod Reading
+pub mod Inside
+pub mod Rows
+pub mod Schools
+pub mod Roster
+pub mod Lists
+pub mod Papers

@@ -1,0 +1,38 @@
+-- What the rank-order lists read as.
+use Rattle.std.specs.Prelude.{ℕ, ◌==◌, Bool, ◌&&◌, List, length, codes, if◌then◌else◌, Result, Ok, Err}
+use Rattle.std.specs.Str.{bytes_eq}
+use Rattle.sc_intake.specs.Fault.{◌>>=◌}
+use Rattle.sc_intake.specs.Field.{all_schools, list_of, number_of, within}
+use Rattle.sc_intake.specs.File.{rows_in, text_at}
+use Rattle.sc_intake.specs.Rows.{next_row}
+use Rattle.sc_intake.specs.declared.fault.Cause.{Cause}
+use Rattle.sc_intake.specs.declared.fault.Cause.TheVariants.{Fields}
+use Rattle.sc_intake.specs.declared.fault.IntakeFault.{IntakeFault}
+use Rattle.sc_intake.specs.declared.fault.Source.TheVariants.{Lists}
+use Rattle.sc_intake.specs.declared.lists.ListRow.{ListRow}
+
+-- the header `student,choices`
+abbrev pub is_list_header : List (List ℕ) → Bool
+is_list_header fields =
+    length fields == 2 && bytes_eq (text_at fields 0) (codes "student") && bytes_eq (text_at fields 1) (codes "choices")
+
+-- the row that these fields read as
+abbrev pub choices_of : ℕ → List (List ℕ) → Result ListRow Cause
+choices_of row fields = if length fields == 2 then (do
+  a ← number_of (text_at fields 0)
+  b ← list_of (text_at fields 1)
+  student ← within 1 999999999 a
+  choices ← all_schools b
+  Ok (record { row = row; student = student; choices = choices })) else Err Fields
+
+-- a row's student
+abbrev pub list_number : ListRow → ℕ
+list_number row = row.student
+
+-- the row after earlier ones
+abbrev pub next_list : List ListRow → List (List ℕ) → Result ListRow Cause
+next_list = next_row 200000 list_number choices_of
+
+-- the rows of the lists
+abbrev pub lists_in : List ℕ → Result (List ListRow) IntakeFault
+lists_in text = rows_in Lists is_list_header next_list text

@@ -1,0 +1,91 @@
+-- The papers that the rows of the three files make, or the first fault.
+use Rattle.std.specs.Prelude.{◌≡◌, ℕ, nat_eq, Bool, not, List, [], ◌∷◌, map, find, slice_get, Option, None, Some, option_and_then, Result, Ok, Err}
+use Rattle.std.specs.HashMap.{HashMap, get}
+use Rattle.std.specs.List.{list_any}
+use Rattle.sc_papers.specs.Market.{Market, is_student}
+use Rattle.sc_papers.specs.Verdict.{after, verdict}
+use Rattle.sc_papers.specs.declared.amendment.Amendment.{Amendment}
+use Rattle.sc_papers.specs.declared.amendment.Amendment.TheVariants.{Enter}
+use Rattle.sc_papers.specs.declared.amendment.Refusal.{Refusal}
+use Rattle.sc_papers.specs.declared.amendment.Refusal.TheVariants.{Shape, UnknownStudent, StudentExists, EmptyList, ListTooLong, UnknownSchool, SchoolTwice, RosterFull, TooManySeats, TooFewSeats, OutOfMemory}
+use Rattle.sc_intake.specs.Fault.{◌>>=◌, fault_at}
+use Rattle.sc_intake.specs.File.{in_row}
+use Rattle.sc_intake.specs.declared.fault.Cause.{Cause}
+use Rattle.sc_intake.specs.declared.fault.Cause.TheVariants.{NoList, NotInRoster, Refused, OutOfMemory as no_room}
+use Rattle.sc_intake.specs.declared.fault.IntakeFault.{IntakeFault}
+use Rattle.sc_intake.specs.declared.fault.Source.TheVariants.{Roster, Lists}
+use Rattle.sc_intake.specs.declared.lists.ListRow.{ListRow}
+use Rattle.sc_intake.specs.declared.roster.RosterRow.{RosterRow}
+use Rattle.sc_intake.specs.declared.schools.SchoolRow.{SchoolRow}
+
+-- the papers with these schools, in the order of their rows, before any student
+abbrev pub opening : List ℕ → List SchoolRow → Market
+opening seed schools =
+    record { seed = seed; schools = map (λ row. (row.number, record { zone = row.zone; seats = row.seats })) schools; students = [] }
+
+-- a student's row of the lists
+abbrev pub list_of : List ListRow → ℕ → Option ListRow
+list_of lists i = find (λ list. nat_eq i list.student) lists
+
+-- the cause of a student whom the papers refuse
+abbrev pub cause_of : Refusal → Cause
+cause_of OutOfMemory = no_room
+cause_of Shape = Refused Shape
+cause_of UnknownStudent = Refused UnknownStudent
+cause_of StudentExists = Refused StudentExists
+cause_of EmptyList = Refused EmptyList
+cause_of ListTooLong = Refused ListTooLong
+cause_of (UnknownSchool s) = Refused (UnknownSchool s)
+cause_of (SchoolTwice s) = Refused (SchoolTwice s)
+cause_of RosterFull = Refused RosterFull
+cause_of TooManySeats = Refused TooManySeats
+cause_of TooFewSeats = Refused TooFewSeats
+
+-- the papers after an amendment, unless it is refused
+abbrev pub unless_refused : Market → Amendment → Option Refusal → Result Market Cause
+unless_refused m a None = Ok (after m a)
+unless_refused m a (Some r) = Err (cause_of r)
+
+abbrev pub amended : Market → Amendment → Result Market Cause
+amended m a = unless_refused m a (verdict m a)
+
+-- the papers after a student has entered by these rows of the roster and of the lists
+abbrev pub entered_by : Market → RosterRow → Option ListRow → Result Market Cause
+entered_by m row None = Err NoList
+entered_by m row (Some list) = amended m (Enter row.student row.zone row.siblings list.choices)
+
+-- the papers after the students of the roster have entered, in the order of its rows
+unfoldable pub all_entered : List ListRow → Market → List RosterRow → Result Market IntakeFault
+all_entered lists m [] = Ok m
+all_entered lists m (row ∷ rest) =
+    in_row Roster row.row (entered_by m row (list_of lists row.student)) >>= λ n. all_entered lists n rest
+
+-- the papers, unless this list is of a student who is not in the roster
+abbrev pub unless_stranger : Market → Option ListRow → Result Market IntakeFault
+unless_stranger m None = Ok m
+unless_stranger m (Some list) = Err (fault_at Lists list.row NotInRoster)
+
+-- a student is in the roster
+abbrev pub is_in_roster : List RosterRow → ℕ → Bool
+is_in_roster roster i = list_any (λ row. nat_eq i row.student) roster
+
+-- the first list whose student is not in the roster
+abbrev pub stranger : List RosterRow → List ListRow → Option ListRow
+stranger roster lists = find (λ list. not (is_in_roster roster list.student)) lists
+
+-- the first list whose student is not in the papers
+abbrev pub unknown_list : Market → List ListRow → Option ListRow
+unknown_list m lists = find (λ list. not (is_student m list.student)) lists
+
+-- papers with schools alone after the students of the roster have entered, unless a list is of nobody
+-- in the roster
+unfoldable pub filled : Market → List RosterRow → List ListRow → Result Market IntakeFault
+filled m roster lists = all_entered lists m roster >>= λ n. unless_stranger n (stranger roster lists)
+
+-- the papers that the rows make
+abbrev pub papers_of : List ℕ → List SchoolRow → List RosterRow → List ListRow → Result Market IntakeFault
+papers_of seed schools roster lists = filled (opening seed schools) roster lists
+
+-- the map gives the place of each student's row of the lists
+abbrev pub ArePlaces : {S : Type 0} → HashMap ℕ ℕ S → List ListRow → List ListRow → Type 0
+ArePlaces places lists part = (i : ℕ) → option_and_then (slice_get lists) (get nat_eq places i) ≡ list_of part i

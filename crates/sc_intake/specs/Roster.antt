@@ -1,0 +1,41 @@
+-- What the roster reads as.
+use Rattle.std.specs.Prelude.{ℕ, ◌==◌, Bool, ◌&&◌, List, length, codes, if◌then◌else◌, Result, Ok, Err}
+use Rattle.std.specs.Str.{bytes_eq}
+use Rattle.sc_intake.specs.Fault.{◌>>=◌}
+use Rattle.sc_intake.specs.Field.{all_schools, list_of, number_of, within}
+use Rattle.sc_intake.specs.File.{rows_in, text_at}
+use Rattle.sc_intake.specs.Rows.{next_row}
+use Rattle.sc_intake.specs.declared.fault.Cause.{Cause}
+use Rattle.sc_intake.specs.declared.fault.Cause.TheVariants.{Fields}
+use Rattle.sc_intake.specs.declared.fault.IntakeFault.{IntakeFault}
+use Rattle.sc_intake.specs.declared.fault.Source.TheVariants.{Roster}
+use Rattle.sc_intake.specs.declared.roster.RosterRow.{RosterRow}
+
+-- the header `student,zone,siblings`
+abbrev pub is_roster_header : List (List ℕ) → Bool
+is_roster_header fields =
+    length fields == 3 && bytes_eq (text_at fields 0) (codes "student") && bytes_eq (text_at fields 1) (codes "zone")
+    && bytes_eq (text_at fields 2) (codes "siblings")
+
+-- the row that these fields read as
+abbrev pub student_of : ℕ → List (List ℕ) → Result RosterRow Cause
+student_of row fields = if length fields == 3 then (do
+  a ← number_of (text_at fields 0)
+  b ← number_of (text_at fields 1)
+  c ← list_of (text_at fields 2)
+  student ← within 1 999999999 a
+  zone ← within 0 9999 b
+  siblings ← all_schools c
+  Ok (record { row = row; student = student; zone = zone; siblings = siblings })) else Err Fields
+
+-- a row's student
+abbrev pub roster_number : RosterRow → ℕ
+roster_number row = row.student
+
+-- the row after earlier ones
+abbrev pub next_student : List RosterRow → List (List ℕ) → Result RosterRow Cause
+next_student = next_row 200000 roster_number student_of
+
+-- the rows of the roster
+abbrev pub roster_in : List ℕ → Result (List RosterRow) IntakeFault
+roster_in text = rows_in Roster is_roster_header next_student text

@@ -1,0 +1,26 @@
+-- Rows one after the other: what the next one reads as, and what is true of them together.
+use Rattle.std.specs.Prelude.{◌≡◌, ℕ, ◌+◌, ◌≤◌, nat_eq, nat_le, List, [], ◌∷◌, ◌++◌, length, map, if◌then◌else◌, Result, Ok, Err}
+use Rattle.std.specs.List.{IsDistinct, list_any}
+use Rattle.sc_intake.specs.Fault.{◌>>=◌}
+use Rattle.sc_intake.specs.declared.fault.Cause.{Cause}
+use Rattle.sc_intake.specs.declared.fault.Cause.TheVariants.{TooLong, Twice}
+
+-- the next row: there may be one more, its fields read as a row, and no earlier row has its number
+abbrev pub next_row : {R : Type 0} → ℕ → (R → ℕ) → (ℕ → List (List ℕ) → Result R Cause) → List R → List (List ℕ) → Result R Cause
+next_row most number read earlier fields =
+    if nat_le most (length earlier) then Err TooLong
+    else read (length earlier + 2) fields
+    >>= λ row. if list_any (nat_eq (number row)) (map number earlier) then Err Twice else Ok row
+
+-- the rows with the next one, where there is one
+abbrev pub added : {R : Type 0} → List R → Result R Cause → Result (List R) Cause
+added earlier next = next >>= λ row. Ok (earlier ++ row ∷ [])
+
+-- the rows of a file: their numbers are all different, and there are not too many
+pub record AreRows {R : Type 0} (number : R → ℕ) (most : ℕ) (rows : List R) : Type 0 where
+  pub differ : IsDistinct nat_eq (map number rows)
+  pub few : length rows ≤ most
+
+-- these are the numbers of the rows, in any order
+abbrev pub AreNumbers : {R : Type 0} → (R → ℕ) → List R → List ℕ → Type 0
+AreNumbers number rows seen = (n : ℕ) → list_any (nat_eq n) seen ≡ list_any (nat_eq n) (map number rows)

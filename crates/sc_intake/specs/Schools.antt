@@ -1,0 +1,41 @@
+-- What the file of the schools reads as.
+use Rattle.std.specs.Prelude.{ℕ, ◌==◌, Bool, ◌&&◌, List, length, codes, if◌then◌else◌, Result, Ok, Err}
+use Rattle.std.specs.Str.{bytes_eq}
+use Rattle.sc_intake.specs.Fault.{◌>>=◌}
+use Rattle.sc_intake.specs.Field.{number_of, within}
+use Rattle.sc_intake.specs.File.{rows_in, text_at}
+use Rattle.sc_intake.specs.Rows.{next_row}
+use Rattle.sc_intake.specs.declared.fault.Cause.{Cause}
+use Rattle.sc_intake.specs.declared.fault.Cause.TheVariants.{Fields}
+use Rattle.sc_intake.specs.declared.fault.IntakeFault.{IntakeFault}
+use Rattle.sc_intake.specs.declared.fault.Source.TheVariants.{Schools}
+use Rattle.sc_intake.specs.declared.schools.SchoolRow.{SchoolRow}
+
+-- the header `school,zone,seats`
+abbrev pub is_school_header : List (List ℕ) → Bool
+is_school_header fields =
+    length fields == 3 && bytes_eq (text_at fields 0) (codes "school") && bytes_eq (text_at fields 1) (codes "zone")
+    && bytes_eq (text_at fields 2) (codes "seats")
+
+-- the row that these fields read as
+abbrev pub school_of : ℕ → List (List ℕ) → Result SchoolRow Cause
+school_of row fields = if length fields == 3 then (do
+  a ← number_of (text_at fields 0)
+  b ← number_of (text_at fields 1)
+  c ← number_of (text_at fields 2)
+  number ← within 1 99999 a
+  zone ← within 0 9999 b
+  seats ← within 0 10000 c
+  Ok (record { row = row; number = number; zone = zone; seats = seats })) else Err Fields
+
+-- a school's number
+abbrev pub school_number : SchoolRow → ℕ
+school_number row = row.number
+
+-- the row after earlier ones
+abbrev pub next_school : List SchoolRow → List (List ℕ) → Result SchoolRow Cause
+next_school = next_row 5000 school_number school_of
+
+-- the rows of the file of the schools
+abbrev pub schools_in : List ℕ → Result (List SchoolRow) IntakeFault
+schools_in text = rows_in Schools is_school_header next_school text

@@ -1,0 +1,122 @@
+//! The fields of a record: the blanks around them, numbers, and lists of numbers.
+
+ghost use Rattle.std.specs.Prelude.{◌≡◌, ℕ, ◌+◌, ◌≤◌, true, ◌++◌, length, drop, slice_range};
+ghost use Rattle.std.specs.Char.{is_ascii_digit};
+ghost use Rattle.std.specs.List.{list_all};
+ghost use Rattle.sc_intake.specs.Fault.{Gives};
+ghost use Rattle.sc_intake.specs.Field.{decimal_of, is_blank, is_number, list_of, number_of, trimmed, without_back, without_front, word_of, words};
+ghost use Rattle.sc_intake.specs.declared.fault.Cause.TheVariants.{OutOfMemory};
+
+use crate::fault::Cause;
+use std::alloc::Global;
+
+/// The most digits that a number has.
+const MOST_DIGITS: usize = 9;
+
+fn is_blank(byte: u8) -> bool
+    ensures { result ≡ is_blank byte }
+{
+    byte == b' ' || byte == b'\t'
+}
+
+/// The text from its first byte that is no blank.
+fn without_front(text: &[u8]) -> &[u8]
+    ensures { result.now ≡ without_front text.now }
+{
+    for (place, byte) in text.iter().enumerate() {
+        if !is_blank(*byte) {
+            return &text[place..];
+        }
+    }
+    &[]
+}
+
+/// The text up to its last byte that is no blank.
+fn without_back(text: &[u8]) -> &[u8]
+    ensures { result.now ≡ without_back text.now }
+{
+    for passed in 0..text.len() {
+        let end = text.len() - passed;
+        if !is_blank(text[end - 1]) {
+            return &text[..end];
+        }
+    }
+    &[]
+}
+
+/// The field without the spaces and tabs at its two ends.
+pub(crate) fn trimmed(field: &[u8]) -> &[u8]
+    ensures { result.now ≡ trimmed field.now }
+{
+    without_back(without_front(field))
+}
+
+fn are_digits(text: &[u8]) -> bool
+    ensures { result ≡ list_all is_ascii_digit text.now }
+{
+    text.iter().all(|byte| byte.is_ascii_digit())
+}
+
+#[tactic(auto, unfolding(crate::specs::Field::is_number))]
+fn is_number(text: &[u8]) -> bool
+    ensures { result ≡ is_number text.now }
+{
+    let digits = text.len();
+    1 <= digits && digits <= MOST_DIGITS && are_digits(text)
+}
+
+/// The number that 1 to 9 digits write.
+fn decimal(text: &[u8]) -> u32
+    requires { is_number text.now ≡ true }
+    ensures { result ≡ decimal_of text.now }
+{
+    let mut value = 0;
+    for digit in text {
+        value = value * 10 + u32::from(*digit - b'0');
+    }
+    value
+}
+
+/// The number that a field without blanks writes, or `Number` where it is not 1 to 9 decimal
+/// digits.
+#[tactic(auto, unfolding(crate::specs::Field::number_of))]
+pub(crate) fn number(text: &[u8]) -> Result<u32, Cause>
+    ensures { result ≡ number_of text.now }
+{
+    if !is_number(text) {
+        return Err(Cause::Number);
+    }
+    Ok(decimal(text))
+}
+
+/// Where the piece that begins at a place ends: at the next space, or at the end of the text.
+fn piece_end(text: &[u8], start: usize) -> usize
+    requires { start ≤ length text.now }
+    ensures least { start ≤ result }
+    ensures greatest { result ≤ length text.now }
+    ensures words { words (drop start text.now) ≡ word_of (slice_range text.now start result) ++ words (drop (result + 1) text.now) }
+{
+    for place in start..text.len() {
+        if text[place] == b' ' {
+            return place;
+        }
+    }
+    text.len()
+}
+
+/// The numbers of a list: a field without blanks that is numbers with one or more spaces between
+/// them. `Number` where one of them is no number.
+pub(crate) fn list(alloc: Global, text: &[u8]) -> Result<Vec<u32>, Cause>
+    ensures { Gives (λ numbers. numbers.items) OutOfMemory (list_of text.now) result }
+{
+    let mut numbers = Vec::new(alloc);
+    let mut start = 0;
+    while start < text.len() {
+        let end = piece_end(text, start);
+        if start < end {
+            numbers.push(number(&text[start..end])?)?;
+        }
+        start = end + 1;
+    }
+    Ok(numbers)
+}

@@ -1,0 +1,26 @@
+//! Reading the files of a school choice: schools, roster and lists, in comma-separated values.
+//!
+//! What a file reads as, and what its first fault is, stands in this crate's `specs/`; the cutting
+//! into records is that of the crate `csv`.
+#![tactic(auto)]
+
+mod fault;
+mod field;
+mod lists;
+mod opening;
+mod papers;
+mod ranges;
+mod records;
+mod roster;
+mod school_list;
+mod schools;
+
+pub use fault::{Cause, IntakeFault, Source};
+pub use lists::{ListRow, ListRows, read_lists};
+pub use opening::MOST_BYTES;
+pub use papers::papers_of;
+pub use roster::{RosterRow, RosterRows, read_roster};
+pub use schools::{SchoolRow, SchoolRows, read_schools};
+
+#[cfg(test)]
+mod tests;

@@ -1,0 +1,169 @@
+//! The papers that the rows of the three files make.
+
+ghost use Rattle.std.specs.Prelude.{◌≡◌, [], IfOk};
+ghost use Rattle.std.specs.Option.{option_copied};
+ghost use Rattle.sc_intake.specs.Fault.{Gives, no_memory};
+ghost use Rattle.sc_intake.specs.Lists.{list_number};
+ghost use Rattle.sc_intake.specs.Papers.{all_entered, ArePlaces, cause_of, entered_by, filled, list_of, opening, papers_of, unknown_list};
+ghost use Rattle.sc_intake.specs.Rows.{AreRows};
+ghost use Rattle.sc_intake.specs.Schools.{school_number};
+ghost use Rattle.sc_intake.specs.declared.fault.Cause.TheVariants.{OutOfMemory};
+ghost use Rattle.sc_intake.specs.declared.fault.Source.TheVariants.{Roster};
+
+use crate::fault::{Cause, IntakeFault, Source};
+use crate::lists::{ListRow, ListRows};
+use crate::roster::{RosterRow, RosterRows};
+use crate::schools::{SchoolRow, SchoolRows};
+use sc_papers::{Amendment, Papers, Refusal, SchoolRefusal, Seed, StudentNo};
+use std::alloc::{AllocError, Global};
+use std::collections::HashMap;
+
+/// The papers with these schools, before any student.
+fn open_papers(alloc: Global, seed: Seed, schools: &[SchoolRow]) -> Result<Papers, AllocError>
+    requires { AreRows school_number 5000 schools.now }
+    ensures { IfOk result (λ papers. papers ≡ opening seed schools.now) }
+{
+    let mut papers = Papers::new(alloc, seed);
+    for row in schools {
+        if let Err(refusal) = papers.add_school(row.number, row.zone, row.seats) {
+            // The numbers differ and are few enough.
+            prove!(refusal == SchoolRefusal::OutOfMemory);
+            return Err(AllocError);
+        }
+    }
+    Ok(papers)
+}
+
+/// Where each student's list stands.
+fn list_places(alloc: Global, lists: &[ListRow]) -> Result<HashMap<StudentNo, usize>, AllocError>
+    requires { AreRows list_number 200000 lists.now }
+    ensures { IfOk result (λ places. ArePlaces places lists.now lists.now) }
+{
+    let mut places = HashMap::new(alloc);
+    for (place, list) in lists.iter().enumerate() {
+        places.insert(list.student, place)?;
+    }
+    Ok(places)
+}
+
+/// The student's list.
+fn find_list<'a>(
+    places: &HashMap<StudentNo, usize>,
+    lists: &'a [ListRow],
+    student: StudentNo,
+) -> Option<&'a ListRow>
+    requires { ArePlaces places.now lists.now lists.now }
+    ensures { option_copied result ≡ list_of lists.now student }
+{
+    let place = places.get(&student)?;
+    lists.get(*place)
+}
+
+/// The cause of a student whom the papers refuse.
+fn cause_of(refusal: Refusal) -> Cause
+    ensures { result ≡ cause_of refusal }
+{
+    match refusal {
+        Refusal::OutOfMemory => Cause::OutOfMemory,
+        refused => Cause::Refused(refused),
+    }
+}
+
+/// Enters a student of the roster with the student's list.
+fn enter(
+    alloc: Global,
+    papers: &mut Papers,
+    row: &RosterRow,
+    list: Option<&ListRow>,
+) -> Result<(), Cause>
+    ensures { Gives (λ _. papers.new) OutOfMemory (entered_by papers.old row.now (option_copied list.entry)) result }
+{
+    let Some(list) = list else {
+        return Err(Cause::NoList);
+    };
+    let amendment = Amendment::Enter {
+        student: row.student,
+        zone: row.zone,
+        siblings: row.siblings.copy(alloc)?,
+        choices: list.choices.copy(alloc)?,
+    };
+    match papers.apply(amendment) {
+        Ok(()) => Ok(()),
+        Err(refusal) => Err(cause_of(refusal)),
+    }
+}
+
+/// Enters the students of the roster, in the order of its rows.
+fn enter_all(
+    alloc: Global,
+    papers: &mut Papers,
+    roster: &[RosterRow],
+    places: &HashMap<StudentNo, usize>,
+    lists: &[ListRow],
+) -> Result<(), IntakeFault>
+    requires { ArePlaces places.now lists.now lists.now }
+    ensures { Gives (λ _. papers.new) (no_memory Roster) (all_entered lists.now papers.old roster.now) result }
+{
+    for row in roster {
+        let list = find_list(places, lists, row.student);
+        if let Err(cause) = enter(alloc, papers, row, list) {
+            return Err(IntakeFault::at(Source::Roster, row.row, cause));
+        }
+    }
+    Ok(())
+}
+
+/// The first list of a student who is not in the papers.
+fn find_stranger<'a>(papers: &Papers, lists: &'a [ListRow]) -> Option<&'a ListRow>
+    ensures { option_copied result ≡ unknown_list papers.now lists.now }
+{
+    lists
+        .iter()
+        .find(|list| papers.student(list.student).is_none())
+}
+
+/// Enters the students of the roster, and sees that each list is of one of them.
+fn fill_papers(
+    alloc: Global,
+    papers: &mut Papers,
+    roster: &[RosterRow],
+    lists: &[ListRow],
+) -> Result<(), IntakeFault>
+    requires lists { AreRows list_number 200000 lists.now }
+    requires fresh { papers.old.students ≡ [] }
+    ensures { Gives (λ _. papers.new) (no_memory Roster) (filled papers.old roster.now lists.now) result }
+{
+    let places = list_places(alloc, lists).map_err(|_refused| IntakeFault::no_memory(
+        Source::Roster,
+    ))?;
+    enter_all(alloc, papers, roster, &places, lists)?;
+    match find_stranger(papers, lists) {
+        Some(list) => Err(IntakeFault::at(Source::Lists, list.row, Cause::NotInRoster)),
+        None => Ok(()),
+    }
+}
+
+/// The papers that the rows make, or their first fault.
+///
+/// The schools are added in the order of their rows, and then the students of the roster enter in
+/// the order of its rows, each with the list of the same number. A student without a list is
+/// `NoList`, and a refusal is `Refused`, both of the row of the roster. The first list whose
+/// student is not in the roster is `NotInRoster`, of the row of the lists. Want of memory is of the
+/// roster, row 0.
+///
+/// The cost is that of the rows and their lists, and a draw of the lottery for each student.
+pub fn papers_of(
+    alloc: Global,
+    seed: Seed,
+    schools: &SchoolRows,
+    roster: &RosterRows,
+    lists: &ListRows,
+) -> Result<Papers, IntakeFault>
+    ensures { Gives (λ papers. papers) (no_memory Roster) (papers_of seed schools.now roster.now lists.now) result }
+{
+    let mut papers = open_papers(alloc, seed, schools.as_slice()).map_err(
+        |_refused| IntakeFault::no_memory(Source::Roster),
+    )?;
+    fill_papers(alloc, &mut papers, roster.as_slice(), lists.as_slice())?;
+    Ok(papers)
+}

@@ -1,0 +1,43 @@
+//! Numbers of fields as the numbers of the papers.
+
+ghost use Rattle.std.specs.Prelude.{◌≡◌};
+ghost use Rattle.sc_intake.specs.Field.{within};
+
+use crate::fault::Cause;
+use sc_papers::{SchoolNo, Seats, StudentNo, Zone};
+
+pub(crate) fn school(number: u32) -> Result<SchoolNo, Cause>
+    ensures { result ≡ within 1 99999 number }
+{
+    match SchoolNo::new(number) {
+        Some(school) => Ok(school),
+        None => Err(Cause::Range),
+    }
+}
+
+pub(crate) fn student(number: u32) -> Result<StudentNo, Cause>
+    ensures { result ≡ within 1 999999999 number }
+{
+    match StudentNo::new(number) {
+        Some(student) => Ok(student),
+        None => Err(Cause::Range),
+    }
+}
+
+pub(crate) fn zone(number: u32) -> Result<Zone, Cause>
+    ensures { result ≡ within 0 9999 number }
+{
+    match Zone::new(number) {
+        Some(zone) => Ok(zone),
+        None => Err(Cause::Range),
+    }
+}
+
+pub(crate) fn seats(number: u32) -> Result<Seats, Cause>
+    ensures { result ≡ within 0 10000 number }
+{
+    match Seats::new(number) {
+        Some(seats) => Ok(seats),
+        None => Err(Cause::Range),
+    }
+}
