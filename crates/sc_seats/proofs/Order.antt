@@ -1,0 +1,59 @@
+-- The order of keys, and ascending lists of them.
+use Rattle.std.proofs.Common.{◌≡◌, refl, ℕ, zero, suc, ◌<◌, ◌≤◌, true, List, [], ◌∷◌, ◌++◌, length, get_or, Some, All, arith}
+use Rattle.std.specs.List.{insert}
+use Rattle.std.specs.Ordering.{nat_cmp, ordering_then, ordering_index}
+use Rattle.std.specs.declared.cmp.Ordering.{Ordering}
+use Rattle.std.specs.declared.cmp.Ordering.TheVariants.{Less, Greater}
+use Rattle.std.proofs.lemmas.Bool.Decides.{nat_tests}
+use Rattle.std.proofs.lemmas.List.Elements.{All-cons, All-head, All-tail, All-nil, All-pop}
+use Rattle.sc_papers.specs.Key.{is_before}
+use Rattle.sc_papers.specs.declared.key.Key.{Key}
+use Rattle.sc_seats.specs.Roll.{IsAscending}
+
+-- what `cmp` answers at keys
+abbrev pub key_cmp : Key → Key → Ordering
+key_cmp a b = ordering_then (nat_cmp a.class b.class) (ordering_then (nat_cmp a.draw b.draw) (nat_cmp a.student b.student))
+
+pub before-from_less : (a b : Key) → key_cmp a b ≡ Less → is_before a b ≡ true
+before-from_less a b less = grind (arith, nat_tests)
+
+pub before-from_greater : (a b : Key) → key_cmp a b ≡ Greater → is_before b a ≡ true
+before-from_greater a b greater = grind (arith, nat_tests)
+
+pub index-rises : (a b x : Key) → is_before a b ≡ true → ordering_index (key_cmp a x) ≤ ordering_index (key_cmp b x)
+index-rises a b x ahead = grind (arith, nat_tests)
+
+pub before-trans : (a b c : Key) → is_before a b ≡ true → is_before b c ≡ true → is_before a c ≡ true
+before-trans a b c first second = grind (arith, nat_tests)
+
+-- of two places the first holds the key ahead
+pub ascending-places : (keys : List Key) (i j : ℕ) (d : Key) → IsAscending keys → i < j → j < length keys → is_before (get_or keys i d) (get_or keys j d) ≡ true
+ascending-places [] i j d up below here = absurd (omega (arith, here))
+ascending-places (key ∷ keys) zero zero d up below here = absurd (omega (arith, below))
+ascending-places (key ∷ keys) zero (suc j) d up below here = up.0 j d (omega (arith, here))
+ascending-places (key ∷ keys) (suc i) zero d up below here = absurd (omega (arith, below))
+ascending-places (key ∷ keys) (suc i) (suc j) d up below here = ascending-places keys i j d up.1 (omega (arith, below)) (omega (arith, here))
+
+-- what is so of each key and of one more is so after it is put in
+pub All-insert : (P : Key → Type 0) (keys : List Key) (i : ℕ) (key : Key) → All P keys → P key → All P (insert keys i key)
+All-insert P keys zero key all one = All-cons P key keys one all
+All-insert P [] (suc i) key all one = All-cons P key [] one (All-nil P)
+All-insert P (first ∷ keys) (suc i) key all one =
+    All-cons P first (insert keys i key) (All-head P first keys all) (All-insert P keys i key (All-tail P first keys all) one)
+
+-- a key put in behind those ahead of it and ahead of the others
+pub ascending-insert : (keys : List Key) (i : ℕ) (key : Key) → IsAscending keys → ((k : ℕ) (d : Key) → k < i → k < length keys → is_before (get_or keys k d) key ≡ true) → ((k : ℕ) (d : Key) → i ≤ k → k < length keys → is_before key (get_or keys k d) ≡ true) → IsAscending (insert keys i key)
+ascending-insert keys zero key up ahead behind = ((λ k d here. behind k d (omega arith) here), up)
+ascending-insert [] (suc i) key up ahead behind = (All-nil (λ later. is_before key later ≡ true), tt)
+ascending-insert (first ∷ keys) (suc i) key up ahead behind = (
+  All-insert (λ later. is_before first later ≡ true) keys i key up.0 (ahead 0 first (omega arith) (omega arith)),
+  ascending-insert keys i key up.1 (λ k d low here. ahead (suc k) d (omega (arith, low)) (omega (arith, here))) (λ k d high here. behind (suc k) d (omega (arith, high)) (omega (arith, here))),
+)
+
+-- the last of an ascending list is behind the others, which ascend
+pub ascending-front : (keys : List Key) (last : Key) → IsAscending (keys ++ last ∷ []) → IsAscending keys × All (λ held. is_before held last ≡ true) keys
+ascending-front [] last up = (tt, All-nil (λ held. is_before held last ≡ true))
+ascending-front (first ∷ keys) last up =
+    let rest = ascending-front keys last up.1 in
+    let parts = All-pop (λ later. is_before first later ≡ true) (keys ++ last ∷ []) keys (Some last) refl up.0 in
+    ((parts.0, rest.0), All-cons (λ held. is_before held last ≡ true) first keys parts.1 rest.1)

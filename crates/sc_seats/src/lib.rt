@@ -1,0 +1,14 @@
+//! Rolls of held seats: who holds the seats of one school.
+//!
+//! Code above knows the trait `Roll` alone. `SortedRoll` is the plain program, and good for small
+//! schools.
+#![tactic(auto)]
+
+mod roll;
+mod sorted;
+
+pub use roll::Roll;
+pub use sorted::SortedRoll;
+
+#[cfg(test)]
+mod tests;

@@ -1,0 +1,103 @@
+ghost use Rattle.std.specs.Prelude.{◌≡◌, ℕ, ◌+◌, ◌<◌, ◌≤◌, true, List, [], length, slice_index_or, Contains, vec_len, insert, OnOk, OnErr, IsSome, ◌++◌};
+ghost use Rattle.std.specs.Option.{option_to_list};
+ghost use Rattle.sc_papers.specs.Key.{is_before};
+ghost use Rattle.sc_seats.specs.Roll.{IsAscending};
+
+use crate::roll::Roll;
+use sc_papers::{Key, Seats};
+use std::alloc::{AllocError, Global};
+use std::marker::Model;
+
+/// A roll kept as a sorted list. An offer moves as many keys as are behind the key.
+#[derive(Drop)]
+pub struct SortedRoll {
+    keys: Vec<Key>,
+    capacity: Seats,
+}
+
+impl Model for SortedRoll {
+    ghost use Rattle.sc_seats.specs.Roll.{Held, IsRoll};
+
+    ghost Value = { Held };
+
+    ghost view = { λ r. record { keys = r.keys.items; seats = r.capacity } };
+
+    ghost invariant = { λ r. IsRoll (record { keys = r.keys.items; seats = r.capacity }) };
+}
+
+/// How many of the keys are ahead of one that is not among them.
+fn place_of(keys: &[Key], key: &Key) -> usize
+    requires ascending { IsAscending keys.now }
+    requires new { ¬ Contains keys.now key.now }
+    ensures within { result ≤ length keys.now }
+    ensures ahead { (k : ℕ) (d : Key) → k < result → is_before (slice_index_or keys.now k d) key.now ≡ true }
+    ensures behind { (k : ℕ) (d : Key) → result ≤ k → k < length keys.now → is_before key.now (slice_index_or keys.now k d) ≡ true }
+{
+    match keys.binary_search(key) {
+        Ok(place) => place,
+        Err(place) => place,
+    }
+}
+
+/// Puts the key in at the place.
+fn put_in(keys: &mut Vec<Key>, place: usize, key: Key) -> Result<(), AllocError>
+    requires { place ≤ vec_len keys.old }
+    ensures put { OnOk result (keys.new.items ≡ insert keys.old.items place key) }
+    ensures unchanged { OnErr result (keys.new.items ≡ keys.old.items) }
+{
+    keys.insert(place, key)?;
+    Ok(())
+}
+
+/// Takes the last key out where there is one more than there are seats.
+fn take_excess(keys: &mut Vec<Key>, capacity: usize) -> Option<Key>
+    requires { vec_len keys.old ≤ capacity + 1 }
+    ensures last { keys.old.items ≡ keys.new.items ++ option_to_list result }
+    ensures within { vec_len keys.new ≤ capacity }
+    ensures full { IsSome result → vec_len keys.old ≡ capacity + 1 }
+{
+    if keys.len() > capacity {
+        keys.pop()
+    } else {
+        None
+    }
+}
+
+impl Roll for SortedRoll {
+    ghost keys = { λ r. r.keys };
+
+    ghost seats = { λ r. r.seats };
+
+    fn with_capacity(alloc: Global, capacity: Seats) -> Self {
+        SortedRoll {
+            keys: Vec::new(alloc),
+            capacity,
+        }
+    }
+
+    fn offer(&mut self, key: Key) -> Result<Option<Key>, AllocError> {
+        let place = place_of(self.keys.as_slice(), &key);
+        put_in(&mut self.keys, place, key)?;
+        let capacity = self.capacity.get() as usize;
+        Ok(take_excess(&mut self.keys, capacity))
+    }
+
+    fn worst(&self) -> Option<Key> {
+        self.keys.as_slice().last().copied()
+    }
+
+    fn len(&self) -> usize {
+        self.keys.len()
+    }
+
+    fn capacity(&self) -> Seats {
+        self.capacity
+    }
+
+    fn copy(&self, alloc: Global) -> Result<Self, AllocError> {
+        Ok(SortedRoll {
+            keys: Vec::from_slice(alloc, self.keys.as_slice())?,
+            capacity: self.capacity,
+        })
+    }
+}
