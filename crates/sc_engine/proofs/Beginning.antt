@@ -1,0 +1,164 @@
+-- A student who enters begins a chain.
+use Rattle.std.proofs.Common.{◌≡◌, inl, inr, refl, ap, sym, subst, ◌∙◌, ℕ, ◌<◌, ◌==◌, nat_eq, Bool, true, false, not, ◌&&◌, ◌||◌, List, [], ◌∷◌, ◌++◌, length, set, Option, Some, None, is_some, find, position, slice_get, arith, length-set}
+use Rattle.std.proofs.lemmas.Bool.{cases_Bool, cases_eq, eq-eqb, ne_eqb, false≢true, true≢false, and_left, and_right, or_right}
+use Rattle.sc_papers.specs.Market.{Market, students_of, choices_of}
+use Rattle.sc_papers.specs.Matching.{has}
+use Rattle.sc_papers.specs.Log.{next_choice, is_rejected, IsSettled}
+use Rattle.sc_papers.specs.Chain.{InChain, and_one}
+use Rattle.sc_papers.specs.Restriction.{restricted}
+use Rattle.sc_papers.specs.declared.rejection.Rejection.{Rejection}
+use Rattle.sc_papers.specs.declared.records.Student.{Student}
+use Rattle.sc_papers.proofs.Chain.{chain-begins}
+use Rattle.sc_papers.proofs.Rejections.{is_of, rejected-push, find-agree, has-agree}
+use Rattle.sc_papers.proofs.Restriction.{restricted-restricts, next-kept, next-dropped}
+use Rattle.sc_papers.proofs.Subsets.{next-passes}
+use Rattle.sc_papers.proofs.Validity.{along}
+use Rattle.sc_engine.specs.Standing.{Standings, place_of, next_of, has_entered, FitsBut, Fits, only, nobody, entered_papers, Continues, Midway, ChainEnds, Enters, CountsProposals, Extends, RollFits, roll_of}
+use Rattle.sc_engine.proofs.Tables.{place-written, place-kept, next-by, next-none}
+use Rattle.sc_engine.proofs.Tables as tables
+use Rattle.sc_engine.proofs.Rolls.{roll-fits_still}
+use Rattle.sc_engine.proofs.Proposals.{has-none, not-there, stays, standing-without, standing-others, counted-within}
+
+-- the student goes to its first choice, with nothing else changed
+pub record Begun (m : Market) (r r' : Standings) (i at : ℕ) : Type 0 where
+  pub fits : Fits m r
+  pub student : position (nat_eq i) (students_of m) ≡ Some at
+  pub low : at < length r.places
+  pub absent : has_entered m r.places i ≡ false
+  pub places : r'.places ≡ set r.places at (Some 0)
+  pub rolls : r'.rolls ≡ r.rolls
+  pub log : r'.log ≡ r.log
+  pub proposals : r'.proposals ≡ r.proposals
+
+is_some-none : {A : Type 0} (o : Option A) → is_some o ≡ false → o ≡ None
+is_some-none None e = refl
+is_some-none (Some x) e = absurd (true≢false e)
+
+module _ {m : Market} {r r' : Standings} {i at : ℕ} (begun : Begun m r r' i at) where
+  pub place-first : place_of m r'.places i ≡ Some 0
+  place-first = ap (λ ps. place_of m ps i) begun.places ∙ place-written m r.places i at (Some 0) begun.student begun.low
+
+  pub place-others : (j : ℕ) → (j ≡ i → ⊥) → place_of m r'.places j ≡ place_of m r.places j
+  place-others j apart = ap (λ ps. place_of m ps j) begun.places ∙ place-kept m r.places i at (Some 0) begun.student j apart
+
+  pub next-others : (j : ℕ) → (j ≡ i → ⊥) → next_of m r'.places j ≡ next_of m r.places j
+  next-others j apart = tables.next-kept m r.places r'.places j (place-others j apart)
+
+  pub next-absent : next_of m r.places i ≡ None
+  next-absent = next-none m r.places i (is_some-none (place_of m r.places i) begun.absent)
+
+or-same : (a b : Bool) → b ≡ false → a ≡ (a || b)
+or-same true b off = refl
+or-same false b off = sym off
+
+-- one more has entered
+pub entered-begun : {m : Market} {r r' : Standings} {i at : ℕ} → Begun m r r' i at → (j : ℕ) → has_entered m r'.places j ≡ and_one (has_entered m r.places) i j
+entered-begun {m} {r} {r'} {i} begun j = elim (cases_eq j i) [
+  | inl same ↦ ap (has_entered m r'.places) same ∙ ap is_some (place-first begun) ∙ sym (or_right (has_entered m r.places j) (j == i) (eq-eqb j i same))
+  | inr apart ↦ ap is_some (place-others begun j apart) ∙ or-same (has_entered m r.places j) (j == i) (ne_eqb j i apart)
+]
+
+-- nothing is counted
+pub counted-begun : {m : Market} {r r' : Standings} {i at : ℕ} → Begun m r r' i at → CountsProposals m r nobody r' (only i)
+counted-begun {m} {r} {r'} {i} begun =
+    omega (
+      arith,
+      begun.proposals,
+      ap (λ (l : List Rejection). length l) begun.log,
+      standing-without m r.places i (next-absent begun),
+      standing-others m r.places r'.places i (next-others begun),
+    )
+
+stand-alike : {m : Market} {r r' : Standings} {i at : ℕ} → Begun m r r' i at → (t j : ℕ) → (has (next_of m r.places) t j && not false) ≡ (has (next_of m r'.places) t j && not (j == i))
+stand-alike {m} {r} {r'} {i} begun t j = elim (cases_eq j i) [
+  | inl same ↦
+      stays (has (next_of m r.places) t j) ∙ has-none (next_of m r.places) t j (ap (next_of m r.places) same ∙ next-absent begun)
+      ∙ sym (and_right (has (next_of m r'.places) t j) (not (j == i)) (ap not (eq-eqb j i same)))
+  | inr apart ↦
+      stays (has (next_of m r.places) t j) ∙ sym (has-agree (next_of m r'.places) (next_of m r.places) t j (next-others begun j apart))
+      ∙ sym (not-there (has (next_of m r'.places) t j) j i (λ same. absurd (apart same)))
+]
+
+-- the rolls still fit, with the student away
+pub fits-begun : {m : Market} {r r' : Standings} {i at : ℕ} → Begun m r r' i at → FitsBut m r' (only i)
+fits-begun {m} {r} {r'} {i} {at} begun = record {
+  well_formed = begun.fits.well_formed;
+  within_limits = begun.fits.within_limits;
+  places = ap length begun.places ∙ length-set r.places at (Some 0) ∙ begun.fits.places;
+  rolls = ap length begun.rolls ∙ begun.fits.rolls;
+  each = λ t. subst (λ rolls. RollFits m (next_of m r'.places) (only i) t (roll_of m rolls t)) (sym begun.rolls)
+      (roll-fits_still m (next_of m r.places) (next_of m r'.places) nobody (only i) t (roll_of m r.rolls t) (stand-alike begun t) (begun.fits.each t));
+  proposals = counted-within m r nobody r' (only i) (counted-begun begun) begun.fits.proposals;
+}
+
+-- a log that is settled for those who have entered rejects nobody else
+record RejectsNo (i : ℕ) (log : List Rejection) : Type 0 where
+  none : (s : ℕ) → is_rejected log i s ≡ false
+
+absent-unrejected : (m : Market) (entered : ℕ → Bool) (i : ℕ) (log : List Rejection) → entered i ≡ false → IsSettled (restricted m entered) log → (s : ℕ) → is_rejected log i s ≡ false
+absent-unrejected m entered i log absent settled =
+    (along (restricted m entered) (RejectsNo i)
+    (λ before e valid none. record {
+      none = λ s. rejected-push before e i s ∙ ap (λ b. b || is_of e i s) (none.none s) ∙ and_left (e.student == i) (e.school == s)
+          (ne_eqb e.student i (λ same. false≢true (sym absent ∙ ap entered (sym same) ∙ next-passes (restricted-restricts m entered) before e.student e.school valid.next)));
+    })
+    [] log (record { none = λ s. refl }) settled.valid).none
+
+find-all : (xs : List ℕ) → find (λ s. true) xs ≡ slice_get xs 0
+find-all [] = refl
+find-all (x ∷ xs) = refl
+
+-- the next choice of one who is not rejected is the first
+first-choice : (m : Market) (log : List Rejection) (i : ℕ) → ((s : ℕ) → is_rejected log i s ≡ false) → next_choice m log i ≡ slice_get (choices_of m i) 0
+unfolding next_choice
+first-choice m log i none = find-agree (λ s. not (is_rejected log i s)) (λ s. true) (λ s. ap not (none s)) (choices_of m i) ∙ find-all (choices_of m i)
+
+-- the chain is in course after each earlier log that the round continued
+pub midway-begun : {m : Market} {r r' : Standings} {i at : ℕ} → Begun m r r' i at → (earlier : List Rejection) → Continues m earlier r → Midway m earlier r' i
+midway-begun {m} {r} {r'} {i} begun earlier continues =
+    let entered : ℕ → Bool = has_entered m r.places in
+    let log : List Rejection = earlier ++ r.log in
+    let n : Market = restricted m entered in
+    let n' : Market = restricted m (and_one entered i) in
+    let same_papers : entered_papers m r'.places ≡ n' = λ t. restricted m (λ j. entered-begun begun j t) in
+    let same_log : earlier ++ r'.log ≡ log = ap (λ l. earlier ++ l) begun.log in
+    let own : next_choice n' log i ≡ next_of m r'.places i =
+    next-kept (restricted-restricts m (and_one entered i)) log i (or_right (entered i) (i == i) (eq-eqb i i refl))
+    ∙ first-choice m log i (absent-unrejected m entered i log begun.absent continues.settled)
+    ∙ sym (next-by m r'.places i 0 (place-first begun)) in
+    let others : (j : ℕ) → (j ≡ i → ⊥) → next_choice n' log j ≡ next_of m r'.places j = λ j apart.
+    let same : and_one entered i j ≡ entered j = sym (or-same (entered j) (j == i) (ne_eqb j i apart)) in
+    (elim (cases_Bool (entered j)) [
+      | inl here ↦ next-kept (restricted-restricts m (and_one entered i)) log j (same ∙ here) ∙ sym (next-kept (restricted-restricts m entered) log j here)
+      | inr gone ↦ next-dropped (restricted-restricts m (and_one entered i)) log j (same ∙ gone) ∙ sym (next-dropped (restricted-restricts m entered) log j gone)
+    ]) ∙ continues.next j ∙ sym (next-others begun j apart) in
+    record {
+      chain = subst (λ p. InChain p (earlier ++ r'.log) i) (sym same_papers) (subst (λ l. InChain n' l i) (sym same_log) (chain-begins m entered i log continues.settled));
+      next = λ j. ap (λ p. next_choice p (earlier ++ r'.log) j) same_papers ∙ ap (λ l. next_choice n' l j) same_log ∙ elim (cases_eq j i) [
+        | inl same ↦ ap (next_choice n' log) same ∙ own ∙ ap (next_of m r'.places) (sym same)
+        | inr apart ↦ others j apart
+      ];
+    }
+
+-- a whole chain
+pub enters : {m : Market} {r r' r'' : Standings} {i at : ℕ} → Begun m r r' i at → ChainEnds m r' r'' i → Enters m r r'' i
+enters {m} {r} {r'} {r''} {i} begun ends = record {
+  fits = ends.fits;
+  entered = λ j. ends.entered j ∙ entered-begun begun j;
+  continues = λ earlier continues. ends.continues earlier (midway-begun begun earlier continues);
+  extends = subst (λ l. Extends l r''.log) begun.log ends.extends;
+  counted = omega (arith, counted-begun begun, ends.counted);
+}
+
+-- the standings with the student at its first choice
+pub begins : (m : Market) (r : Standings) (i at : ℕ) → Fits m r → position (nat_eq i) (students_of m) ≡ Some at → has_entered m r.places i ≡ false → Begun m r (record r { places = set r.places at (Some 0) }) i at
+begins m r i at fits found absent = record {
+  fits = fits;
+  student = found;
+  low = omega (arith, (tables.position-at (students_of m) i at found).0, tables.length-mapped (λ (e : ℕ × Student). e.0) m.students, fits.places);
+  absent = absent;
+  places = refl;
+  rolls = refl;
+  log = refl;
+  proposals = refl;
+}

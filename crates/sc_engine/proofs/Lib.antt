@@ -1,0 +1,12 @@
+pub mod Tables
+pub mod Offers
+pub mod Rolls
+pub mod Proposals
+pub mod Steps
+pub mod Papers
+pub mod Moves
+pub mod Places
+pub mod Beginning
+pub mod Starting
+pub mod Settling
+pub mod Backwards

@@ -1,0 +1,114 @@
+-- The moves of a chain, as the code makes them.
+use Rattle.std.proofs.Common.{◌≡◌, refl, ap, sym, subst, ◌∙◌, ℕ, ◌+◌, ◌<◌, ◌≤◌, nat_eq, List, [], ◌∷◌, ◌++◌, length, set, Option, Some, None, Contains, position, is_some, append_assoc, append-nil, arith}
+use Rattle.sc_papers.specs.Market.{Market, students_of, schools_of}
+use Rattle.sc_papers.specs.Key.{key_of}
+use Rattle.sc_papers.specs.declared.key.Key.{Key}
+use Rattle.sc_papers.specs.declared.records.Student.{Student}
+use Rattle.sc_papers.specs.declared.rejection.Rejection.{Rejection}
+use Rattle.sc_seats.specs.Roll.{Held}
+use Rattle.sc_engine.specs.Standing.{Standings, place_of, next_of, FitsBut, only, OffersAt, RollFits, roll_at, ChainEnds, ChainGoesOn, Extends, Proposes}
+use Rattle.std.proofs.lemmas.Bool.{eq-eqb}
+use Rattle.sc_engine.proofs.Rolls.{away-off}
+use Rattle.sc_engine.proofs.Tables.{length-mapped, roll-at, stands-at, StandsAt, position-of, PositionOf}
+use Rattle.sc_engine.proofs.Proposals.{Proposed, put-out, Out, fits-held, fits-ended, counted-ended, counted-held}
+use Rattle.sc_engine.proofs.Steps.{Rejected, entry_of, entered-stays, fits-put_out, counted-put_out, midway-put_out, continues-held, continues-ended, left-put_out}
+
+pub proposed-from : (m : Market) (r : Standings) (hand s at : ℕ) (key : Key) (rolls : List Held) (out : Option Key) → FitsBut m r (only hand) → next_of m r.places hand ≡ Some s → position (nat_eq s) (schools_of m) ≡ Some at → key ≡ key_of m hand s → OffersAt r.rolls rolls at key out → Proposed m r hand s at rolls out
+proposed-from m r hand s at key rolls out fits stands school is offered = record {
+  fits = fits;
+  stands = stands;
+  school = school;
+  offered = subst (λ k. OffersAt r.rolls rolls at k out) is offered;
+}
+
+pub extends-same : (old new : List Rejection) → new ≡ old → Extends old new
+extends-same old new same = ([], same ∙ sym (append-nil old))
+
+pub extends-trans : (a b c : List Rejection) → Extends a b → Extends b c → Extends a c
+extends-trans a b c (first, is_b) (second, is_c) = (first ++ second, is_c ∙ ap (λ l. l ++ second) is_b ∙ append_assoc a first second)
+
+-- the student in hand has no choice left
+pub ends-none : (m : Market) (r : Standings) (hand : ℕ) → FitsBut m r (only hand) → next_of m r.places hand ≡ None → ChainEnds m r r hand
+ends-none m r hand fits none = record {
+  fits = fits-ended m r hand fits none;
+  entered = λ i. refl;
+  continues = continues-ended m r hand fits none;
+  counted = counted-ended m r hand none;
+  extends = extends-same r.log r.log refl;
+}
+
+-- the roll had room
+pub ends-held : (m : Market) (r r' : Standings) (hand s at : ℕ) → Proposed m r hand s at r'.rolls None → r'.places ≡ r.places → r'.log ≡ r.log → r'.proposals ≡ r.proposals + 1 → ChainEnds m r r' hand
+ends-held m r r' hand s at done same_places same_log one_more = record {
+  counted = counted-held m r r' hand s done.fits.well_formed done.stands same_places same_log one_more;
+  fits = fits-held m r r' hand s at done same_places (counted-held m r r' hand s done.fits.well_formed done.stands same_places same_log one_more);
+  entered = λ i. ap (λ places. is_some (place_of m places i)) same_places;
+  continues = continues-held m r r' hand s at done same_places same_log;
+  extends = extends-same r.log r'.log same_log;
+}
+
+-- a student is put out and moves on
+pub goes-on : (m : Market) (r r' : Standings) (hand s at : ℕ) (rolls : List Held) (out : Key) → Proposed m r hand s at rolls (Some out) → r'.rolls ≡ rolls → r'.log ≡ r.log ++ entry_of out.student s ∷ []
+    → ((k place : ℕ) → position (nat_eq out.student) (students_of m) ≡ Some k → place_of m r.places out.student ≡ Some place → r'.places ≡ set r.places k (Some (place + 1)))
+    → r'.proposals ≡ r.proposals + 1 → Proposes m r r' hand (Some out.student)
+goes-on m r r' hand s at rolls out done same_rolls log moved one_more =
+    let gone : Out m (next_of m r.places) hand s out = put-out m r hand s at rolls out done in
+    let stood : StandsAt m r.places out.student s = stands-at m r.places out.student s gone.stands in
+    let where_is : PositionOf m r.places out.student stood.place = position-of m r.places out.student stood.place stood.entered in
+    let done' : Proposed m r hand s at r'.rolls (Some out) = subst (λ rs. Proposed m r hand s at rs (Some out)) (sym same_rolls) done in
+    let low : where_is.at < length r.places = omega (arith, where_is.low, done.fits.places, length-mapped (λ (e : ℕ × Student). e.0) m.students) in
+    let step : Rejected m r r' out.student s where_is.at stood.place = record {
+      student = where_is.found;
+      low = low;
+      stood = stood.entered;
+      choice = stood.choice;
+      places = moved where_is.at stood.place where_is.found stood.entered;
+      log = log;
+    } in
+    let counted = counted-put_out m r r' hand s out.student where_is.at stood.place done.fits.well_formed done.stands step one_more in (
+      record {
+        counted = counted;
+        fits = fits-put_out m r r' hand s at out where_is.at stood.place done' step counted;
+        entered = entered-stays step;
+        continues = midway-put_out m r r' hand s at out where_is.at stood.place done' step;
+        extends = (entry_of out.student s ∷ [], log);
+      },
+      omega (arith, left-put_out m r r' out.student s where_is.at stood.place done.fits.well_formed step),
+    )
+
+-- a chain that has not begun
+pub goes-on_first : (m : Market) (r : Standings) (hand : ℕ) → FitsBut m r (only hand) → ChainGoesOn m r r hand hand
+goes-on_first m r hand fits = record {
+  fits = fits;
+  entered = λ i. refl;
+  continues = λ earlier midway. midway;
+  counted = refl;
+  extends = extends-same r.log r.log refl;
+}
+
+pub goes-on_more : (m : Market) (a b c : Standings) (i j k : ℕ) → ChainGoesOn m a b i j → ChainGoesOn m b c j k → ChainGoesOn m a c i k
+goes-on_more m a b c i j k first second = record {
+  fits = second.fits;
+  entered = λ x. second.entered x ∙ first.entered x;
+  continues = λ earlier midway. second.continues earlier (first.continues earlier midway);
+  counted = omega (arith, first.counted, second.counted);
+  extends = extends-trans a.log b.log c.log first.extends second.extends;
+}
+
+pub goes-on_ends : (m : Market) (a b c : Standings) (i j : ℕ) → ChainGoesOn m a b i j → ChainEnds m b c j → ChainEnds m a c i
+goes-on_ends m a b c i j first last = record {
+  fits = last.fits;
+  entered = λ x. last.entered x ∙ first.entered x;
+  continues = λ earlier midway. last.continues earlier (first.continues earlier midway);
+  counted = omega (arith, first.counted, last.counted);
+  extends = extends-trans a.log b.log c.log first.extends last.extends;
+}
+
+-- what an offer asks of the roll
+pub roll-room : (m : Market) (r : Standings) (hand s at : ℕ) → FitsBut m r (only hand) → position (nat_eq s) (schools_of m) ≡ Some at → length (roll_at r.rolls at).keys ≤ (roll_at r.rolls at).seats
+roll-room m r hand s at fits school = (subst (RollFits m (next_of m r.places) (only hand) s) (roll-at m r.rolls s at school) (fits.each s)).within
+
+pub roll-new : (m : Market) (r : Standings) (hand s at : ℕ) (key : Key) → FitsBut m r (only hand) → position (nat_eq s) (schools_of m) ≡ Some at → key ≡ key_of m hand s → Contains (roll_at r.rolls at).keys key → ⊥
+roll-new m r hand s at key fits school is held =
+    away-off m (next_of m r.places) (only hand) s (roll_at r.rolls at) hand (subst (RollFits m (next_of m r.places) (only hand) s) (roll-at m r.rolls s at school) (fits.each s)) (eq-eqb hand hand refl)
+    (subst (Contains (roll_at r.rolls at).keys) is held)

@@ -1,0 +1,166 @@
+-- All students enter, in order of entry.
+use Rattle.std.proofs.Common.{◌≡◌, inl, inr, refl, ap, sym, subst, ◌∙◌, ℕ, zero, suc, ◌+◌, ◌<◌, ◌≤◌, ◌==◌, nat_eq, Bool, true, false, cond, not, ◌&&◌, ◌||◌, List, [], ◌∷◌, ◌++◌, length, get_or, take, filter, Option, Some, None, Contains, is_some, slice_get, add-one, arith}
+use Rattle.std.specs.List.{list_any, IsDistinct}
+use Rattle.std.specs.Map.{keys_of}
+use Rattle.std.proofs.lemmas.Bool.{cases_Bool, eqb-true, eq-eqb, false≢true, true≢false, cond-true, cond-false, or_right, false_from_ne_true}
+use Rattle.std.proofs.lemmas.Option.{slice_get_within, get_or_from_slice_get}
+use Rattle.std.proofs.lemmas.List.Folds.{list_any_none}
+use Rattle.std.proofs.lemmas.List.{get_or-take, get_or_default}
+use Rattle.std.proofs.Math.Seq.{take-suc}
+use Rattle.std.proofs.lemmas.Map.Keys.{apart_from_distinct}
+use Rattle.sc_papers.specs.Assignment.{assigned, with_place}
+use Rattle.sc_papers.specs.Market.{Market, students_of}
+use Rattle.sc_papers.specs.Log.{next_choice, matching_of, IsSettled}
+use Rattle.sc_papers.specs.Matching.{how_many, Matching, IsStudentOptimal}
+use Rattle.sc_papers.specs.Progress.{placed}
+use Rattle.sc_papers.specs.Restriction.{restricted}
+use Rattle.sc_papers.specs.WellFormed.{WellFormed}
+use Rattle.sc_papers.specs.declared.records.Student.{Student}
+use Rattle.sc_papers.specs.declared.rejection.Rejection.{Rejection}
+use Rattle.sc_papers.proofs.Counting.{contains-head, contains-tail}
+use Rattle.sc_papers.proofs.Optimality.{settled-optimal}
+use Rattle.sc_papers.proofs.Rejections.{any-push}
+use Rattle.sc_papers.proofs.Students.{how_many-agree, how_many-none}
+use Rattle.sc_engine.specs.Standing.{Standings, place_of, next_of, has_entered, Fits, standing_but, entered_papers, Continues, Enters, SettlesFirst}
+use Rattle.sc_engine.proofs.Tables.{next-none, next-among, length-mapped}
+use Rattle.sc_engine.proofs.Papers.{any-among}
+use Rattle.sc_engine.proofs.Proposals.{stays}
+use Rattle.sc_engine.proofs.Places.{assigned-with_place}
+
+-- whether a number is among the first k
+abbrev pub among_first : List ℕ → ℕ → ℕ → Bool
+among_first xs k j = list_any (nat_eq j) (take k xs)
+
+length-take-le : (k : ℕ) (xs : List ℕ) → length (take k xs) ≤ k
+length-take-le zero xs = omega arith
+length-take-le (suc k) [] = omega arith
+length-take-le (suc k) (x ∷ xs) = omega (arith, length-take-le k xs)
+
+take-all : (xs : List ℕ) → take (length xs) xs ≡ xs
+take-all [] = refl
+take-all (x ∷ xs) = ap (λ ys. x ∷ ys) (take-all xs)
+
+-- among one more
+first-more : (xs : List ℕ) (k i : ℕ) → slice_get xs k ≡ Some i → (j : ℕ) → among_first xs (k + 1) j ≡ (among_first xs k j || j == i)
+first-more xs k i here j =
+    ap (λ n. among_first xs n j) (add-one k)
+    ∙ ap (list_any (nat_eq j)) (take-suc xs k i (slice_get_within xs k i here) ∙ ap (λ x. take k xs ++ x ∷ []) (get_or_from_slice_get xs k i i here))
+    ∙ any-push (nat_eq j) (take k xs) i
+
+-- the next one is not among them
+pub first-apart : (xs : List ℕ) (k i : ℕ) → IsDistinct nat_eq xs → slice_get xs k ≡ Some i → among_first xs k i ≡ false
+first-apart xs k i distinct here =
+    list_any_none (nat_eq i) (take k xs) (λ j d low.
+    let below : j < k = omega (arith, low, length-take-le k xs) in
+    let apart = apart_from_distinct nat_eq xs j k i distinct below (slice_get_within xs k i here) in
+    false_from_ne_true (nat_eq i (get_or (take k xs) j d)) (λ same.
+    let is : i ≡ get_or xs j d = eqb-true i (get_or (take k xs) j d) same ∙ get_or-take k xs j d below in
+    false≢true (sym apart ∙ eq-eqb (get_or xs j i) (get_or xs k i) (get_or_default xs j i d (omega (arith, below, slice_get_within xs k i here)) ∙ sym is ∙ sym (get_or_from_slice_get xs k i i here)))))
+
+-- all are among all
+first-all : (xs : List ℕ) (j : ℕ) → Contains xs j → among_first xs (length xs) j ≡ true
+first-all xs j among = ap (list_any (nat_eq j)) (take-all xs) ∙ any-among xs j among
+
+-- one more student has entered
+pub settles-more : (m : Market) (old new : Standings) (k i : ℕ) → slice_get (students_of m) k ≡ Some i → SettlesFirst m old k → Enters m old new i → SettlesFirst m new (k + 1)
+settles-more m old new k i here before enters = record {
+  fits = enters.fits;
+  entered = λ j. enters.entered j ∙ ap (λ b. b || j == i) (before.entered j) ∙ sym (first-more (students_of m) k i here j);
+  settled = enters.continues [] before.settled;
+  counted = omega (arith, before.counted, enters.counted);
+}
+
+-- nobody stands at a choice where nobody has entered
+pub settles-none : (m : Market) (r : Standings) → Fits m r → ((i : ℕ) → has_entered m r.places i ≡ false) → Continues m [] r → r.log ≡ [] → r.proposals ≡ 0 → SettlesFirst m r 0
+unfolding standing_but
+settles-none m r fits nowhere continues no_log none = record {
+  fits = fits;
+  entered = nowhere;
+  settled = continues;
+  counted =
+      let standing : how_many m (λ i. is_some (next_of m r.places i) && not false) ≡ 0 =
+      how_many-none m (λ i. is_some (next_of m r.places i) && not false) (λ i among. stays (is_some (next_of m r.places i)) ∙ ap is_some (next-none m r.places i (is_some-none (place_of m r.places i) (nowhere i)))) in
+      omega (arith, standing, none, ap (λ (l : List Rejection). length l) no_log);
+}
+  where
+    is_some-none : (o : Option ℕ) → is_some o ≡ false → o ≡ None
+    is_some-none None e = refl
+    is_some-none (Some x) e = absurd (true≢false e)
+
+-- papers restricted to students among whom all are, are the papers
+filter-all : (test : ℕ → Bool) (es : List (ℕ × Student)) → ((i : ℕ) → Contains (keys_of es) i → test i ≡ true) → filter (λ e. test e.0) es ≡ es
+filter-all test [] all = refl
+filter-all test (e ∷ es) all =
+    cond-true (test e.0) (e ∷ filter (λ f. test f.0) es) (filter (λ f. test f.0) es) (all e.0 (contains-head e.0 (keys_of es)))
+    ∙ ap (λ rest. e ∷ rest) (filter-all test es (λ i among. all i (contains-tail e.0 (keys_of es) i among)))
+
+restricted-all : (m : Market) (test : ℕ → Bool) → ((i : ℕ) → Contains (students_of m) i → test i ≡ true) → restricted m test ≡ m
+unfolding restricted
+restricted-all m test all = λ t. record m { students = filter-all test m.students all t }
+
+pub papers-all : (m : Market) (r : Standings) → SettlesFirst m r (length m.students) → entered_papers m r.places ≡ m
+papers-all m r all = restricted-all m (has_entered m r.places) (λ i among. all.entered i ∙ ap (λ n. among_first (students_of m) n i) (sym (length-mapped (λ (e : ℕ × Student). e.0) m.students)) ∙ first-all (students_of m) i among)
+
+-- the log is settled, and the students stand at their next choices
+pub settled-all : (m : Market) (r : Standings) → SettlesFirst m r (length m.students) → IsSettled m r.log
+settled-all m r all = subst (λ n. IsSettled n r.log) (papers-all m r all) all.settled.settled
+
+pub next-all : (m : Market) (r : Standings) → SettlesFirst m r (length m.students) → (i : ℕ) → next_of m r.places i ≡ next_choice m r.log i
+next-all m r all i = sym (all.settled.next i) ∙ ap (λ n. next_choice n r.log i) (papers-all m r all)
+
+pub optimal-all : (m : Market) (r : Standings) (given : Matching) → SettlesFirst m r (length m.students) → ((i : ℕ) → given i ≡ next_of m r.places i) → IsStudentOptimal m given
+optimal-all m r given all is =
+    let same : matching_of m r.log ≡ given = λ t i. (sym (is i ∙ next-all m r all i)) t in
+    subst (IsStudentOptimal m) same (settled-optimal m all.fits.well_formed r.log (settled-all m r all))
+
+pub placed-all : (m : Market) (r : Standings) (given : Matching) → SettlesFirst m r (length m.students) → ((i : ℕ) → given i ≡ next_of m r.places i) → r.proposals ≡ length r.log + placed m given
+unfolding standing_but
+placed-all m r given all is =
+    let same : how_many m (λ i. is_some (next_of m r.places i) && not false) ≡ placed m given =
+    how_many-agree m (λ i. is_some (next_of m r.places i) && not false) (λ i. is_some (given i)) (λ i. stays (is_some (next_of m r.places i)) ∙ ap is_some (sym (is i))) in
+    omega (arith, all.counted, same)
+
+-- what the first students have
+abbrev pub GivesFirst : Market → List (Option ℕ) → List (ℕ × ℕ) → ℕ → Type 0
+GivesFirst m places pairs k = (j : ℕ) → assigned pairs j ≡ cond (among_first (students_of m) k j) (next_of m places j) None
+
+pub gives-more : (m : Market) (places : List (Option ℕ)) (old new : List (ℕ × ℕ)) (k i : ℕ) → slice_get (students_of m) k ≡ Some i → GivesFirst m places old k → ((j : ℕ) → assigned new j ≡ cond (nat_eq j i) (next_of m places i) (assigned old j)) → GivesFirst m places new (k + 1)
+gives-more m places old new k i here before given j =
+    given j ∙ elim (cases_Bool (nat_eq j i)) [
+      | inl same ↦
+          cond-true (nat_eq j i) (next_of m places i) (assigned old j) same ∙ ap (next_of m places) (sym (eqb-true j i same))
+          ∙ sym (cond-true (among_first (students_of m) (k + 1) j) (next_of m places j) None (first-more (students_of m) k i here j ∙ or_right (among_first (students_of m) k j) (j == i) same))
+      | inr apart ↦
+          cond-false (nat_eq j i) (next_of m places i) (assigned old j) apart ∙ before j
+          ∙ ap (λ b. cond b (next_of m places j) None) (sym (first-more (students_of m) k i here j ∙ without (among_first (students_of m) k j) (j == i) apart))
+    ]
+  where
+    without : (a b : Bool) → b ≡ false → (a || b) ≡ a
+    without true b off = refl
+    without false b off = off
+
+pub gives-none : (m : Market) (places : List (Option ℕ)) (pairs : List (ℕ × ℕ)) (k i : ℕ) → WellFormed m → slice_get (students_of m) k ≡ Some i → GivesFirst m places pairs k → assigned pairs i ≡ None
+gives-none m places pairs k i well here gives =
+    gives i ∙ cond-false (among_first (students_of m) k i) (next_of m places i) None (first-apart (students_of m) k i well.students_differ here)
+
+pub gives-all : (m : Market) (places : List (Option ℕ)) (pairs : List (ℕ × ℕ)) → GivesFirst m places pairs (length m.students) → (i : ℕ) → assigned pairs i ≡ next_of m places i
+gives-all m places pairs gives i = gives i ∙ go (next_of m places i) refl
+  where
+    go : (o : Option ℕ) → next_of m places i ≡ o → cond (among_first (students_of m) (length m.students) i) (next_of m places i) None ≡ next_of m places i
+    go None is = both (among_first (students_of m) (length m.students) i) (next_of m places i) is
+      where
+        both : (b : Bool) (o : Option ℕ) → o ≡ None → cond b o None ≡ o
+        both true o e = refl
+        both false o e = sym e
+    go (Some s) is = cond-true (among_first (students_of m) (length m.students) i) (next_of m places i) None
+        (ap (λ n. among_first (students_of m) n i) (sym (length-mapped (λ (e : ℕ × Student). e.0) m.students)) ∙ first-all (students_of m) i (next-among m places i s is))
+
+-- one more place given, or none to one who had none
+pub given-some : (old : List (ℕ × ℕ)) (i s j : ℕ) → assigned (with_place old i s) j ≡ cond (nat_eq j i) (Some s) (assigned old j)
+given-some old i s j = assigned-with_place old i s j
+
+pub given-none : (old : List (ℕ × ℕ)) (i j : ℕ) → assigned old i ≡ None → assigned old j ≡ cond (nat_eq j i) None (assigned old j)
+given-none old i j none = elim (cases_Bool (nat_eq j i)) [
+  | inl same ↦ ap (assigned old) (eqb-true j i same) ∙ none ∙ sym (cond-true (nat_eq j i) None (assigned old j) same)
+  | inr apart ↦ sym (cond-false (nat_eq j i) None (assigned old j) apart)
+]

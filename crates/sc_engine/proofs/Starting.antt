@@ -1,0 +1,145 @@
+-- The standings before anybody has entered.
+use Rattle.std.proofs.Common.{◌≡◌, inl, inr, refl, ap, sym, subst, ◌∙◌, ℕ, ◌+◌, ◌<◌, nat_eq, false, not, ◌&&◌, List, [], ◌∷◌, ◌++◌, length, get_or, map, Option, Some, None, All, is_some, position, slice_get, arith}
+use Rattle.std.specs.Option.{option_map_or}
+use Rattle.std.proofs.lemmas.Bool.{cases_lt, cases_Bool, and_left, and_right, false≢true, true≢false}
+use Rattle.std.proofs.lemmas.List.{get_or_append_left, get_or_push, length_push}
+use Rattle.std.proofs.lemmas.Option.{slice_get-get_or}
+use Rattle.sc_papers.specs.Market.{Market, students_of, schools_of, seats_of, school_of, is_school}
+use Rattle.sc_papers.specs.Matching.{has}
+use Rattle.sc_papers.specs.Log.{next_choice, matching_of, IsSettled}
+use Rattle.sc_papers.specs.WellFormed.{WellFormed, WithinLimits}
+use Rattle.sc_papers.specs.declared.rejection.Rejection.{Rejection}
+use Rattle.sc_papers.specs.declared.records.School.{School}
+use Rattle.sc_papers.specs.declared.records.Student.{Student}
+use Rattle.sc_papers.proofs.Restriction.{restricted-restricts, next-dropped}
+use Rattle.sc_papers.proofs.Students.{how_many-none}
+use Rattle.sc_seats.specs.Roll.{Held}
+use Rattle.sc_engine.specs.Standing.{Standings, place_of, next_of, has_entered, roll_of, roll_at, no_roll, RollFits, Fits, nobody, Continues, AreEmpty, standing_but, entered_papers}
+use Rattle.sc_engine.proofs.Tables.{next-none, roll-at, position-at, length-mapped, get_or-mapped}
+use Rattle.sc_engine.proofs.Papers.{known-position, school-at}
+use Rattle.sc_engine.proofs.Proposals.{has-none}
+
+-- standings before anybody has entered
+pub record IsStart (m : Market) (r : Standings) : Type 0 where
+  pub well_formed : WellFormed m
+  pub within_limits : WithinLimits m
+  pub places : length r.places ≡ length m.students
+  pub nowhere : All (λ place. place ≡ None) r.places
+  pub rolls : length r.rolls ≡ length m.schools
+  pub empty : AreEmpty m r.rolls (length m.schools)
+  pub log : r.log ≡ []
+  pub proposals : r.proposals ≡ 0
+
+-- nobody has a place
+pub no-place : (m : Market) (places : List (Option ℕ)) → length places ≡ length m.students → All (λ place. place ≡ None) places → (i : ℕ) → place_of m places i ≡ None
+unfolding place_of
+no-place m places long nowhere i = go (position (nat_eq i) (students_of m)) refl
+  where
+    go : (o : Option ℕ) → position (nat_eq i) (students_of m) ≡ o → option_map_or (λ at. get_or places at None) o None ≡ None
+    go None is = refl
+    go (Some at) is = nowhere at None (omega (arith, (position-at (students_of m) i at is).0, length-mapped (λ (e : ℕ × Student). e.0) m.students, long))
+
+-- an unknown school has no seats
+no-seats : (m : Market) (s : ℕ) → is_school m s ≡ false → seats_of m s ≡ 0
+unfolding seats_of
+no-seats m s unknown = go (school_of m s) unknown
+  where
+    go : (found : Option School) → is_some found ≡ false → option_map_or (λ (school : School). school.seats) found 0 ≡ 0
+    go None e = refl
+    go (Some school) e = absurd (true≢false e)
+
+roll-unknown : (m : Market) (rolls : List Held) (s : ℕ) → is_school m s ≡ false → roll_of m rolls s ≡ no_roll
+unfolding roll_of
+roll-unknown m rolls s unknown = go (position (nat_eq s) (schools_of m)) refl
+  where
+    go : (o : Option ℕ) → position (nat_eq s) (schools_of m) ≡ o → option_map_or (roll_at rolls) o no_roll ≡ no_roll
+    go None is = refl
+    go (Some at) is =
+        let here = position-at (schools_of m) s at is in
+        absurd (false≢true (sym unknown ∙ school-at m at s (slice_get-get_or (schools_of m) at s here.0 ∙ ap Some here.1)))
+
+-- nobody is on the roll of a school, which has its seats
+roll-empty : (m : Market) (rolls : List Held) → AreEmpty m rolls (length m.schools) → (s : ℕ) → roll_of m rolls s ≡ record { keys = []; seats = seats_of m s }
+roll-empty m rolls empty s = elim (cases_Bool (is_school m s)) [
+  | inl known ↦
+      let (at, found) = known-position m s known in
+      let here = position-at (schools_of m) s at found in
+      roll-at m rolls s at found
+      ∙ empty at s (omega (arith, here.0, length-mapped (λ (e : ℕ × School). e.0) m.schools)) (slice_get-get_or (schools_of m) at s here.0 ∙ ap Some here.1)
+  | inr unknown ↦ roll-unknown m rolls s unknown ∙ ap (λ n. let r : Held = record { keys = []; seats = n } in r) (sym (no-seats m s unknown))
+]
+
+-- the first rolls and one more
+pub are-empty_more : {R : Type 0} (see : R → Held) (m : Market) (rolls : List R) (k : ℕ) (roll : R) → length rolls ≡ k → AreEmpty m (map see rolls) k → (see roll).keys ≡ [] → ((s : ℕ) → slice_get (schools_of m) k ≡ Some s → (see roll).seats ≡ seats_of m s) → AreEmpty m (map see (rolls ++ roll ∷ [])) (k + 1)
+are-empty_more see m rolls k roll long empty no_keys seats at s low found =
+    let more : at < length (rolls ++ roll ∷ []) = omega (arith, low, long, length_push rolls roll) in
+    let read = get_or-mapped see (rolls ++ roll ∷ []) at roll no_roll more in
+    elim (cases_lt at k) [
+      | inl below ↦
+          let within : at < length rolls = omega (arith, below, long) in
+          read ∙ ap see (get_or_append_left rolls (roll ∷ []) roll at within) ∙ sym (get_or-mapped see rolls at roll no_roll within) ∙ empty at s below found
+      | inr past ↦
+          let here : at ≡ k = omega (arith, past, low) in
+          let of_school : (see roll).seats ≡ seats_of m s = seats s (ap (slice_get (schools_of m)) (sym here) ∙ found) in
+          read ∙ ap see (get_or_push rolls roll roll at (long ∙ sym here))
+          ∙ (λ t. let seen : Held = record { keys = no_keys t; seats = of_school t } in seen)
+    ]
+
+-- the standings fit
+pub fits-start : (m : Market) (r : Standings) → IsStart m r → Fits m r
+fits-start m r start = record {
+  well_formed = start.well_formed;
+  within_limits = start.within_limits;
+  places = start.places;
+  rolls = start.rolls;
+  each = λ s. subst (RollFits m (next_of m r.places) nobody s) (sym (roll-empty m r.rolls start.empty s)) (record {
+    seats = refl;
+    within = omega arith;
+    keyed = λ k d low. absurd (omega (arith, low));
+    exact = λ p. sym (how_many-none m (λ j. p j && (has (next_of m r.places) s j && not false))
+        (λ j among. and_right (p j) (has (next_of m r.places) s j && not false) (and_left (has (next_of m r.places) s j) (not false) (has-none (next_of m r.places) s j (nowhere j)))));
+  });
+  proposals = omega (arith, start.proposals);
+}
+  where
+    nowhere : (j : ℕ) → next_of m r.places j ≡ None
+    nowhere j = next-none m r.places j (no-place m r.places start.places start.nowhere j)
+
+-- nobody stands at a choice
+pub none-standing : (m : Market) (r : Standings) → IsStart m r → standing_but m r.places nobody ≡ 0
+unfolding standing_but
+none-standing m r start =
+    how_many-none m (λ j. is_some (next_of m r.places j) && not false)
+    (λ j among. and_left (is_some (next_of m r.places j)) (not false) (ap is_some (next-none m r.places j (no-place m r.places start.places start.nowhere j))))
+
+-- and the empty log is settled for nobody
+pub continues-start : (m : Market) (r : Standings) → IsStart m r → Continues m [] r
+continues-start m r start =
+    let absent : (j : ℕ) → has_entered m r.places j ≡ false = λ j. ap is_some (no-place m r.places start.places start.nowhere j) in
+    let none : (j : ℕ) → next_choice (entered_papers m r.places) [] j ≡ None = λ j. next-dropped (restricted-restricts m (has_entered m r.places)) [] j (absent j) in
+    let settled : IsSettled (entered_papers m r.places) [] = record {
+      valid = tt;
+      within_seats = λ s. omega (arith, how_many-none (entered_papers m r.places) (has (matching_of (entered_papers m r.places) []) s) (λ j among. has-none (matching_of (entered_papers m r.places) []) s j (none j)));
+    } in
+    record {
+      settled = subst (IsSettled (entered_papers m r.places)) (sym start.log) settled;
+      next = λ j. ap (λ log. next_choice (entered_papers m r.places) log j) start.log ∙ none j ∙ sym (next-none m r.places j (no-place m r.places start.places start.nowhere j));
+    }
+
+-- the seats of a school of the papers
+pub seats-known : (m : Market) (s : ℕ) (school : School) → school_of m s ≡ Some school → seats_of m s ≡ school.seats
+unfolding seats_of
+seats-known m s school known = ap (λ found. option_map_or (λ (school : School). school.seats) found 0) known
+
+-- the standings that the code starts with
+pub starts : {R : Type 0} (m : Market) (places : List (Option ℕ)) (rolls : List R) (see : R → Held) (log : List Rejection) (proposals : ℕ) → WellFormed m → WithinLimits m → length places ≡ length m.students → All (λ place. place ≡ None) places → length rolls ≡ length m.schools → AreEmpty m (map see rolls) (length m.schools) → log ≡ [] → proposals ≡ 0 → IsStart m (record { places = places; rolls = map see rolls; log = log; proposals = proposals })
+starts m places rolls see log proposals well within long nowhere as_many empty no_log none = record {
+  well_formed = well;
+  within_limits = within;
+  places = long;
+  nowhere = nowhere;
+  rolls = length-mapped see rolls ∙ as_many;
+  empty = empty;
+  log = no_log;
+  proposals = none;
+}

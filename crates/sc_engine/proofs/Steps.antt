@@ -1,0 +1,242 @@
+-- The steps of a chain: what they do to the standings, and to any log that they continue.
+use Rattle.std.proofs.Common.{◌≡◌, inl, inr, refl, ap, sym, subst, ◌∙◌, ℕ, ◌+◌, ◌-◌, ◌<◌, ◌==◌, nat_eq, Bool, true, false, cond, not, ◌&&◌, List, [], ◌∷◌, ◌++◌, length, set, Option, Some, None, is_some, position, slice_get, append_assoc, arith, length-set}
+use Rattle.std.proofs.lemmas.Bool.{cases_eq, eq-eqb, and_right}
+use Rattle.std.proofs.lemmas.Option.{slice_get_within}
+use Rattle.std.proofs.lemmas.List.{length_push}
+use Rattle.std.proofs.lemmas.List.Elements.{All-cons, All-tail}
+use Rattle.std.proofs.lemmas.List.Sorted.{All-permutation, length_permutation}
+use Rattle.sc_papers.specs.Market.{Market, students_of, choices_of, seats_of}
+use Rattle.sc_papers.specs.Key.{key_of}
+use Rattle.sc_papers.specs.Matching.{Matching, how_many, has}
+use Rattle.sc_papers.specs.Log.{next_choice, matching_of, IsSettled}
+use Rattle.sc_papers.specs.Chain.{InChain, PutsOut, held_by_others}
+use Rattle.sc_papers.specs.Restriction.{restricted}
+use Rattle.sc_papers.specs.WellFormed.{WellFormed}
+use Rattle.sc_papers.specs.declared.key.Key.{Key}
+use Rattle.sc_papers.specs.declared.rejection.Rejection.{Rejection}
+use Rattle.sc_papers.proofs.Chain.{chain-puts-out, chain-ends, put-out-valid}
+use Rattle.sc_papers.proofs.Rejections.{has-agree, has-true, has-some, next-same}
+use Rattle.sc_papers.proofs.Restriction.{choices-restricted, seats-restricted, ahead-restricted, counts-restricted}
+use Rattle.sc_papers.proofs.Standings.{next-moves}
+use Rattle.sc_papers.proofs.Students.{how_many-agree}
+use Rattle.sc_papers.proofs.Subsets.{well-restricted}
+use Rattle.sc_papers.proofs.Sums.{sum-bump}
+use Rattle.sc_seats.specs.Roll.{Held}
+use Rattle.sc_engine.specs.Standing.{Standings, place_of, next_of, has_entered, roll_of, roll_at, RollFits, FitsBut, only, CountsProposals, entered_papers, Midway, Continues, choices_left, left_at}
+use Rattle.sc_engine.proofs.Tables.{place-written, place-kept, next-by, next-kept, next-among, next-entered}
+use Rattle.sc_engine.proofs.Rolls.{roll-length, roll-fits_still, stands-split, counts-offered}
+use Rattle.sc_engine.proofs.Proposals.{Proposed, roll-before, roll-after, roll-after_other, has-not, not-there, key-student, Out, put-out, counted-within, standing-split, standing-others}
+
+-- the same students have entered, in the same papers
+pub papers-same : (m : Market) (old new : List (Option ℕ)) → ((j : ℕ) → has_entered m new j ≡ has_entered m old j) → entered_papers m new ≡ entered_papers m old
+papers-same m old new same = λ t. restricted m (λ j. same j t)
+
+-- the entry of a rejection
+abbrev pub entry_of : ℕ → ℕ → Rejection
+entry_of i s = record { student = i; school = s }
+
+-- a rejection as the code makes it: the student moves on by one place
+pub record Rejected (m : Market) (r r' : Standings) (i s at place : ℕ) : Type 0 where
+  pub student : position (nat_eq i) (students_of m) ≡ Some at
+  pub low : at < length r.places
+  pub stood : place_of m r.places i ≡ Some place
+  pub choice : slice_get (choices_of m i) place ≡ Some s
+  pub places : r'.places ≡ set r.places at (Some (place + 1))
+  pub log : r'.log ≡ r.log ++ entry_of i s ∷ []
+
+module _ {m : Market} {r r' : Standings} {i s at place : ℕ} (moved : Rejected m r r' i s at place) where
+  pub place-moved : place_of m r'.places i ≡ Some (place + 1)
+  place-moved = ap (λ ps. place_of m ps i) moved.places ∙ place-written m r.places i at (Some (place + 1)) moved.student moved.low
+
+  pub place-stays : (j : ℕ) → (j ≡ i → ⊥) → place_of m r'.places j ≡ place_of m r.places j
+  place-stays j apart = ap (λ ps. place_of m ps j) moved.places ∙ place-kept m r.places i at (Some (place + 1)) moved.student j apart
+
+  pub next-stays : (j : ℕ) → (j ≡ i → ⊥) → next_of m r'.places j ≡ next_of m r.places j
+  next-stays j apart = next-kept m r.places r'.places j (place-stays j apart)
+
+  pub entered-stays : (j : ℕ) → has_entered m r'.places j ≡ has_entered m r.places j
+  entered-stays j = elim (cases_eq j i) [
+    | inl same ↦ ap (has_entered m r'.places) same ∙ ap is_some place-moved ∙ sym (ap is_some moved.stood) ∙ ap (has_entered m r.places) (sym same)
+    | inr apart ↦ ap is_some (place-stays j apart)
+  ]
+
+  pub next-stood : next_of m r.places i ≡ Some s
+  next-stood = next-by m r.places i place moved.stood ∙ moved.choice
+
+-- whoever stands at a school and is not the one put out, stands there after
+stands-after : {m : Market} {r r' : Standings} {i s at place : ℕ} → Rejected m r r' i s at place → (t j : ℕ) → (has (next_of m r'.places) t j && not (j == i)) ≡ (has (next_of m r.places) t j && not (j == i))
+stands-after {m} {r} {r'} {i} moved t j = elim (cases_eq j i) [
+  | inl same ↦ and_right (has (next_of m r'.places) t j) (not (j == i)) (ap not (eq-eqb j i same)) ∙ sym (and_right (has (next_of m r.places) t j) (not (j == i)) (ap not (eq-eqb j i same)))
+  | inr apart ↦ ap (λ b. b && not (j == i)) (has-agree (next_of m r'.places) (next_of m r.places) t j (next-stays moved j apart))
+]
+
+-- the counts after a student is put out
+pub counted-put_out : (m : Market) (r r' : Standings) (hand s i place_at place : ℕ) → WellFormed m → next_of m r.places hand ≡ Some s → Rejected m r r' i s place_at place → r'.proposals ≡ r.proposals + 1 → CountsProposals m r (only hand) r' (only i)
+counted-put_out m r r' hand s i place_at place well stands moved one_more =
+    omega (
+      arith,
+      one_more,
+      standing-split m well r.places hand s stands,
+      standing-split m well r.places i s (next-stood moved),
+      standing-others m r.places r'.places i (next-stays moved),
+      ap (λ (l : List Rejection). length l) moved.log ∙ length_push r.log (entry_of i s),
+    )
+
+-- the rolls after a student is put out
+pub fits-put_out : (m : Market) (r r' : Standings) (hand s at : ℕ) (out : Key) (place_at place : ℕ) → Proposed m r hand s at r'.rolls (Some out) → Rejected m r r' out.student s place_at place → CountsProposals m r (only hand) r' (only out.student) → FitsBut m r' (only out.student)
+fits-put_out m r r' hand s at out place_at place done moved counted = record {
+  proposals = counted-within m r (only hand) r' (only out.student) counted done.fits.proposals;
+  well_formed = done.fits.well_formed;
+  within_limits = done.fits.within_limits;
+  places = ap length moved.places ∙ length-set r.places place_at (Some (place + 1)) ∙ done.fits.places;
+  rolls = done.offered.same_length ∙ done.fits.rolls;
+  each = λ t. elim (cases_eq t s) [
+    | inl at_s ↦ subst (λ u. RollFits m next' (only i) u (roll_of m r'.rolls u)) (sym at_s) (subst (RollFits m next' (only i) s) (sym (roll-after done)) here)
+    | inr apart ↦ subst (RollFits m next' (only i) t) (sym (roll-after_other done t apart))
+        (roll-fits_still m next next' (only hand) (only i) t (roll_of m r.rolls t)
+        (λ j. not-there (has next t j) j hand (λ is_hand. has-not next s t j (ap next is_hand ∙ done.stands) apart)
+        ∙ sym (not-there (has next t j) j i (λ is_out. has-not next s t j (ap next is_out ∙ next-stood moved) apart))
+        ∙ sym (stands-after moved t j))
+        (done.fits.each t))
+  ];
+}
+  where
+    i : ℕ
+    i = out.student
+
+    next : Matching
+    next = next_of m r.places
+
+    next' : Matching
+    next' = next_of m r'.places
+
+    one_if : Bool → ℕ
+    one_if b = cond b 1 0
+
+    old : Held
+    old = roll_at r.rolls at
+
+    new : Held
+    new = roll_at r'.rolls at
+
+    hand-student : (key_of m hand s).student ≡ hand
+    hand-student = key-student m hand s
+
+    here : RollFits m next' (only i) s new
+    here = record {
+      seats = done.offered.seats ∙ (roll-before done).seats;
+      within = done.offered.within;
+      keyed = All-tail (λ k. k ≡ key_of m k.student s) out new.keys
+          (All-permutation (λ k. k ≡ key_of m k.student s) (key_of m hand s ∷ old.keys) (out ∷ new.keys) done.offered.together
+          (All-cons (λ k. k ≡ key_of m k.student s) (key_of m hand s) old.keys (ap (λ j. key_of m j s) (sym hand-student)) (roll-before done).keyed));
+      exact = λ p.
+          let now = counts-offered p (key_of m hand s) out old.keys new.keys done.offered.together in
+          let hand_term = ap (λ j. one_if (p j)) hand-student in
+          let by_hand = stands-split m done.fits.well_formed p (has next s) hand (next-among m r.places hand s done.stands) (has-some next s hand done.stands) in
+          let by_out = stands-split m done.fits.well_formed p (has next s) i (next-among m r.places i s (next-stood moved)) (has-some next s i (next-stood moved)) in
+          let still : how_many m (λ j. p j && (has next' s j && not (j == i))) ≡ how_many m (λ j. p j && (has next s j && not (j == i))) =
+          how_many-agree m (λ j. p j && (has next' s j && not (j == i))) (λ j. p j && (has next s j && not (j == i))) (λ j. ap (λ b. p j && b) (stands-after moved s j)) in
+          omega (arith, now, hand_term, by_hand, by_out, still, (roll-before done).exact p);
+    }
+
+-- how many others stand at the school, by the roll
+held-on_roll : (m : Market) (earlier : List Rejection) (r : Standings) (hand s : ℕ) (roll : Held) → Midway m earlier r hand → RollFits m (next_of m r.places) (only hand) s roll → held_by_others (entered_papers m r.places) (earlier ++ r.log) hand s ≡ length roll.keys
+held-on_roll m earlier r hand s roll midway fits =
+    let n : Market = entered_papers m r.places in
+    let log : List Rejection = earlier ++ r.log in
+    let next : Matching = next_of m r.places in
+    let entered : ℕ → Bool = has_entered m r.places in
+    let agree : (j : ℕ) → (entered j && (has (matching_of n log) s j && not (j == hand))) ≡ (has next s j && not (j == hand)) = λ j.
+    ap (λ b. entered j && (b && not (j == hand))) (has-agree (matching_of n log) next s j (midway.next j))
+    ∙ implied (entered j) (has next s j) (not (j == hand)) (λ stands. next-entered m r.places j s (has-true next s j stands)) in
+    counts-restricted m entered (λ j. has (matching_of n log) s j && not (j == hand))
+    ∙ how_many-agree m (λ j. entered j && (has (matching_of n log) s j && not (j == hand))) (λ j. has next s j && not (j == hand)) agree
+    ∙ sym (roll-length m next (only hand) s roll fits)
+  where
+    implied : (a b c : Bool) → (b ≡ true → a ≡ true) → (a && (b && c)) ≡ (b && c)
+    implied a false c so = and_right a false refl
+    implied a true c so = ap (λ x. x && c) (so refl)
+
+-- the step of the mechanism that puts a student out
+puts-out : (m : Market) (earlier : List Rejection) (r : Standings) (hand s at : ℕ) (rolls : List Held) (out : Key) → Proposed m r hand s at rolls (Some out) → Midway m earlier r hand → PutsOut (entered_papers m r.places) (earlier ++ r.log) hand s out.student
+puts-out m earlier r hand s at rolls out done midway =
+    let n : Market = entered_papers m r.places in
+    let gone : Out m (next_of m r.places) hand s out = put-out m r hand s at rolls out done in
+    let out_entered : has_entered m r.places out.student ≡ true = next-entered m r.places out.student s gone.stands in
+    record {
+      proposes = midway.next hand ∙ done.stands;
+      full = omega (
+        arith,
+        held-on_roll m earlier r hand s (roll_at r.rolls at) midway (roll-before done),
+        done.offered.full refl,
+        (roll-before done).seats,
+        seats-restricted m (has_entered m r.places) s,
+      );
+      there = midway.next out.student ∙ gone.stands;
+      last = λ j stands apart.
+          let stood : next_of m r.places j ≡ Some s = sym (midway.next j) ∙ stands in
+          ahead-restricted m (has_entered m r.places) s j out.student (next-entered m r.places j s stood) out_entered ∙ gone.last j stood apart;
+    }
+
+-- after a student is put out, the chain goes on with it
+pub midway-put_out : (m : Market) (r r' : Standings) (hand s at : ℕ) (out : Key) (place_at place : ℕ) → Proposed m r hand s at r'.rolls (Some out) → Rejected m r r' out.student s place_at place → (earlier : List Rejection) → Midway m earlier r hand → Midway m earlier r' out.student
+midway-put_out m r r' hand s at out place_at place done moved earlier midway =
+    let i : ℕ = out.student in
+    let n : Market = entered_papers m r.places in
+    let e : Rejection = entry_of i s in
+    let well : WellFormed n = well-restricted m (has_entered m r.places) done.fits.well_formed in
+    let puts : PutsOut n (earlier ++ r.log) hand s i = puts-out m earlier r hand s at r'.rolls out done midway in
+    let same_papers : entered_papers m r'.places ≡ n = papers-same m r.places r'.places (entered-stays moved) in
+    let same_log : earlier ++ r'.log ≡ (earlier ++ r.log) ++ e ∷ [] = ap (λ l. earlier ++ l) moved.log ∙ sym (append_assoc earlier r.log (e ∷ [])) in
+    let chosen : choices_of n i ≡ choices_of m i = choices-restricted m (has_entered m r.places) i ∙ ap (λ b. cond b (choices_of m i) []) (ap is_some moved.stood) in
+    let moves : next_choice n ((earlier ++ r.log) ++ e ∷ []) i ≡ next_of m r'.places i =
+    next-moves n well (earlier ++ r.log) e place midway.chain.valid (put-out-valid n well (earlier ++ r.log) hand e puts) (ap (λ xs. slice_get xs place) chosen ∙ moved.choice)
+    ∙ ap (λ xs. slice_get xs (place + 1)) chosen ∙ sym (next-by m r'.places i (place + 1) (place-moved moved)) in
+    record {
+      chain = subst (λ p. InChain p (earlier ++ r'.log) i) (sym same_papers) (subst (λ l. InChain n l i) (sym same_log) (chain-puts-out n well (earlier ++ r.log) hand e midway.chain puts));
+      next = λ j. ap (λ p. next_choice p (earlier ++ r'.log) j) same_papers ∙ ap (λ l. next_choice n l j) same_log ∙ elim (cases_eq j i) [
+        | inl is_out ↦ ap (next_choice n ((earlier ++ r.log) ++ e ∷ [])) is_out ∙ moves ∙ ap (next_of m r'.places) (sym is_out)
+        | inr apart ↦ next-same n (earlier ++ r.log) e j (λ same. apart (sym same)) ∙ midway.next j ∙ sym (next-stays moved j apart)
+      ];
+    }
+
+-- a chain that ends where the roll had room
+pub continues-held : (m : Market) (r r' : Standings) (hand s at : ℕ) → Proposed m r hand s at r'.rolls None → r'.places ≡ r.places → r'.log ≡ r.log → (earlier : List Rejection) → Midway m earlier r hand → Continues m earlier r'
+continues-held m r r' hand s at done same_places same_log earlier midway =
+    let n : Market = entered_papers m r.places in
+    let well : WellFormed n = well-restricted m (has_entered m r.places) done.fits.well_formed in
+    let room : held_by_others n (earlier ++ r.log) hand s < seats_of n s = omega (
+      arith,
+      held-on_roll m earlier r hand s (roll_at r.rolls at) midway (roll-before done),
+      length_permutation (key_of m hand s ∷ (roll_at r.rolls at).keys) (roll_at r'.rolls at).keys done.offered.together,
+      done.offered.within,
+      done.offered.seats,
+      (roll-before done).seats,
+      seats-restricted m (has_entered m r.places) s,
+    ) in
+    let settled : IsSettled n (earlier ++ r.log) = chain-ends n well (earlier ++ r.log) hand midway.chain (inr (s, midway.next hand ∙ done.stands, room)) in
+    record {
+      settled = subst (λ places. IsSettled (entered_papers m places) (earlier ++ r'.log)) (sym same_places) (subst (λ l. IsSettled n (earlier ++ l)) (sym same_log) settled);
+      next = λ j. ap (λ places. next_choice (entered_papers m places) (earlier ++ r'.log) j) same_places ∙ ap (λ l. next_choice n (earlier ++ l) j) same_log ∙ midway.next j ∙ ap (λ places. next_of m places j) (sym same_places);
+    }
+
+-- a chain that ends where the student in hand has no choice left
+pub continues-ended : (m : Market) (r : Standings) (hand : ℕ) → FitsBut m r (only hand) → next_of m r.places hand ≡ None → (earlier : List Rejection) → Midway m earlier r hand → Continues m earlier r
+continues-ended m r hand fits none earlier midway =
+    let n : Market = entered_papers m r.places in
+    let well : WellFormed n = well-restricted m (has_entered m r.places) fits.well_formed in
+    record {
+      settled = chain-ends n well (earlier ++ r.log) hand midway.chain (inl (midway.next hand ∙ none));
+      next = midway.next;
+    }
+
+-- the student put out has one choice less left
+pub left-put_out : (m : Market) (r r' : Standings) (i s at place : ℕ) → WellFormed m → Rejected m r r' i s at place → choices_left m r.places ≡ 1 + choices_left m r'.places
+unfolding choices_left
+left-put_out m r r' i s at place well moved =
+    sum-bump (λ j. left_at (choices_of m j) (place_of m r'.places j)) (λ j. left_at (choices_of m j) (place_of m r.places j)) (students_of m) i well.students_differ (next-among m r.places i s (next-stood moved))
+    (ap (left_at (choices_of m i)) moved.stood ∙ one_less ∙ ap (λ o. 1 + left_at (choices_of m i) o) (sym (place-moved moved)))
+    (λ j apart. ap (left_at (choices_of m j)) (sym (place-stays moved j (λ same. apart (sym same)))))
+  where
+    one_less : length (choices_of m i) - place ≡ 1 + (length (choices_of m i) - (place + 1))
+    one_less = omega (arith, slice_get_within (choices_of m i) place s moved.choice)

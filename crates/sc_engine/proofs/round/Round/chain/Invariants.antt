@@ -1,0 +1,9 @@
+use Rattle.sc_engine.specs.Standing.{ChainGoesOn, choices_left}
+use Rattle.sc_engine.specs.Round.{standings_of}
+use Rattle.sc_engine.proofs.round.Round.chain.Given as goal
+
+abbrev pub invariant-loop-out : goal.invariant-loop-out
+invariant-loop-out g l = ChainGoesOn l.papers (standings_of g.R.Roll.keys g.R.Roll.seats l.fn.self) (standings_of g.R.Roll.keys g.R.Roll.seats l.self) l.fn.student l.hand
+
+abbrev pub decreases-loop-out : goal.decreases-loop-out
+decreases-loop-out g l = choices_left l.papers l.self.places.items

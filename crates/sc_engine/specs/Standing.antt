@@ -1,0 +1,170 @@
+-- Where the students and the schools of a round stand, as contracts see it.
+use Rattle.std.specs.Prelude.{◌≡◌, ℕ, ◌+◌, ◌-◌, ◌≤◌, ◌<◌, nat_eq, ◌==◌, Bool, true, false, ◌&&◌, not, List, [], ◌∷◌, ◌++◌, length, Option, None, Some, All, IfSome, IsSome, count_by, sum_by, is_some, position, slice_get, slice_index_or, take}
+use Rattle.std.specs.List.{list_any}
+use Rattle.std.specs.List.Sorted.{IsPermutation}
+use Rattle.std.specs.Option.{option_map_or, option_and_then, option_to_list}
+use Rattle.sc_papers.specs.Key.{key_of, is_before}
+use Rattle.sc_papers.specs.Log.{next_choice, IsSettled}
+use Rattle.sc_papers.specs.Chain.{InChain, and_one}
+use Rattle.sc_papers.specs.Market.{Market, choices_of, schools_of, seats_of, students_of}
+use Rattle.sc_papers.specs.Matching.{Matching, has, how_many}
+use Rattle.sc_papers.specs.Restriction.{restricted}
+use Rattle.sc_papers.specs.WellFormed.{WellFormed, WithinLimits}
+use Rattle.sc_papers.specs.declared.key.Key.{Key}
+use Rattle.sc_papers.specs.declared.rejection.Rejection.{Rejection}
+use Rattle.sc_seats.specs.Roll.{Held}
+
+-- what a round holds: for each student, by position, the place in its choices at which it stands, or
+-- none where it hasn't entered; each school's roll, by position; the log; the count of proposals
+pub record Standings : Type 0 where
+  pub places : List (Option ℕ)
+  pub rolls : List Held
+  pub log : List Rejection
+  pub proposals : ℕ
+
+-- the place in its choices at which a student stands, if the student has entered
+unfoldable pub place_of : Market → List (Option ℕ) → ℕ → Option ℕ
+place_of m places i = option_map_or (λ at. slice_index_or places at None) (position (nat_eq i) (students_of m)) None
+
+-- whether a student has entered
+abbrev pub has_entered : Market → List (Option ℕ) → ℕ → Bool
+has_entered m places i = is_some (place_of m places i)
+
+-- the choice at which a student stands: none after the last, and none for one who hasn't entered
+unfoldable pub next_of : Market → List (Option ℕ) → ℕ → Option ℕ
+next_of m places i = option_and_then (λ place. slice_get (choices_of m i) place) (place_of m places i)
+
+-- a roll without keys or seats
+abbrev pub no_roll : Held
+no_roll = record { keys = []; seats = 0 }
+
+-- the roll at a position
+abbrev pub roll_at : List Held → ℕ → Held
+roll_at rolls at = slice_index_or rolls at no_roll
+
+-- a school's roll
+unfoldable pub roll_of : Market → List Held → ℕ → Held
+roll_of m rolls s = option_map_or (roll_at rolls) (position (nat_eq s) (schools_of m)) no_roll
+
+-- the first k rolls have their schools' seats, and nobody is on them
+abbrev pub AreEmpty : Market → List Held → ℕ → Type 0
+AreEmpty m rolls k = (at s : ℕ) → at < k → slice_get (schools_of m) at ≡ Some s → roll_at rolls at ≡ record { keys = []; seats = seats_of m s }
+
+-- a roll fits a school: it has the school's seats, and holds exactly the keys of the students who
+-- stand at the school, but for those who are away
+pub record RollFits (m : Market) (next : Matching) (away : ℕ → Bool) (s : ℕ) (roll : Held) : Type 0 where
+  pub seats : roll.seats ≡ seats_of m s
+  pub within : length roll.keys ≤ roll.seats
+  pub keyed : All (λ key. key ≡ key_of m key.student s) roll.keys
+  pub exact : (p : ℕ → Bool) → count_by (λ (key : Key). p key.student) roll.keys ≡ how_many m (λ j. p j && (has next s j && not (away j)))
+
+-- how many students stand at a choice, but for those who are away
+unfoldable pub standing_but : Market → List (Option ℕ) → (ℕ → Bool) → ℕ
+standing_but m places away = how_many m (λ i. is_some (next_of m places i) && not (away i))
+
+-- the standings fit the papers, but for the students who are away
+pub record FitsBut (m : Market) (r : Standings) (away : ℕ → Bool) : Type 0 where
+  pub well_formed : WellFormed m
+  pub within_limits : WithinLimits m
+  pub places : length r.places ≡ length m.students
+  pub rolls : length r.rolls ≡ length m.schools
+  pub each : (s : ℕ) → RollFits m (next_of m r.places) away s (roll_of m r.rolls s)
+  pub proposals : r.proposals ≤ length r.log + standing_but m r.places away
+
+-- nobody is away
+abbrev pub nobody : ℕ → Bool
+nobody = λ j. false
+
+-- one student is away: the one in hand
+abbrev pub only : ℕ → ℕ → Bool
+only hand = λ j. j == hand
+
+-- the standings fit the papers: everyone who has entered and stands at a choice is on its roll
+abbrev pub Fits : Market → Standings → Type 0
+Fits m r = FitsBut m r nobody
+
+-- the papers of those who have entered
+abbrev pub entered_papers : Market → List (Option ℕ) → Market
+entered_papers m places = restricted m (has_entered m places)
+
+-- after an earlier log the round's log settles the papers of those who have entered, and the
+-- students stand at their next choices
+pub record Continues (m : Market) (earlier : List Rejection) (r : Standings) : Type 0 where
+  pub settled : IsSettled (entered_papers m r.places) (earlier ++ r.log)
+  pub next : (i : ℕ) → next_choice (entered_papers m r.places) (earlier ++ r.log) i ≡ next_of m r.places i
+
+-- the same in the course of a chain, with a student in hand
+pub record Midway (m : Market) (earlier : List Rejection) (r : Standings) (hand : ℕ) : Type 0 where
+  pub chain : InChain (entered_papers m r.places) (earlier ++ r.log) hand
+  pub next : (i : ℕ) → next_choice (entered_papers m r.places) (earlier ++ r.log) i ≡ next_of m r.places i
+
+-- what an offer to the roll at a position does: the others stay
+pub record OffersAt (old new : List Held) (at : ℕ) (key : Key) (out : Option Key) : Type 0 where
+  pub together : IsPermutation (key ∷ (roll_at old at).keys) (option_to_list out ++ (roll_at new at).keys)
+  pub last : IfSome out (λ worst. All (λ held. is_before held worst ≡ true) (roll_at new at).keys)
+  pub full : IsSome out → length (roll_at old at).keys ≡ (roll_at old at).seats
+  pub seats : (roll_at new at).seats ≡ (roll_at old at).seats
+  pub within : length (roll_at new at).keys ≤ (roll_at new at).seats
+  pub others : (other : ℕ) → (other ≡ at → ⊥) → roll_at new other ≡ roll_at old other
+  pub same_length : length new ≡ length old
+
+-- how many choices a student at a place has left, from that place on
+abbrev pub left_at : List ℕ → Option ℕ → ℕ
+left_at choices None = 0
+left_at choices (Some place) = length choices - place
+
+-- how many choices the students who have entered have left, from those at which they stand on
+unfoldable pub choices_left : Market → List (Option ℕ) → ℕ
+choices_left m places = sum_by (λ i. left_at (choices_of m i) (place_of m places i)) (students_of m)
+
+-- the same students have entered
+abbrev pub SameEntered : Market → Standings → Standings → Type 0
+SameEntered m old new = (i : ℕ) → has_entered m new.places i ≡ has_entered m old.places i
+
+-- the log is the earlier one, and more
+abbrev pub Extends : List Rejection → List Rejection → Type 0
+Extends old new = (more : List Rejection) × (new ≡ old ++ more)
+
+-- the count of proposals grows by the entries added to the log and by what is added to the number of
+-- students who stand at a choice
+abbrev pub CountsProposals : Market → Standings → (ℕ → Bool) → Standings → (ℕ → Bool) → Type 0
+CountsProposals m old away new away' =
+    new.proposals + (length old.log + standing_but m old.places away) ≡ old.proposals + (length new.log + standing_but m new.places away')
+
+-- the chain of the student in hand has come to its end
+pub record ChainEnds (m : Market) (old new : Standings) (hand : ℕ) : Type 0 where
+  pub fits : Fits m new
+  pub entered : SameEntered m old new
+  pub continues : (earlier : List Rejection) → Midway m earlier old hand → Continues m earlier new
+  pub extends : Extends old.log new.log
+  pub counted : CountsProposals m old (only hand) new nobody
+
+-- the chain goes on with another student in hand
+pub record ChainGoesOn (m : Market) (old new : Standings) (hand out : ℕ) : Type 0 where
+  pub fits : FitsBut m new (only out)
+  pub entered : SameEntered m old new
+  pub continues : (earlier : List Rejection) → Midway m earlier old hand → Midway m earlier new out
+  pub extends : Extends old.log new.log
+  pub counted : CountsProposals m old (only hand) new (only out)
+
+-- what one proposal of the student in hand does: whoever is put out is in hand next
+abbrev pub Proposes : Market → Standings → Standings → ℕ → Option ℕ → Type 0
+Proposes m old new hand None = ChainEnds m old new hand
+Proposes m old new hand (Some out) = ChainGoesOn m old new hand out × (choices_left m new.places < choices_left m old.places)
+
+-- one more student has entered by a whole chain: after each earlier log that the round continued, it
+-- still does
+pub record Enters (m : Market) (old new : Standings) (i : ℕ) : Type 0 where
+  pub fits : Fits m new
+  pub entered : (j : ℕ) → has_entered m new.places j ≡ and_one (has_entered m old.places) i j
+  pub continues : (earlier : List Rejection) → Continues m earlier old → Continues m earlier new
+  pub extends : Extends old.log new.log
+  pub counted : CountsProposals m old nobody new nobody
+
+-- the first k students, in order of entry, and they alone have entered; the log is settled for them,
+-- and every proposal ended in an entry of the log or in a place
+pub record SettlesFirst (m : Market) (r : Standings) (k : ℕ) : Type 0 where
+  pub fits : Fits m r
+  pub entered : (i : ℕ) → has_entered m r.places i ≡ list_any (nat_eq i) (take k (students_of m))
+  pub settled : Continues m [] r
+  pub counted : r.proposals ≡ length r.log + standing_but m r.places nobody

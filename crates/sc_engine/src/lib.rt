@@ -1,0 +1,13 @@
+//! Deferred acceptance: students propose, schools keep the best applicants so far up to their seats,
+//! and whoever is put out proposes to the next choice (Gale and Shapley 1962), one student at a time
+//! (McVitie and Wilson 1971).
+#![tactic(auto)]
+
+mod round;
+mod settled;
+
+pub use round::Round;
+pub use settled::{Settled, settle};
+
+#[cfg(test)]
+mod tests;

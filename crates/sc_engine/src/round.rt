@@ -1,0 +1,331 @@
+//! Rounds of proposals.
+
+ghost use Rattle.std.specs.Prelude.{◌≡◌, ℕ, ◌+◌, ◌^◌, ◌<◌, ◌≤◌, true, false, All, List, [], ◌∷◌, ◌++◌, Contains, Option, None, Some, length, position, nat_eq, slice_get, slice_set, if◌then◌else◌, IfOk, OnOk, OnErr};
+ghost use Rattle.std.specs.Option.{option_map};
+ghost use Rattle.sc_papers.specs.Assignment.{assigned};
+ghost use Rattle.sc_papers.specs.Key.{key_of};
+ghost use Rattle.sc_papers.specs.Market.{is_school, is_student, schools_of, seats_of, students_of};
+ghost use Rattle.sc_engine.specs.Standing.{OffersAt, roll_at, next_of, place_of, Fits, FitsBut, only, Proposes, ChainEnds, Enters, Continues, has_entered, AreEmpty};
+ghost use Rattle.sc_engine.specs.Rolls.{rolls_of};
+
+use crate::settled::Settled;
+use sc_papers::{Assignment, Key, Papers, Rejection, SchoolNo, Seats, StudentNo};
+use sc_seats::Roll;
+use std::alloc::{AllocError, Global};
+
+/// A round of proposals: who has entered and stands where, who holds each school's seats, and the
+/// rejections so far. Students and schools go by their positions in the papers.
+#[derive(Drop)]
+pub struct Round<R: Roll> {
+    alloc: Global,
+    // By position of the student: the place in the choices at which the student stands, if it has
+    // entered.
+    places: Vec<Option<usize>>,
+    // By position of the school.
+    rolls: Vec<R>,
+    log: Vec<Rejection>,
+    proposals: u64,
+    // A growth was refused: the rest is no longer to be trusted.
+    spent: bool,
+}
+
+/// Places at which nobody has entered.
+fn no_places(alloc: Global, count: usize) -> Result<Vec<Option<usize>>, AllocError>
+    ensures length { IfOk result (λ places. length places.items ≡ count) }
+    ensures nobody { IfOk result (λ places. All (λ place. place ≡ None) places.items) }
+{
+    let mut places = Vec::with_capacity(alloc, count)?;
+    for _added in 0..count {
+        places.push(None)?;
+    }
+    Ok(places)
+}
+
+/// The seats of the school at the position.
+fn seats_at(papers: &Papers, position: usize) -> Seats
+    requires { position < length papers.now.schools }
+    ensures { (s : ℕ) → slice_get (schools_of papers.now) position ≡ Some s → result ≡ seats_of papers.now s }
+{
+    let Some(number) = papers.school_at(position) else {
+        unreachable!()
+    };
+    let Some(school) = papers.school(number) else {
+        unreachable!()
+    };
+    school.seats
+}
+
+/// A roll of its capacity for each school, on which nobody is.
+fn empty_rolls<R: Roll>(alloc: Global, papers: &Papers) -> Result<Vec<R>, AllocError>
+    ensures length { IfOk result (λ rolls. length rolls.items ≡ length papers.now.schools) }
+    ensures empty { IfOk result (λ rolls. AreEmpty papers.now (rolls_of R.keys R.seats rolls.items) (length papers.now.schools)) }
+{
+    let mut rolls = Vec::with_capacity(alloc, papers.schools_len())?;
+    for position in 0..papers.schools_len() {
+        rolls.push(R::with_capacity(alloc, seats_at(papers, position)))?;
+    }
+    Ok(rolls)
+}
+
+/// Each student's choice, in order of entry.
+fn choices_stood_at(
+    alloc: Global,
+    places: &[Option<usize>],
+    papers: &Papers,
+) -> Result<Assignment, AllocError>
+    requires { length places.now ≡ length papers.now.students }
+    ensures { IfOk result (λ assignment. (i : ℕ) → assigned assignment i ≡ next_of papers.now places.now i) }
+{
+    let mut assignment = Assignment::new(alloc);
+    for position in 0..papers.students_len() {
+        let Some(student) = papers.student_at(position) else {
+            unreachable!()
+        };
+        give(&mut assignment, student, next_in(places, papers, student))?;
+    }
+    Ok(assignment)
+}
+
+/// Gives a student who has none the school, if there is one.
+fn give(
+    assignment: &mut Assignment,
+    student: StudentNo,
+    school: Option<SchoolNo>,
+) -> Result<(), AllocError>
+    requires { assigned assignment.old student ≡ None }
+    ensures { OnOk result ((j : ℕ) → assigned assignment.new j ≡ (if nat_eq j student then school else assigned assignment.old j)) }
+{
+    if let Some(school) = school {
+        assignment.put(student, school)?;
+    }
+    Ok(())
+}
+
+/// The choice at which the student stands.
+#[tactic(auto, unfolding(crate::specs::Standing::next_of, crate::specs::Standing::place_of, sc_papers::specs::Market::choices_of))]
+fn next_in(places: &[Option<usize>], papers: &Papers, student: StudentNo) -> Option<SchoolNo>
+    requires { length places.now ≡ length papers.now.students }
+    ensures { result ≡ next_of papers.now places.now student }
+{
+    let place = places[papers.student_position(student)?]?;
+    papers
+        .student(student)?
+        .choices
+        .as_slice()
+        .get(place)
+        .copied()
+}
+
+/// The student's key at the school, and the school's position.
+fn key_at(papers: &Papers, student: StudentNo, school: SchoolNo) -> (usize, Key)
+    requires student { is_student papers.now student ≡ true }
+    requires school { is_school papers.now school ≡ true }
+    ensures position { position (nat_eq school) (schools_of papers.now) ≡ Some result.0 }
+    ensures key { result.1 ≡ key_of papers.now student school }
+{
+    let Some(position) = papers.school_position(school) else {
+        unreachable!()
+    };
+    let Some(key) = papers.key(student, school) else {
+        unreachable!()
+    };
+    (position, key)
+}
+
+/// The student moves on to the next place of its choices.
+fn move_on(places: &mut Vec<Option<usize>>, papers: &Papers, student: StudentNo)
+    requires places { length places.old.items ≡ length papers.now.students }
+    requires short { (place : ℕ) → place_of papers.now places.old.items student ≡ Some place → place < 20 }
+    ensures { (at place : ℕ) → position (nat_eq student) (students_of papers.now) ≡ Some at → place_of papers.now places.old.items student ≡ Some place → places.new.items ≡ slice_set places.old.items at (Some (place + 1)) }
+{
+    let Some(at) = papers.student_position(student) else {
+        return;
+    };
+    if let Some(place) = places[at] {
+        places[at] = Some(place + 1);
+    }
+}
+
+impl<R: Roll> Round<R> {
+    ghost use Rattle.sc_engine.specs.Round.{standings_of, is_spent};
+
+    /// Offers a seat of the school at the position to the key, which is one proposal.
+    fn offer(&mut self, at: usize, key: Key) -> Result<Option<Key>, AllocError>
+        requires within { at < length self.old.rolls.items }
+        requires count_fits { self.old.proposals + 1 < 2 ^ 64 }
+        requires room { let roll = roll_at (standings_of R.keys R.seats self.old).rolls at in length roll.keys ≤ roll.seats }
+        requires new { ¬ Contains (roll_at (standings_of R.keys R.seats self.old).rolls at).keys key }
+        ensures offered { IfOk result (λ out. OffersAt (standings_of R.keys R.seats self.old).rolls (standings_of R.keys R.seats self.new).rolls at key out) }
+        ensures places { self.new.places.items ≡ self.old.places.items }
+        ensures log { self.new.log.items ≡ self.old.log.items }
+        ensures proposals { OnOk result (self.new.proposals ≡ self.old.proposals + 1) }
+    {
+        let roll = &mut self.rolls[at];
+        let out = roll.offer(key)?;
+        self.proposals += 1;
+        Ok(out)
+    }
+
+    /// Notes that the school rejects the student, who moves on to the next choice.
+    fn reject(
+        &mut self,
+        papers: &Papers,
+        student: StudentNo,
+        school: SchoolNo,
+    ) -> Result<(), AllocError>
+        requires places { length self.old.places.items ≡ length papers.now.students }
+        requires short { (place : ℕ) → place_of papers.now self.old.places.items student ≡ Some place → place < 20 }
+        ensures log { OnOk result (self.new.log.items ≡ self.old.log.items ++ record { student = student; school = school } ∷ []) }
+        ensures moved { OnOk result ((at place : ℕ) → position (nat_eq student) (students_of papers.now) ≡ Some at → place_of papers.now self.old.places.items student ≡ Some place → self.new.places.items ≡ slice_set self.old.places.items at (Some (place + 1))) }
+        ensures rolls { self.new.rolls.items ≡ self.old.rolls.items }
+        ensures proposals { self.new.proposals ≡ self.old.proposals }
+    {
+        self.log.push(Rejection { student, school })?;
+        move_on(&mut self.places, papers, student);
+        Ok(())
+    }
+
+    /// The student in hand proposes to its next choice, if it has one: who is put out, if anybody.
+    fn propose(&mut self, papers: &Papers, hand: StudentNo) -> Result<Option<StudentNo>, AllocError>
+        requires { FitsBut papers.now (standings_of R.keys R.seats self.old) (only hand) }
+        ensures { IfOk result (λ out. Proposes papers.now (standings_of R.keys R.seats self.old) (standings_of R.keys R.seats self.new) hand out) }
+    {
+        let Some(school) = next_in(self.places.as_slice(), papers, hand) else {
+            return Ok(None);
+        };
+        let (at, key) = key_at(papers, hand, school);
+        let Some(out) = self.offer(at, key)? else {
+            return Ok(None);
+        };
+        self.reject(papers, out.student, school)?;
+        Ok(Some(out.student))
+    }
+
+    /// The chain of the student: whoever is put out proposes to the next choice, until nobody is put
+    /// out or the one put out has no choice left.
+    fn chain(&mut self, papers: &Papers, student: StudentNo) -> Result<(), AllocError>
+        requires { FitsBut papers.now (standings_of R.keys R.seats self.old) (only student) }
+        ensures { OnOk result (ChainEnds papers.now (standings_of R.keys R.seats self.old) (standings_of R.keys R.seats self.new) student) }
+    {
+        let mut hand = student;
+        while let Some(out) = self.propose(papers, hand)? {
+            hand = out;
+        }
+        Ok(())
+    }
+
+    /// The student goes to its first choice, and its chain follows.
+    fn enter(&mut self, papers: &Papers, student: StudentNo) -> Result<(), AllocError>
+        requires fits { Fits papers.now (standings_of R.keys R.seats self.old) }
+        requires student { is_student papers.now student ≡ true }
+        requires absent { has_entered papers.now self.old.places.items student ≡ false }
+        ensures { OnOk result (Enters papers.now (standings_of R.keys R.seats self.old) (standings_of R.keys R.seats self.new) student) }
+    {
+        let Some(at) = papers.student_position(student) else {
+            unreachable!()
+        };
+        self.places[at] = Some(0);
+        self.chain(papers, student)?;
+        Ok(())
+    }
+
+    /// A round in which nobody has entered, or the error of a refused growth. It takes memory for each
+    /// student and each school; the rolls take theirs by the offers.
+    pub fn start(alloc: Global, papers: &Papers) -> Result<Self, AllocError>
+        ensures fits { IfOk result (λ round. Fits papers.now (standings_of R.keys R.seats round)) }
+        ensures nobody { IfOk result (λ round. (i : ℕ) → has_entered papers.now (standings_of R.keys R.seats round).places i ≡ false) }
+        ensures settled { IfOk result (λ round. Continues papers.now [] (standings_of R.keys R.seats round)) }
+        ensures log { IfOk result (λ round. (standings_of R.keys R.seats round).log ≡ []) }
+        ensures proposals { IfOk result (λ round. (standings_of R.keys R.seats round).proposals ≡ 0) }
+        ensures ready { IfOk result (λ round. is_spent round ≡ false) }
+    {
+        let students = papers.students_len();
+        Ok(Round {
+            alloc,
+            places: no_places(alloc, students)?,
+            rolls: empty_rolls(alloc, papers)?,
+            log: Vec::new(alloc),
+            proposals: 0,
+            spent: false,
+        })
+    }
+
+    /// Enters one more student, by one whole chain: the student proposes, whoever is put out proposes
+    /// to the next choice, until nobody is put out or the one put out has no choice left. After it the
+    /// round's log, after each earlier log that the round continued, is settled for those who have
+    /// entered, in whatever order they did.
+    ///
+    /// A refused growth leaves the round spent, and a spent round answers the error to every student.
+    /// No memory is taken for a proposal but by the log and the rolls.
+    pub fn enter_one(&mut self, papers: &Papers, student: StudentNo) -> Result<(), AllocError>
+        // Of a round that is not spent: it fits the papers, and the student is in them and has not
+        // entered.
+        requires fits { is_spent self.old ≡ false → Fits papers.now (standings_of R.keys R.seats self.old) }
+        requires student { is_spent self.old ≡ false → is_student papers.now student ≡ true }
+        requires absent { is_spent self.old ≡ false → has_entered papers.now (standings_of R.keys R.seats self.old).places student ≡ false }
+        ensures enters { OnOk result (Enters papers.now (standings_of R.keys R.seats self.old) (standings_of R.keys R.seats self.new) student) }
+        ensures was_ready { OnOk result (is_spent self.old ≡ false) }
+        ensures ready { OnOk result (is_spent self.new ≡ false) }
+        ensures spent { OnErr result (is_spent self.new ≡ true) }
+    {
+        if self.spent {
+            return Err(AllocError);
+        }
+        let entered = self.enter(papers, student);
+        self.spent = entered.is_err();
+        entered
+    }
+
+    /// The first of the student's choices that has not rejected it, or `None` where there is none or
+    /// the student has not entered. In constant time. Of a spent round nothing is said.
+    pub fn next_choice(&self, papers: &Papers, student: StudentNo) -> Option<SchoolNo>
+        requires { is_spent self.now ≡ false → Fits papers.now (standings_of R.keys R.seats self.now) }
+        ensures { is_spent self.now ≡ false → result ≡ next_of papers.now (standings_of R.keys R.seats self.now).places student }
+    {
+        if self.spent {
+            return None;
+        }
+        next_in(self.places.as_slice(), papers, student)
+    }
+
+    /// The rejections, in the order in which they happened.
+    pub fn log(&self) -> &[Rejection]
+        ensures { result.now ≡ (standings_of R.keys R.seats self.now).log }
+    {
+        self.log.as_slice()
+    }
+
+    /// How many proposals were made.
+    pub fn proposals(&self) -> u64
+        ensures { result ≡ (standings_of R.keys R.seats self.now).proposals }
+    {
+        self.proposals
+    }
+
+    /// Whether a growth was refused, so that the round can no longer be used.
+    pub fn is_spent(&self) -> bool
+        ensures { result ≡ is_spent self.now }
+    {
+        self.spent
+    }
+
+    /// The log and the count of proposals of the round, and the choices at which its students stand. A
+    /// spent round answers the error. On an error the round is given up.
+    pub fn into_settled(self, papers: &Papers) -> Result<Settled, AllocError>
+        requires { is_spent self ≡ false → Fits papers.now (standings_of R.keys R.seats self) }
+        ensures was_ready { OnOk result (is_spent self ≡ false) }
+        ensures log { IfOk result (λ settled. settled.log.items ≡ (standings_of R.keys R.seats self).log) }
+        ensures given { IfOk result (λ settled. (i : ℕ) → assigned settled.assignment i ≡ next_of papers.now (standings_of R.keys R.seats self).places i) }
+        ensures proposals { IfOk result (λ settled. settled.proposals ≡ (standings_of R.keys R.seats self).proposals) }
+    {
+        if self.spent {
+            return Err(AllocError);
+        }
+        let assignment = choices_stood_at(self.alloc, self.places.as_slice(), papers)?;
+        Ok(Settled {
+            log: self.log,
+            assignment,
+            proposals: self.proposals,
+        })
+    }
+}

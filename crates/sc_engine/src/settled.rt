@@ -1,0 +1,70 @@
+//! What a whole round comes to.
+
+ghost use Rattle.std.specs.Prelude.{◌≡◌, ℕ, ◌+◌, ◌<◌, ◌≤◌, false, [], length, take, nat_eq, IfOk, OnOk, OnErr, if◌then◌else◌};
+ghost use Rattle.std.specs.List.{list_any};
+ghost use Rattle.sc_papers.specs.Assignment.{assigned};
+ghost use Rattle.sc_papers.specs.Log.{next_choice, IsSettled};
+ghost use Rattle.sc_papers.specs.Market.{students_of};
+ghost use Rattle.sc_papers.specs.Matching.{IsStudentOptimal};
+ghost use Rattle.sc_papers.specs.Progress.{placed};
+ghost use Rattle.sc_engine.specs.Round.{standings_of, is_spent};
+ghost use Rattle.sc_engine.specs.Standing.{Fits, next_of, SettlesFirst};
+
+use crate::round::Round;
+use sc_papers::{Assignment, Papers, Rejection};
+use sc_seats::{Roll, SortedRoll};
+use std::alloc::{AllocError, Global};
+
+/// What the proposals came to.
+#[derive(Drop)]
+pub struct Settled {
+    /// The rejections, in the order in which they happened.
+    pub log: Vec<Rejection>,
+    /// Who has which school.
+    pub assignment: Assignment,
+    /// How many proposals were made.
+    pub proposals: u64,
+}
+
+/// Enters all students in order of entry. The log is settled for the papers, and so its matching,
+/// which the assignment is, is the student-optimal stable matching (Gale and Shapley 1962).
+///
+/// The only error is want of memory. The cost is a look-up in each of a few tables and an offer for
+/// each proposal, and memory is taken in proportion to the students, the schools and the rejections.
+pub fn settle(alloc: Global, papers: &Papers) -> Result<Settled, AllocError>
+    ensures settled { IfOk result (λ settled. IsSettled papers.now settled.log.items) }
+    ensures matching { IfOk result (λ settled. (i : ℕ) → assigned settled.assignment i ≡ next_choice papers.now settled.log.items i) }
+    ensures optimal { IfOk result (λ settled. IsStudentOptimal papers.now (assigned settled.assignment)) }
+    ensures proposals { IfOk result (λ settled. settled.proposals ≡ length settled.log.items + placed papers.now (assigned settled.assignment)) }
+{
+    settle_over::<SortedRoll>(alloc, papers)
+}
+
+/// As `settle`, over a kind of roll.
+pub(crate) fn settle_over<R: Roll>(alloc: Global, papers: &Papers) -> Result<Settled, AllocError>
+    ensures settled { IfOk result (λ settled. IsSettled papers.now settled.log.items) }
+    ensures matching { IfOk result (λ settled. (i : ℕ) → assigned settled.assignment i ≡ next_choice papers.now settled.log.items i) }
+    ensures optimal { IfOk result (λ settled. IsStudentOptimal papers.now (assigned settled.assignment)) }
+    ensures proposals { IfOk result (λ settled. settled.proposals ≡ length settled.log.items + placed papers.now (assigned settled.assignment)) }
+{
+    let mut round: Round<R> = Round::start(alloc, papers)?;
+    enter_all(&mut round, papers)?;
+    let settled = round.into_settled(papers)?;
+    Ok(settled)
+}
+
+/// Enters all students in order of entry into a round in which nobody has entered.
+fn enter_all<R: Roll>(round: &mut Round<R>, papers: &Papers) -> Result<(), AllocError>
+    requires first { SettlesFirst papers.now (standings_of R.keys R.seats round.old) 0 }
+    requires ready { is_spent round.old ≡ false }
+    ensures all { OnOk result (SettlesFirst papers.now (standings_of R.keys R.seats round.new) (length papers.now.students)) }
+    ensures ready { OnOk result (is_spent round.new ≡ false) }
+{
+    for position in 0..papers.students_len() {
+        let Some(student) = papers.student_at(position) else {
+            unreachable!()
+        };
+        round.enter_one(papers, student)?;
+    }
+    Ok(())
+}

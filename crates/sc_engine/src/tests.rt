@@ -1,0 +1,209 @@
+ghost use Rattle.std.specs.Prelude.{◌≡◌, true, false};
+ghost use Rattle.sc_papers.specs.Market.{is_student};
+ghost use Rattle.sc_engine.specs.Round.{standings_of, is_spent};
+ghost use Rattle.sc_engine.specs.Standing.{Fits, has_entered};
+
+use crate::round::Round;
+use crate::settled::{Settled, settle};
+use sc_papers::{Amendment, Papers, SchoolList, SchoolNo, Seats, Seed, StudentNo, Zone};
+use sc_seats::{Roll, SortedRoll};
+use std::alloc::{AllocError, Global};
+use std::process::Abort;
+use std::test::Fail;
+
+fn student(rt: &impl Abort, number: u32) -> StudentNo {
+    StudentNo::new(number).expect(rt, "a student")
+}
+
+fn school(rt: &impl Abort, number: u32) -> SchoolNo {
+    SchoolNo::new(number).expect(rt, "a school")
+}
+
+fn zone(rt: &impl Abort, number: u32) -> Zone {
+    Zone::new(number).expect(rt, "a zone")
+}
+
+fn list(rt: &impl Abort, alloc: Global, numbers: &[u32]) -> Result<SchoolList, AllocError> {
+    let mut schools = Vec::new(alloc);
+    for number in numbers {
+        schools.push(school(rt, *number))?;
+    }
+    Ok(SchoolList::from_vec(schools))
+}
+
+/// A student of a worked row: number, zone, siblings, choices.
+type Entry<'a> = (u32, u32, &'a [u32], &'a [u32]);
+
+/// Adds a school: number, zone, seats.
+fn add_school(
+    rt: &impl Abort,
+    papers: &mut Papers,
+    (number, at, seats): (u32, u32, u32),
+) -> Result<(), Fail> {
+    let seats = Seats::new(seats).expect(rt, "a number of seats");
+    papers.add_school(school(rt, number), zone(rt, at), seats)?;
+    Ok(())
+}
+
+fn enter(
+    rt: &impl Abort,
+    alloc: Global,
+    papers: &mut Papers,
+    (number, at, siblings, choices): Entry<'_>,
+) -> Result<(), Fail> {
+    let siblings = list(rt, alloc, siblings)?;
+    let choices = list(rt, alloc, choices)?;
+    papers.apply(Amendment::Enter {
+        student: student(rt, number),
+        zone: zone(rt, at),
+        siblings,
+        choices,
+    })?;
+    Ok(())
+}
+
+/// Papers with the zero seed, these schools and these students.
+fn market(
+    rt: &impl Abort,
+    alloc: Global,
+    schools: &[(u32, u32, u32)],
+    students: &[Entry<'_>],
+) -> Result<Papers, Fail> {
+    let mut papers = Papers::new(alloc, Seed::from_hex(&[b'0'; 64])?);
+    for entry in schools {
+        add_school(rt, &mut papers, *entry)?;
+    }
+    for entry in students {
+        enter(rt, alloc, &mut papers, *entry)?;
+    }
+    Ok(papers)
+}
+
+/// The log, the places and the count of proposals are the wanted ones.
+fn expect_settled(
+    rt: &impl Abort,
+    settled: &Settled,
+    log: &[(u32, u32)],
+    places: &[(u32, u32)],
+    proposals: u64,
+) {
+    assert_eq!(rt; settled.log.len(), log.len());
+    for (entry, (number, at)) in settled.log.iter().zip(log.iter()) {
+        assert_eq!(rt; entry.student, student(rt, *number));
+        assert_eq!(rt; entry.school, school(rt, *at));
+    }
+    assert_eq!(rt; settled.assignment.len(), places.len());
+    for (number, at) in places {
+        let given = settled.assignment.get(student(rt, *number));
+        assert_eq!(rt; given, Some(school(rt, *at)));
+    }
+    assert_eq!(rt; settled.proposals, proposals);
+}
+
+#[test]
+fn one_seat_two_students(rt: HostRuntime) -> Result<(), Fail> {
+    let students: [Entry<'_>; 2] = [(1, 0, &[], &[1]), (2, 0, &[], &[1])];
+    let papers = market(&rt, rt.alloc(), &[(1, 0, 1)], &students)?;
+    let settled = settle(rt.alloc(), &papers)?;
+    expect_settled(&rt, &settled, &[(1, 1)], &[(2, 1)], 2);
+    Ok(())
+}
+
+#[test]
+fn a_newcomer(rt: HostRuntime) -> Result<(), Fail> {
+    let schools = [(10, 1, 1), (20, 0, 1)];
+    let students: [Entry<'_>; 3] = [
+        (1, 0, &[20], &[10, 20]),
+        (2, 0, &[10], &[20, 10]),
+        (3, 1, &[10], &[10]),
+    ];
+    let papers = market(&rt, rt.alloc(), &schools, &students)?;
+    let settled = settle(rt.alloc(), &papers)?;
+    let log = [(1, 10), (2, 20), (2, 10)];
+    expect_settled(&rt, &settled, &log, &[(1, 20), (3, 10)], 5);
+    Ok(())
+}
+
+/// Enters all students, the last one first.
+fn settle_backwards<R: Roll>(alloc: Global, papers: &Papers) -> Result<Settled, AllocError> {
+    let mut round: Round<R> = Round::start(alloc, papers)?;
+    let mut left = papers.students_len();
+    while left > 0 {
+        left -= 1;
+        let Some(student) = papers.student_at(left) else {
+            unreachable!()
+        };
+        round.enter_one(papers, student)?;
+    }
+    round.into_settled(papers)
+}
+
+/// The papers with which a correction rewinds to the start.
+fn five_students(rt: &impl Abort, alloc: Global) -> Result<Papers, Fail> {
+    let schools = [(10, 1, 1), (20, 0, 2)];
+    let students: [Entry<'_>; 5] = [
+        (1, 1, &[], &[10, 20]),
+        (2, 0, &[], &[10, 20]),
+        (3, 0, &[], &[20]),
+        (4, 0, &[], &[20, 10]),
+        (5, 0, &[], &[20]),
+    ];
+    market(rt, alloc, &schools, &students)
+}
+
+#[test]
+fn entry_in_order(rt: HostRuntime) -> Result<(), Fail> {
+    let papers = five_students(&rt, rt.alloc())?;
+    let settled = settle(rt.alloc(), &papers)?;
+    let log = [(2, 10), (3, 20), (2, 20)];
+    expect_settled(&rt, &settled, &log, &[(1, 10), (4, 20), (5, 20)], 6);
+    Ok(())
+}
+
+#[test]
+fn entry_in_reverse(rt: HostRuntime) -> Result<(), Fail> {
+    let papers = five_students(&rt, rt.alloc())?;
+    let settled = settle_backwards::<SortedRoll>(rt.alloc(), &papers)?;
+    let log = [(3, 20), (2, 10), (2, 20)];
+    expect_settled(&rt, &settled, &log, &[(1, 10), (4, 20), (5, 20)], 6);
+    Ok(())
+}
+
+/// Where a growth is refused within `enter_one`, the round stays spent: to be run with each allocation
+/// failing in turn.
+fn spend(
+    rt: &impl Abort,
+    papers: &Papers,
+    mut round: Round<SortedRoll>,
+    one: StudentNo,
+) -> Result<(), AllocError>
+    requires fits { Fits papers.now (standings_of (⟦<SortedRoll as Roll>⟧.keys) (⟦<SortedRoll as Roll>⟧.seats) round) }
+    requires ready { is_spent round ≡ false }
+    requires student { is_student papers.now one ≡ true }
+    requires absent { has_entered papers.now (standings_of (⟦<SortedRoll as Roll>⟧.keys) (⟦<SortedRoll as Roll>⟧.seats) round).places one ≡ false }
+{
+    if round.enter_one(papers, one).is_err() {
+        assert!(rt; round.is_spent());
+        assert!(rt; round.enter_one(papers, one).is_err());
+        assert!(rt; round.into_settled(papers).is_err());
+        return Err(AllocError);
+    }
+    assert!(rt; !round.is_spent());
+    assert_eq!(rt; round.next_choice(papers, one), Some(school(rt, 1)));
+    assert!(rt; round.log().is_empty());
+    assert_eq!(rt; round.proposals(), 1);
+    Ok(())
+}
+
+#[test]
+fn a_spent_round(rt: HostRuntime) -> Result<(), Fail> {
+    let students: [Entry<'_>; 1] = [(1, 0, &[], &[1])];
+    let papers = market(&rt, rt.alloc(), &[(1, 0, 1)], &students)?;
+    let one = student(&rt, 1);
+    if papers.student(one).is_none() {
+        return Ok(());
+    }
+    let round: Round<SortedRoll> = Round::start(rt.alloc(), &papers)?;
+    spend(&rt, &papers, round, one)?;
+    Ok(())
+}
