@@ -1,0 +1,119 @@
+ghost use Rattle.std.specs.Prelude.{◌≡◌, ◌<◌, length, slice_index};
+ghost use Rattle.sc_papers.specs.Assignment.{assigned};
+ghost use Rattle.sc_papers.specs.Market.{students_of};
+ghost use Rattle.sc_papers.specs.Matching.{has, held};
+
+use sc_engine::settle;
+use sc_papers::{Assignment, Papers, SchoolNo, StudentNo};
+use std::alloc::{AllocError, Global};
+use std::marker::Model;
+
+/// The papers and the standing assignment under them.
+#[derive(Drop)]
+pub struct Clearing {
+    papers: Papers,
+    places: Assignment,
+}
+
+impl Model for Clearing {
+    ghost use Rattle.sc_repair.specs.Standing.{Standing};
+
+    ghost Value = { Standing };
+
+    ghost view = { λ c. record { papers = c.papers; places = c.places } };
+}
+
+/// The papers of a clearing that could not be opened for want of memory, as they were.
+#[derive(Drop)]
+pub struct OpenRefused {
+    pub papers: Papers,
+}
+
+/// How many of the students have the school.
+fn count_held(papers: &Papers, places: &Assignment, school: SchoolNo) -> u32
+    ensures { result ≡ held papers.now (assigned places.now) school }
+{
+    let mut held = 0;
+    for position in 0..papers.students_len() {
+        if has(papers, places, school, position) {
+            held += 1;
+        }
+    }
+    held
+}
+
+/// Whether the student at the position has the school.
+fn has(papers: &Papers, places: &Assignment, school: SchoolNo, position: usize) -> bool
+    requires { position < length papers.now.students }
+    ensures { result ≡ has (assigned places.now) school (slice_index (students_of papers.now) position) }
+{
+    match papers.student_at(position) {
+        Some(student) => places.get(student) == Some(school),
+        None => unreachable!(),
+    }
+}
+
+impl Clearing {
+    ghost use Rattle.std.specs.Prelude.{◌≡◌, IfOk, IfErr, OnOk};
+    ghost use Rattle.sc_papers.specs.Matching.{IsStudentOptimal};
+    ghost use Rattle.sc_repair.specs.Standing.{Standing, matching_of, place_of, held_at};
+
+    /// Settles the papers: the standing assignment is their student-optimal stable matching. The only error is want of memory, which gives the papers back unchanged.
+    pub fn open(alloc: Global, papers: Papers) -> Result<Self, OpenRefused>
+        ensures papers { IfOk result (λ clearing. clearing.papers ≡ papers) }
+        ensures optimal { IfOk result (λ clearing. IsStudentOptimal papers (matching_of clearing)) }
+        ensures refused { IfErr result (λ refused. refused.papers ≡ papers) }
+    {
+        match settle(alloc, &papers) {
+            Ok(settled) => Ok(Clearing {
+                papers,
+                places: settled.assignment,
+            }),
+            Err(_) => Err(OpenRefused { papers }),
+        }
+    }
+
+    /// The papers as they stand.
+    pub fn papers(&self) -> &Papers
+        ensures { result.now ≡ self.now.papers }
+    {
+        &self.papers
+    }
+
+    /// What the student has: `None` for one who is not in the papers, `Some(None)` for one who is
+    /// unplaced. In constant time.
+    pub fn place_of(&self, student: StudentNo) -> Option<Option<SchoolNo>>
+        ensures { result ≡ place_of self.now student }
+    {
+        if self.papers.student(student).is_none() {
+            return None;
+        }
+        Some(self.places.get(student))
+    }
+
+    /// How many students have the school, or `None` for one that is not in the papers. The cost is a
+    /// look-up for each student.
+    pub fn held(&self, school: SchoolNo) -> Option<u32>
+        ensures { result ≡ held_at self.now school }
+    {
+        if self.papers.school(school).is_none() {
+            return None;
+        }
+        Some(count_held(&self.papers, &self.places, school))
+    }
+
+    /// The standing assignment, lent.
+    pub fn places(&self) -> &Assignment
+        ensures { result.now ≡ self.now.places }
+    {
+        &self.places
+    }
+
+    /// The standing assignment as a value of its own: each placed student with its school, in order
+    /// of entry. The only error is want of memory.
+    pub fn assignment(&self) -> Result<Assignment, AllocError>
+        ensures { IfOk result (λ assignment. assignment ≡ self.now.places) }
+    {
+        self.places.copy()
+    }
+}
