@@ -1,0 +1,54 @@
+-- Lemmas on texts that are written and inputs that are read piece by piece.
+use Rattle.std.proofs.Common.{◌≡◌, ℕ, ◌+◌, ◌-◌, ◌≤◌, Bool, true, false, ◌||◌, List, ◌++◌, Option, None, Some, refl, sym, ap, ◌∙◌, subst, length, take, drop, take-append-drop, arith, append-nil}
+use Rattle.std.proofs.lemmas.List.{drop-take, take-take, take_rest, take_all, drop_all, take_at, drop_at, length-append}
+use Rattle.std.specs.Io.KnownBytes.{Appends, Consumes, IsAtEnd}
+use Rattle.std.proofs.KnownBytes.{Appends-trans, Consumes-trans}
+use Rattle.std.specs.Prelude.{Result, Ok, Err, IsErr}
+use Rattle.sc_report.specs.Whole.{GivesFirst, GivesAtMost, ReadsWhole}
+
+-- a front and what was taken after it make a longer front
+take-more : (at count : ℕ) (text : List ℕ) → take (at + count) text ≡ take at text ++ take count (drop at text)
+take-more at count text =
+    sym (take-append-drop at (take (at + count) text))
+    ∙ ap (λ front. front ++ drop at (take (at + count) text)) (take-take at (at + count) text (omega arith))
+    ∙ ap (λ rest. take at text ++ rest) (drop-take at count text)
+
+-- a writer that has a front of the text, and took more after it, has a longer front
+pub Appends-more : (a b c : Option (List ℕ)) (text : List ℕ) (at count : ℕ) → Appends a b (take at text)
+    → Appends b c (take count (take (length text - at) (drop at text))) → Appends a c (take (at + count) text)
+Appends-more a b c text at count first second =
+    subst (Appends a c) (sym (take-more at count text ∙ ap (λ rest. take at text ++ take count rest) (sym (take_rest text at)))) (Appends-trans a b c _ _ first second)
+
+-- a reader that gave `given` and then `came` gave both
+pub Consumes-more : (a b c : Option (List ℕ)) (given came both : List ℕ) → Consumes a b given → Consumes b c came → both ≡ given ++ came → Consumes a c both
+Consumes-more a b c given came both first second e = subst (Consumes a c) (sym e) (Consumes-trans a b c given came first second)
+
+-- a reader that gave as many bytes as asked for gave the first of its bytes
+pub GivesFirst-full : (limit : ℕ) (a b : Option (List ℕ)) (given : List ℕ) → Consumes a b given → length given ≡ limit → GivesFirst limit a b given
+GivesFirst-full limit None b given gave e = tt
+GivesFirst-full limit (Some bytes) None given gave e = absurd gave
+GivesFirst-full limit (Some bytes) (Some left) given gave e =
+    (sym (ap (take limit) gave ∙ take_at given left limit e), sym (ap (drop limit) gave ∙ drop_at given left limit e))
+
+-- a reader that is at its end gave all its bytes, which are no more than the limit
+pub GivesFirst-all : (limit : ℕ) (a b : Option (List ℕ)) (given : List ℕ) → Consumes a b given → IsAtEnd b → length given ≤ limit → GivesFirst limit a b given
+GivesFirst-all limit None b given gave end within = tt
+GivesFirst-all limit (Some bytes) None given gave end within = absurd gave
+GivesFirst-all limit (Some bytes) (Some left) given gave end within =
+    let whole : bytes ≡ given = gave ∙ ap (λ rest. given ++ rest) end ∙ append-nil given in
+    (sym (ap (take limit) whole ∙ take_all limit given within), end ∙ sym (ap (drop limit) whole ∙ drop_all limit given within))
+
+-- a reader that gave some bytes, and then at most some more, gave at most both together
+pub GivesAtMost-more : (limit most : ℕ) (a b c : Option (List ℕ)) (given : List ℕ) → Consumes a b given → GivesAtMost most b c → length given + most ≤ limit → GivesAtMost limit a c
+GivesAtMost-more limit most a b c given gave (came, second, few) within =
+    (given ++ came, Consumes-trans a b c given came gave second, omega (arith, length-append given came))
+
+-- a read that failed took no more than the limit
+pub ReadsWhole-err : {V E : Type 0} (items : V → List ℕ) (limit : ℕ) (a b : Option (List ℕ)) (result : Result V E) → IsErr result → GivesAtMost limit a b → ReadsWhole items limit a b result
+ReadsWhole-err items limit a b (Ok given) failed few = cc
+ReadsWhole-err items limit a b (Err fault) failed few = few
+
+-- a test that is joined to a false one is itself
+pub or-false : (b : Bool) → (b || false) ≡ b
+or-false true = refl
+or-false false = refl

@@ -1,0 +1,5 @@
+pub mod Watched
+pub mod Whole
+pub mod Devices
+pub mod Text
+pub mod Report

@@ -1,0 +1,14 @@
+//! What people read: the assignment as text, and the devices at the program's edge, readers and
+//! writers whose failure is remembered, read and written whole.
+#![tactic(auto)]
+
+pub mod devices;
+mod report;
+mod text;
+mod watched;
+mod whole;
+
+pub use report::{ReportFault, write_report};
+pub use text::{assignment_text, report_text};
+pub use watched::{DeviceFailed, Watched};
+pub use whole::{ReadFault, read_whole, write_whole};

@@ -1,0 +1,58 @@
+ghost use Rattle.std.specs.Prelude.{◌≡◌, ◌||◌};
+ghost use Rattle.sc_repair.specs.Standing.{matching_of};
+ghost use Rattle.sc_report.specs.Report.{WritesReport, is_write_fault};
+ghost use Rattle.sc_report.specs.Watched.{device_of, has_failed};
+ghost use Rattle.sc_report.specs.declared.report.ReportFault.TheVariants as fault;
+
+use crate::text::report_text;
+use crate::watched::{DeviceFailed, Watched};
+use crate::whole::write_whole;
+use sc_repair::Clearing;
+use std::alloc::{AllocError, Global};
+use std::io::Write;
+use thiserror::Error;
+
+/// Why a report was not written whole.
+#[derive(Clone, Copy, Debug, PartialEq, Eq, Error)]
+pub enum ReportFault {
+    /// The writer failed; a front of the report was written.
+    #[error("the report could not be written")]
+    Write,
+    /// A growth was refused; nothing was written.
+    #[error("out of memory")]
+    OutOfMemory,
+}
+
+impl From<DeviceFailed> for ReportFault {
+    ghost from_gives = { λ _ r. r ≡ fault.Write };
+
+    fn from(_failed: DeviceFailed) -> ReportFault {
+        ReportFault::Write
+    }
+}
+
+impl From<AllocError> for ReportFault {
+    ghost from_gives = { λ _ r. r ≡ fault.OutOfMemory };
+
+    fn from(_refused: AllocError) -> ReportFault {
+        ReportFault::OutOfMemory
+    }
+}
+
+/// Writes the report text of the standing assignment.
+///
+/// The text is built first: after `OutOfMemory` nothing was written, and after `Write` a front of
+/// it was.
+pub fn write_report<W: Write>(
+    alloc: Global,
+    clearing: &Clearing,
+    to: &mut Watched<W>,
+) -> Result<(), ReportFault>
+    ensures bytes { WritesReport clearing.now.papers (matching_of clearing.now)
+        (W.contents (device_of to.old)) (W.contents (device_of to.new)) result }
+    ensures failed { has_failed to.new ≡ (has_failed to.old || is_write_fault result) }
+{
+    let text = report_text(alloc, clearing)?;
+    write_whole(to, text.as_slice())?;
+    Ok(())
+}

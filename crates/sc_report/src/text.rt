@@ -1,0 +1,85 @@
+ghost use Rattle.std.specs.Prelude.{◌≡◌, ◌++◌, IfOk, OnOk, codes, decimal};
+ghost use Rattle.sc_papers.specs.Assignment.{assigned};
+ghost use Rattle.sc_papers.specs.Market.{students_of};
+ghost use Rattle.sc_repair.specs.Standing.{matching_of};
+ghost use Rattle.sc_report.specs.Text.{assignment_line, place_text, InRisingOrder, IsAssignmentText};
+
+use itoa::Buffer;
+use sc_papers::{Assignment, Papers, StudentNo};
+use sc_repair::Clearing;
+use std::alloc::{AllocError, Global};
+
+/// The line above the assignment's lines.
+const HEADER: &[u8; 15] = b"student,school\n";
+
+/// The students by rising number.
+fn rising_students(alloc: Global, papers: &Papers) -> Result<Vec<StudentNo>, AllocError>
+    ensures { IfOk result (λ students. InRisingOrder (students_of papers.now) students.items) }
+{
+    let mut students = students_in_order(alloc, papers)?;
+    students.as_mut_slice().sort_unstable();
+    Ok(students)
+}
+
+/// The students in order of entry.
+fn students_in_order(alloc: Global, papers: &Papers) -> Result<Vec<StudentNo>, AllocError>
+    ensures { IfOk result (λ students. students.items ≡ students_of papers.now) }
+{
+    let mut students = Vec::with_capacity(alloc, papers.students_len())?;
+    for position in 0..papers.students_len() {
+        match papers.student_at(position) {
+            Some(student) => students.push(student)?,
+            None => unreachable!(),
+        }
+    }
+    Ok(students)
+}
+
+/// Adds a number in decimal digits.
+fn push_number(text: &mut Vec<u8>, number: u32) -> Result<(), AllocError>
+    ensures { OnOk result (text.new.items ≡ text.old.items ++ decimal number) }
+{
+    let mut buffer = Buffer::new();
+    text.extend_from_slice(buffer.format(number).as_bytes())
+}
+
+/// Adds what the student has, or a dash.
+fn push_place(text: &mut Vec<u8>, places: &Assignment, student: StudentNo) -> Result<(), AllocError>
+    ensures { OnOk result (text.new.items ≡ text.old.items ++ place_text (assigned places.now student)) }
+{
+    match places.get(student) {
+        Some(school) => push_number(text, school.get()),
+        None => text.extend_from_slice(b"-"),
+    }
+}
+
+/// Adds the line of a student.
+fn push_line(text: &mut Vec<u8>, places: &Assignment, student: StudentNo) -> Result<(), AllocError>
+    ensures { OnOk result (text.new.items ≡ text.old.items ++ assignment_line (assigned places.now) student) }
+{
+    push_number(text, student.get())?;
+    text.extend_from_slice(b",")?;
+    push_place(text, places, student)?;
+    text.extend_from_slice(b"\n")
+}
+
+/// The assignment text: a header, and for each student by rising number a line with the school that
+/// the student has, or a dash. The only error is want of memory. The cost is a sort of the
+/// students' numbers and one pass.
+pub fn assignment_text(alloc: Global, clearing: &Clearing) -> Result<Vec<u8>, AllocError>
+    ensures { IfOk result (λ text. IsAssignmentText clearing.now.papers (matching_of clearing.now) text.items) }
+{
+    let students = rising_students(alloc, clearing.papers())?;
+    let mut text = Vec::from_slice(alloc, HEADER)?;
+    for student in students.as_slice() {
+        push_line(&mut text, clearing.places(), *student)?;
+    }
+    Ok(text)
+}
+
+/// The report text, which is the assignment text for now. The only error is want of memory.
+pub fn report_text(alloc: Global, clearing: &Clearing) -> Result<Vec<u8>, AllocError>
+    ensures { IfOk result (λ text. IsAssignmentText clearing.now.papers (matching_of clearing.now) text.items) }
+{
+    assignment_text(alloc, clearing)
+}
