@@ -1,0 +1,6 @@
+pub mod Markers
+pub mod Bundle
+pub mod Blanks
+pub mod Ending
+pub mod Opening
+pub mod BundleRun

@@ -1,0 +1,54 @@
+//! From one bundle to an assignment.
+
+ghost use Rattle.std.specs.Prelude.{◌⊎◌, ℕ, List};
+ghost use Rattle.std.specs.Io.KnownBytes.{Keeps};
+ghost use Rattle.sc_report.specs.Watched.{device_of};
+ghost use Rattle.clearinghouse.specs.BundleRun.{EndsBundle, EndsUnread};
+ghost use Rattle.clearinghouse.specs.Opening.{IsWhole};
+
+use crate::ending::Ending;
+use crate::matching::{Files, match_texts, read_input};
+use crate::sections::split_bundle;
+use sc_intake::Source;
+use sc_papers::Seed;
+use sc_report::Watched;
+use std::alloc::Global;
+use std::io::{Read, Write};
+
+/// Reads a bundle whole, its seed, and writes the report of the papers in its sections. A script's
+/// section is passed over for now. Before all of that is known to be good, nothing is written.
+pub fn run_bundle<R: Read, W: Write>(
+    alloc: Global,
+    input: &mut Watched<R>,
+    out: &mut Watched<W>,
+) -> Ending
+    ensures { ((text : List ℕ) × IsWhole (R.remaining (device_of input.old)) text × EndsBundle text (W.contents (device_of out.old)) (W.contents (device_of out.new)) result)
+        ⊎ (EndsUnread result × Keeps (W.contents (device_of out.old)) (W.contents (device_of out.new))) }
+{
+    match read_input(alloc, input, Source::Bundle) {
+        Ok(text) => run_text(alloc, text.as_slice(), out),
+        Err(fault) => Ending::Fault(fault),
+    }
+}
+
+/// Runs a bundle that was read.
+fn run_text<W: Write>(alloc: Global, text: &[u8], out: &mut Watched<W>) -> Ending
+    ensures { EndsBundle text.now (W.contents (device_of out.old)) (W.contents (device_of out.new)) result }
+{
+    let Some(bundle) = split_bundle(text) else {
+        return Ending::BadBundle;
+    };
+    let seed = match Seed::from_hex(bundle.seed) {
+        Ok(seed) => seed,
+        Err(error) => return Ending::BadSeed(error),
+    };
+    let files = Files {
+        schools: bundle.schools,
+        roster: bundle.roster,
+        lists: bundle.lists,
+    };
+    match match_texts(alloc, &seed, files, out) {
+        Ok(()) => Ending::Done,
+        Err(fault) => Ending::Fault(fault),
+    }
+}

@@ -1,0 +1,162 @@
+use crate::perform::perform;
+use std::alloc::{AllocError, Global};
+use std::test::Fail;
+
+const SCHOOLS: &str = "school,zone,seats\n";
+
+const ROSTER: &str = "student,zone,siblings\n";
+
+const LISTS: &str = "student,choices\n";
+
+const ZEROS: &str = "0000000000000000000000000000000000000000000000000000000000000000";
+
+/// A bundle of rows under the zero seed.
+fn bundle(alloc: Global, schools: &str, roster: &str, lists: &str) -> Result<String, AllocError> {
+    format!(in alloc;
+        "%seed\n{ZEROS}\n%schools\n{SCHOOLS}{schools}%roster\n{ROSTER}{roster}%lists\n{LISTS}{lists}"
+    )
+}
+
+/// What the program writes for a bundle: the output, the errors and the status, as lines.
+fn told(alloc: Global, input: &str) -> Result<String, AllocError> {
+    let mut output = Vec::new(alloc);
+    let mut errors = Vec::new(alloc);
+    let status = perform(alloc, input.as_bytes(), &mut output, &mut errors);
+    let output = String::from_utf8_lossy(alloc, output.as_slice())?;
+    let errors = String::from_utf8_lossy(alloc, errors.as_slice())?;
+    format!(in alloc; "{output}{errors}{status}")
+}
+
+#[test]
+fn worked_openings(rt: HostRuntime) -> Result<(), Fail> {
+    let alloc = rt.alloc();
+    for (row, schools, roster, lists, want) in [
+        ("headers alone", "", "", "", "student,school\n0"),
+        (
+            "one seat, two students",
+            "1,0,1\n",
+            "1,0,\n2,0,\n",
+            "1,1\n2,1\n",
+            "student,school\n1,-\n2,1\n0",
+        ),
+        (
+            "zone before draw",
+            "1,1,1\n",
+            "1,1,\n2,0,\n",
+            "1,1\n2,1\n",
+            "student,school\n1,1\n2,-\n0",
+        ),
+        (
+            "Market A",
+            "10,0,1\n20,0,1\n",
+            "1,0,20\n2,0,10\n",
+            "1,10 20\n2,20 10\n",
+            "student,school\n1,10\n2,20\n0",
+        ),
+        (
+            "Market B",
+            "10,1,1\n20,0,1\n",
+            "1,0,20\n2,0,10\n",
+            "1,10 20\n2,20 10\n",
+            "student,school\n1,10\n2,20\n0",
+        ),
+        (
+            "a correction rewinds to the start",
+            "10,1,1\n20,0,2\n",
+            "1,1,\n2,0,\n3,0,\n4,0,\n5,0,\n",
+            "1,10 20\n2,10 20\n3,20\n4,20 10\n5,20\n",
+            "student,school\n1,10\n2,-\n3,-\n4,20\n5,20\n0",
+        ),
+        (
+            "free seats",
+            "10,0,2\n",
+            "1,0,\n",
+            "1,10\n",
+            "student,school\n1,10\n0",
+        ),
+        (
+            "no seats",
+            "10,0,0\n",
+            "1,0,\n",
+            "1,10\n",
+            "student,school\n1,-\n0",
+        ),
+    ] {
+        let text = bundle(alloc, schools, roster, lists)?;
+        let told = told(alloc, text.as_str())?;
+        assert!(rt; told.as_str() == want, "{row}: {told}");
+    }
+    Ok(())
+}
+
+#[test]
+fn each_intake_fault_once(rt: HostRuntime) -> Result<(), Fail> {
+    let alloc = rt.alloc();
+    for (schools, roster, lists, want) in [
+        ("10,0\n", "", "", "clearinghouse: schools row 2: Fields\n3"),
+        (
+            "10,x,1\n",
+            "",
+            "",
+            "clearinghouse: schools row 2: Number\n3",
+        ),
+        (
+            "10,10000,1\n",
+            "",
+            "",
+            "clearinghouse: schools row 2: Range\n3",
+        ),
+        (
+            "10,0,1\n10,0,1\n",
+            "",
+            "",
+            "clearinghouse: schools row 3: Twice\n3",
+        ),
+        (
+            "10,0,1\n20,0,1\n",
+            "1,0,20\n2,0,10\n",
+            "1,10 20\n",
+            "clearinghouse: roster row 3: NoList\n3",
+        ),
+        (
+            "10,0,1\n20,0,1\n",
+            "1,0,20\n2,0,10\n",
+            "1,10 20\n2,20 10\n9,10\n",
+            "clearinghouse: lists row 4: NotInRoster\n3",
+        ),
+        (
+            "10,0,1\n20,0,1\n",
+            "1,0,20\n2,0,10\n",
+            "1,10 99\n2,20 10\n",
+            "clearinghouse: roster row 2: Refused 6 UnknownSchool 99\n3",
+        ),
+    ] {
+        let text = bundle(alloc, schools, roster, lists)?;
+        let told = told(alloc, text.as_str())?;
+        assert!(rt; told.as_str() == want, "{told}");
+    }
+    Ok(())
+}
+
+#[test]
+fn faults_of_the_bundle(rt: HostRuntime) -> Result<(), Fail> {
+    for (text, want) in [
+        ("", "clearinghouse: bundle\n3"),
+        (
+            "%seed\n00\n%schools\n%roster\n%lists\n",
+            "clearinghouse: seed: Length\n2",
+        ),
+        (
+            "%seed\n00000g0000000000000000000000000000000000000000000000000000000000\n%schools\n%roster\n%lists\n",
+            "clearinghouse: seed: Digit 5\n2",
+        ),
+        (
+            "%seed\n0000000000000000000000000000000000000000000000000000000000000000\n%schools\nschool,zone\n%roster\n%lists\n",
+            "clearinghouse: schools row 1: Header\n3",
+        ),
+    ] {
+        let told = told(rt.alloc(), text)?;
+        assert!(rt; told.as_str() == want, "{told}");
+    }
+    Ok(())
+}
