@@ -154,3 +154,14 @@ fn each_fault_of_the_students_once(rt: HostRuntime) -> Result<(), Fail> {
     }
     Ok(())
 }
+
+#[test]
+fn rows_are_counted(rt: HostRuntime) -> Result<(), Fail> {
+    let schools = read_schools(rt.alloc(), b"school,zone,seats\n10,0,1\n20,0,1\n")?;
+    assert!(rt; schools.len() == 2);
+    let roster = read_roster(rt.alloc(), b"student,zone,siblings\n1,0,\n")?;
+    assert!(rt; roster.len() == 1);
+    let lists = read_lists(rt.alloc(), b"student,choices\n")?;
+    assert!(rt; lists.len() == 0);
+    Ok(())
+}

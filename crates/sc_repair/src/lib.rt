@@ -4,3 +4,6 @@
 mod clearing;
 
 pub use clearing::{Clearing, OpenRefused};
+
+#[cfg(test)]
+mod tests;
