@@ -1,3 +1,5 @@
 pub mod Order
 pub mod Offers
+pub mod Ordering
+pub mod Heaps
 pub mod Seen

@@ -10,7 +10,8 @@ use Rattle.std.proofs.lemmas.List.Sorted.{IsPermutation-insert, IsPermutation-tr
 use Rattle.sc_papers.specs.Key.{is_before}
 use Rattle.sc_papers.specs.declared.key.Key.{Key}
 use Rattle.sc_seats.specs.Roll.{IsAscending}
-use Rattle.sc_seats.proofs.Order.{key_cmp, index-rises, ascending-places, ascending-front, ascending-insert}
+use Rattle.sc_seats.specs.Order.{key_cmp}
+use Rattle.sc_seats.proofs.Order.{index-rises, ascending-places, ascending-front, ascending-insert}
 
 -- against any key, the keys of an ascending list rise
 pub ascending-searchable : (keys : List Key) (x : Key) → IsAscending keys → IsNonDecreasingBy (λ y. ordering_index (key_cmp y x)) keys

@@ -1,18 +1,14 @@
 -- The order of keys, and ascending lists of them.
 use Rattle.std.proofs.Common.{◌≡◌, refl, ℕ, zero, suc, ◌<◌, ◌≤◌, true, List, [], ◌∷◌, ◌++◌, length, get_or, Some, All, arith}
 use Rattle.std.specs.List.{insert}
-use Rattle.std.specs.Ordering.{nat_cmp, ordering_then, ordering_index}
-use Rattle.std.specs.declared.cmp.Ordering.{Ordering}
+use Rattle.std.specs.Ordering.{ordering_index}
 use Rattle.std.specs.declared.cmp.Ordering.TheVariants.{Less, Greater}
 use Rattle.std.proofs.lemmas.Bool.Decides.{nat_tests}
 use Rattle.std.proofs.lemmas.List.Elements.{All-cons, All-head, All-tail, All-nil, All-pop}
 use Rattle.sc_papers.specs.Key.{is_before}
 use Rattle.sc_papers.specs.declared.key.Key.{Key}
+use Rattle.sc_seats.specs.Order.{key_cmp}
 use Rattle.sc_seats.specs.Roll.{IsAscending}
-
--- what `cmp` answers at keys
-abbrev pub key_cmp : Key → Key → Ordering
-key_cmp a b = ordering_then (nat_cmp a.class b.class) (ordering_then (nat_cmp a.draw b.draw) (nat_cmp a.student b.student))
 
 pub before-from_less : (a b : Key) → key_cmp a b ≡ Less → is_before a b ≡ true
 before-from_less a b less = grind (arith, nat_tests)

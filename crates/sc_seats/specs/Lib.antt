@@ -1,1 +1,3 @@
 pub mod Roll
+pub mod Order
+pub mod Heap

@@ -1,5 +1,5 @@
 -- Rolls as contracts see them.
-use Rattle.std.specs.Prelude.{◌≡◌, ℕ, ◌≤◌, true, List, [], ◌∷◌, length, All}
+use Rattle.std.specs.Prelude.{◌≡◌, ℕ, ◌≤◌, true, List, [], ◌∷◌, length, All, if◌then◌else◌}
 use Rattle.std.specs.Bool.{⊤}
 use Rattle.sc_papers.specs.Key.{is_before}
 use Rattle.sc_papers.specs.declared.key.Key.{Key}
@@ -18,3 +18,13 @@ pub record Held : Type 0 where
 pub record IsRoll (roll : Held) : Type 0 where
   pub ascending : IsAscending roll.keys
   pub within : length roll.keys ≤ roll.seats
+
+-- a key put at its place in an ascending list
+abbrev pub put_in_order : Key → List Key → List Key
+put_in_order key [] = key ∷ []
+put_in_order key (first ∷ rest) = if is_before key first then key ∷ first ∷ rest else first ∷ put_in_order key rest
+
+-- the keys in order
+abbrev pub in_order : List Key → List Key
+in_order [] = []
+in_order (key ∷ keys) = put_in_order key (in_order keys)

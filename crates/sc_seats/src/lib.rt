@@ -1,12 +1,14 @@
 //! Rolls of held seats: who holds the seats of one school.
 //!
 //! Code above knows the trait `Roll` alone. `SortedRoll` is the plain program, and good for small
-//! schools.
+//! schools; `HeapRoll` is for large ones.
 #![tactic(auto)]
 
+mod heap;
 mod roll;
 mod sorted;
 
+pub use heap::HeapRoll;
 pub use roll::Roll;
 pub use sorted::SortedRoll;
 

@@ -1,5 +1,6 @@
 ghost use Rattle.std.specs.Prelude.{◌≡◌, ◌≤◌, length, All, Contains, OnOk};
 
+use crate::heap::HeapRoll;
 use crate::roll::Roll;
 use crate::sorted::SortedRoll;
 use sc_papers::{Key, Seats, StudentNo};
@@ -76,5 +77,12 @@ fn few_seats<R: Roll>(rt: &impl Abort, alloc: Global) -> Result<(), AllocError> 
 fn sorted_rolls(rt: HostRuntime) -> Result<(), Fail> {
     two_seats::<SortedRoll>(&rt, rt.alloc())?;
     few_seats::<SortedRoll>(&rt, rt.alloc())?;
+    Ok(())
+}
+
+#[test]
+fn heap_rolls(rt: HostRuntime) -> Result<(), Fail> {
+    two_seats::<HeapRoll>(&rt, rt.alloc())?;
+    few_seats::<HeapRoll>(&rt, rt.alloc())?;
     Ok(())
 }
