@@ -44,6 +44,7 @@ fn who_has_what(rt: HostRuntime) -> Result<(), Fail> {
     assert!(rt; clearing.held(school(&rt, 2)).is_none());
     assert!(rt; clearing.papers().students_len() == 2);
     let places = clearing.assignment()?;
+    assert!(rt; !places.is_empty());
     assert!(rt; places.at(0) == clearing.places().at(0));
     Ok(())
 }
