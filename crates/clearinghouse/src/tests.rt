@@ -1,4 +1,8 @@
+use crate::fault::RunFault;
+use crate::matching::{Opening, match_files};
 use crate::perform::perform;
+use sc_papers::Seed;
+use sc_report::Watched;
 use std::alloc::{AllocError, Global};
 use std::test::Fail;
 
@@ -158,5 +162,37 @@ fn faults_of_the_bundle(rt: HostRuntime) -> Result<(), Fail> {
         let told = told(rt.alloc(), text)?;
         assert!(rt; told.as_str() == want, "{told}");
     }
+    Ok(())
+}
+
+/// What the call on readers writes for three files.
+fn matched(
+    alloc: Global,
+    seed: &Seed,
+    schools: &[u8],
+    roster: &[u8],
+    lists: &[u8],
+) -> Result<Watched<Vec<u8>>, RunFault> {
+    let mut opening = Opening {
+        schools: Watched::new(schools),
+        roster: Watched::new(roster),
+        lists: Watched::new(lists),
+    };
+    let mut out = Watched::new(Vec::new(alloc));
+    match_files(alloc, seed, &mut opening, false, &mut out)?;
+    Ok(out)
+}
+
+#[test]
+fn three_files(rt: HostRuntime) -> Result<(), Fail> {
+    let seed = Seed::from_hex(ZEROS.as_bytes())?;
+    let out = matched(
+        rt.alloc(),
+        &seed,
+        b"school,zone,seats\n1,0,1\n",
+        b"student,zone,siblings\n1,0,\n2,0,\n",
+        b"student,choices\n1,1\n2,1\n",
+    )?;
+    assert!(rt; out.inner().as_slice() == b"student,school\n1,-\n2,1\n".as_slice());
     Ok(())
 }
