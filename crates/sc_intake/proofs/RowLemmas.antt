@@ -40,45 +40,45 @@ AreNumbers-push number rows row old new are put = λ n.
     ∙ sym (list_any-append (nat_eq n) (map number rows) (number row ∷ []))
     ∙ ap (list_any (nat_eq n)) (sym (map-append number rows (row ∷ [])))
 
-rows_after-more : {R : Type 0} (source : Source) (read : List R → List (List ℕ) → Result R Cause) (earlier : List R) (fields : List (List ℕ)) (rest : List (List (List ℕ))) (rows : List R)
-    → added earlier (read earlier fields) ≡ Ok rows → rows_after source read earlier (fields ∷ rest) ≡ rows_after source read rows rest
+rows_after-more : {R : Type 0} (first : ℕ) (source : Source) (read : List R → List (List ℕ) → Result R Cause) (earlier : List R) (fields : List (List ℕ)) (rest : List (List (List ℕ))) (rows : List R)
+    → added earlier (read earlier fields) ≡ Ok rows → rows_after first source read earlier (fields ∷ rest) ≡ rows_after first source read rows rest
 unfolding rows_after
-rows_after-more {R = R} source read earlier fields rest rows e = by (read earlier fields) e
+rows_after-more {R = R} first source read earlier fields rest rows e = by (read earlier fields) e
   where
     by : (r : Result R Cause) → added earlier r ≡ Ok rows
-        → (in_row source (length earlier + 2) r >>= λ row. rows_after source read (earlier ++ row ∷ []) rest) ≡ rows_after source read rows rest
-    by (Ok x) e = let same : earlier ++ x ∷ [] ≡ rows = cc in ap (λ (rs : List R). rows_after source read rs rest) same
+        → (in_row source (length earlier + first) r >>= λ row. rows_after first source read (earlier ++ row ∷ []) rest) ≡ rows_after first source read rows rest
+    by (Ok x) e = let same : earlier ++ x ∷ [] ≡ rows = cc in ap (λ (rs : List R). rows_after first source read rs rest) same
     by (Err cause) e = cc e
 
-rows_after-bad : {R : Type 0} (source : Source) (read : List R → List (List ℕ) → Result R Cause) (earlier : List R) (fields : List (List ℕ)) (rest : List (List (List ℕ))) (cause : Cause)
-    → added earlier (read earlier fields) ≡ Err cause → rows_after source read earlier (fields ∷ rest) ≡ Err (fault_at source (length earlier + 2) cause)
+rows_after-bad : {R : Type 0} (first : ℕ) (source : Source) (read : List R → List (List ℕ) → Result R Cause) (earlier : List R) (fields : List (List ℕ)) (rest : List (List (List ℕ))) (cause : Cause)
+    → added earlier (read earlier fields) ≡ Err cause → rows_after first source read earlier (fields ∷ rest) ≡ Err (fault_at source (length earlier + first) cause)
 unfolding rows_after
-rows_after-bad {R = R} source read earlier fields rest cause e = by (read earlier fields) e
+rows_after-bad {R = R} first source read earlier fields rest cause e = by (read earlier fields) e
   where
     by : (r : Result R Cause) → added earlier r ≡ Err cause
-        → (in_row source (length earlier + 2) r >>= λ row. rows_after source read (earlier ++ row ∷ []) rest) ≡ Err (fault_at source (length earlier + 2) cause)
+        → (in_row source (length earlier + first) r >>= λ row. rows_after first source read (earlier ++ row ∷ []) rest) ≡ Err (fault_at source (length earlier + first) cause)
     by (Ok x) e = cc e
     by (Err other) e = let same : other ≡ cause = cc in rw same refl
 
 -- the reading goes on after a row
-pub row-step : {R : Type 0} (source : Source) (read : List R → List (List ℕ) → Result R Cause) (reading : Result (List R) IntakeFault) (earlier rows : List R) (left rest : List (List (List ℕ))) (fields : List (List ℕ))
-    → reading ≡ rows_after source read earlier left → left ≡ fields ∷ rest → added earlier (read earlier fields) ≡ Ok rows
-    → reading ≡ rows_after source read rows rest
-row-step source read reading earlier rows left rest fields so_far next add =
-    so_far ∙ ap (rows_after source read earlier) next ∙ rows_after-more source read earlier fields rest rows add
+pub row-step : {R : Type 0} (first : ℕ) (source : Source) (read : List R → List (List ℕ) → Result R Cause) (reading : Result (List R) IntakeFault) (earlier rows : List R) (left rest : List (List (List ℕ))) (fields : List (List ℕ))
+    → reading ≡ rows_after first source read earlier left → left ≡ fields ∷ rest → added earlier (read earlier fields) ≡ Ok rows
+    → reading ≡ rows_after first source read rows rest
+row-step first source read reading earlier rows left rest fields so_far next add =
+    so_far ∙ ap (rows_after first source read earlier) next ∙ rows_after-more first source read earlier fields rest rows add
 
 -- it ends at a fault of a row
-pub row-fault : {R : Type 0} (source : Source) (read : List R → List (List ℕ) → Result R Cause) (reading : Result (List R) IntakeFault) (earlier : List R) (left rest : List (List (List ℕ))) (fields : List (List ℕ)) (cause : Cause) (fault : IntakeFault)
-    → reading ≡ rows_after source read earlier left → left ≡ fields ∷ rest → IsFault OutOfMemory (added earlier (read earlier fields)) cause
-    → fault ≡ fault_at source (length earlier + 2) cause
+pub row-fault : {R : Type 0} (first : ℕ) (source : Source) (read : List R → List (List ℕ) → Result R Cause) (reading : Result (List R) IntakeFault) (earlier : List R) (left rest : List (List (List ℕ))) (fields : List (List ℕ)) (cause : Cause) (fault : IntakeFault)
+    → reading ≡ rows_after first source read earlier left → left ≡ fields ∷ rest → IsFault OutOfMemory (added earlier (read earlier fields)) cause
+    → fault ≡ fault_at source (length earlier + first) cause
     → IsFault (no_memory source) reading fault
-row-fault source read reading earlier left rest fields cause fault so_far next bad at = elim bad [
-  | inl is ↦ inl (rw at (so_far ∙ ap (rows_after source read earlier) next ∙ rows_after-bad source read earlier fields rest cause is))
+row-fault first source read reading earlier left rest fields cause fault so_far next bad at = elim bad [
+  | inl is ↦ inl (rw at (so_far ∙ ap (rows_after first source read earlier) next ∙ rows_after-bad first source read earlier fields rest cause is))
   | inr none ↦ inr (at ∙ rw none refl)
 ]
 
 -- it ends with the records
-pub row-end : {R : Type 0} (source : Source) (read : List R → List (List ℕ) → Result R Cause) (reading : Result (List R) IntakeFault) (earlier : List R) (left : List (List (List ℕ)))
-    → reading ≡ rows_after source read earlier left → left ≡ [] → reading ≡ Ok earlier
+pub row-end : {R : Type 0} (first : ℕ) (source : Source) (read : List R → List (List ℕ) → Result R Cause) (reading : Result (List R) IntakeFault) (earlier : List R) (left : List (List (List ℕ)))
+    → reading ≡ rows_after first source read earlier left → left ≡ [] → reading ≡ Ok earlier
 unfolding rows_after
-row-end source read reading earlier left so_far end = so_far ∙ ap (rows_after source read earlier) end
+row-end first source read reading earlier left so_far end = so_far ∙ ap (rows_after first source read earlier) end

@@ -31,17 +31,17 @@ abbrev pub in_row : {A : Type 0} → Source → ℕ → Result A Cause → Resul
 in_row source row (Ok x) = Ok x
 in_row source row (Err cause) = Err (fault_at source row cause)
 
--- the rows that records read as, after earlier rows; row 1 is the header
-unfoldable pub rows_after : {R : Type 0} → Source → (List R → List (List ℕ) → Result R Cause) → List R → List (List (List ℕ)) → Result (List R) IntakeFault
-rows_after source read earlier [] = Ok earlier
-rows_after source read earlier (fields ∷ rest) =
-    in_row source (length earlier + 2) (read earlier fields) >>= λ row. rows_after source read (earlier ++ row ∷ []) rest
+-- the rows that records read as, after earlier rows; the first row has this number
+unfoldable pub rows_after : {R : Type 0} → ℕ → Source → (List R → List (List ℕ) → Result R Cause) → List R → List (List (List ℕ)) → Result (List R) IntakeFault
+rows_after first source read earlier [] = Ok earlier
+rows_after first source read earlier (fields ∷ rest) =
+    in_row source (length earlier + first) (read earlier fields) >>= λ row. rows_after first source read (earlier ++ row ∷ []) rest
 
 -- the records after the header, which the first record has to be
 unfoldable pub after_header : Source → (List (List ℕ) → Bool) → List (List (List ℕ)) → Result (List (List (List ℕ))) IntakeFault
 after_header source is_header [] = Err (fault_at source 1 Header)
 after_header source is_header (fields ∷ rest) = if is_header fields then Ok rest else Err (fault_at source 1 Header)
 
--- the rows of a file
+-- the rows of a file, which begin at row 2
 abbrev pub rows_in : {R : Type 0} → Source → (List (List ℕ) → Bool) → (List R → List (List ℕ) → Result R Cause) → List ℕ → Result (List R) IntakeFault
-rows_in source is_header read text = records_in source text >>= after_header source is_header >>= rows_after source read []
+rows_in source is_header read text = records_in source text >>= after_header source is_header >>= rows_after 2 source read []

@@ -46,6 +46,7 @@ abbrev pub unless_refused : Market → Amendment → Option Refusal → Result M
 unless_refused m a None = Ok (after m a)
 unless_refused m a (Some r) = Err (cause_of r)
 
+-- the papers after an amendment, or the cause of its refusal
 abbrev pub amended : Market → Amendment → Result Market Cause
 amended m a = unless_refused m a (verdict m a)
 

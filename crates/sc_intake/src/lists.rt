@@ -69,10 +69,10 @@ impl ListRows {
     }
 }
 
-fn is_header(record: &Records) -> bool
-    ensures { result ≡ is_list_header record.now.current }
+fn is_header(fields: &Records) -> bool
+    ensures { result ≡ is_list_header fields.now.current }
 {
-    record.len() == 2 && record.reads(0, b"student") && record.reads(1, b"choices")
+    fields.len() == 2 && fields.reads(0, b"student") && fields.reads(1, b"choices")
 }
 
 /// Takes the header.
@@ -87,14 +87,14 @@ fn take_header(records: &mut Records) -> Result<(), IntakeFault>
 }
 
 /// The row that the record read last is.
-fn choices_of(alloc: Global, row: u64, record: &Records) -> Result<ListRow, Cause>
-    ensures { Gives (λ found. found) OutOfMemory (choices_of row record.now.current) result }
+fn choices_of(alloc: Global, row: u64, fields: &Records) -> Result<ListRow, Cause>
+    ensures { Gives (λ found. found) OutOfMemory (choices_of row fields.now.current) result }
 {
-    if record.len() != 2 {
+    if fields.len() != 2 {
         return Err(Cause::Fields);
     }
-    let student = number(record.field(0))?;
-    let choices = list(alloc, record.field(1))?;
+    let student = number(fields.field(0))?;
+    let choices = list(alloc, fields.field(1))?;
     Ok(ListRow {
         row,
         student: ranges::student(student)?,
@@ -105,13 +105,13 @@ fn choices_of(alloc: Global, row: u64, record: &Records) -> Result<ListRow, Caus
 /// Adds the row that the record read last is to the rows before it, whose numbers were seen.
 fn add_list(
     alloc: Global,
-    record: &Records,
+    fields: &Records,
     rows: &mut Vec<ListRow>,
     seen: &mut HashSet<StudentNo>,
 ) -> Result<(), Cause>
     requires rows { AreRows list_number 200000 rows.old.items }
     requires seen { AreNumbers list_number rows.old.items seen.old.keys }
-    ensures gives { Gives (λ _. rows.new.items) OutOfMemory (added rows.old.items (next_list rows.old.items record.now.current)) result }
+    ensures gives { Gives (λ _. rows.new.items) OutOfMemory (added rows.old.items (next_list rows.old.items fields.now.current)) result }
     ensures rows { OnOk result (AreRows list_number 200000 rows.new.items) }
     ensures seen { OnOk result (AreNumbers list_number rows.new.items seen.new.keys) }
     ensures more { OnOk result (length rows.new.items ≡ length rows.old.items + 1) }
@@ -119,7 +119,7 @@ fn add_list(
     if rows.len() >= MOST_LISTS {
         return Err(Cause::TooLong);
     }
-    let found = choices_of(alloc, rows.len() as u64 + 2, record)?;
+    let found = choices_of(alloc, rows.len() as u64 + 2, fields)?;
     if !seen.insert(found.student)? {
         return Err(Cause::Twice);
     }
@@ -129,7 +129,7 @@ fn add_list(
 
 /// The rows after the header.
 fn take_lists(alloc: Global, records: &mut Records) -> Result<Vec<ListRow>, IntakeFault>
-    ensures gives { Gives (λ rows. rows.items) (no_memory Lists) (rows_after Lists next_list [] records.old.left) result }
+    ensures gives { Gives (λ rows. rows.items) (no_memory Lists) (rows_after 2 Lists next_list [] records.old.left) result }
     ensures rows { IfOk result (λ rows. AreRows list_number 200000 rows.items) }
 {
     let mut rows = Vec::new(alloc);

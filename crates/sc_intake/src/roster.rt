@@ -70,13 +70,13 @@ impl RosterRows {
     }
 }
 
-fn is_header(record: &Records) -> bool
-    ensures { result ≡ is_roster_header record.now.current }
+fn is_header(fields: &Records) -> bool
+    ensures { result ≡ is_roster_header fields.now.current }
 {
-    record.len() == 3
-        && record.reads(0, b"student")
-        && record.reads(1, b"zone")
-        && record.reads(2, b"siblings")
+    fields.len() == 3
+        && fields.reads(0, b"student")
+        && fields.reads(1, b"zone")
+        && fields.reads(2, b"siblings")
 }
 
 /// Takes the header.
@@ -91,15 +91,15 @@ fn take_header(records: &mut Records) -> Result<(), IntakeFault>
 }
 
 /// The row that the record read last is.
-fn student_of(alloc: Global, row: u64, record: &Records) -> Result<RosterRow, Cause>
-    ensures { Gives (λ found. found) OutOfMemory (student_of row record.now.current) result }
+fn student_of(alloc: Global, row: u64, fields: &Records) -> Result<RosterRow, Cause>
+    ensures { Gives (λ found. found) OutOfMemory (student_of row fields.now.current) result }
 {
-    if record.len() != 3 {
+    if fields.len() != 3 {
         return Err(Cause::Fields);
     }
-    let student = number(record.field(0))?;
-    let zone = number(record.field(1))?;
-    let siblings = list(alloc, record.field(2))?;
+    let student = number(fields.field(0))?;
+    let zone = number(fields.field(1))?;
+    let siblings = list(alloc, fields.field(2))?;
     Ok(RosterRow {
         row,
         student: ranges::student(student)?,
@@ -111,13 +111,13 @@ fn student_of(alloc: Global, row: u64, record: &Records) -> Result<RosterRow, Ca
 /// Adds the row that the record read last is to the rows before it, whose numbers were seen.
 fn add_student(
     alloc: Global,
-    record: &Records,
+    fields: &Records,
     rows: &mut Vec<RosterRow>,
     seen: &mut HashSet<StudentNo>,
 ) -> Result<(), Cause>
     requires rows { AreRows roster_number 200000 rows.old.items }
     requires seen { AreNumbers roster_number rows.old.items seen.old.keys }
-    ensures gives { Gives (λ _. rows.new.items) OutOfMemory (added rows.old.items (next_student rows.old.items record.now.current)) result }
+    ensures gives { Gives (λ _. rows.new.items) OutOfMemory (added rows.old.items (next_student rows.old.items fields.now.current)) result }
     ensures rows { OnOk result (AreRows roster_number 200000 rows.new.items) }
     ensures seen { OnOk result (AreNumbers roster_number rows.new.items seen.new.keys) }
     ensures more { OnOk result (length rows.new.items ≡ length rows.old.items + 1) }
@@ -125,7 +125,7 @@ fn add_student(
     if rows.len() >= MOST_STUDENTS {
         return Err(Cause::TooLong);
     }
-    let found = student_of(alloc, rows.len() as u64 + 2, record)?;
+    let found = student_of(alloc, rows.len() as u64 + 2, fields)?;
     if !seen.insert(found.student)? {
         return Err(Cause::Twice);
     }
@@ -135,7 +135,7 @@ fn add_student(
 
 /// The rows after the header.
 fn take_roster(alloc: Global, records: &mut Records) -> Result<Vec<RosterRow>, IntakeFault>
-    ensures gives { Gives (λ rows. rows.items) (no_memory Roster) (rows_after Roster next_student [] records.old.left) result }
+    ensures gives { Gives (λ rows. rows.items) (no_memory Roster) (rows_after 2 Roster next_student [] records.old.left) result }
     ensures rows { IfOk result (λ rows. AreRows roster_number 200000 rows.items) }
 {
     let mut rows = Vec::new(alloc);

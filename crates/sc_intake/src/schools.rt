@@ -68,13 +68,13 @@ impl SchoolRows {
     }
 }
 
-fn is_header(record: &Records) -> bool
-    ensures { result ≡ is_school_header record.now.current }
+fn is_header(fields: &Records) -> bool
+    ensures { result ≡ is_school_header fields.now.current }
 {
-    record.len() == 3
-        && record.reads(0, b"school")
-        && record.reads(1, b"zone")
-        && record.reads(2, b"seats")
+    fields.len() == 3
+        && fields.reads(0, b"school")
+        && fields.reads(1, b"zone")
+        && fields.reads(2, b"seats")
 }
 
 /// Takes the header.
@@ -89,15 +89,15 @@ fn take_header(records: &mut Records) -> Result<(), IntakeFault>
 }
 
 /// The row that the record read last is.
-fn school_of(row: u64, record: &Records) -> Result<SchoolRow, Cause>
-    ensures { result ≡ school_of row record.now.current }
+fn school_of(row: u64, fields: &Records) -> Result<SchoolRow, Cause>
+    ensures { result ≡ school_of row fields.now.current }
 {
-    if record.len() != 3 {
+    if fields.len() != 3 {
         return Err(Cause::Fields);
     }
-    let school = number(record.field(0))?;
-    let zone = number(record.field(1))?;
-    let seats = number(record.field(2))?;
+    let school = number(fields.field(0))?;
+    let zone = number(fields.field(1))?;
+    let seats = number(fields.field(2))?;
     Ok(SchoolRow {
         row,
         number: ranges::school(school)?,
@@ -108,13 +108,13 @@ fn school_of(row: u64, record: &Records) -> Result<SchoolRow, Cause>
 
 /// Adds the row that the record read last is to the rows before it, whose numbers were seen.
 fn add_school(
-    record: &Records,
+    fields: &Records,
     rows: &mut Vec<SchoolRow>,
     seen: &mut HashSet<SchoolNo>,
 ) -> Result<(), Cause>
     requires rows { AreRows school_number 5000 rows.old.items }
     requires seen { AreNumbers school_number rows.old.items seen.old.keys }
-    ensures gives { Gives (λ _. rows.new.items) OutOfMemory (added rows.old.items (next_school rows.old.items record.now.current)) result }
+    ensures gives { Gives (λ _. rows.new.items) OutOfMemory (added rows.old.items (next_school rows.old.items fields.now.current)) result }
     ensures rows { OnOk result (AreRows school_number 5000 rows.new.items) }
     ensures seen { OnOk result (AreNumbers school_number rows.new.items seen.new.keys) }
     ensures more { OnOk result (length rows.new.items ≡ length rows.old.items + 1) }
@@ -122,7 +122,7 @@ fn add_school(
     if rows.len() >= MOST_SCHOOLS {
         return Err(Cause::TooLong);
     }
-    let found = school_of(rows.len() as u64 + 2, record)?;
+    let found = school_of(rows.len() as u64 + 2, fields)?;
     if !seen.insert(found.number)? {
         return Err(Cause::Twice);
     }
@@ -132,7 +132,7 @@ fn add_school(
 
 /// The rows after the header.
 fn take_schools(alloc: Global, records: &mut Records) -> Result<Vec<SchoolRow>, IntakeFault>
-    ensures gives { Gives (λ rows. rows.items) (no_memory Schools) (rows_after Schools next_school [] records.old.left) result }
+    ensures gives { Gives (λ rows. rows.items) (no_memory Schools) (rows_after 2 Schools next_school [] records.old.left) result }
     ensures rows { IfOk result (λ rows. AreRows school_number 5000 rows.items) }
 {
     let mut rows = Vec::new(alloc);

@@ -10,7 +10,7 @@ returns-in-Err-clause-gives c =
     let rows = c.rows.rows.items in
     let next = rw c.if-branch.true at c.in_ok-advance.ensures.next in
     let size : c.len.result + 2 ≡ length rows + 2 = search rules in
-    row-fault Lists next_list _ rows c.rows.records.left c.advance.new.self.left c.advance.new.self.current c.in-Err.cause c.at.result
+    row-fault 2 Lists next_list _ rows c.rows.records.left c.advance.new.self.left c.advance.new.self.current c.in-Err.cause c.at.result
     c.rows.invariant.gives next c.in-Err.ensures.gives
     (c.at.ensures ∙ ap (λ (n : ℕ). fault_at Lists n c.in-Err.cause) size)
 
@@ -19,7 +19,7 @@ rows-preserved c =
     let rows = c.rows.rows.items in
     let next = rw c.if-branch.true at c.in_ok-advance.ensures.next in
     record {
-      gives = row-step Lists next_list _ rows c.add_list.new.rows.items c.rows.records.left c.advance.new.self.left c.advance.new.self.current
+      gives = row-step 2 Lists next_list _ rows c.add_list.new.rows.items c.rows.records.left c.advance.new.self.left c.advance.new.self.current
           c.rows.invariant.gives next c.in_default.ensures.gives;
       rows = c.in_default.ensures.rows;
       seen = c.in_default.ensures.seen;
@@ -28,4 +28,4 @@ rows-preserved c =
 pub returns-clause-gives : goal.returns-clause-gives
 returns-clause-gives c =
     let last = rw c.if-branch.false at c.in_ok-advance.ensures.next in
-    row-end Lists next_list _ c.rows.rows.items c.rows.records.left c.rows.invariant.gives last
+    row-end 2 Lists next_list _ c.rows.rows.items c.rows.records.left c.rows.invariant.gives last

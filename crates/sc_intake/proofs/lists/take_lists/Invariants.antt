@@ -7,7 +7,7 @@ use Rattle.sc_intake.proofs.lists.take_lists.Given as goal
 
 abbrev pub invariant-rows : goal.invariant-rows
 invariant-rows l = record {
-  gives : rows_after Lists next_list [] l.initial.records.left ≡ rows_after Lists next_list l.rows.items l.records.left;
+  gives : rows_after 2 Lists next_list [] l.initial.records.left ≡ rows_after 2 Lists next_list l.rows.items l.records.left;
   rows : AreRows list_number 200000 l.rows.items;
   seen : AreNumbers list_number l.rows.items l.seen.keys;
 }

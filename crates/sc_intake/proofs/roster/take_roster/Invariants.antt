@@ -7,7 +7,7 @@ use Rattle.sc_intake.proofs.roster.take_roster.Given as goal
 
 abbrev pub invariant-rows : goal.invariant-rows
 invariant-rows l = record {
-  gives : rows_after Roster next_student [] l.initial.records.left ≡ rows_after Roster next_student l.rows.items l.records.left;
+  gives : rows_after 2 Roster next_student [] l.initial.records.left ≡ rows_after 2 Roster next_student l.rows.items l.records.left;
   rows : AreRows roster_number 200000 l.rows.items;
   seen : AreNumbers roster_number l.rows.items l.seen.keys;
 }

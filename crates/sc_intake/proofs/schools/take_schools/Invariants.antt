@@ -7,7 +7,7 @@ use Rattle.sc_intake.proofs.schools.take_schools.Given as goal
 
 abbrev pub invariant-rows : goal.invariant-rows
 invariant-rows l = record {
-  gives : rows_after Schools next_school [] l.initial.records.left ≡ rows_after Schools next_school l.rows.items l.records.left;
+  gives : rows_after 2 Schools next_school [] l.initial.records.left ≡ rows_after 2 Schools next_school l.rows.items l.records.left;
   rows : AreRows school_number 5000 l.rows.items;
   seen : AreNumbers school_number l.rows.items l.seen.keys;
 }
