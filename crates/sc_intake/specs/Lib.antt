@@ -9,3 +9,4 @@ pub mod Schools
 pub mod Roster
 pub mod Lists
 pub mod Papers
+pub mod Script

@@ -1,6 +1,7 @@
-//! Reading the files of a school choice: schools, roster and lists, in comma-separated values.
+//! Reading the inputs of a school choice in comma-separated values: the files of the schools, the
+//! roster and the lists, a script of amendments, and a log of rejections.
 //!
-//! What a file reads as, and what its first fault is, stands in this crate's `specs/`; the cutting
+//! What an input reads as, and what its first fault is, stands in this crate's `specs/`; the cutting
 //! into records is that of the crate `csv`.
 #![tactic(auto)]
 
@@ -14,6 +15,7 @@ mod records;
 mod roster;
 mod school_list;
 mod schools;
+mod script;
 
 pub use fault::{Cause, IntakeFault, Source};
 pub use lists::{ListRow, ListRows, read_lists};
@@ -21,6 +23,7 @@ pub use opening::MOST_BYTES;
 pub use papers::papers_of;
 pub use roster::{RosterRow, RosterRows, read_roster};
 pub use schools::{SchoolRow, SchoolRows, read_schools};
+pub use script::read_script;
 
 #[cfg(test)]
 mod tests;

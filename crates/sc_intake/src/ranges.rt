@@ -4,7 +4,7 @@ ghost use Rattle.std.specs.Prelude.{◌≡◌};
 ghost use Rattle.sc_intake.specs.Field.{within};
 
 use crate::fault::Cause;
-use sc_papers::{SchoolNo, Seats, StudentNo, Zone};
+use sc_papers::{Count, SchoolNo, Seats, StudentNo, Zone};
 
 pub(crate) fn school(number: u32) -> Result<SchoolNo, Cause>
     ensures { result ≡ within 1 99999 number }
@@ -38,6 +38,15 @@ pub(crate) fn seats(number: u32) -> Result<Seats, Cause>
 {
     match Seats::new(number) {
         Some(seats) => Ok(seats),
+        None => Err(Cause::Range),
+    }
+}
+
+pub(crate) fn count(number: u32) -> Result<Count, Cause>
+    ensures { result ≡ within 1 10000 number }
+{
+    match Count::new(number) {
+        Some(count) => Ok(count),
         None => Err(Cause::Range),
     }
 }

@@ -1,0 +1,110 @@
+-- What a script reads as: each of its records is an amendment, or `Shape`.
+use Rattle.std.specs.Prelude.{ℕ, ◌==◌, Bool, List, length, map, codes, if◌then◌else◌, Result, Ok, Err}
+use Rattle.std.specs.Str.{bytes_eq}
+use Rattle.sc_papers.specs.declared.amendment.Amendment.{Amendment}
+use Rattle.sc_papers.specs.declared.amendment.Amendment.TheVariants.{Enter, Withdraw, Rerank, Add, Close, Correct}
+use Rattle.sc_papers.specs.declared.amendment.Refusal.{Refusal}
+use Rattle.sc_papers.specs.declared.amendment.Refusal.TheVariants.{Shape}
+use Rattle.sc_intake.specs.Fault.{◌>>=◌}
+use Rattle.sc_intake.specs.Field.{all_schools, list_of, number_of, within}
+use Rattle.sc_intake.specs.File.{records_in, text_at}
+use Rattle.sc_intake.specs.declared.fault.Cause.{Cause}
+use Rattle.sc_intake.specs.declared.fault.Cause.TheVariants.{Fields}
+use Rattle.sc_intake.specs.declared.fault.IntakeFault.{IntakeFault}
+use Rattle.sc_intake.specs.declared.fault.Source.TheVariants.{Script}
+
+-- the number of a range that a field writes
+abbrev pub number_at : ℕ → ℕ → List (List ℕ) → ℕ → Result ℕ Cause
+number_at least greatest fields place = number_of (text_at fields place) >>= within least greatest
+
+-- the student's number that a field writes
+abbrev pub student_at : List (List ℕ) → ℕ → Result ℕ Cause
+student_at = number_at 1 999999999
+
+-- the zone that a field writes
+abbrev pub zone_at : List (List ℕ) → ℕ → Result ℕ Cause
+zone_at = number_at 0 9999
+
+-- the school's number that a field writes
+abbrev pub school_at : List (List ℕ) → ℕ → Result ℕ Cause
+school_at = number_at 1 99999
+
+-- how many seats a field adds or closes
+abbrev pub count_at : List (List ℕ) → ℕ → Result ℕ Cause
+count_at = number_at 1 10000
+
+-- the list of schools that a field writes, of any length
+unfoldable pub list_at : List (List ℕ) → ℕ → Result (List ℕ) Cause
+list_at fields place = list_of (text_at fields place) >>= all_schools
+
+-- `enter,STUDENT,ZONE,SIBLINGS,CHOICES`
+unfoldable pub enter_of : List (List ℕ) → Result Amendment Cause
+enter_of fields = if length fields == 5 then (do
+  student ← student_at fields 1
+  zone ← zone_at fields 2
+  siblings ← list_at fields 3
+  choices ← list_at fields 4
+  Ok (Enter student zone siblings choices)) else Err Fields
+
+-- `withdraw,STUDENT`
+unfoldable pub withdraw_of : List (List ℕ) → Result Amendment Cause
+withdraw_of fields = if length fields == 2 then (do
+  student ← student_at fields 1
+  Ok (Withdraw student)) else Err Fields
+
+-- `rerank,STUDENT,CHOICES`
+unfoldable pub rerank_of : List (List ℕ) → Result Amendment Cause
+rerank_of fields = if length fields == 3 then (do
+  student ← student_at fields 1
+  choices ← list_at fields 2
+  Ok (Rerank student choices)) else Err Fields
+
+-- `add,SCHOOL,COUNT`
+unfoldable pub add_of : List (List ℕ) → Result Amendment Cause
+add_of fields = if length fields == 3 then (do
+  school ← school_at fields 1
+  count ← count_at fields 2
+  Ok (Add school count)) else Err Fields
+
+-- `close,SCHOOL,COUNT`
+unfoldable pub close_of : List (List ℕ) → Result Amendment Cause
+close_of fields = if length fields == 3 then (do
+  school ← school_at fields 1
+  count ← count_at fields 2
+  Ok (Close school count)) else Err Fields
+
+-- `correct,STUDENT,ZONE,SIBLINGS`
+unfoldable pub correct_of : List (List ℕ) → Result Amendment Cause
+correct_of fields = if length fields == 4 then (do
+  student ← student_at fields 1
+  zone ← zone_at fields 2
+  siblings ← list_at fields 3
+  Ok (Correct student zone siblings)) else Err Fields
+
+-- the first field of a record is this word
+abbrev pub begins : List (List ℕ) → List ℕ → Bool
+begins fields word = bytes_eq (text_at fields 0) word
+
+-- the amendment that these fields read as, by the word in the first
+unfoldable pub amendment_of : List (List ℕ) → Result Amendment Cause
+amendment_of fields =
+    if begins fields (codes "enter") then enter_of fields
+    else if begins fields (codes "withdraw") then withdraw_of fields
+    else if begins fields (codes "rerank") then rerank_of fields
+    else if begins fields (codes "add") then add_of fields
+    else if begins fields (codes "close") then close_of fields
+    else if begins fields (codes "correct") then correct_of fields
+    else Err Fields
+
+-- whatever is wrong with a record, it is `Shape`
+abbrev pub or_shape : Result Amendment Cause → Result Amendment Refusal
+or_shape (Ok amendment) = Ok amendment
+or_shape (Err cause) = Err Shape
+
+-- what a record of a script is: an amendment, or `Shape`
+abbrev pub amendment_in : List (List ℕ) → Result Amendment Refusal
+amendment_in fields = or_shape (amendment_of fields)
+
+-- the records of a script
+abbrev pub script_in : List ℕ → Result (List (Result Amendment Refusal)) IntakeFault
+script_in text = records_in Script text >>= λ records. Ok (map amendment_in records)
