@@ -10,3 +10,4 @@ pub mod Roster
 pub mod Lists
 pub mod Papers
 pub mod Script
+pub mod Log

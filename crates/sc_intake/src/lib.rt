@@ -8,6 +8,7 @@
 mod fault;
 mod field;
 mod lists;
+mod log;
 mod opening;
 mod papers;
 mod ranges;
@@ -19,6 +20,7 @@ mod script;
 
 pub use fault::{Cause, IntakeFault, Source};
 pub use lists::{ListRow, ListRows, read_lists};
+pub use log::read_log;
 pub use opening::MOST_BYTES;
 pub use papers::papers_of;
 pub use roster::{RosterRow, RosterRows, read_roster};
