@@ -1,3 +1,7 @@
+mod limits;
+mod script;
+mod table;
+
 use crate::{IntakeFault, papers_of, read_lists, read_roster, read_schools};
 use sc_papers::{Papers, SchoolList, SchoolNo, Seed, StudentNo};
 use std::alloc::{AllocError, Global};
