@@ -1,17 +1,46 @@
 -- What a contract sees of a `Clearing`.
-use Rattle.std.specs.Prelude.{ℕ, List, Option, None, Some, if◌then◌else◌}
+use Rattle.std.specs.Prelude.{◌≡◌, ℕ, ◌+◌, List, length, Option, None, Some, Result, Ok, Err, if◌then◌else◌}
 use Rattle.sc_papers.specs.Assignment.{assigned}
+use Rattle.sc_papers.specs.Log.{next_choice, IsSettled}
 use Rattle.sc_papers.specs.Market.{Market, is_student, is_school}
-use Rattle.sc_papers.specs.Matching.{Matching, held}
+use Rattle.sc_papers.specs.Matching.{Matching, held, IsStudentOptimal}
+use Rattle.sc_papers.specs.Progress.{placed}
+use Rattle.sc_papers.specs.Verdict.{after}
+use Rattle.sc_papers.specs.declared.amendment.Amendment.{Amendment}
+use Rattle.sc_papers.specs.declared.amendment.Refusal.{Refusal}
+use Rattle.sc_papers.specs.declared.rejection.Rejection.{Rejection}
 
--- the papers as they stand, and who has which school
+-- the papers as they stand, who has which school, the rejections that led there, and how many
+-- proposals the last settling made
 pub record Standing : Type 0 where
   pub papers : Market
   pub places : List (ℕ × ℕ)
+  pub log : List Rejection
+  pub proposals : ℕ
 
 -- the standing assignment as a matching
 abbrev pub matching_of : Standing → Matching
 matching_of standing = assigned standing.places
+
+-- the standing assignment is the student-optimal stable matching of the papers as they stand
+abbrev pub IsOptimal : Standing → Type 0
+IsOptimal standing = IsStudentOptimal standing.papers (matching_of standing)
+
+-- what every clearing keeps: the log is settled for the papers, and so certifies its matching, which
+-- is the standing assignment
+pub record IsCertified (standing : Standing) : Type 0 where
+  pub settled : IsSettled standing.papers standing.log
+  pub matching : (i : ℕ) → matching_of standing i ≡ next_choice standing.papers standing.log i
+  pub optimal : IsOptimal standing
+
+-- the proposals of a settling from scratch: each came to a rejection or to a place that is held
+abbrev pub proposals_from_scratch : Standing → ℕ
+proposals_from_scratch standing = length standing.log + placed standing.papers (matching_of standing)
+
+-- the papers as they stand after an amendment was answered: a refused one changes nothing
+abbrev pub papers_after : Market → Amendment → Result (Unit {0}) Refusal → Market
+papers_after m a (Ok done) = after m a
+papers_after m a (Err refusal) = m
 
 -- what a student has: nothing is said of a student who is not in the papers
 abbrev pub place_of : Standing → ℕ → Option (Option ℕ)

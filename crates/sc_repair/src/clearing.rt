@@ -4,15 +4,19 @@ ghost use Rattle.sc_papers.specs.Market.{students_of};
 ghost use Rattle.sc_papers.specs.Matching.{has, held};
 
 use sc_engine::settle;
-use sc_papers::{Assignment, Papers, SchoolNo, StudentNo};
+use sc_papers::{Assignment, Papers, Rejection, SchoolNo, StudentNo};
 use std::alloc::{AllocError, Global};
 use std::marker::Model;
 
-/// The papers and the standing assignment under them.
+/// The papers and the standing assignment under them, with the log of rejections that certifies it:
+/// of every clearing, the standing assignment is the student-optimal stable matching of its papers.
 #[derive(Drop)]
 pub struct Clearing {
+    alloc: Global,
     papers: Papers,
     places: Assignment,
+    log: Vec<Rejection>,
+    proposals: u64,
 }
 
 impl Model for Clearing {
@@ -20,7 +24,11 @@ impl Model for Clearing {
 
     ghost Value = { Standing };
 
-    ghost view = { λ c. record { papers = c.papers; places = c.places } };
+    ghost use Rattle.sc_repair.specs.Inside.{standing_of, IsSound};
+
+    ghost view = { standing_of };
+
+    ghost invariant = { IsSound };
 }
 
 /// The papers of a clearing that could not be opened for want of memory, as they were.
@@ -54,28 +62,46 @@ fn has(papers: &Papers, places: &Assignment, school: SchoolNo, position: usize) 
 }
 
 impl Clearing {
-    ghost use Rattle.std.specs.Prelude.{◌≡◌, IfOk, IfErr, OnOk};
+    ghost use Rattle.std.specs.Prelude.{◌≡◌, IfOk, IfErr};
     ghost use Rattle.sc_papers.specs.Matching.{IsStudentOptimal};
-    ghost use Rattle.sc_repair.specs.Standing.{Standing, matching_of, place_of, held_at};
+    ghost use Rattle.sc_repair.specs.Standing.{Standing, IsCertified, IsOptimal, matching_of, place_of, held_at, proposals_from_scratch};
 
-    /// Settles the papers: the standing assignment is their student-optimal stable matching. The only error is want of memory, which gives the papers back unchanged.
+    /// Settles the papers: the standing assignment is their student-optimal stable matching, and the
+    /// log certifies it. The only error is want of memory, which gives the papers back unchanged.
+    ///
+    /// The cost is an offer for each proposal, and memory is taken in proportion to the students, the
+    /// schools and the rejections.
     pub fn open(alloc: Global, papers: Papers) -> Result<Self, OpenRefused>
         ensures papers { IfOk result (λ clearing. clearing.papers ≡ papers) }
         ensures optimal { IfOk result (λ clearing. IsStudentOptimal papers (matching_of clearing)) }
+        ensures certified { IfOk result IsCertified }
+        ensures proposals { IfOk result (λ clearing. clearing.proposals ≡ proposals_from_scratch clearing) }
         ensures refused { IfErr result (λ refused. refused.papers ≡ papers) }
     {
         match settle(alloc, &papers) {
             Ok(settled) => Ok(Clearing {
+                alloc,
                 papers,
                 places: settled.assignment,
+                log: settled.log,
+                proposals: settled.proposals,
             }),
             Err(_) => Err(OpenRefused { papers }),
         }
     }
 
-    /// The papers as they stand.
+    /// The memory that the clearing was opened over.
+    pub(crate) fn alloc(&self) -> Global {
+        self.alloc
+    }
+
+    /// The papers as they stand. Whichever clearing this is, the standing assignment is their
+    /// student-optimal stable matching and the log is settled for them, and this call tells its
+    /// callers so.
     pub fn papers(&self) -> &Papers
-        ensures { result.now ≡ self.now.papers }
+        ensures papers { result.now ≡ self.now.papers }
+        ensures optimal { IsOptimal self.now }
+        ensures certified { IsCertified self.now }
     {
         &self.papers
     }
@@ -115,5 +141,29 @@ impl Clearing {
         ensures { IfOk result (λ assignment. assignment ≡ self.now.places) }
     {
         self.places.copy()
+    }
+
+    /// The rejections that led to the standing assignment, in the order in which they happened, lent.
+    pub fn rejections(&self) -> &[Rejection]
+        ensures { result.now ≡ self.now.log }
+    {
+        self.log.as_slice()
+    }
+
+    /// The rejections that led to the standing assignment, as a value of its own. They are settled for
+    /// the papers as they stand, so whoever doubts the assignment can check them. The only error is
+    /// want of memory; the cost is their number.
+    pub fn log(&self) -> Result<Vec<Rejection>, AllocError>
+        ensures { IfOk result (λ log. log.items ≡ self.now.log) }
+    {
+        Vec::from_slice(self.alloc, self.log.as_slice())
+    }
+
+    /// How many proposals the last settling made: that of the last accepted amendment, or of the
+    /// opening.
+    pub fn proposals_last(&self) -> u64
+        ensures { result ≡ self.now.proposals }
+    {
+        self.proposals
     }
 }

@@ -1,6 +1,8 @@
-//! The standing assignment: who has which school under the papers as they stand.
+//! The standing assignment: who has which school under the papers as they stand, kept so by every
+//! amendment.
 #![tactic(auto)]
 
+mod amend;
 mod clearing;
 
 pub use clearing::{Clearing, OpenRefused};

@@ -1,0 +1,62 @@
+//! Amendments taking effect on the standing assignment.
+
+ghost use Rattle.std.specs.Prelude.{◌≡◌, None, IfErr, IfOk, OnErr, OnOk};
+ghost use Rattle.sc_papers.specs.Matching.{IsStudentOptimal};
+ghost use Rattle.sc_papers.specs.Verdict.{after, verdict, IsRefusal};
+ghost use Rattle.sc_repair.specs.Standing.{matching_of, papers_after, proposals_from_scratch, IsCertified};
+
+use crate::clearing::Clearing;
+use sc_papers::{Amendment, Papers, Refusal};
+use std::alloc::Global;
+
+/// The papers after the amendment, beside the ones that stand. One that is refused copies nothing.
+fn amended_papers(papers: &Papers, amendment: Amendment) -> Result<Papers, Refusal>
+    ensures allowed { OnOk result (verdict papers.now amendment ≡ None) }
+    ensures accepted { IfOk result (λ amended. amended ≡ after papers.now amendment) }
+    ensures refused { IfErr result (IsRefusal (verdict papers.now amendment)) }
+{
+    papers.check(&amendment)?;
+    let mut amended = papers.copy()?;
+    amended.apply(amendment)?;
+    Ok(amended)
+}
+
+/// The clearing after the amendment, settled from scratch, beside the papers that stand.
+fn amended(alloc: Global, papers: &Papers, amendment: Amendment) -> Result<Clearing, Refusal>
+    ensures allowed { OnOk result (verdict papers.now amendment ≡ None) }
+    ensures accepted { IfOk result (λ amended. amended.papers ≡ after papers.now amendment) }
+    ensures certified { IfOk result IsCertified }
+    ensures proposals { IfOk result (λ amended. amended.proposals ≡ proposals_from_scratch amended) }
+    ensures refused { IfErr result (IsRefusal (verdict papers.now amendment)) }
+{
+    let papers = amended_papers(papers, amendment)?;
+    match Clearing::open(alloc, papers) {
+        Ok(clearing) => Ok(clearing),
+        Err(_) => Err(Refusal::OutOfMemory),
+    }
+}
+
+impl Clearing {
+    /// Makes the amendment and settles the papers anew, or answers the first refusal that applies, as
+    /// `Papers::check` does, or else want of memory. After a refusal the papers, the standing
+    /// assignment, the log and the count of proposals are as before; the amendment is given up.
+    /// Whatever the answer, the standing assignment is the student-optimal stable matching of the
+    /// papers as they then stand.
+    ///
+    /// The cost is that of a copy of the papers and of settling them from scratch, an offer for each
+    /// proposal; a refused amendment costs its `check` alone. The new standing is made whole beside
+    /// the old one before it takes its place, so a refused growth leaves nothing half done.
+    pub fn amend(&mut self, amendment: Amendment) -> Result<(), Refusal>
+        ensures optimal { IsStudentOptimal (papers_after self.old.papers amendment result) (matching_of self.new) }
+        ensures papers { self.new.papers ≡ papers_after self.old.papers amendment result }
+        ensures certified { IsCertified self.new }
+        ensures proposals { OnOk result (self.new.proposals ≡ proposals_from_scratch self.new) }
+        ensures allowed { OnOk result (verdict self.old.papers amendment ≡ None) }
+        ensures accepted { OnOk result (self.new.papers ≡ after self.old.papers amendment) }
+        ensures refused { IfErr result (IsRefusal (verdict self.old.papers amendment)) }
+        ensures unchanged { OnErr result (self.new ≡ self.old) }
+    {
+        *self = amended(self.alloc(), self.papers(), amendment)?;
+        Ok(())
+    }
+}
