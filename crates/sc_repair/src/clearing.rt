@@ -3,6 +3,8 @@ ghost use Rattle.sc_papers.specs.Assignment.{assigned};
 ghost use Rattle.sc_papers.specs.Market.{students_of};
 ghost use Rattle.sc_papers.specs.Matching.{has, held};
 
+mod amend;
+
 use sc_engine::settle;
 use sc_papers::{Assignment, Papers, Rejection, SchoolNo, StudentNo};
 use std::alloc::{AllocError, Global};
@@ -88,11 +90,6 @@ impl Clearing {
             }),
             Err(_) => Err(OpenRefused { papers }),
         }
-    }
-
-    /// The memory that the clearing was opened over.
-    pub(crate) fn alloc(&self) -> Global {
-        self.alloc
     }
 
     /// The papers as they stand. Whichever clearing this is, the standing assignment is their

@@ -2,7 +2,6 @@
 //! amendment.
 #![tactic(auto)]
 
-mod amend;
 mod clearing;
 
 pub use clearing::{Clearing, OpenRefused};

@@ -5,9 +5,8 @@ ghost use Rattle.sc_papers.specs.Matching.{IsStudentOptimal};
 ghost use Rattle.sc_papers.specs.Verdict.{after, verdict, IsRefusal};
 ghost use Rattle.sc_repair.specs.Standing.{matching_of, papers_after, proposals_from_scratch, IsCertified};
 
-use crate::clearing::Clearing;
+use super::Clearing;
 use sc_papers::{Amendment, Papers, Refusal};
-use std::alloc::Global;
 
 /// The papers after the amendment, beside the ones that stand. One that is refused copies nothing.
 fn amended_papers(papers: &Papers, amendment: Amendment) -> Result<Papers, Refusal>
@@ -21,22 +20,23 @@ fn amended_papers(papers: &Papers, amendment: Amendment) -> Result<Papers, Refus
     Ok(amended)
 }
 
-/// The clearing after the amendment, settled from scratch, beside the papers that stand.
-fn amended(alloc: Global, papers: &Papers, amendment: Amendment) -> Result<Clearing, Refusal>
-    ensures allowed { OnOk result (verdict papers.now amendment ≡ None) }
-    ensures accepted { IfOk result (λ amended. amended.papers ≡ after papers.now amendment) }
-    ensures certified { IfOk result IsCertified }
-    ensures proposals { IfOk result (λ amended. amended.proposals ≡ proposals_from_scratch amended) }
-    ensures refused { IfErr result (IsRefusal (verdict papers.now amendment)) }
-{
-    let papers = amended_papers(papers, amendment)?;
-    match Clearing::open(alloc, papers) {
-        Ok(clearing) => Ok(clearing),
-        Err(_) => Err(Refusal::OutOfMemory),
-    }
-}
-
 impl Clearing {
+    /// The clearing after the amendment, settled from scratch, beside this one.
+    fn amended(&self, amendment: Amendment) -> Result<Clearing, Refusal>
+        ensures allowed { OnOk result (verdict self.now.papers amendment ≡ None) }
+        ensures accepted { IfOk result (λ amended. amended.papers ≡ after self.now.papers amendment) }
+        ensures certified { IfOk result IsCertified }
+        ensures proposals { IfOk result (λ amended. amended.proposals ≡ proposals_from_scratch amended) }
+        ensures refused { IfErr result (IsRefusal (verdict self.now.papers amendment)) }
+        ensures certified_before { IsCertified self.now }
+    {
+        let papers = amended_papers(&self.papers, amendment)?;
+        match Clearing::open(self.alloc, papers) {
+            Ok(clearing) => Ok(clearing),
+            Err(_) => Err(Refusal::OutOfMemory),
+        }
+    }
+
     /// Makes the amendment and settles the papers anew, or answers the first refusal that applies, as
     /// `Papers::check` does, or else want of memory. After a refusal the papers, the standing
     /// assignment, the log and the count of proposals are as before; the amendment is given up.
@@ -48,7 +48,6 @@ impl Clearing {
     /// the old one before it takes its place, so a refused growth leaves nothing half done.
     pub fn amend(&mut self, amendment: Amendment) -> Result<(), Refusal>
         ensures optimal { IsStudentOptimal (papers_after self.old.papers amendment result) (matching_of self.new) }
-        ensures papers { self.new.papers ≡ papers_after self.old.papers amendment result }
         ensures certified { IsCertified self.new }
         ensures proposals { OnOk result (self.new.proposals ≡ proposals_from_scratch self.new) }
         ensures allowed { OnOk result (verdict self.old.papers amendment ≡ None) }
@@ -56,7 +55,7 @@ impl Clearing {
         ensures refused { IfErr result (IsRefusal (verdict self.old.papers amendment)) }
         ensures unchanged { OnErr result (self.new ≡ self.old) }
     {
-        *self = amended(self.alloc(), self.papers(), amendment)?;
+        *self = self.amended(amendment)?;
         Ok(())
     }
 }
