@@ -11,7 +11,6 @@ use sc_papers::{
 };
 use std::alloc::{AllocError, Global};
 use std::process::Abort;
-use std::test::Fail;
 
 fn student(rt: &impl Abort, number: u32) -> StudentNo {
     StudentNo::new(number).expect(rt, "a student's number")
@@ -26,25 +25,26 @@ fn zone(rt: &impl Abort, number: u32) -> Zone {
 }
 
 /// A list of schools, with spaces between them.
-fn list(rt: &impl Abort, alloc: Global, text: &str) -> Result<SchoolList, AllocError> {
+fn list(rt: &impl Abort, alloc: Global, text: &str) -> SchoolList {
     let mut schools = Vec::new(alloc);
     for word in text.split_whitespace() {
-        schools.push(school(rt, word.parse::<u32>().expect(rt, "a number")))?;
+        let number = word.parse::<u32>().expect(rt, "a number");
+        schools.push(school(rt, number)).expect(rt, "memory");
     }
-    Ok(SchoolList::from_vec(schools))
+    SchoolList::from_vec(schools)
 }
 
 fn enter(
     rt: &impl Abort,
     alloc: Global,
     (number, at, siblings, choices): (u32, u32, &str, &str),
-) -> Result<Amendment, AllocError> {
-    Ok(Amendment::Enter {
+) -> Amendment {
+    Amendment::Enter {
         student: student(rt, number),
         zone: zone(rt, at),
-        siblings: list(rt, alloc, siblings)?,
-        choices: list(rt, alloc, choices)?,
-    })
+        siblings: list(rt, alloc, siblings),
+        choices: list(rt, alloc, choices),
+    }
 }
 
 fn withdraw(rt: &impl Abort, number: u32) -> Amendment {
@@ -53,16 +53,11 @@ fn withdraw(rt: &impl Abort, number: u32) -> Amendment {
     }
 }
 
-fn rerank(
-    rt: &impl Abort,
-    alloc: Global,
-    number: u32,
-    choices: &str,
-) -> Result<Amendment, AllocError> {
-    Ok(Amendment::Rerank {
+fn rerank(rt: &impl Abort, alloc: Global, number: u32, choices: &str) -> Amendment {
+    Amendment::Rerank {
         student: student(rt, number),
-        choices: list(rt, alloc, choices)?,
-    })
+        choices: list(rt, alloc, choices),
+    }
 }
 
 fn add(rt: &impl Abort, number: u32, count: u32) -> Amendment {
@@ -88,45 +83,41 @@ fn correct(rt: &impl Abort, alloc: Global, number: u32) -> Amendment {
     }
 }
 
-/// Papers without students: the schools by number, zone and seats.
-fn schools(rt: &impl Abort, alloc: Global, schools: &[(u32, u32, u32)]) -> Result<Papers, Fail> {
-    let mut papers = Papers::new(alloc, Seed::from_hex(&[b'0'; 64])?);
-    for (number, at, seats) in schools {
-        let seats = Seats::new(*seats).expect(rt, "a number of seats");
-        papers.add_school(school(rt, *number), zone(rt, *at), seats)?;
-    }
-    Ok(papers)
+/// Adds a school: number, zone, seats.
+fn add_school(rt: &impl Abort, papers: &mut Papers, (number, at, seats): (u32, u32, u32)) {
+    let seats = Seats::new(seats).expect(rt, "a number of seats");
+    let added = papers.add_school(school(rt, number), zone(rt, at), seats);
+    assert!(rt; added.is_ok());
 }
 
-/// The clearing of the schools and the students: number, zone, siblings, choices.
+/// The clearing of these schools, by number, zone and seats, and these students, by number, zone,
+/// siblings and choices.
 fn opening(
     rt: &impl Abort,
     alloc: Global,
-    mut papers: Papers,
+    schools: &[(u32, u32, u32)],
     students: &[(u32, u32, &str, &str)],
-) -> Result<Clearing, Fail> {
+) -> Clearing {
+    let seed = Seed::from_hex(&[b'0'; 64]).expect(rt, "a seed");
+    let mut papers = Papers::new(alloc, seed);
+    for entry in schools {
+        add_school(rt, &mut papers, *entry);
+    }
     for entry in students {
-        papers.apply(enter(rt, alloc, *entry)?)?;
+        let entered = papers.apply(enter(rt, alloc, *entry));
+        assert!(rt; entered.is_ok());
     }
-    match Clearing::open(alloc, papers) {
-        Ok(clearing) => Ok(clearing),
-        Err(_) => Err(AllocError.into()),
-    }
+    Clearing::open(alloc, papers).ok().expect(rt, "memory")
 }
 
 /// Market A where school 10 is in zone 0, Market B where it is in zone 1.
-fn market(rt: &impl Abort, alloc: Global, zone: u32) -> Result<Clearing, Fail> {
-    let papers = schools(rt, alloc, &[(10, zone, 1), (20, 0, 1)])?;
-    opening(
-        rt,
-        alloc,
-        papers,
-        &[(1, 0, "20", "10 20"), (2, 0, "10", "20 10")],
-    )
+fn market(rt: &impl Abort, alloc: Global, zone: u32) -> Clearing {
+    let students = [(1, 0, "20", "10 20"), (2, 0, "10", "20 10")];
+    opening(rt, alloc, &[(10, zone, 1), (20, 0, 1)], &students)
 }
 
 /// The newcomer to Market B.
-fn newcomer(rt: &impl Abort, alloc: Global) -> Result<Amendment, AllocError> {
+fn newcomer(rt: &impl Abort, alloc: Global) -> Amendment {
     enter(rt, alloc, (3, 1, "10", "10"))
 }
 
@@ -153,36 +144,33 @@ fn standing(alloc: Global, clearing: &Clearing) -> Result<String, AllocError> {
     Ok(text)
 }
 
-/// The answer to the amendment as a text.
-fn answer(
-    alloc: Global,
-    clearing: &mut Clearing,
-    amendment: Amendment,
-) -> Result<String, AllocError> {
-    match clearing.amend(amendment) {
-        Ok(()) => String::from_str(alloc, "ok"),
-        Err(refusal) => format!(in alloc; "{refusal}"),
-    }
+/// The clearing has this standing.
+fn stands(rt: &impl Abort, alloc: Global, clearing: &Clearing, want: &str) {
+    let text = standing(alloc, clearing).expect(rt, "memory");
+    assert_eq!(rt; text.as_str(), want);
 }
 
-fn expect_standing(
-    rt: &impl Abort,
-    alloc: Global,
-    clearing: &Clearing,
-    want: &str,
-) -> Result<(), Fail> {
-    assert_eq!(rt; standing(alloc, clearing)?.as_str(), want);
-    Ok(())
-}
-
-/// The amendment gets this answer and leaves this standing.
-fn expect(
+/// The amendment is accepted and leaves this standing.
+fn amend(
     rt: &impl Abort,
     alloc: Global,
     clearing: &mut Clearing,
     amendment: Amendment,
-    (answered, left): (&str, &str),
-) -> Result<(), Fail> {
-    assert_eq!(rt; answer(alloc, clearing, amendment)?.as_str(), answered);
-    expect_standing(rt, alloc, clearing, left)
+    left: &str,
+) {
+    assert!(rt; clearing.amend(amendment) == Ok(()));
+    stands(rt, alloc, clearing, left);
+}
+
+/// The amendment is refused so, and leaves this standing.
+fn refuse(
+    rt: &impl Abort,
+    alloc: Global,
+    clearing: &mut Clearing,
+    amendment: Amendment,
+    refusal: Refusal,
+    left: &str,
+) {
+    assert!(rt; clearing.amend(amendment) == Err(refusal));
+    stands(rt, alloc, clearing, left);
 }

@@ -28,6 +28,7 @@ impl Clearing {
         ensures certified { IfOk result IsCertified }
         ensures proposals { IfOk result (λ amended. amended.proposals ≡ proposals_from_scratch amended) }
         ensures refused { IfErr result (IsRefusal (verdict self.now.papers amendment)) }
+        // This one stands so too, and goes on to where the amendment is refused.
         ensures certified_before { IsCertified self.now }
     {
         let papers = amended_papers(&self.papers, amendment)?;

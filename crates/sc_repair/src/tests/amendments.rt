@@ -1,79 +1,69 @@
 use super::*;
 
 #[test]
-fn market_a_and_a_seat_closed(rt: HostRuntime) -> Result<(), Fail> {
+fn market_a_and_a_seat_closed(rt: HostRuntime) {
     let alloc = rt.alloc();
-    let mut clearing = market(&rt, alloc, 0)?;
-    expect_standing(&rt, alloc, &clearing, "1:10 2:20 |")?;
-    let want = ("ok", "1:20 2:0 |(1,10)(2,20)(2,10)");
-    expect(&rt, alloc, &mut clearing, close(&rt, 10, 1), want)
+    let mut clearing = market(&rt, alloc, 0);
+    stands(&rt, alloc, &clearing, "1:10 2:20 |");
+    let left = "1:20 2:0 |(1,10)(2,20)(2,10)";
+    amend(&rt, alloc, &mut clearing, close(&rt, 10, 1), left);
 }
 
 #[test]
-fn market_b_and_a_newcomer_who_withdraws(rt: HostRuntime) -> Result<(), Fail> {
+fn market_b_and_a_newcomer_who_withdraws(rt: HostRuntime) {
     let alloc = rt.alloc();
-    let mut clearing = market(&rt, alloc, 1)?;
-    let want = ("ok", "1:20 2:0 3:10 |(1,10)(2,20)(2,10)");
-    expect(&rt, alloc, &mut clearing, newcomer(&rt, alloc)?, want)?;
+    let mut clearing = market(&rt, alloc, 1);
+    let left = "1:20 2:0 3:10 |(1,10)(2,20)(2,10)";
+    amend(&rt, alloc, &mut clearing, newcomer(&rt, alloc), left);
     assert_eq!(rt; clearing.proposals_last(), 5);
-    expect(
-        &rt,
-        alloc,
-        &mut clearing,
-        withdraw(&rt, 3),
-        ("ok", "1:10 2:20 |"),
-    )
+    amend(&rt, alloc, &mut clearing, withdraw(&rt, 3), "1:10 2:20 |");
 }
 
 #[test]
-fn a_seat_added(rt: HostRuntime) -> Result<(), Fail> {
+fn a_seat_added(rt: HostRuntime) {
     let alloc = rt.alloc();
-    let mut clearing = market(&rt, alloc, 1)?;
-    clearing.amend(newcomer(&rt, alloc)?)?;
-    expect(
+    let mut clearing = market(&rt, alloc, 1);
+    let left = "1:20 2:0 3:10 |(1,10)(2,20)(2,10)";
+    amend(&rt, alloc, &mut clearing, newcomer(&rt, alloc), left);
+    amend(
         &rt,
         alloc,
         &mut clearing,
         add(&rt, 10, 1),
-        ("ok", "1:10 2:20 3:10 |"),
-    )
+        "1:10 2:20 3:10 |",
+    );
 }
 
 #[test]
-fn free_seats_and_seat_limits(rt: HostRuntime) -> Result<(), Fail> {
+fn free_seats_and_seat_limits(rt: HostRuntime) {
     let alloc = rt.alloc();
-    let papers = schools(&rt, alloc, &[(10, 0, 2)])?;
-    let mut clearing = opening(&rt, alloc, papers, &[(1, 0, "", "10")])?;
-    expect_standing(&rt, alloc, &clearing, "1:10 |")?;
-    expect(
+    let mut clearing = opening(&rt, alloc, &[(10, 0, 2)], &[(1, 0, "", "10")]);
+    stands(&rt, alloc, &clearing, "1:10 |");
+    let none = "1:0 |(1,10)";
+    amend(&rt, alloc, &mut clearing, close(&rt, 10, 2), none);
+    refuse(
         &rt,
         alloc,
         &mut clearing,
-        close(&rt, 10, 2),
-        ("ok", "1:0 |(1,10)"),
-    )?;
-    let want = ("TooFewSeats", "1:0 |(1,10)");
-    expect(&rt, alloc, &mut clearing, close(&rt, 10, 1), want)?;
-    expect(
-        &rt,
-        alloc,
-        &mut clearing,
-        add(&rt, 10, 10_000),
-        ("ok", "1:10 |"),
-    )?;
-    expect(
+        close(&rt, 10, 1),
+        Refusal::TooFewSeats,
+        none,
+    );
+    let all = "1:10 |";
+    amend(&rt, alloc, &mut clearing, add(&rt, 10, 10_000), all);
+    refuse(
         &rt,
         alloc,
         &mut clearing,
         add(&rt, 10, 1),
-        ("TooManySeats", "1:10 |"),
-    )
+        Refusal::TooManySeats,
+        all,
+    );
 }
 
 #[test]
-fn a_correction_rewinds_to_the_start(rt: HostRuntime) -> Result<(), Fail> {
+fn a_correction_rewinds_to_the_start(rt: HostRuntime) {
     let alloc = rt.alloc();
-    let papers = schools(&rt, alloc, &[(10, 1, 1), (20, 0, 2)])?;
     let students = [
         (1, 1, "", "10 20"),
         (2, 0, "", "10 20"),
@@ -81,69 +71,69 @@ fn a_correction_rewinds_to_the_start(rt: HostRuntime) -> Result<(), Fail> {
         (4, 0, "", "20 10"),
         (5, 0, "", "20"),
     ];
-    let mut clearing = opening(&rt, alloc, papers, &students)?;
-    expect_standing(
+    let mut clearing = opening(&rt, alloc, &[(10, 1, 1), (20, 0, 2)], &students);
+    stands(
         &rt,
         alloc,
         &clearing,
         "1:10 2:0 3:0 4:20 5:20 |(2,10)(3,20)(2,20)",
-    )?;
-    let want = ("ok", "1:0 2:10 3:0 4:20 5:20 |(1,10)(1,20)(3,20)");
-    expect(&rt, alloc, &mut clearing, correct(&rt, alloc, 1), want)?;
+    );
+    let left = "1:0 2:10 3:0 4:20 5:20 |(1,10)(1,20)(3,20)";
+    amend(&rt, alloc, &mut clearing, correct(&rt, alloc, 1), left);
     assert_eq!(rt; clearing.proposals_last(), 6);
-    Ok(())
 }
 
 #[test]
-fn rerank_to_the_same(rt: HostRuntime) -> Result<(), Fail> {
+fn rerank_to_the_same(rt: HostRuntime) {
     let alloc = rt.alloc();
-    let mut clearing = market(&rt, alloc, 1)?;
-    clearing.amend(newcomer(&rt, alloc)?)?;
+    let mut clearing = market(&rt, alloc, 1);
     let left = "1:20 2:0 3:10 |(1,10)(2,20)(2,10)";
-    for (choices, answered) in [("10 20", "ok"), ("10 10", "SchoolTwice 10")] {
-        expect(
-            &rt,
-            alloc,
-            &mut clearing,
-            rerank(&rt, alloc, 1, choices)?,
-            (answered, left),
-        )?;
-    }
-    Ok(())
+    amend(&rt, alloc, &mut clearing, newcomer(&rt, alloc), left);
+    amend(
+        &rt,
+        alloc,
+        &mut clearing,
+        rerank(&rt, alloc, 1, "10 20"),
+        left,
+    );
+    let twice = Refusal::SchoolTwice {
+        school: school(&rt, 10),
+    };
+    refuse(
+        &rt,
+        alloc,
+        &mut clearing,
+        rerank(&rt, alloc, 1, "10 10"),
+        twice,
+        left,
+    );
 }
 
 #[test]
-fn withdraw_and_return(rt: HostRuntime) -> Result<(), Fail> {
+fn withdraw_and_return(rt: HostRuntime) {
     let alloc = rt.alloc();
-    let papers = schools(&rt, alloc, &[(1, 0, 1)])?;
-    let mut clearing = opening(&rt, alloc, papers, &[(1, 0, "", "1"), (2, 0, "", "1")])?;
+    let students = [(1, 0, "", "1"), (2, 0, "", "1")];
+    let mut clearing = opening(&rt, alloc, &[(1, 0, 1)], &students);
     for (number, without, with) in [
         (2, "1:1 |", "1:0 2:1 |(1,1)"),
         (1, "2:1 |", "2:1 1:0 |(1,1)"),
     ] {
-        expect(
-            &rt,
-            alloc,
-            &mut clearing,
-            withdraw(&rt, number),
-            ("ok", without),
-        )?;
-        let again = enter(&rt, alloc, (number, 0, "", "1"))?;
-        expect(&rt, alloc, &mut clearing, again, ("ok", with))?;
+        amend(&rt, alloc, &mut clearing, withdraw(&rt, number), without);
+        let again = enter(&rt, alloc, (number, 0, "", "1"));
+        amend(&rt, alloc, &mut clearing, again, with);
     }
-    Ok(())
+}
+
+/// Market B after both amendments.
+fn both(rt: &impl Abort, alloc: Global, one: Amendment, other: Amendment) {
+    let mut clearing = market(rt, alloc, 1);
+    assert!(rt; clearing.amend(one) == Ok(()));
+    amend(rt, alloc, &mut clearing, other, "1:20 2:20 3:10 |(1,10)");
 }
 
 #[test]
-fn either_order(rt: HostRuntime) -> Result<(), Fail> {
+fn either_order(rt: HostRuntime) {
     let alloc = rt.alloc();
-    let mut one = market(&rt, alloc, 1)?;
-    one.amend(newcomer(&rt, alloc)?)?;
-    one.amend(add(&rt, 20, 1))?;
-    let mut other = market(&rt, alloc, 1)?;
-    other.amend(add(&rt, 20, 1))?;
-    other.amend(newcomer(&rt, alloc)?)?;
-    expect_standing(&rt, alloc, &one, "1:20 2:20 3:10 |(1,10)")?;
-    expect_standing(&rt, alloc, &other, "1:20 2:20 3:10 |(1,10)")?;
-    Ok(())
+    both(&rt, alloc, newcomer(&rt, alloc), add(&rt, 20, 1));
+    both(&rt, alloc, add(&rt, 20, 1), newcomer(&rt, alloc));
 }
