@@ -3,3 +3,5 @@ pub mod Whole
 pub mod Devices
 pub mod Text
 pub mod Report
+pub mod Reply
+pub mod LogText

@@ -3,11 +3,16 @@
 #![tactic(auto)]
 
 pub mod devices;
+mod lines;
+mod log;
+mod reply;
 mod report;
 mod text;
 mod watched;
 mod whole;
 
+pub use log::log_text;
+pub use reply::reply_line;
 pub use report::{ReportFault, write_report};
 pub use text::{assignment_text, report_text};
 pub use watched::{DeviceFailed, Watched};

@@ -1,10 +1,10 @@
-ghost use Rattle.std.specs.Prelude.{◌≡◌, ◌++◌, IfOk, OnOk, codes, decimal};
+ghost use Rattle.std.specs.Prelude.{◌≡◌, ◌++◌, IfOk, OnOk};
 ghost use Rattle.sc_papers.specs.Assignment.{assigned};
 ghost use Rattle.sc_papers.specs.Market.{students_of};
 ghost use Rattle.sc_repair.specs.Standing.{matching_of};
 ghost use Rattle.sc_report.specs.Text.{assignment_line, place_text, InRisingOrder, IsAssignmentText};
 
-use itoa::Buffer;
+use crate::lines::push_number;
 use sc_papers::{Assignment, Papers, StudentNo};
 use sc_repair::Clearing;
 use std::alloc::{AllocError, Global};
@@ -35,20 +35,12 @@ fn students_in_order(alloc: Global, papers: &Papers) -> Result<Vec<StudentNo>, A
     Ok(students)
 }
 
-/// Adds a number in decimal digits.
-fn push_number(text: &mut Vec<u8>, number: u32) -> Result<(), AllocError>
-    ensures { OnOk result (text.new.items ≡ text.old.items ++ decimal number) }
-{
-    let mut buffer = Buffer::new();
-    text.extend_from_slice(buffer.format(number).as_bytes())
-}
-
 /// Adds what the student has, or a dash.
 fn push_place(text: &mut Vec<u8>, places: &Assignment, student: StudentNo) -> Result<(), AllocError>
     ensures { OnOk result (text.new.items ≡ text.old.items ++ place_text (assigned places.now student)) }
 {
     match places.get(student) {
-        Some(school) => push_number(text, school.get()),
+        Some(school) => push_number(text, u64::from(school.get())),
         None => text.extend_from_slice(b"-"),
     }
 }
@@ -57,7 +49,7 @@ fn push_place(text: &mut Vec<u8>, places: &Assignment, student: StudentNo) -> Re
 fn push_line(text: &mut Vec<u8>, places: &Assignment, student: StudentNo) -> Result<(), AllocError>
     ensures { OnOk result (text.new.items ≡ text.old.items ++ assignment_line (assigned places.now) student) }
 {
-    push_number(text, student.get())?;
+    push_number(text, u64::from(student.get()))?;
     text.extend_from_slice(b",")?;
     push_place(text, places, student)?;
     text.extend_from_slice(b"\n")

@@ -1,0 +1,81 @@
+//! What a script's record is answered.
+ghost use Rattle.std.specs.Prelude.{◌≡◌, ◌++◌, IfOk, OnOk, codes, decimal};
+ghost use Rattle.sc_report.specs.Reply.{name_of, named_school, named_text, refusal_text, reply_text};
+
+use crate::lines::push_number;
+use sc_papers::{Refusal, SchoolNo};
+use std::alloc::{AllocError, Global};
+
+/// A refusal's name, without the school that it may name.
+fn name(refusal: Refusal) -> &'static str
+    ensures { result.now ≡ name_of refusal }
+{
+    match refusal {
+        Refusal::Shape => "Shape",
+        Refusal::UnknownStudent => "UnknownStudent",
+        Refusal::StudentExists => "StudentExists",
+        Refusal::EmptyList => "EmptyList",
+        Refusal::ListTooLong => "ListTooLong",
+        Refusal::UnknownSchool { .. } => "UnknownSchool",
+        Refusal::SchoolTwice { .. } => "SchoolTwice",
+        Refusal::RosterFull => "RosterFull",
+        Refusal::TooManySeats => "TooManySeats",
+        Refusal::TooFewSeats => "TooFewSeats",
+        Refusal::OutOfMemory => "OutOfMemory",
+    }
+}
+
+/// The school that a refusal names, if any.
+fn named_school(refusal: Refusal) -> Option<SchoolNo>
+    ensures { result ≡ named_school refusal }
+{
+    match refusal {
+        Refusal::UnknownSchool { school } => Some(school),
+        Refusal::SchoolTwice { school } => Some(school),
+        _ => None,
+    }
+}
+
+/// Adds a comma and a school, where there is one.
+fn push_named(line: &mut Vec<u8>, school: Option<SchoolNo>) -> Result<(), AllocError>
+    ensures { OnOk result (line.new.items ≡ line.old.items ++ named_text school) }
+{
+    if let Some(school) = school {
+        line.extend_from_slice(b",")?;
+        push_number(line, u64::from(school.get()))?;
+    }
+    Ok(())
+}
+
+/// Adds a refusal's code, its name, and the school that it names, if any.
+fn push_refusal(line: &mut Vec<u8>, refusal: &Refusal) -> Result<(), AllocError>
+    ensures { OnOk result (line.new.items ≡ line.old.items ++ refusal_text refusal.now) }
+{
+    push_number(line, u64::from(refusal.code()))?;
+    line.extend_from_slice(b",")?;
+    line.extend_from_slice(name(*refusal).as_bytes())?;
+    push_named(line, named_school(*refusal))
+}
+
+/// The reply line of a script's record, given its number, counted from 1, and what it was answered:
+/// `n,ok`, or `n,refused` with the refusal's code, its name, and the school that it names, if any.
+/// The only error is want of memory.
+pub fn reply_line(
+    alloc: Global,
+    number: u64,
+    reply: &Result<(), Refusal>,
+) -> Result<Vec<u8>, AllocError>
+    ensures { IfOk result (λ line. line.items ≡ reply_text number reply.now) }
+{
+    let mut line = Vec::new(alloc);
+    push_number(&mut line, number)?;
+    match reply {
+        Ok(()) => line.extend_from_slice(b",ok\n")?,
+        Err(refusal) => {
+            line.extend_from_slice(b",refused,")?;
+            push_refusal(&mut line, refusal)?;
+            line.extend_from_slice(b"\n")?;
+        }
+    }
+    Ok(line)
+}
