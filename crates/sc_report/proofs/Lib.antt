@@ -1,1 +1,3 @@
 pub mod KnownLemmas
+pub mod RisingLemmas
+pub mod Orders

@@ -3,6 +3,7 @@
 #![tactic(auto)]
 
 pub mod devices;
+pub mod laws;
 mod lines;
 mod log;
 mod reply;

@@ -2,7 +2,8 @@ ghost use Rattle.std.specs.Prelude.{◌≡◌, ◌++◌, IfOk, OnOk};
 ghost use Rattle.sc_papers.specs.Assignment.{assigned};
 ghost use Rattle.sc_papers.specs.Market.{students_of};
 ghost use Rattle.sc_repair.specs.Standing.{matching_of};
-ghost use Rattle.sc_report.specs.Text.{assignment_line, place_text, InRisingOrder, IsAssignmentText};
+ghost use Rattle.sc_report.specs.Rising.{rising};
+ghost use Rattle.sc_report.specs.Text.{assignment_line, assignment_text, place_text, IsReportText};
 
 use crate::lines::push_number;
 use sc_papers::{Assignment, Papers, StudentNo};
@@ -14,7 +15,7 @@ const HEADER: &[u8; 15] = b"student,school\n";
 
 /// The students by rising number.
 fn rising_students(alloc: Global, papers: &Papers) -> Result<Vec<StudentNo>, AllocError>
-    ensures { IfOk result (λ students. InRisingOrder (students_of papers.now) students.items) }
+    ensures { IfOk result (λ students. students.items ≡ rising (students_of papers.now)) }
 {
     let mut students = students_in_order(alloc, papers)?;
     students.as_mut_slice().sort_unstable();
@@ -59,7 +60,7 @@ fn push_line(text: &mut Vec<u8>, places: &Assignment, student: StudentNo) -> Res
 /// the student has, or a dash. The only error is want of memory. The cost is a sort of the
 /// students' numbers and one pass.
 pub fn assignment_text(alloc: Global, clearing: &Clearing) -> Result<Vec<u8>, AllocError>
-    ensures { IfOk result (λ text. IsAssignmentText clearing.now.papers (matching_of clearing.now) text.items) }
+    ensures { IfOk result (λ text. text.items ≡ assignment_text clearing.now.papers (matching_of clearing.now)) }
 {
     let students = rising_students(alloc, clearing.papers())?;
     let mut text = Vec::from_slice(alloc, HEADER)?;
@@ -71,7 +72,7 @@ pub fn assignment_text(alloc: Global, clearing: &Clearing) -> Result<Vec<u8>, Al
 
 /// The report text, which is the assignment text for now. The only error is want of memory.
 pub fn report_text(alloc: Global, clearing: &Clearing) -> Result<Vec<u8>, AllocError>
-    ensures { IfOk result (λ text. IsAssignmentText clearing.now.papers (matching_of clearing.now) text.items) }
+    ensures { IfOk result (λ text. IsReportText clearing.now.papers (matching_of clearing.now) text.items) }
 {
     assignment_text(alloc, clearing)
 }
