@@ -1,3 +1,5 @@
 pub mod KnownLemmas
 pub mod RisingLemmas
 pub mod Orders
+pub mod Tallies
+pub mod Places

@@ -1,6 +1,6 @@
 -- The order of entry decides nothing about the texts.
-use Rattle.std.proofs.Common.{◌≡◌, ap, ℕ, List, ◌++◌}
-use Rattle.std.specs.Prelude.{codes, flat_map, IsPermutation}
+use Rattle.std.proofs.Common.{◌≡◌, ap, ◌++◌}
+use Rattle.std.specs.Prelude.{codes, flat_map}
 use Rattle.std.proofs.lemmas.List.Sorted.{IsPermutation-map}
 use Rattle.sc_papers.specs.Market.{Market, students_of}
 use Rattle.sc_papers.specs.Matching.{Matching}

@@ -2,6 +2,8 @@ pub mod Watched
 pub mod Whole
 pub mod Devices
 pub mod Rising
+pub mod Cutoff
+pub mod Tally
 pub mod Text
 pub mod Report
 pub mod Reply

@@ -2,16 +2,20 @@
 //! writers whose failure is remembered, read and written whole.
 #![tactic(auto)]
 
+mod cutoff;
 pub mod devices;
 pub mod laws;
 mod lines;
 mod log;
+mod order;
 mod reply;
 mod report;
+mod tally;
 mod text;
 mod watched;
 mod whole;
 
+pub use cutoff::{Cutoff, CutoffRow, cutoffs};
 pub use log::log_text;
 pub use reply::reply_line;
 pub use report::{ReportFault, write_report};

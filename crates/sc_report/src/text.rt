@@ -1,40 +1,16 @@
 ghost use Rattle.std.specs.Prelude.{◌≡◌, ◌++◌, IfOk, OnOk};
 ghost use Rattle.sc_papers.specs.Assignment.{assigned};
-ghost use Rattle.sc_papers.specs.Market.{students_of};
 ghost use Rattle.sc_repair.specs.Standing.{matching_of};
-ghost use Rattle.sc_report.specs.Rising.{rising};
 ghost use Rattle.sc_report.specs.Text.{assignment_line, assignment_text, place_text, IsReportText};
 
 use crate::lines::push_number;
-use sc_papers::{Assignment, Papers, StudentNo};
+use crate::order::rising_students;
+use sc_papers::{Assignment, StudentNo};
 use sc_repair::Clearing;
 use std::alloc::{AllocError, Global};
 
 /// The line above the assignment's lines.
 const HEADER: &[u8; 15] = b"student,school\n";
-
-/// The students by rising number.
-fn rising_students(alloc: Global, papers: &Papers) -> Result<Vec<StudentNo>, AllocError>
-    ensures { IfOk result (λ students. students.items ≡ rising (students_of papers.now)) }
-{
-    let mut students = students_in_order(alloc, papers)?;
-    students.as_mut_slice().sort_unstable();
-    Ok(students)
-}
-
-/// The students in order of entry.
-fn students_in_order(alloc: Global, papers: &Papers) -> Result<Vec<StudentNo>, AllocError>
-    ensures { IfOk result (λ students. students.items ≡ students_of papers.now) }
-{
-    let mut students = Vec::with_capacity(alloc, papers.students_len())?;
-    for position in 0..papers.students_len() {
-        match papers.student_at(position) {
-            Some(student) => students.push(student)?,
-            None => unreachable!(),
-        }
-    }
-    Ok(students)
-}
 
 /// Adds what the student has, or a dash.
 fn push_place(text: &mut Vec<u8>, places: &Assignment, student: StudentNo) -> Result<(), AllocError>

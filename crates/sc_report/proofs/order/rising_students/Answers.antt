@@ -3,7 +3,7 @@ use Rattle.std.proofs.Math.Seq.{take-append_seam}
 use Rattle.std.proofs.lemmas.List.Sorted.{IsNonDecreasingBy-from_sort}
 use Rattle.sc_papers.specs.Market.{students_of}
 use Rattle.sc_report.proofs.RisingLemmas.{rising-is}
-use Rattle.sc_report.proofs.text.rising_students.Goals as goal
+use Rattle.sc_report.proofs.order.rising_students.Goals as goal
 
 pub returns : goal.returns
 returns c =

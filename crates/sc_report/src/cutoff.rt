@@ -1,0 +1,108 @@
+//! Cutoffs: the last key that each school admits.
+ghost use Rattle.std.specs.Prelude.{◌≡◌, true, map, IfOk};
+ghost use Rattle.sc_papers.specs.Assignment.{assigned};
+ghost use Rattle.sc_papers.specs.Market.{is_school, schools_of, seats_of, students_of};
+ghost use Rattle.sc_repair.specs.Standing.{matching_of};
+ghost use Rattle.sc_report.specs.Cutoff.{cutoff, cutoff_by, cutoff_rows};
+ghost use Rattle.sc_report.specs.Tally.{tally};
+
+use crate::order::rising_schools;
+use crate::tally::{Tally, tallies, tally_of};
+use sc_papers::{Assignment, Key, Papers, SchoolNo, Seats};
+use sc_repair::Clearing;
+use std::alloc::{AllocError, Global};
+
+/// What it takes to have a school.
+#[derive(Clone, Copy, Debug, PartialEq, Eq)]
+pub enum Cutoff {
+    /// The school has no seats.
+    Closed,
+    /// Fewer students have the school than it has seats.
+    Free,
+    /// The seats are taken: a student is admitted whose key is not after this one, the last among
+    /// those who have the school.
+    Full { key: Key },
+}
+
+/// A school, its seats, how many students have it, and its cutoff.
+#[derive(Clone, Copy, Debug, PartialEq, Eq)]
+pub struct CutoffRow {
+    pub school: SchoolNo,
+    pub seats: Seats,
+    pub held: u32,
+    pub cutoff: Cutoff,
+}
+
+/// The cutoff of a school with these seats, where so many have it and this is the last key of theirs.
+fn cutoff_by(seats: u32, held: u32, last: Option<Key>) -> Cutoff
+    ensures { result ≡ cutoff_by seats held last }
+{
+    match last {
+        _ if seats == 0 => Cutoff::Closed,
+        Some(key) if seats <= held => Cutoff::Full { key },
+        _ => Cutoff::Free,
+    }
+}
+
+/// The seats of a school of the papers.
+fn seats_of(papers: &Papers, school: SchoolNo) -> Seats
+    requires { is_school papers.now school ≡ true }
+    ensures { result ≡ seats_of papers.now school }
+{
+    let Some(found) = papers.school(school) else {
+        unreachable!()
+    };
+    found.seats
+}
+
+/// The cutoff of a school, by the tallies of all schools.
+pub(crate) fn cutoff_of(
+    tallies: &[Tally],
+    papers: &Papers,
+    places: &Assignment,
+    school: SchoolNo,
+) -> Cutoff
+    requires tallies { tallies.now ≡ map (tally papers.now (assigned places.now) (students_of papers.now)) (schools_of papers.now) }
+    requires known { is_school papers.now school ≡ true }
+    ensures { result ≡ cutoff papers.now (assigned places.now) school }
+{
+    let tally = tally_of(tallies, papers, places, school);
+    cutoff_by(seats_of(papers, school).get(), tally.held, tally.last)
+}
+
+/// The rows of all schools by rising number, by their tallies.
+pub(crate) fn rising_rows(
+    alloc: Global,
+    tallies: &[Tally],
+    papers: &Papers,
+    places: &Assignment,
+) -> Result<Vec<CutoffRow>, AllocError>
+    requires { tallies.now ≡ map (tally papers.now (assigned places.now) (students_of papers.now)) (schools_of papers.now) }
+    ensures { IfOk result (λ rows. rows.items ≡ cutoff_rows papers.now (assigned places.now)) }
+{
+    let schools = rising_schools(alloc, papers)?;
+    let mut rows = Vec::with_capacity(alloc, schools.len())?;
+    for school in schools.as_slice() {
+        let seats = seats_of(papers, *school);
+        let tally = tally_of(tallies, papers, places, *school);
+        let cutoff = cutoff_by(seats.get(), tally.held, tally.last);
+        rows.push(CutoffRow {
+            school: *school,
+            seats,
+            held: tally.held,
+            cutoff,
+        })?;
+    }
+    Ok(rows)
+}
+
+/// The rows of all schools, by rising number. The only error is want of memory. The cost is one pass
+/// over the students and a sort of the schools' numbers.
+pub fn cutoffs(alloc: Global, clearing: &Clearing) -> Result<Vec<CutoffRow>, AllocError>
+    ensures { IfOk result (λ rows. rows.items ≡ cutoff_rows clearing.now.papers (matching_of clearing.now)) }
+{
+    let papers = clearing.papers();
+    let places = clearing.places();
+    let tallies = tallies(alloc, papers, places)?;
+    rising_rows(alloc, tallies.as_slice(), papers, places)
+}

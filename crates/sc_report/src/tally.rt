@@ -1,0 +1,112 @@
+//! One pass over the students: how many have each school, and the last key among them.
+ghost use Rattle.std.specs.Prelude.{◌≡◌, ◌+◌, ◌<◌, ◌≤◌, true, length, map, replicate, take, IfOk};
+ghost use Rattle.sc_papers.specs.Assignment.{assigned};
+ghost use Rattle.sc_papers.specs.Market.{is_school, is_student, schools_of, students_of};
+ghost use Rattle.sc_papers.specs.WellFormed.{WellFormed, WithinLimits};
+ghost use Rattle.sc_report.specs.Cutoff.{or_later};
+ghost use Rattle.sc_report.specs.Tally.{held_at, no_tally, tally, with_key};
+
+use sc_papers::{Assignment, Key, Papers, SchoolNo, StudentNo};
+use std::alloc::{AllocError, Global};
+
+/// How many students have a school, and the last key among them, if they are any.
+#[derive(Clone, Copy)]
+pub(crate) struct Tally {
+    pub(crate) held: u32,
+    pub(crate) last: Option<Key>,
+}
+
+/// The later of a key and the last one so far.
+fn later(last: Option<Key>, key: Key) -> Option<Key>
+    ensures { result ≡ or_later last key }
+{
+    match last {
+        Some(last) if key < last => Some(last),
+        _ => Some(key),
+    }
+}
+
+/// The tally with a student of this key.
+fn with_student(tally: Tally, key: Key) -> Tally
+    requires { tally.held < 200000 }
+    ensures { result ≡ with_key tally key }
+{
+    Tally {
+        held: tally.held + 1,
+        last: later(tally.last, key),
+    }
+}
+
+/// The position of the school that the student has, if it is one of the papers, and the student's
+/// key there.
+fn held_at(papers: &Papers, places: &Assignment, student: StudentNo) -> Option<(usize, Key)>
+    requires { is_student papers.now student ≡ true }
+    ensures { result ≡ held_at papers.now (assigned places.now) student }
+{
+    let school = places.get(student)?;
+    let position = papers.school_position(school)?;
+    let key = papers.key(student, school)?;
+    Some((position, key))
+}
+
+/// Counts the student at the position of the order of entry.
+fn count_student(tallies: &mut [Tally], papers: &Papers, places: &Assignment, position: usize)
+    requires within { position < length papers.now.students }
+    requires well_formed { WellFormed papers.now }
+    requires within_limits { WithinLimits papers.now }
+    requires before { tallies.old ≡ map (tally papers.now (assigned places.now) (take position (students_of papers.now))) (schools_of papers.now) }
+    ensures { tallies.new ≡ map (tally papers.now (assigned places.now) (take (position + 1) (students_of papers.now))) (schools_of papers.now) }
+{
+    let Some(student) = papers.student_at(position) else {
+        unreachable!()
+    };
+    if let Some((at, key)) = held_at(papers, places, student) {
+        tallies[at] = with_student(tallies[at], key);
+    }
+}
+
+/// A tally of nobody for each of so many schools.
+fn no_tallies(alloc: Global, count: usize) -> Result<Vec<Tally>, AllocError>
+    ensures { IfOk result (λ tallies. tallies.items ≡ replicate count no_tally) }
+{
+    let mut tallies = Vec::with_capacity(alloc, count)?;
+    for _added in 0..count {
+        tallies.push(Tally {
+            held: 0,
+            last: None,
+        })?;
+    }
+    Ok(tallies)
+}
+
+/// Each school's tally, by the school's position.
+pub(crate) fn tallies(
+    alloc: Global,
+    papers: &Papers,
+    places: &Assignment,
+) -> Result<Vec<Tally>, AllocError>
+    ensures { IfOk result (λ tallies. tallies.items ≡ map (tally papers.now (assigned places.now) (students_of papers.now)) (schools_of papers.now)) }
+{
+    let mut tallies = no_tallies(alloc, papers.schools_len())?;
+    for position in 0..papers.students_len() {
+        count_student(tallies.as_mut_slice(), papers, places, position);
+    }
+    Ok(tallies)
+}
+
+/// The tally of a school, among those of all schools.
+pub(crate) fn tally_of(
+    tallies: &[Tally],
+    papers: &Papers,
+    places: &Assignment,
+    school: SchoolNo,
+) -> Tally
+    requires tallies { tallies.now ≡ map (tally papers.now (assigned places.now) (students_of papers.now)) (schools_of papers.now) }
+    requires known { is_school papers.now school ≡ true }
+    ensures { result ≡ tally papers.now (assigned places.now) (students_of papers.now) school }
+{
+    let Some(position) = papers.school_position(school) else {
+        unreachable!()
+    };
+    tallies[position]
+}
