@@ -1,5 +1,6 @@
 pub mod KnownLemmas
 pub mod RisingLemmas
 pub mod Orders
-pub mod Tallies
+pub mod TallyLemmas
 pub mod Places
+pub mod ReasonLemmas

@@ -4,6 +4,7 @@ pub mod Devices
 pub mod Rising
 pub mod Cutoff
 pub mod Tally
+pub mod Reason
 pub mod Text
 pub mod Report
 pub mod Reply

@@ -8,6 +8,7 @@ pub mod laws;
 mod lines;
 mod log;
 mod order;
+mod reason;
 mod reply;
 mod report;
 mod tally;
@@ -17,6 +18,7 @@ mod whole;
 
 pub use cutoff::{Cutoff, CutoffRow, cutoffs};
 pub use log::log_text;
+pub use reason::{Reason, ReasonRow, reasons};
 pub use reply::reply_line;
 pub use report::{ReportFault, write_report};
 pub use text::{assignment_text, report_text};

@@ -1,5 +1,5 @@
 //! One pass over the students: how many have each school, and the last key among them.
-ghost use Rattle.std.specs.Prelude.{◌≡◌, ◌+◌, ◌<◌, ◌≤◌, true, length, map, replicate, take, IfOk};
+ghost use Rattle.std.specs.Prelude.{◌≡◌, ◌+◌, ◌<◌, ◌≤◌, true, length, map, replicate, take, IfOk, OnOk};
 ghost use Rattle.sc_papers.specs.Assignment.{assigned};
 ghost use Rattle.sc_papers.specs.Market.{is_school, is_student, schools_of, students_of};
 ghost use Rattle.sc_papers.specs.WellFormed.{WellFormed, WithinLimits};
@@ -85,7 +85,8 @@ pub(crate) fn tallies(
     papers: &Papers,
     places: &Assignment,
 ) -> Result<Vec<Tally>, AllocError>
-    ensures { IfOk result (λ tallies. tallies.items ≡ map (tally papers.now (assigned places.now) (students_of papers.now)) (schools_of papers.now)) }
+    ensures tallies { IfOk result (λ tallies. tallies.items ≡ map (tally papers.now (assigned places.now) (students_of papers.now)) (schools_of papers.now)) }
+    ensures well_formed { OnOk result (WellFormed papers.now) }
 {
     let mut tallies = no_tallies(alloc, papers.schools_len())?;
     for position in 0..papers.students_len() {

@@ -1,6 +1,6 @@
 use Rattle.std.proofs.Common.{◌∙◌}
 use Rattle.sc_papers.specs.Assignment.{assigned}
-use Rattle.sc_report.proofs.Tallies.{cutoff-tally}
+use Rattle.sc_report.proofs.TallyLemmas.{cutoff-tally}
 use Rattle.sc_report.proofs.cutoff.cutoff_of.Goals as goal
 
 pub returns : goal.returns

@@ -4,7 +4,7 @@ use Rattle.sc_papers.specs.Market.{schools_of}
 use Rattle.sc_report.specs.Cutoff.{cutoff_row}
 use Rattle.sc_report.proofs.Places.{among-school}
 use Rattle.sc_report.proofs.RisingLemmas.{rising-among}
-use Rattle.sc_report.proofs.Tallies.{map-take_one, row-tally}
+use Rattle.sc_report.proofs.TallyLemmas.{map-take_one, row-tally}
 use Rattle.sc_report.proofs.cutoff.rising_rows.Goals as goal
 
 pub seats_of-seats-requires : goal.seats_of-seats-requires

@@ -3,7 +3,7 @@ use Rattle.std.proofs.lemmas.Option.{none-some}
 use Rattle.sc_papers.specs.Assignment.{assigned}
 use Rattle.sc_papers.specs.Key.{key_of}
 use Rattle.sc_report.proofs.Places.{some-one}
-use Rattle.sc_report.proofs.Tallies.{held-none, held-away, held-there, key-there}
+use Rattle.sc_report.proofs.TallyLemmas.{held-none, held-away, held-there, key-there}
 use Rattle.sc_report.proofs.tally.held_at.Goals as goal
 
 pub returns-in_err-school : goal.returns-in_err-school

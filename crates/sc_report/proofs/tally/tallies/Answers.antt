@@ -3,7 +3,7 @@ use Rattle.std.proofs.lemmas.Map.Entries.{length-keys_of}
 use Rattle.sc_papers.specs.Assignment.{assigned}
 use Rattle.sc_papers.specs.Market.{schools_of}
 use Rattle.sc_report.specs.Tally.{no_tally}
-use Rattle.sc_report.proofs.Tallies.{tallies-none}
+use Rattle.sc_report.proofs.TallyLemmas.{tallies-none}
 use Rattle.sc_report.proofs.tally.tallies.Goals as goal
 
 pub loop-position-init : goal.loop-position-init
