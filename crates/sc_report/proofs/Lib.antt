@@ -4,3 +4,4 @@ pub mod Orders
 pub mod TallyLemmas
 pub mod Places
 pub mod ReasonLemmas
+pub mod LineLemmas

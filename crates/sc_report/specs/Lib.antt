@@ -5,6 +5,8 @@ pub mod Rising
 pub mod Cutoff
 pub mod Tally
 pub mod Reason
+pub mod CutoffText
+pub mod ReasonText
 pub mod Text
 pub mod Report
 pub mod Reply

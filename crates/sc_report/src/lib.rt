@@ -3,12 +3,14 @@
 #![tactic(auto)]
 
 mod cutoff;
+mod cutoff_lines;
 pub mod devices;
 pub mod laws;
 mod lines;
 mod log;
 mod order;
 mod reason;
+mod reason_lines;
 mod reply;
 mod report;
 mod tally;
@@ -17,8 +19,10 @@ mod watched;
 mod whole;
 
 pub use cutoff::{Cutoff, CutoffRow, cutoffs};
+pub use cutoff_lines::cutoff_text;
 pub use log::log_text;
 pub use reason::{Reason, ReasonRow, reasons};
+pub use reason_lines::reason_text;
 pub use reply::reply_line;
 pub use report::{ReportFault, write_report};
 pub use text::{assignment_text, report_text};

@@ -1,0 +1,23 @@
+-- Texts that grow line by line.
+use Rattle.std.proofs.Common.{◌≡◌, refl, sym, ◌∙◌, ap, ℕ, ◌+◌, ◌<◌, ◌≤◌, List, [], ◌∷◌, ◌++◌, length, get_or, take, add-one, append-nil, append_assoc}
+use Rattle.std.specs.Prelude.{flat_map}
+use Rattle.std.proofs.lemmas.List.{take_all}
+use Rattle.std.proofs.Math.Seq.{take-suc}
+
+flat_map-one_more : {X : Type 0} (f : X → List ℕ) (xs : List X) (x : X) → flat_map f (xs ++ x ∷ []) ≡ flat_map f xs ++ f x
+flat_map-one_more f [] x = append-nil (f x)
+flat_map-one_more f (y ∷ ys) x = ap (λ more. f y ++ more) (flat_map-one_more f ys x) ∙ sym (append_assoc (f y) (flat_map f ys) (f x))
+
+-- a text that grew by the line of one more element
+pub lines-more : {X : Type 0} (f : X → List ℕ) (xs : List X) (k : ℕ) (x : X) (old text new : List ℕ) → text ≡ old ++ flat_map f (take k xs) → new ≡ text ++ f x
+    → k < length xs → x ≡ get_or xs k x → new ≡ old ++ flat_map f (take (k + 1) xs)
+lines-more f xs k x old text new before grew low is =
+    let front : take (k + 1) xs ≡ take k xs ++ x ∷ [] = rw (add-one, take-suc xs k x low) (ap (λ y. take k xs ++ y ∷ []) (sym is)) in
+    grew ∙ ap (λ t. t ++ f x) before ∙ append_assoc old (flat_map f (take k xs)) (f x)
+    ∙ ap (λ more. old ++ more) (sym (ap (flat_map f) front ∙ flat_map-one_more f (take k xs) x))
+
+-- a text that has a header and the line of each element
+pub lines-all : {X : Type 0} (f : X → List ℕ) (xs : List X) (k : ℕ) (old header start text : List ℕ) → start ≡ old ++ header → text ≡ start ++ flat_map f (take k xs)
+    → length xs ≤ k → text ≡ old ++ (header ++ flat_map f xs)
+lines-all f xs k old header start text start_is text_is over =
+    text_is ∙ ap (λ ys. start ++ flat_map f ys) (take_all k xs over) ∙ ap (λ s. s ++ flat_map f xs) start_is ∙ append_assoc old header (flat_map f xs)
