@@ -1,5 +1,5 @@
 //! Devices for tests: they pass a set number of bytes, in pieces of a set size, and then fail.
-ghost use Rattle.std.specs.Prelude.{◌≡◌, ◌≢◌, ℕ, List, ◌+◌, ◌-◌, ◌<◌, ◌≤◌, Some, IfOk, IsErr, IsTrue, ◌↔◌, length, take, vec_items};
+ghost use Rattle.std.specs.Prelude.{◌≡◌, ◌≢◌, ℕ, List, ◌+◌, ◌-◌, ◌<◌, ◌≤◌, Some, IfOk, IsErr, IsOk, IsTrue, ◌↔◌, length, take, vec_items};
 ghost use Rattle.std.specs.Io.{ReadsAtMost, WritesAtMost};
 ghost use Rattle.std.specs.Io.KnownBytes.{Keeps, ReadConsumes, WriteAppends};
 ghost use Rattle.sc_report.specs.Devices.{bytes_left, bytes_taken, ending_of, gives_left, takes_left};
@@ -39,6 +39,7 @@ impl Read for FailingReader<'_> {
         ensures bound { ReadsAtMost result buffer.new }
         ensures bytes { ReadConsumes (Some (bytes_left self.old)) (Some (bytes_left self.new)) result buffer.new }
         ensures fails { gives_left self.old ≡ 0 → IsErr result }
+        ensures gives { 0 < gives_left self.old → IsOk result }
         ensures passes { IfOk result (λ count. count + gives_left self.new ≡ gives_left self.old) }
     {
         if self.passes == 0 {
@@ -123,6 +124,8 @@ impl Write for FailingWriter {
     fn flush(&mut self) -> io::Result<()>
         ensures bytes { Keeps (Some (bytes_taken self.old)) (Some (bytes_taken self.new)) }
         ensures fails { takes_left self.old ≡ 0 → ending_of self.old ≡ Ending.Fails → IsErr result }
+        ensures takes { 0 < takes_left self.old → IsOk result }
+        ensures takes_none { ending_of self.old ≡ Ending.TakesNone → IsOk result }
     {
         if self.is_broken() {
             return Err(ErrorKind::BrokenPipe.into());

@@ -95,7 +95,8 @@ impl<W: Write> Watched<W> {
 
     /// Asks the device to hand on what it holds back.
     ///
-    /// Any error of the device is answered as `DeviceFailed`.
+    /// Any error of the device is answered as `DeviceFailed`. That the call reaches the device is no
+    /// clause: the trait `Write` says nothing of what a flush that answers `Ok` has done.
     pub fn flush(&mut self) -> Result<(), DeviceFailed>
         ensures bytes { Keeps (W.contents (device_of self.old)) (W.contents (device_of self.new)) }
         ensures failed { has_failed self.new ≡ (has_failed self.old || is_err result) }
