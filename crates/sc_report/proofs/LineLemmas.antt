@@ -1,8 +1,18 @@
 -- Texts that grow line by line.
-use Rattle.std.proofs.Common.{◌≡◌, refl, sym, ◌∙◌, ap, ℕ, ◌+◌, ◌<◌, ◌≤◌, List, [], ◌∷◌, ◌++◌, length, get_or, take, add-one, append-nil, append_assoc}
+use Rattle.std.proofs.Common.{◌≡◌, sym, ◌∙◌, ap, ℕ, ◌+◌, ◌<◌, ◌≤◌, List, [], ◌∷◌, ◌++◌, length, get_or, take, add-one, append-nil, append_assoc}
 use Rattle.std.specs.Prelude.{flat_map}
 use Rattle.std.proofs.lemmas.List.{take_all}
 use Rattle.std.proofs.Math.Seq.{take-suc}
+use Rattle.sc_papers.specs.Market.{Market, students_of}
+use Rattle.sc_papers.specs.Matching.{Matching}
+use Rattle.sc_report.specs.Cutoff.{cutoff_rows}
+use Rattle.sc_report.specs.CutoffText.{cutoff_lines, cutoff_text}
+use Rattle.sc_report.specs.Reason.{reason_rows}
+use Rattle.sc_report.specs.ReasonText.{reason_lines, reason_text}
+use Rattle.sc_report.specs.Rising.{rising}
+use Rattle.sc_report.specs.Text.{assignment_lines, assignment_text, report_text}
+use Rattle.sc_report.specs.declared.cutoff.CutoffRow.{CutoffRow}
+use Rattle.sc_report.specs.declared.reason.ReasonRow.{ReasonRow}
 
 flat_map-one_more : {X : Type 0} (f : X → List ℕ) (xs : List X) (x : X) → flat_map f (xs ++ x ∷ []) ≡ flat_map f xs ++ f x
 flat_map-one_more f [] x = append-nil (f x)
@@ -21,3 +31,17 @@ pub lines-all : {X : Type 0} (f : X → List ℕ) (xs : List X) (k : ℕ) (old h
     → length xs ≤ k → text ≡ old ++ (header ++ flat_map f xs)
 lines-all f xs k old header start text start_is text_is over =
     text_is ∙ ap (λ ys. start ++ flat_map f ys) (take_all k xs over) ∙ ap (λ s. s ++ flat_map f xs) start_is ∙ append_assoc old header (flat_map f xs)
+
+three-parts : (old a c r : List ℕ) → ((old ++ a) ++ c) ++ r ≡ old ++ (a ++ (c ++ r))
+three-parts old a c r = append_assoc (old ++ a) c r ∙ append_assoc old a (c ++ r)
+
+-- a text that gained the lines of the students, the cutoffs and the reasons gained the report
+pub report-joined : (m : Market) (a : Matching) (students : List ℕ) (rows : List CutoffRow) (reasons : List ReasonRow) (old first second third : List ℕ)
+    → students ≡ rising (students_of m) → rows ≡ cutoff_rows m a → reasons ≡ reason_rows m a
+    → first ≡ old ++ assignment_lines a students → second ≡ first ++ cutoff_lines rows → third ≡ second ++ reason_lines reasons
+    → third ≡ old ++ report_text m a
+unfolding report_text
+report-joined m a students rows reasons old first second third students_is rows_is reasons_is first_is second_is third_is =
+    third_is
+    ∙ (λ t. (second_is ∙ (λ u. (first_is ∙ (λ v. old ++ assignment_lines a (students_is v))) u ++ cutoff_lines (rows_is u))) t ++ reason_lines (reasons_is t))
+    ∙ three-parts old (assignment_text m a) (cutoff_text m a) (reason_text m a)

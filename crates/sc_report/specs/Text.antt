@@ -3,6 +3,8 @@ use Rattle.std.specs.Prelude.{◌≡◌, ℕ, List, ◌++◌, codes, flat_map, O
 use Rattle.std.specs.Fmt.{decimal}
 use Rattle.sc_papers.specs.Market.{Market, students_of}
 use Rattle.sc_papers.specs.Matching.{Matching}
+use Rattle.sc_report.specs.CutoffText.{cutoff_text}
+use Rattle.sc_report.specs.ReasonText.{reason_text}
 use Rattle.sc_report.specs.Rising.{rising}
 
 -- a school's number, or a dash for none
@@ -14,14 +16,22 @@ place_text (Some s) = decimal s
 abbrev pub assignment_line : Matching → ℕ → List ℕ
 assignment_line a i = decimal i ++ codes "," ++ place_text (a i) ++ codes "\n"
 
--- the assignment text: the header, and the line of each student by rising number
+-- the header, and the line of each student
+abbrev pub assignment_lines : Matching → List ℕ → List ℕ
+assignment_lines a students = codes "student,school\n" ++ flat_map (assignment_line a) students
+
+-- the assignment text of papers and a matching: the students by rising number
 abbrev pub assignment_text : Market → Matching → List ℕ
-assignment_text m a = codes "student,school\n" ++ flat_map (assignment_line a) (rising (students_of m))
+assignment_text m a = assignment_lines a (rising (students_of m))
 
 -- the text is the assignment text of papers and a matching
 abbrev pub IsAssignmentText : Market → Matching → List ℕ → Type 0
 IsAssignmentText m a text = text ≡ assignment_text m a
 
--- the report text of papers and a matching, which is the assignment text for now
+-- the report text: the assignment text, the cutoff text and the reason text
+unfoldable pub report_text : Market → Matching → List ℕ
+report_text m a = assignment_text m a ++ (cutoff_text m a ++ reason_text m a)
+
+-- the text is the report text of papers and a matching
 abbrev pub IsReportText : Market → Matching → List ℕ → Type 0
-IsReportText m a text = IsAssignmentText m a text
+IsReportText m a text = text ≡ report_text m a

@@ -155,3 +155,14 @@ fn log_of_market_b(rt: HostRuntime) -> Result<(), Fail> {
     assert!(rt; log_text(rt.alloc(), &log)?.as_slice() == b"1,10\n2,20\n".as_slice());
     Ok(())
 }
+
+#[test]
+fn a_newcomer_in_market_b(rt: HostRuntime) -> Result<(), Fail> {
+    let clearing = market_b_and_a_newcomer(&rt, rt.alloc())?;
+    let text = report_text(rt.alloc(), &clearing)?;
+    assert!(rt;
+        text.as_slice()
+            == b"student,school\n1,20\n2,-\n3,10\nschool,seats,held,class,draw,student\n10,1,1,0,ccef36a8c70d778b,3\n20,1,1,1,e56a5d4028bd8653,1\nstudent,school,reason\n1,10,class\n2,20,class\n2,10,class\n".as_slice()
+    );
+    Ok(())
+}

@@ -1,11 +1,19 @@
-ghost use Rattle.std.specs.Prelude.{◌≡◌, ◌++◌, IfOk, OnOk};
+ghost use Rattle.std.specs.Prelude.{◌≡◌, ◌++◌, map, IfOk, OnOk};
 ghost use Rattle.sc_papers.specs.Assignment.{assigned};
+ghost use Rattle.sc_papers.specs.Market.{schools_of, students_of};
+ghost use Rattle.sc_papers.specs.WellFormed.{WellFormed};
 ghost use Rattle.sc_repair.specs.Standing.{matching_of};
-ghost use Rattle.sc_report.specs.Text.{assignment_line, assignment_text, place_text, IsReportText};
+ghost use Rattle.sc_report.specs.Tally.{tally};
+ghost use Rattle.sc_report.specs.Text.{assignment_line, assignment_lines, assignment_text, place_text, report_text, IsReportText};
 
+use crate::cutoff::rising_rows;
+use crate::cutoff_lines::push_cutoffs;
 use crate::lines::push_number;
 use crate::order::rising_students;
-use sc_papers::{Assignment, StudentNo};
+use crate::reason::rising_reasons;
+use crate::reason_lines::push_reasons;
+use crate::tally::{Tally, tallies};
+use sc_papers::{Assignment, Papers, StudentNo};
 use sc_repair::Clearing;
 use std::alloc::{AllocError, Global};
 
@@ -32,6 +40,21 @@ fn push_line(text: &mut Vec<u8>, places: &Assignment, student: StudentNo) -> Res
     text.extend_from_slice(b"\n")
 }
 
+/// Adds the header and the line of each student.
+fn push_assignments(
+    text: &mut Vec<u8>,
+    students: &[StudentNo],
+    places: &Assignment,
+) -> Result<(), AllocError>
+    ensures { OnOk result (text.new.items ≡ text.old.items ++ assignment_lines (assigned places.now) students.now) }
+{
+    text.extend_from_slice(HEADER)?;
+    for student in students {
+        push_line(text, places, *student)?;
+    }
+    Ok(())
+}
+
 /// The assignment text: a header, and for each student by rising number a line with the school that
 /// the student has, or a dash. The only error is want of memory. The cost is a sort of the
 /// students' numbers and one pass.
@@ -39,16 +62,42 @@ pub fn assignment_text(alloc: Global, clearing: &Clearing) -> Result<Vec<u8>, Al
     ensures { IfOk result (λ text. text.items ≡ assignment_text clearing.now.papers (matching_of clearing.now)) }
 {
     let students = rising_students(alloc, clearing.papers())?;
-    let mut text = Vec::from_slice(alloc, HEADER)?;
-    for student in students.as_slice() {
-        push_line(&mut text, clearing.places(), *student)?;
-    }
+    let mut text = Vec::new(alloc);
+    push_assignments(&mut text, students.as_slice(), clearing.places())?;
     Ok(text)
 }
 
-/// The report text, which is the assignment text for now. The only error is want of memory.
+/// Adds the assignment text, the cutoff text and the reason text, by the tallies of all schools.
+fn push_report(
+    text: &mut Vec<u8>,
+    alloc: Global,
+    tallies: &[Tally],
+    papers: &Papers,
+    places: &Assignment,
+) -> Result<(), AllocError>
+    requires tallies { tallies.now ≡ map (tally papers.now (assigned places.now) (students_of papers.now)) (schools_of papers.now) }
+    requires well_formed { WellFormed papers.now }
+    ensures { OnOk result (text.new.items ≡ text.old.items ++ report_text papers.now (assigned places.now)) }
+{
+    let students = rising_students(alloc, papers)?;
+    push_assignments(text, students.as_slice(), places)?;
+    let cutoffs = rising_rows(alloc, tallies, papers, places)?;
+    push_cutoffs(text, cutoffs.as_slice())?;
+    let reasons = rising_reasons(alloc, tallies, papers, places)?;
+    push_reasons(text, reasons.as_slice())?;
+    Ok(())
+}
+
+/// The report text: the assignment text, the cutoff text and the reason text. The only error is want
+/// of memory. The cost is one pass over the students for the cutoffs, a sort of the students' and the
+/// schools' numbers, and one pass for the lines.
 pub fn report_text(alloc: Global, clearing: &Clearing) -> Result<Vec<u8>, AllocError>
     ensures { IfOk result (λ text. IsReportText clearing.now.papers (matching_of clearing.now) text.items) }
 {
-    assignment_text(alloc, clearing)
+    let papers = clearing.papers();
+    let places = clearing.places();
+    let tallies = tallies(alloc, papers, places)?;
+    let mut text = Vec::new(alloc);
+    push_report(&mut text, alloc, tallies.as_slice(), papers, places)?;
+    Ok(text)
 }

@@ -1,0 +1,11 @@
+use Rattle.std.proofs.Common.{◌∙◌}
+use Rattle.sc_papers.specs.Assignment.{assigned}
+use Rattle.sc_report.proofs.LineLemmas.{report-joined}
+use Rattle.sc_report.proofs.text.push_report.Goals as goal
+
+pub returns : goal.returns
+returns c =
+    report-joined c.args.papers.now (assigned c.args.places.now) c.as_slice.result.now c.as_slice-2.result.now c.as_slice-3.result.now
+    c.args.text.now.items c.push_assignments.new.text.items c.push_cutoffs.new.text.items c.push_reasons.new.text.items
+    (c.as_slice.ensures.value ∙ c.in_ok-students.ensures) (c.as_slice-2.ensures.value ∙ c.in_ok-cutoffs.ensures) (c.as_slice-3.ensures.value ∙ c.in_ok-reasons.ensures)
+    c.in_ok-push_assignments.ensures c.in_ok-push_cutoffs.ensures c.in_ok-push_reasons.ensures
