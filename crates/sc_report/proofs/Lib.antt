@@ -5,3 +5,4 @@ pub mod TallyLemmas
 pub mod Places
 pub mod ReasonLemmas
 pub mod LineLemmas
+pub mod ReasonLaws

@@ -1,0 +1,173 @@
+-- In a stable matching one reason applies to each choice that a student prefers to what it has.
+use Rattle.std.proofs.Common.{◌≡◌, inl, inr, refl, sym, ◌∙◌, ap, subst, ℕ, ◌<◌, ◌==◌, nat_eq, Bool, true, false, List, [], ◌∷◌, length, get_or, map, filter, fold, Option, None, Some, Contains, arith}
+use Rattle.std.specs.Prelude.{nat_lt}
+use Rattle.std.proofs.lemmas.Bool.{cases_Bool, cond-true, cond-false, eq-eqb, false≢true}
+use Rattle.std.proofs.lemmas.Bool.Decides.{nat_tests}
+use Rattle.std.proofs.lemmas.List.{length-map}
+use Rattle.std.proofs.lemmas.List.Sums.{length-filter}
+use Rattle.std.proofs.lemmas.Map.Keys.{apart_from_distinct}
+use Rattle.std.proofs.lemmas.Option.{get_or_from_slice_get, none-some, slice_get_within}
+use Rattle.sc_papers.specs.Key.{is_before, is_ahead, key_of}
+use Rattle.sc_papers.specs.Market.{Market, choices_of, seats_of, students_of}
+use Rattle.sc_papers.specs.Matching.{Matching, how_many, has, held, IsStable, Prefers}
+use Rattle.sc_papers.specs.WellFormed.{WellFormed}
+use Rattle.sc_papers.specs.declared.key.Key.{Key}
+use Rattle.sc_papers.proofs.Counting.{contains-cons, contains-head, contains-tail}
+use Rattle.sc_papers.proofs.Rejections.{has-true}
+use Rattle.sc_papers.proofs.Students.{choices-differ}
+use Rattle.sc_report.specs.Cutoff.{cutoff, cutoff_by, keys_among, last_key, or_later}
+use Rattle.sc_report.specs.Reason.{reason, reason_by, Applies}
+use Rattle.sc_report.specs.declared.cutoff.Cutoff.{Cutoff}
+use Rattle.sc_report.specs.declared.cutoff.Cutoff.TheVariants.{Closed, Free, Full}
+use Rattle.sc_report.specs.declared.reason.Reason.TheVariants.{Class, Lottery}
+use Rattle.sc_report.proofs.Places.{some-one}
+
+-- of a key and some more the last is one of them
+last-from : (first : Key) (keys : List Key) → (last : Key) × (fold or_later (Some first) keys ≡ Some last) × Contains (first ∷ keys) last
+last-from first [] = (first, refl, contains-head first [])
+last-from first (key ∷ keys) = elim (cases_Bool (is_before key first)) [
+  | inl ahead ↦
+      let (last, is, among) = last-from first keys in (
+        last,
+        ap (λ k. fold or_later (Some k) keys) (cond-true (is_before key first) first key ahead) ∙ is,
+        elim (contains-cons first keys last among) [
+          | inl same ↦ subst (Contains (first ∷ key ∷ keys)) same (contains-head first (key ∷ keys))
+          | inr later ↦ contains-tail first (key ∷ keys) last (contains-tail key keys last later)
+        ],
+      )
+  | inr behind ↦
+      let (last, is, among) = last-from key keys in
+      (last, ap (λ k. fold or_later (Some k) keys) (cond-false (is_before key first) first key behind) ∙ is, contains-tail first (key ∷ keys) last among)
+]
+
+-- a last key is one of the keys, and there is one where there are keys
+last-among : (keys : List Key) → 0 < length keys → (last : Key) × (last_key keys ≡ Some last) × Contains keys last
+unfolding last_key
+last-among [] some = absurd (omega (arith, some))
+last-among (key ∷ keys) some = last-from key keys
+
+-- and a last key is one of the keys
+last-contained : (keys : List Key) (last : Key) → last_key keys ≡ Some last → Contains keys last
+unfolding last_key
+last-contained [] last is = absurd (none-some last is)
+last-contained (key ∷ keys) last is =
+    let (found, found_is, among) = last-from key keys in
+    subst (Contains (key ∷ keys)) (some-one found last (sym found_is ∙ is)) among
+
+-- each key is the key of somebody who passes
+keyed : (p : ℕ → Bool) (f : ℕ → Key) (xs : List ℕ) (key : Key) → Contains (map f (filter p xs)) key → (j : ℕ) × (p j ≡ true) × (f j ≡ key)
+keyed p f [] key (k, low, at) = absurd (omega (arith, low))
+keyed p f (x ∷ xs) key among = elim (cases_Bool (p x)) [
+  | inl passes ↦ elim (contains-cons (f x) (map f (filter p xs)) key (subst (λ ys. Contains (map f ys) key) (cond-true (p x) (x ∷ filter p xs) (filter p xs) passes) among)) [
+    | inl same ↦ (x, passes, same)
+    | inr later ↦ keyed p f xs key later
+  ]
+  | inr fails ↦ keyed p f xs key (subst (λ ys. Contains (map f ys) key) (cond-false (p x) (x ∷ filter p xs) (filter p xs) fails) among)
+]
+
+abbrev is_free : Cutoff → Bool
+is_free Closed = false
+is_free Free = true
+is_free (Full last) = false
+
+abbrev last_of : Cutoff → Option Key
+last_of Closed = None
+last_of Free = None
+last_of (Full last) = Some last
+
+-- what a cutoff of each kind says
+free-says : (seats count : ℕ) (last : Key) → cutoff_by seats count (Some last) ≡ Free → count < seats
+free-says seats count last free = elim (cases_Bool (seats == 0)) [
+  | inl none ↦ absurd (false≢true (ap is_free (sym (cond-true (seats == 0) Closed _ none) ∙ free)))
+  | inr some ↦ elim (cases_Bool (nat_lt count seats)) [
+    | inl fewer ↦ grind (arith, nat_tests)
+    | inr enough ↦ absurd (false≢true (ap is_free (sym (cond-false (nat_lt count seats) Free (Full last) enough) ∙ sym (cond-false (seats == 0) Closed _ some) ∙ free)))
+  ]
+]
+
+full-says : (seats count : ℕ) (o : Option Key) (key : Key) → cutoff_by seats count o ≡ Full key → o ≡ Some key
+full-says seats count None key full = elim (cases_Bool (seats == 0)) [
+  | inl none ↦ absurd (none-some key (ap last_of (sym (cond-true (seats == 0) Closed Free none) ∙ full)))
+  | inr some ↦ absurd (none-some key (ap last_of (sym (cond-false (seats == 0) Closed Free some) ∙ full)))
+]
+full-says seats count (Some last) key full = elim (cases_Bool (seats == 0)) [
+  | inl none ↦ absurd (none-some key (ap last_of (sym (cond-true (seats == 0) Closed _ none) ∙ full)))
+  | inr some ↦ elim (cases_Bool (nat_lt count seats)) [
+    | inl fewer ↦ absurd (none-some key (ap last_of (sym (cond-true (nat_lt count seats) Free (Full last) fewer) ∙ sym (cond-false (seats == 0) Closed _ some) ∙ full)))
+    | inr enough ↦ ap last_of (sym (cond-false (nat_lt count seats) Free (Full last) enough) ∙ sym (cond-false (seats == 0) Closed _ some) ∙ full)
+  ]
+]
+
+lower-class : (a b : Key) → nat_lt a.class b.class ≡ true → a.class < b.class
+lower-class a b less = grind (arith, nat_tests)
+
+same-class : (a b : Key) → nat_lt a.class b.class ≡ false → is_before a b ≡ true → a.class ≡ b.class
+same-class a b not_less before = grind (arith, nat_tests)
+
+-- a cutoff that is not free, whose last key is ahead, is got past by nobody for one reason
+applies-by : (cut : Cutoff) (key : Key) → (cut ≡ Free → ⊥) → ((last : Key) → cut ≡ Full last → is_before last key ≡ true) → Applies cut key (reason_by cut key)
+applies-by Closed key taken behind = refl
+applies-by Free key taken behind = absurd (taken refl)
+applies-by (Full last) key taken behind = elim (cases_Bool (nat_lt last.class key.class)) [
+  | inl less ↦ subst (Applies (Full last) key) (sym (cond-true (nat_lt last.class key.class) Class Lottery less)) (last, refl, lower-class last key less)
+  | inr not_less ↦ subst (Applies (Full last) key) (sym (cond-false (nat_lt last.class key.class) Class Lottery not_less)) (last, refl, same-class last key not_less (behind last refl), behind last refl)
+]
+
+behind : (a b : Key) → is_before a b ≡ false → (a.student ≡ b.student → ⊥) → is_before b a ≡ true
+behind a b not_ahead apart = grind (arith, nat_tests)
+
+module _ (m : Market) (a : Matching) (well : WellFormed m) (stable : IsStable m a) where
+  -- nobody prefers what it has
+  other-than_held : (i s : ℕ) → Prefers m i s (a i) → a i ≡ Some s → ⊥
+  other-than_held i s prefers has_it = go (subst (Prefers m i s) has_it prefers)
+    where
+      go : Prefers m i s (Some s) → ⊥
+      go (j, k, below, at_j, at_k) =
+          false≢true (sym (apart_from_distinct nat_eq (choices_of m i) j k s (choices-differ m well i) below (slice_get_within (choices_of m i) k s at_k))
+          ∙ eq-eqb (get_or (choices_of m i) j s) (get_or (choices_of m i) k s)
+          (get_or_from_slice_get (choices_of m i) j s s at_j ∙ sym (get_or_from_slice_get (choices_of m i) k s s at_k)))
+
+  keys-count : (s : ℕ) → length (keys_among m a (students_of m) s) ≡ held m a s
+  unfolding how_many
+  keys-count s = length-map (filter (has a s) (students_of m)) (λ i. key_of m i s) ∙ length-filter (has a s) (students_of m)
+
+  blocked : (i s j : ℕ) → Prefers m i s (a i) → a j ≡ Some s → is_before (key_of m i s) (key_of m j s) ≡ true → ⊥
+  unfolding is_ahead
+  blocked i s j prefers given ahead = stable.unblocked i s (record { preferred = prefers; better = inr (j, given, ahead) })
+
+  apart : (i s j : ℕ) → Prefers m i s (a i) → a j ≡ Some s → (key_of m j s).student ≡ (key_of m i s).student → ⊥
+  unfolding key_of
+  apart i s j prefers given same = other-than_held i s prefers (subst (λ k. a k ≡ Some s) same given)
+
+  pub reason-applies : (i s : ℕ) → Prefers m i s (a i) → Applies (cutoff m a s) (key_of m i s) (reason m a i s)
+  unfolding cutoff
+  reason-applies i s prefers = applies-by (cutoff m a s) (key_of m i s) (λ free. taken (last_key keys) refl free) (λ last full. after last (full-says (seats_of m s) (held m a s) (last_key keys) last full))
+    where
+      keys : List Key
+      keys = keys_among m a (students_of m) s
+
+      enough : held m a s < seats_of m s → ⊥
+      enough free = stable.unblocked i s (record { preferred = prefers; better = inl free })
+
+      taken : (o : Option Key) → last_key keys ≡ o → cutoff_by (seats_of m s) (held m a s) o ≡ Free → ⊥
+      taken (Some last) is free = enough (free-says (seats_of m s) (held m a s) last free)
+      taken None is free = elim (cases_Bool (seats_of m s == 0)) [
+        | inl none ↦ false≢true (ap is_free (sym (cond-true (seats_of m s == 0) Closed Free none) ∙ free))
+        | inr some ↦ elim (cases_Bool (nat_lt (held m a s) (seats_of m s))) [
+          | inl fewer ↦ enough (grind (arith, nat_tests))
+          | inr full ↦
+              let there : 0 < length keys = grind (arith, nat_tests, keys-count s) in
+              let (last, found, among) = last-among keys there in
+              none-some last (sym is ∙ found)
+        ]
+      ]
+
+      after : (last : Key) → last_key keys ≡ Some last → is_before last (key_of m i s) ≡ true
+      after last is =
+          let among = last-contained keys last is in
+          let (j, holds, key) = keyed (has a s) (λ j. key_of m j s) (students_of m) last among in
+          let not_ahead : is_before (key_of m i s) last ≡ false = elim (cases_Bool (is_before (key_of m i s) last)) [
+            | inr not_before ↦ not_before
+            | inl ahead ↦ absurd (blocked i s j prefers (has-true a s j holds) (ap (is_before (key_of m i s)) key ∙ ahead))
+          ] in
+          behind (key_of m i s) last not_ahead (λ same. apart i s j prefers (has-true a s j holds) (ap (λ k. k.student) key ∙ sym same))
