@@ -13,10 +13,6 @@ mod count;
 mod key;
 pub mod laws;
 mod papers;
-#[cfg(test)]
-mod plain;
-#[cfg(test)]
-mod plain_tests;
 mod records;
 mod rejection;
 mod school_list;

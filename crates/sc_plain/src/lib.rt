@@ -1,0 +1,10 @@
+//! The definitions once more, as a slow plain program, and the tests in which it meets the proved crates:
+//! worked rows, and small markets drawn at random. It holds nothing that a program calls.
+#![tactic(auto)]
+
+#[cfg(test)]
+mod plain;
+#[cfg(test)]
+mod random;
+#[cfg(test)]
+mod rows;
