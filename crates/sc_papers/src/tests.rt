@@ -159,6 +159,19 @@ fn refusals_of_schools(rt: HostRuntime) -> Result<(), Fail> {
     Ok(())
 }
 
+#[test]
+fn the_roster_is_full(rt: HostRuntime) -> Result<(), Fail> {
+    let alloc = rt.alloc();
+    let mut papers = zero_papers(&rt, alloc);
+    add_school(&rt, &mut papers, 10, 0)?;
+    for number in 1..200_001 {
+        papers.apply(enter(&rt, alloc, number, 0, "", "10")?)?;
+    }
+    let one_more = enter(&rt, alloc, 200_001, 0, "", "10")?;
+    assert!(rt; refusal_of(&rt, &mut papers, one_more) == Some(Refusal::RosterFull));
+    Ok(())
+}
+
 /// A list of 21 schools, the first of them unknown.
 const LONG: &str = "77 1 2 3 4 5 6 7 8 9 10 11 12 13 14 15 16 17 18 19 20";
 
@@ -334,6 +347,32 @@ fn changes_keep_the_place_and_the_rest(rt: HostRuntime) -> Result<(), Fail> {
     assert!(rt; one.zone.get() == 7);
     assert!(rt; one.siblings.as_slice().is_empty());
     assert!(rt; one.choices.as_slice() == [school(&rt, 20)].as_slice());
+    Ok(())
+}
+
+/// Makes an amendment for which memory may be refused: if it is, the papers stay as they were.
+fn apply_or_keep(rt: &impl Abort, papers: &mut Papers, amendment: Amendment) {
+    let before = papers.students_len();
+    if papers.apply(amendment) == Err(Refusal::OutOfMemory) {
+        assert!(rt; papers.students_len() == before);
+    }
+}
+
+// Run with each allocation refused in turn, this one sees want of memory from each amendment that
+// takes any.
+#[test]
+fn each_growth_refused(rt: HostRuntime) -> Result<(), Fail> {
+    let alloc = rt.alloc();
+    let mut papers = market_b(&rt, alloc)?;
+    let newcomer = enter(&rt, alloc, 3, 1, "10", "10")?;
+    apply_or_keep(&rt, &mut papers, newcomer);
+    let other_choices = rerank(&rt, alloc, 1, "20")?;
+    apply_or_keep(&rt, &mut papers, other_choices);
+    let other_home = correct(&rt, alloc, 2, 1, "20")?;
+    apply_or_keep(&rt, &mut papers, other_home);
+    apply_or_keep(&rt, &mut papers, withdraw(&rt, 1));
+    apply_or_keep(&rt, &mut papers, add(&rt, 10, 1));
+    apply_or_keep(&rt, &mut papers, close(&rt, 10, 1));
     Ok(())
 }
 
