@@ -86,3 +86,35 @@ fn heap_rolls(rt: HostRuntime) -> Result<(), Fail> {
     few_seats::<HeapRoll>(&rt, rt.alloc())?;
     Ok(())
 }
+
+/// Whether both kinds of roll answer alike to keys drawn at random, by Knuth's linear congruential
+/// generator. Few draws are different, so that the number often decides.
+fn agree(rt: &impl Abort, alloc: Global, capacity: u32) -> Result<bool, AllocError> {
+    let mut sorted = SortedRoll::with_capacity(alloc, seats(rt, capacity));
+    let mut heap = HeapRoll::with_capacity(alloc, seats(rt, capacity));
+    let mut in_sorted = Vec::new(alloc);
+    let mut in_heap = Vec::new(alloc);
+    let mut alike = true;
+    let mut state = 1962_u64;
+    for _offer in 0..600 {
+        state = state
+            .wrapping_mul(6_364_136_223_846_793_005)
+            .wrapping_add(1_442_695_040_888_963_407);
+        let class = (state >> 62) as u8;
+        let draw = (state >> 56) % 8;
+        let number = ((state >> 33) % 1_000) as u32 + 1;
+        let from_sorted = offer(&mut sorted, &mut in_sorted, key(rt, class, draw, number))?;
+        let from_heap = offer(&mut heap, &mut in_heap, key(rt, class, draw, number))?;
+        alike = alike && from_sorted == from_heap && sorted.worst() == heap.worst();
+        alike = alike && sorted.len() == heap.len();
+    }
+    Ok(alike)
+}
+
+#[test]
+fn both_rolls_agree_on_random_offers(rt: HostRuntime) -> Result<(), Fail> {
+    for capacity in [0, 1, 2, 7, 40, 1_000] {
+        assert!(rt; agree(&rt, rt.alloc(), capacity)?, "{capacity}");
+    }
+    Ok(())
+}
