@@ -65,7 +65,7 @@ WritesMatch-refused reading old WriteJournal is = absurd is
 WritesMatch-refused reading old OutOfMemory is = Keeps-refl old
 
 -- and the output did not fail
-pub is_output_fault-refused : (reading : Result Market IntakeFault) (fault : RunFault) → IsOpeningFault reading fault → is_output_fault (Err fault) ≡ false
+pub is_output_fault-refused : {A : Type 0} (reading : Result A IntakeFault) (fault : RunFault) → IsOpeningFault reading fault → is_output_fault (Err fault) ≡ false
 is_output_fault-refused reading WriteOut is = absurd is
 is_output_fault-refused reading (Read source) is = refl
 is_output_fault-refused reading (Intake fault) is = refl

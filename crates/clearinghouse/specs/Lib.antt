@@ -4,3 +4,4 @@ pub mod Blanks
 pub mod Ending
 pub mod Opening
 pub mod BundleRun
+pub mod Run

@@ -25,8 +25,8 @@ papers_in seed schools roster lists = do
   list_rows ← lists_in lists
   papers_of seed school_rows roster_rows list_rows
 
--- opening ended early for the first fault of the files, or for want of memory
-abbrev pub IsOpeningFault : Result Market IntakeFault → RunFault → Type 0
+-- reading ended early for the first fault of what was read, or for want of memory
+abbrev pub IsOpeningFault : {A : Type 0} → Result A IntakeFault → RunFault → Type 0
 IsOpeningFault reading (Read source) = ⊥
 IsOpeningFault reading (Intake fault) = reading ≡ Err fault
 IsOpeningFault reading (Journal fault) = ⊥

@@ -12,7 +12,9 @@ mod fault;
 mod markers;
 mod matching;
 mod perform;
+mod run;
 mod run_bundle;
+mod script;
 mod sections;
 #[cfg(test)]
 mod tests;

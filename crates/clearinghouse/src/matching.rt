@@ -74,7 +74,7 @@ pub fn open_files(alloc: Global, seed: &Seed, files: Files<'_>) -> Result<Cleari
 }
 
 /// Writes the report of the standing assignment, and flushes it.
-fn write_out<W: Write>(
+pub fn write_out<W: Write>(
     alloc: Global,
     clearing: &Clearing,
     out: &mut Watched<W>,

@@ -1,22 +1,26 @@
-//! From one bundle to an assignment.
+//! From one bundle to replies and an assignment.
 
 ghost use Rattle.std.specs.Prelude.{◌⊎◌, ℕ, List};
+ghost use Rattle.clearinghouse.specs.Bundle.{sections_of};
 ghost use Rattle.std.specs.Io.KnownBytes.{Keeps};
 ghost use Rattle.sc_report.specs.Watched.{device_of};
-ghost use Rattle.clearinghouse.specs.BundleRun.{EndsBundle, EndsUnread};
+ghost use Rattle.clearinghouse.specs.BundleRun.{EndsBundle, EndsUnread, WritesSections};
 ghost use Rattle.clearinghouse.specs.Opening.{IsWhole};
 
 use crate::ending::Ending;
+use crate::fault::RunFault;
 use crate::matching::{Files, match_texts, read_input};
-use crate::sections::split_bundle;
+use crate::run::run_texts;
+use crate::sections::{Bundle, split_bundle};
 use sc_intake::Source;
 use sc_papers::Seed;
 use sc_report::Watched;
 use std::alloc::Global;
 use std::io::{Read, Write};
 
-/// Reads a bundle whole, its seed, and writes the report of the papers in its sections. A script's
-/// section is passed over for now. Before all of that is known to be good, nothing is written.
+/// Reads a bundle whole, and its seed, and runs its sections: with a script, its records are answered in
+/// turn before the report is written, and without one the report of the opening is written. Before the
+/// sections are known to be good, nothing is written.
 pub fn run_bundle<R: Read, W: Write>(
     alloc: Global,
     input: &mut Watched<R>,
@@ -31,6 +35,26 @@ pub fn run_bundle<R: Read, W: Write>(
     }
 }
 
+/// Answers the script of a bundle, where it has one, and writes the report of its papers.
+fn run_sections<W: Write>(
+    alloc: Global,
+    seed: &Seed,
+    bundle: &Bundle<'_>,
+    out: &mut Watched<W>,
+) -> Result<(), RunFault>
+    ensures { WritesSections seed.now (sections_of bundle.now) (W.contents (device_of out.old)) (W.contents (device_of out.new)) result }
+{
+    let files = Files {
+        schools: bundle.schools,
+        roster: bundle.roster,
+        lists: bundle.lists,
+    };
+    match bundle.script {
+        Some(script) => run_texts(alloc, seed, files, script, out),
+        None => match_texts(alloc, seed, files, out),
+    }
+}
+
 /// Runs a bundle that was read.
 fn run_text<W: Write>(alloc: Global, text: &[u8], out: &mut Watched<W>) -> Ending
     ensures { EndsBundle text.now (W.contents (device_of out.old)) (W.contents (device_of out.new)) result }
@@ -42,12 +66,7 @@ fn run_text<W: Write>(alloc: Global, text: &[u8], out: &mut Watched<W>) -> Endin
         Ok(seed) => seed,
         Err(error) => return Ending::BadSeed(error),
     };
-    let files = Files {
-        schools: bundle.schools,
-        roster: bundle.roster,
-        lists: bundle.lists,
-    };
-    match match_texts(alloc, &seed, files, out) {
+    match run_sections(alloc, &seed, &bundle, out) {
         Ok(()) => Ending::Done,
         Err(fault) => Ending::Fault(fault),
     }

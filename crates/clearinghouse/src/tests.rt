@@ -1,6 +1,7 @@
 use crate::fault::RunFault;
 use crate::matching::{Opening, match_files};
 use crate::perform::perform;
+use crate::run::{Inputs, run};
 use sc_papers::Seed;
 use sc_report::Watched;
 use std::alloc::{AllocError, Global};
@@ -21,14 +22,32 @@ fn bundle(alloc: Global, schools: &str, roster: &str, lists: &str) -> Result<Str
     )
 }
 
-/// What the program writes for a bundle: the output, the errors and the status, as lines.
+/// The output up to the cutoffs: the reply lines and the assignment.
+fn before_cutoffs(output: &str) -> &str {
+    match output.split_once("school,seats,held,") {
+        Some((before, _)) => before,
+        None => output,
+    }
+}
+
+/// What the program writes for a bundle: the reply lines and the assignment, the errors and the status.
 fn told(alloc: Global, input: &str) -> Result<String, AllocError> {
     let mut output = Vec::new(alloc);
     let mut errors = Vec::new(alloc);
     let status = perform(alloc, input.as_bytes(), &mut output, &mut errors);
     let output = String::from_utf8_lossy(alloc, output.as_slice())?;
+    let output = before_cutoffs(output.as_str());
     let errors = String::from_utf8_lossy(alloc, errors.as_slice())?;
     format!(in alloc; "{output}{errors}{status}")
+}
+
+/// The whole output of the program for a bundle.
+fn written(alloc: Global, input: &str) -> Result<String, AllocError> {
+    let mut output = Vec::new(alloc);
+    let mut errors = Vec::new(alloc);
+    let _status = perform(alloc, input.as_bytes(), &mut output, &mut errors);
+    let output = String::from_utf8_lossy(alloc, output.as_slice())?;
+    format!(in alloc; "{output}")
 }
 
 #[test]
@@ -90,6 +109,118 @@ fn worked_openings(rt: HostRuntime) -> Result<(), Fail> {
         let told = told(alloc, text.as_str())?;
         assert!(rt; told.as_str() == want, "{row}: {told}");
     }
+    Ok(())
+}
+
+/// Market B as a bundle, with a script.
+fn scripted(alloc: Global, script: &str) -> Result<String, AllocError> {
+    let opening = bundle(
+        alloc,
+        "10,1,1\n20,0,1\n",
+        "1,0,20\n2,0,10\n",
+        "1,10 20\n2,20 10\n",
+    )?;
+    format!(in alloc; "{opening}%script\n{script}")
+}
+
+#[test]
+fn scripts(rt: HostRuntime) -> Result<(), Fail> {
+    let alloc = rt.alloc();
+    for (row, script, want) in [
+        ("no record", "", "student,school\n1,10\n2,20\n0"),
+        (
+            "the first script",
+            "enter,3,1,10,10\nenter,3,0,,10\n",
+            "1,ok\n2,refused,3,StudentExists\nstudent,school\n1,20\n2,-\n3,10\n0",
+        ),
+        (
+            "the whole run",
+            "enter,3,1,10,10\nnonsense\nwithdraw,99\nadd,77,1\nwithdraw,3\n",
+            "1,ok\n2,refused,1,Shape\n3,refused,2,UnknownStudent\n4,refused,6,UnknownSchool,77\n5,ok\nstudent,school\n1,10\n2,20\n0",
+        ),
+        (
+            "a script cut short",
+            "enter,3,1,10,1",
+            "1,refused,6,UnknownSchool,1\nstudent,school\n1,10\n2,20\n0",
+        ),
+        (
+            "either order",
+            "add,20,1\nenter,3,1,10,10\n",
+            "1,ok\n2,ok\nstudent,school\n1,20\n2,20\n3,10\n0",
+        ),
+        (
+            "two byte order marks",
+            "\u{feff}\u{feff}withdraw,1\n",
+            "clearinghouse: script row 1: Header\n3",
+        ),
+    ] {
+        let text = scripted(alloc, script)?;
+        let told = told(alloc, text.as_str())?;
+        assert!(rt; told.as_str() == want, "{row}: {told}");
+    }
+    Ok(())
+}
+
+#[test]
+fn whole_reports(rt: HostRuntime) -> Result<(), Fail> {
+    let alloc = rt.alloc();
+    for (row, script, want) in [
+        (
+            "Market B, and a newcomer",
+            "enter,3,1,10,10\n",
+            "1,ok\nstudent,school\n1,20\n2,-\n3,10\nschool,seats,held,class,draw,student\n10,1,1,0,ccef36a8c70d778b,3\n20,1,1,1,e56a5d4028bd8653,1\nstudent,school,reason\n1,10,class\n2,20,class\n2,10,class\n",
+        ),
+        (
+            "the whole run",
+            "enter,3,1,10,10\nnonsense\nwithdraw,99\nadd,77,1\nwithdraw,3\n",
+            "1,ok\n2,refused,1,Shape\n3,refused,2,UnknownStudent\n4,refused,6,UnknownSchool,77\n5,ok\nstudent,school\n1,10\n2,20\nschool,seats,held,class,draw,student\n10,1,1,3,e56a5d4028bd8653,1\n20,1,1,3,b819d2bd1aed8da0,2\nstudent,school,reason\n",
+        ),
+    ] {
+        let text = scripted(alloc, script)?;
+        let whole = written(alloc, text.as_str())?;
+        assert!(rt; whole.as_str() == want, "{row}: {whole}");
+    }
+    Ok(())
+}
+
+/// What the call on readers writes for three files and a script.
+fn amended(
+    alloc: Global,
+    seed: &Seed,
+    schools: &[u8],
+    roster: &[u8],
+    lists: &[u8],
+    script: &[u8],
+) -> Result<Watched<Vec<u8>>, RunFault> {
+    let opening = Opening {
+        schools: Watched::new(schools),
+        roster: Watched::new(roster),
+        lists: Watched::new(lists),
+    };
+    let mut inputs = Inputs {
+        opening,
+        script: Watched::new(script),
+    };
+    let mut out = Watched::new(Vec::new(alloc));
+    let mut journal = Watched::new(Vec::new(alloc));
+    run(alloc, seed, &mut inputs, &mut out, &mut journal)?;
+    Ok(out)
+}
+
+#[test]
+fn three_files_and_a_script(rt: HostRuntime) -> Result<(), Fail> {
+    let seed = Seed::from_hex(ZEROS.as_bytes())?;
+    let out = amended(
+        rt.alloc(),
+        &seed,
+        b"school,zone,seats\n1,0,1\n",
+        b"student,zone,siblings\n1,0,\n2,0,\n",
+        b"student,choices\n1,1\n2,1\n",
+        b"withdraw,2\n",
+    )?;
+    let whole =
+        b"1,ok\nstudent,school\n1,1\nschool,seats,held,class,draw,student\n1,1,1,3,e56a5d4028bd8653,1\nstudent,school,reason\n";
+    assert!(rt; out.inner().as_slice() == whole.as_slice());
     Ok(())
 }
 
@@ -193,6 +324,8 @@ fn three_files(rt: HostRuntime) -> Result<(), Fail> {
         b"student,zone,siblings\n1,0,\n2,0,\n",
         b"student,choices\n1,1\n2,1\n",
     )?;
-    assert!(rt; out.inner().as_slice() == b"student,school\n1,-\n2,1\n".as_slice());
+    let whole =
+        b"student,school\n1,-\n2,1\nschool,seats,held,class,draw,student\n1,1,1,3,b819d2bd1aed8da0,2\nstudent,school,reason\n1,1,lottery\n";
+    assert!(rt; out.inner().as_slice() == whole.as_slice());
     Ok(())
 }
