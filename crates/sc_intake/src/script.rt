@@ -1,7 +1,6 @@
 //! The script: amendments, one a record.
 
 ghost use Rattle.std.specs.Prelude.{◌≡◌, ◌≢◌, ◌++◌, [], ◌∷◌, map, IfOk, MatchResult, OnOk};
-ghost use Rattle.std.specs.Bool.{⊤};
 ghost use Rattle.sc_papers.specs.declared.amendment.Refusal.TheVariants.{Shape};
 ghost use Rattle.sc_intake.specs.Fault.{Gives, no_memory};
 ghost use Rattle.sc_intake.specs.Script.{add_of, amendment_in, amendment_of, close_of, correct_of, enter_of, list_at, rerank_of, script_in, withdraw_of};
