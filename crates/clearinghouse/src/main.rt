@@ -1,16 +1,18 @@
-//! The program: reads a school choice and writes the assignment.
+//! The program: reads a school choice, answers its amendments, and writes the places.
 //!
 //! `main` hands its words and streams to `perform`, which is generic over them, and ends with the
 //! status that it answers.
 #![tactic(auto)]
 
 use std::process::ExitCode;
+use std::{env, io};
 
 mod blanks;
 mod ending;
 mod fault;
 mod markers;
 mod matching;
+mod order;
 mod perform;
 mod run;
 mod run_bundle;
@@ -19,10 +21,11 @@ mod sections;
 #[cfg(test)]
 mod tests;
 
-fn main(rt: HostRuntime) -> ExitCode {
+fn main(rt: HostRuntime) -> io::Result<ExitCode> {
+    let words: Vec<String> = env::args(&rt)?.skip(1).collect(rt.alloc())?;
     let input = rt.stdin();
     let output = rt.stdout();
     let errors = rt.stderr();
-    let status = perform::perform(rt.alloc(), input, output, errors);
-    ExitCode::from(status)
+    let status = perform::perform(&rt, words.as_slice(), input, output, errors);
+    Ok(ExitCode::from(status))
 }

@@ -1,32 +1,158 @@
-//! The program, over any streams.
+//! The program, over any files and streams.
 
 use crate::ending::{Ending, fault_line, status_of};
+use crate::fault::RunFault;
+use crate::matching::{Opening, match_files};
+use crate::order::{OpeningWords, Order, order_of};
+use crate::run::{Inputs, run};
 use crate::run_bundle::run_bundle;
+use clap::Error;
+use clap::error::ErrorKind;
+use sc_intake::Source;
+use sc_papers::Seed;
 use sc_report::{Watched, write_whole};
 use std::alloc::Global;
+use std::convert::AsStr;
+use std::fs::File;
 use std::io::{Read, Write};
+use std::rt::Files;
 
-/// Runs the bundle on the input, writes the report to the output, or the fault's line to the errors,
-/// and answers the exit status.
-pub fn perform<R: Read + Drop, W: Write + Drop, E: Write + Drop>(
-    alloc: Global,
-    input: R,
-    output: W,
+/// An input file.
+fn open_input<R: Files>(rt: &R, path: &str, source: Source) -> Result<Watched<R::File>, RunFault> {
+    match File::open(rt, path) {
+        Ok(file) => Ok(Watched::new(file)),
+        Err(_) => Err(RunFault::Read { source }),
+    }
+}
+
+/// The files of an opening.
+fn open_opening<R: Files>(rt: &R, words: &OpeningWords<'_>) -> Result<Opening<R::File>, RunFault> {
+    Ok(Opening {
+        schools: open_input(rt, words.schools, Source::Schools)?,
+        roster: open_input(rt, words.roster, Source::Roster)?,
+        lists: open_input(rt, words.lists, Source::Lists)?,
+    })
+}
+
+/// The journal file, made new or emptied.
+fn create_journal<R: Files>(rt: &R, path: &str) -> Result<Watched<R::File>, RunFault> {
+    match File::create(rt, path) {
+        Ok(file) => Ok(Watched::new(file)),
+        Err(_) => Err(RunFault::WriteJournal),
+    }
+}
+
+/// Matches the files of an opening.
+fn match_opening<R: Files + AllocGlobal, W: Write>(
+    rt: &R,
+    seed: &Seed,
+    words: &OpeningWords<'_>,
+    out: &mut Watched<W>,
+) -> Result<(), RunFault> {
+    let mut opening = open_opening(rt, words)?;
+    match_files(rt.alloc(), seed, &mut opening, false, out)
+}
+
+/// Runs a script after an opening.
+fn run_script<R: Files + AllocGlobal, W: Write>(
+    rt: &R,
+    seed: &Seed,
+    words: &OpeningWords<'_>,
+    script: &str,
+    journal: &str,
+    out: &mut Watched<W>,
+) -> Result<(), RunFault> {
+    let mut inputs = Inputs {
+        opening: open_opening(rt, words)?,
+        script: open_input(rt, script, Source::Script)?,
+    };
+    let mut journal = create_journal(rt, journal)?;
+    run(rt.alloc(), seed, &mut inputs, out, &mut journal)
+}
+
+/// How a call that was made ends.
+fn ended(called: Result<(), RunFault>) -> Ending {
+    match called {
+        Ok(()) => Ending::Done,
+        Err(fault) => Ending::Fault(fault),
+    }
+}
+
+/// Does what the words order.
+fn carry_out<R: Files + AllocGlobal, I: Read + Drop, W: Write>(
+    rt: &R,
+    order: &Order<'_>,
+    input: I,
+    out: &mut Watched<W>,
+) -> Ending {
+    match order {
+        Order::NoWords => run_bundle(rt.alloc(), &mut Watched::new(input), out),
+        Order::Match { opening } => match Seed::from_hex(opening.seed.as_bytes()) {
+            Ok(seed) => ended(match_opening(rt, &seed, opening, out)),
+            Err(error) => Ending::BadSeed(error),
+        },
+        Order::Run {
+            opening,
+            script,
+            journal,
+        } => match Seed::from_hex(opening.seed.as_bytes()) {
+            Ok(seed) => ended(run_script(rt, &seed, opening, script, journal, out)),
+            Err(error) => Ending::BadSeed(error),
+        },
+    }
+}
+
+/// Does what the words after the program's name order, over these files and streams: the reply lines
+/// and the report go to the output, the line of a fault to the errors. It answers the exit status.
+pub fn perform<R: Files + AllocGlobal, S: AsStr, I: Read + Drop, O: Write + Drop, E: Write + Drop>(
+    rt: &R,
+    words: &[S],
+    input: I,
+    output: O,
     errors: E,
 ) -> u8 {
-    let mut input = Watched::new(input);
     let mut output = Watched::new(output);
-    let ending = run_bundle(alloc, &mut input, &mut output);
-    tell(alloc, &ending, errors);
-    status_of(&ending)
+    let mut errors = Watched::new(errors);
+    match order_of(rt.alloc(), words) {
+        Ok(order) => {
+            let ending = carry_out(rt, &order, input, &mut output);
+            tell(rt.alloc(), &ending, &mut errors);
+            status_of(&ending)
+        }
+        Err(error) => {
+            if error.use_stderr() {
+                explain(rt.alloc(), &error, &mut errors);
+            } else {
+                explain(rt.alloc(), &error, &mut output);
+            }
+            status_of_words(&error)
+        }
+    }
 }
 
 /// Writes the ending's line. Where there is no memory for it, or the stream fails, nothing more can be
 /// told, and the status stays.
-fn tell<E: Write + Drop>(alloc: Global, ending: &Ending, errors: E) {
-    let mut errors = Watched::new(errors);
+fn tell<E: Write>(alloc: Global, ending: &Ending, errors: &mut Watched<E>) {
     if let Ok(line) = fault_line(alloc, ending) {
-        let _ = write_whole(&mut errors, line.as_slice());
+        let _ = write_whole(errors, line.as_slice());
         let _ = errors.flush();
+    }
+}
+
+/// Writes what `clap` says of the words: help that was asked for, or what is wrong with them.
+fn explain<W: Write>(alloc: Global, error: &Error, to: &mut Watched<W>) {
+    if let Ok(text) = format!(in alloc; "{error}") {
+        let _ = write_whole(to, text.as_bytes());
+        let _ = to.flush();
+    }
+}
+
+/// The exit status of words that order nothing: 0 where help was asked for, 5 for want of memory, and
+/// else 2.
+fn status_of_words(error: &Error) -> u8 {
+    match error.kind() {
+        ErrorKind::OutOfMemory => 5,
+        ErrorKind::DisplayHelp => 0,
+        _ => 2,
     }
 }
