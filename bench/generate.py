@@ -1,0 +1,70 @@
+#!/usr/bin/env python3
+"""Makes a market: the files of schools, roster and lists, and one bundle of them.
+
+    generate.py FOLDER [--students N] [--schools N] [--choices N] [--seats N] [--zones N]
+                       [--siblings PERCENT] [--popularity EXPONENT] [--random SEED]
+
+Each student lists as many different schools as `--choices` says. A school's popularity falls with its
+number: the k-th is drawn with a weight of 1 / k^EXPONENT (0: all alike). `--siblings` is how many
+students of a hundred have a sibling at one of their choices. The same arguments make the same files.
+"""
+import argparse
+import itertools
+import os
+import random
+
+
+def choices_of(source, numbers, weights, count):
+    """Different schools, in the order in which they were drawn."""
+    chosen = {}
+    while len(chosen) < count:
+        for number in source.choices(numbers, cum_weights=weights, k=count):
+            if len(chosen) < count:
+                chosen.setdefault(number)
+    return list(chosen)
+
+
+def main():
+    words = argparse.ArgumentParser(description=__doc__, formatter_class=argparse.RawDescriptionHelpFormatter)
+    words.add_argument("folder")
+    words.add_argument("--students", type=int, default=2000)
+    words.add_argument("--schools", type=int, default=50)
+    words.add_argument("--choices", type=int, default=20)
+    words.add_argument("--seats", type=int, default=36)
+    words.add_argument("--zones", type=int, default=20)
+    words.add_argument("--siblings", type=int, default=15)
+    words.add_argument("--popularity", type=float, default=0.5)
+    words.add_argument("--random", type=int, default=1)
+    given = words.parse_args()
+
+    source = random.Random(given.random)
+    schools = source.sample(range(1, 100_000), given.schools)
+    students = source.sample(range(1, 10_000_000), given.students)
+    weights = list(itertools.accumulate(1 / (place + 1) ** given.popularity for place in range(given.schools)))
+
+    school_rows = [f"{number},{source.randint(0, given.zones)},{given.seats}\n" for number in schools]
+    roster_rows, list_rows = [], []
+    for number in students:
+        choices = choices_of(source, schools, weights, given.choices)
+        siblings = str(source.choice(choices)) if source.randrange(100) < given.siblings else ""
+        roster_rows.append(f"{number},{source.randint(0, given.zones)},{siblings}\n")
+        list_rows.append(f"{number},{' '.join(map(str, choices))}\n")
+    seed = "".join(source.choice("0123456789abcdef") for _ in range(64))
+
+    texts = {
+        "schools": "school,zone,seats\n" + "".join(school_rows),
+        "roster": "student,zone,siblings\n" + "".join(roster_rows),
+        "lists": "student,choices\n" + "".join(list_rows),
+    }
+    os.makedirs(given.folder, exist_ok=True)
+    for name, text in texts.items():
+        with open(os.path.join(given.folder, f"{name}.csv"), "w") as file:
+            file.write(text)
+    with open(os.path.join(given.folder, "seed"), "w") as file:
+        file.write(seed)
+    with open(os.path.join(given.folder, "bundle"), "w") as file:
+        file.write(f"%seed\n{seed}\n" + "".join(f"%{name}\n{text}" for name, text in texts.items()))
+
+
+if __name__ == "__main__":
+    main()
