@@ -124,7 +124,7 @@ fn papers_of(
 ) -> Result<Papers, Fail> {
     let mut papers = Papers::new(alloc, Seed::from_hex(&[b'0'; 64])?);
     for school in schools {
-        let seats = Seats::new(school.seats as u32).expect(rt, "seats");
+        let seats = Seats::new((school.seats % 10_001) as u32).expect(rt, "seats");
         papers.add_school(school_no(rt, school.number), zone(rt, school.zone), seats)?;
     }
     for family in families {
@@ -193,7 +193,7 @@ fn gives(
 /// Settles a random market, and compares it with the plain program.
 fn one_market(rt: &impl Abort, alloc: Global, dice: &mut Dice) -> Result<(), Fail> {
     let schools = random_schools(dice, alloc)?;
-    let families = random_families(dice, alloc, schools.len() as u32)?;
+    let families = random_families(dice, alloc, (schools.len() % 1_000) as u32)?;
     let papers = papers_of(rt, alloc, schools.as_slice(), families.as_slice())?;
     let students = plain_students(alloc, families.as_slice())?;
     let market = Market {
