@@ -7,17 +7,8 @@
 use std::process::ExitCode;
 use std::{env, io};
 
-mod blanks;
-mod ending;
-mod fault;
-mod markers;
-mod matching;
 mod order;
 mod perform;
-mod run;
-mod run_bundle;
-mod script;
-mod sections;
 #[cfg(test)]
 mod tests;
 

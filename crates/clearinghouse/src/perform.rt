@@ -1,16 +1,14 @@
 //! The program, over any files and streams.
 
-use crate::ending::{Ending, fault_line, status_of};
-use crate::fault::RunFault;
-use crate::matching::{Opening, match_files};
 use crate::order::{OpeningWords, Order, order_of};
-use crate::run::{Inputs, run};
-use crate::run_bundle::run_bundle;
 use clap::Error;
 use clap::error::ErrorKind;
 use sc_intake::Source;
 use sc_papers::Seed;
 use sc_report::{Watched, write_whole};
+use sc_runs::{
+    Ending, Inputs, Opening, RunFault, fault_line, match_files, run, run_bundle, status_of,
+};
 use std::alloc::Global;
 use std::convert::AsStr;
 use std::fs::File;

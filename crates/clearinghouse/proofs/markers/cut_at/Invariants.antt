@@ -1,8 +1,0 @@
--- The cut of the whole is that of the rest, with the bytes passed before it.
-use Rattle.std.proofs.Common.{◌≡◌, true, drop, take}
-use Rattle.clearinghouse.specs.Markers.{cut_at}
-use Rattle.clearinghouse.proofs.Cutting.{later}
-use Rattle.clearinghouse.proofs.markers.cut_at.Given as goal
-
-abbrev pub invariant-loop-at : goal.invariant-loop-at
-invariant-loop-at l = later (take l.at l.bytes) (cut_at l.marker l.fresh (drop l.at l.bytes)) ≡ cut_at l.marker true l.bytes

@@ -1,0 +1,51 @@
+-- What running a bundle does, and how it ends.
+use Rattle.std.specs.Prelude.{◌≡◌, ℕ, List, Option, None, Some, Result, Ok, Err}
+use Rattle.std.specs.Io.KnownBytes.{Keeps}
+use Rattle.sc_lottery.specs.Seed.{seed_of}
+use Rattle.sc_papers.specs.Market.{Market}
+use Rattle.sc_intake.specs.Script.{script_in}
+use Rattle.sc_intake.specs.declared.fault.IntakeFault.{IntakeFault}
+use Rattle.sc_runs.specs.Bundle.{Sections, bundle_of}
+use Rattle.sc_runs.specs.Opening.{papers_in, IsReadFault, WritesMatch}
+use Rattle.sc_runs.specs.Run.{WritesRun}
+use Rattle.sc_runs.specs.declared.ending.Ending.{Ending}
+use Rattle.sc_runs.specs.declared.ending.Ending.TheVariants.{Done, NotCertified, Torn, BadSeed, BadBundle, Fault}
+use Rattle.sc_runs.specs.declared.fault.RunFault.{RunFault}
+
+-- what running the papers and a script does; without a script it is matching the papers alone
+abbrev pub WritesWith : Option (List ℕ) → Result Market IntakeFault → Option (List ℕ) → Option (List ℕ) → Result (Unit {0}) RunFault → Type 0
+WritesWith None reading old new result = WritesMatch reading old new result
+WritesWith (Some script) reading old new result = WritesRun reading (script_in script) old new result
+
+-- what running the sections of a bundle under a seed does
+abbrev pub WritesSections : List ℕ → Sections → Option (List ℕ) → Option (List ℕ) → Result (Unit {0}) RunFault → Type 0
+WritesSections seed sections old new result =
+    WritesWith sections.script (papers_in seed sections.schools sections.roster sections.lists) old new result
+
+-- the sections of a bundle were run under its seed, with this result
+pub record RunsSections (text : List ℕ) (old new : Option (List ℕ)) (result : Result (Unit {0}) RunFault) : Type 0 where
+  pub sections : Sections
+  pub seed : List ℕ
+  pub split : bundle_of text ≡ Some sections
+  pub seeded : seed_of sections.seed ≡ Ok seed
+  pub written : WritesSections seed sections old new result
+
+-- a bundle is refused where it has not its sections or where its seed is no seed, and nothing is then
+-- written; otherwise its sections are run
+abbrev pub EndsBundle : List ℕ → Option (List ℕ) → Option (List ℕ) → Ending → Type 0
+EndsBundle text old new Done = RunsSections text old new (Ok tt)
+EndsBundle text old new NotCertified = ⊥
+EndsBundle text old new Torn = ⊥
+EndsBundle text old new (BadSeed error) =
+    (sections : Sections) × (bundle_of text ≡ Some sections) × (seed_of sections.seed ≡ Err error) × Keeps old new
+EndsBundle text old new BadBundle = (bundle_of text ≡ None) × Keeps old new
+EndsBundle text old new (Fault fault) = RunsSections text old new (Err fault)
+
+-- a bundle that could not be read, was too long, or had no memory
+abbrev pub EndsUnread : Ending → Type 0
+EndsUnread Done = ⊥
+EndsUnread NotCertified = ⊥
+EndsUnread Torn = ⊥
+EndsUnread (BadSeed error) = ⊥
+EndsUnread BadBundle = ⊥
+EndsUnread (Fault fault) = IsReadFault fault

@@ -1,0 +1,25 @@
+-- The exit status of an ending.
+use Rattle.std.specs.Prelude.{ℕ}
+use Rattle.sc_runs.specs.declared.ending.Ending.{Ending}
+use Rattle.sc_runs.specs.declared.ending.Ending.TheVariants.{Done, NotCertified, Torn, BadSeed, BadBundle, Fault}
+use Rattle.sc_runs.specs.declared.fault.RunFault.{RunFault}
+use Rattle.sc_runs.specs.declared.fault.RunFault.TheVariants.{Read, Intake, Journal, WriteOut, WriteJournal, OutOfMemory}
+
+-- of a run that ended early: 3 for a fault of what was read, 4 for a stream, 5 for want of memory
+abbrev pub status_of_fault : RunFault → ℕ
+status_of_fault (Read source) = 4
+status_of_fault (Intake fault) = 3
+status_of_fault (Journal fault) = 3
+status_of_fault WriteOut = 4
+status_of_fault WriteJournal = 4
+status_of_fault OutOfMemory = 5
+
+-- of an ending: 0 for done and for a torn journal, 1 for not certified, 2 for a bad seed, 3 for a
+-- bad bundle
+abbrev pub status_of : Ending → ℕ
+status_of Done = 0
+status_of NotCertified = 1
+status_of Torn = 0
+status_of (BadSeed error) = 2
+status_of BadBundle = 3
+status_of (Fault fault) = status_of_fault fault

@@ -1,0 +1,73 @@
+//! From one bundle to replies and an assignment.
+
+ghost use Rattle.std.specs.Prelude.{◌⊎◌, ℕ, List};
+ghost use Rattle.sc_runs.specs.Bundle.{sections_of};
+ghost use Rattle.std.specs.Io.KnownBytes.{Keeps};
+ghost use Rattle.sc_report.specs.Watched.{device_of};
+ghost use Rattle.sc_runs.specs.BundleRun.{EndsBundle, EndsUnread, WritesSections};
+ghost use Rattle.sc_runs.specs.Opening.{IsWhole};
+
+use crate::ending::Ending;
+use crate::fault::RunFault;
+use crate::matching::{Files, match_texts, read_input};
+use crate::running::run_texts;
+use crate::sections::{Bundle, split_bundle};
+use sc_intake::Source;
+use sc_papers::Seed;
+use sc_report::Watched;
+use std::alloc::Global;
+use std::io::{Read, Write};
+
+/// Reads a bundle whole, and its seed, and runs its sections: with a script, its records are answered in
+/// turn before the report is written, and without one the report of the opening is written. Before the
+/// sections are known to be good, nothing is written.
+pub fn run_bundle<R: Read, W: Write>(
+    alloc: Global,
+    input: &mut Watched<R>,
+    out: &mut Watched<W>,
+) -> Ending
+    ensures { ((text : List ℕ) × IsWhole (R.remaining (device_of input.old)) text × EndsBundle text (W.contents (device_of out.old)) (W.contents (device_of out.new)) result)
+        ⊎ (EndsUnread result × Keeps (W.contents (device_of out.old)) (W.contents (device_of out.new))) }
+{
+    match read_input(alloc, input, Source::Bundle) {
+        Ok(text) => run_text(alloc, text.as_slice(), out),
+        Err(fault) => Ending::Fault(fault),
+    }
+}
+
+/// Answers the script of a bundle, where it has one, and writes the report of its papers.
+fn run_sections<W: Write>(
+    alloc: Global,
+    seed: &Seed,
+    bundle: &Bundle<'_>,
+    out: &mut Watched<W>,
+) -> Result<(), RunFault>
+    ensures { WritesSections seed.now (sections_of bundle.now) (W.contents (device_of out.old)) (W.contents (device_of out.new)) result }
+{
+    let files = Files {
+        schools: bundle.schools,
+        roster: bundle.roster,
+        lists: bundle.lists,
+    };
+    match bundle.script {
+        Some(script) => run_texts(alloc, seed, files, script, out),
+        None => match_texts(alloc, seed, files, out),
+    }
+}
+
+/// Runs a bundle that was read.
+fn run_text<W: Write>(alloc: Global, text: &[u8], out: &mut Watched<W>) -> Ending
+    ensures { EndsBundle text.now (W.contents (device_of out.old)) (W.contents (device_of out.new)) result }
+{
+    let Some(bundle) = split_bundle(text) else {
+        return Ending::BadBundle;
+    };
+    let seed = match Seed::from_hex(bundle.seed) {
+        Ok(seed) => seed,
+        Err(error) => return Ending::BadSeed(error),
+    };
+    match run_sections(alloc, &seed, &bundle, out) {
+        Ok(()) => Ending::Done,
+        Err(fault) => Ending::Fault(fault),
+    }
+}

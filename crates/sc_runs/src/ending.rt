@@ -1,0 +1,76 @@
+//! How the program ends: its exit status, and its line on standard error.
+
+ghost use Rattle.std.specs.Prelude.{◌≡◌};
+ghost use Rattle.sc_runs.specs.Ending.{status_of, status_of_fault};
+
+use crate::fault::RunFault;
+use sc_lottery::SeedError;
+use std::alloc::{AllocError, Global};
+use std::fmt;
+
+/// What became of a run.
+#[derive(Clone, Copy, Debug, PartialEq, Eq)]
+pub enum Ending {
+    /// All was done.
+    Done,
+    /// The log does not certify its assignment.
+    NotCertified,
+    /// A journal was replayed whose last line is torn.
+    Torn,
+    /// The seed is no seed.
+    BadSeed(SeedError),
+    /// The bundle has not its sections.
+    BadBundle,
+    /// The run ended early.
+    Fault(RunFault),
+}
+
+impl fmt::Display for Ending {
+    fn fmt<W: fmt::Write>(&self, f: &mut fmt::Formatter<W>) -> fmt::Result {
+        match self {
+            Ending::Done | Ending::NotCertified => Ok(()),
+            Ending::Torn => f.write_str("journal torn"),
+            Ending::BadSeed(error) => write!(f, "seed: {error}"),
+            Ending::BadBundle => f.write_str("bundle"),
+            Ending::Fault(fault) => write!(f, "{fault}"),
+        }
+    }
+}
+
+/// The exit status: 0 done (a torn journal is no fault), 1 not certified, 2 a bad seed, 3 a fault of
+/// an input, the bundle or the journal, 4 a stream that could not be read or written, 5 want of
+/// memory.
+pub fn status_of(ending: &Ending) -> u8
+    ensures { result ≡ status_of ending.now }
+{
+    match ending {
+        Ending::Done => 0,
+        Ending::Torn => 0,
+        Ending::NotCertified => 1,
+        Ending::BadSeed(_) => 2,
+        Ending::BadBundle => 3,
+        Ending::Fault(fault) => status_of_fault(fault),
+    }
+}
+
+fn status_of_fault(fault: &RunFault) -> u8
+    ensures { result ≡ status_of_fault fault.now }
+{
+    match fault {
+        RunFault::Intake(_) => 3,
+        RunFault::Journal(_) => 3,
+        RunFault::Read { .. } => 4,
+        RunFault::WriteOut => 4,
+        RunFault::WriteJournal => 4,
+        RunFault::OutOfMemory => 5,
+    }
+}
+
+/// The line for standard error, with its newline; empty where all was done or the log is not
+/// certified. The only error is want of memory.
+pub fn fault_line(alloc: Global, ending: &Ending) -> Result<Vec<u8>, AllocError> {
+    match ending {
+        Ending::Done | Ending::NotCertified => Ok(Vec::new(alloc)),
+        _ => Ok(format!(in alloc; "clearinghouse: {ending}\n")?.into_bytes()),
+    }
+}

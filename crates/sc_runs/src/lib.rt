@@ -1,0 +1,23 @@
+//! What the program does, over any readers and writers: it opens the papers that the inputs hold,
+//! answers the amendments of a script, and writes the texts. Each call reads its inputs whole before it
+//! writes, and adds no rule of its own.
+#![tactic(auto)]
+
+mod blanks;
+mod bundle;
+mod ending;
+mod fault;
+mod markers;
+mod matching;
+mod running;
+mod script;
+mod sections;
+#[cfg(test)]
+mod tests;
+
+pub use bundle::run_bundle;
+pub use ending::{Ending, fault_line, status_of};
+pub use fault::{JournalCause, JournalFault, RunFault};
+pub use matching::{Opening, match_files};
+pub use running::{Inputs, run};
+pub use sections::{Bundle, split_bundle};

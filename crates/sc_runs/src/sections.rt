@@ -1,0 +1,119 @@
+//! A bundle and its sections.
+ghost use Rattle.std.specs.Prelude.{◌≡◌};
+ghost use Rattle.std.specs.Option.{option_map};
+ghost use Rattle.sc_runs.specs.Bundle.{bundle_of, sections_of};
+
+use crate::blanks::trimmed;
+use crate::markers::{after_marker, cut_at};
+
+/// The sections of a bundle, each a part of the text that was split.
+#[derive(Clone, Copy, Debug, PartialEq, Eq)]
+pub struct Bundle<'a> {
+    /// The seed, without the spaces, tabs and line ends around it.
+    pub seed: &'a [u8],
+    /// The schools file.
+    pub schools: &'a [u8],
+    /// The roster file.
+    pub roster: &'a [u8],
+    /// The lists file.
+    pub lists: &'a [u8],
+    /// The script, where the bundle has one.
+    pub script: Option<&'a [u8]>,
+}
+
+/// Splits a bundle at its marker lines `%seed`, `%schools`, `%roster`, `%lists` and `%script`, which
+/// stand in this order; the last may be missing.
+///
+/// The first line is `%seed`. A line that equals the next marker begins its section, and any other
+/// line belongs to the section that it stands in. A line ends at an LF or at the end of the input, and
+/// a CR right before that LF is no part of it. It answers `None` where the first line is another, or
+/// one of the next three markers is missing. It takes no memory, and time linear in the input.
+pub fn split_bundle(input: &[u8]) -> Option<Bundle<'_>>
+    ensures { option_map sections_of result ≡ bundle_of input.now }
+{
+    let first = after_marker(input, b"%seed")?;
+    let seed = cut_at(first, b"%schools")?;
+    let schools = cut_at(seed.after, b"%roster")?;
+    let roster = cut_at(schools.after, b"%lists")?;
+    let (lists, script) = match cut_at(roster.after, b"%script") {
+        Some(lists) => (lists.before, Some(lists.after)),
+        None => (roster.after, None),
+    };
+    Some(Bundle {
+        seed: trimmed(seed.before),
+        schools: schools.before,
+        roster: roster.before,
+        lists,
+        script,
+    })
+}
+
+#[cfg(test)]
+mod tests {
+    use super::*;
+
+    #[test]
+    fn stored_run(rt: HostRuntime) {
+        let input =
+            b"%seed\n0011\n%schools\nschool,zone,seats\n10,0,1\n20,0,1\n%roster\nstudent,zone,siblings\n1,0,20\n%lists\nstudent,choices\n1,10 20\n";
+        let sections = Bundle {
+            seed: b"0011",
+            schools: b"school,zone,seats\n10,0,1\n20,0,1\n",
+            roster: b"student,zone,siblings\n1,0,20\n",
+            lists: b"student,choices\n1,10 20\n",
+            script: None,
+        };
+        assert_eq!(rt; split_bundle(input), Some(sections));
+    }
+
+    #[test]
+    fn line_ends_and_scripts(rt: HostRuntime) {
+        let sections = Bundle {
+            seed: b"a b",
+            schools: b"S\r\n",
+            roster: b"",
+            lists: b"L\r\n",
+            script: Some(b""),
+        };
+        let front = b"%seed\r\n \ta b\t\r\n%schools\r\nS\r\n%roster\n%lists\nL\r\n%script";
+        assert_eq!(rt; split_bundle(front), Some(sections));
+        // A CR at the very end is a part of its line, which is then no marker.
+        let lone = b"%seed\r\n \ta b\t\r\n%schools\r\nS\r\n%roster\n%lists\nL\r\n%script\r";
+        let all = Bundle {
+            lists: b"L\r\n%script\r",
+            script: None,
+            ..sections
+        };
+        assert_eq!(rt; split_bundle(lone), Some(all));
+    }
+
+    #[test]
+    fn markers_out_of_turn(rt: HostRuntime) {
+        let sections = Bundle {
+            seed: b"%roster",
+            schools: b"%seed\n%schools \n",
+            roster: b"%schools\n",
+            lists: b"%lists\n",
+            script: Some(b"%script"),
+        };
+        let input =
+            b"%seed\n%roster\n%schools\n%seed\n%schools \n%roster\n%schools\n%lists\n%lists\n%script\n%script";
+        assert_eq!(rt; split_bundle(input), Some(sections));
+    }
+
+    #[test]
+    fn no_bundles(rt: HostRuntime) {
+        assert_eq!(rt; split_bundle(b""), None);
+        assert_eq!(rt; split_bundle(b"\n%seed\n%schools\n%roster\n%lists\n"), None);
+        assert_eq!(rt;
+            split_bundle(b"\xEF\xBB\xBF%seed\n%schools\n%roster\n%lists\n"),
+            None
+        );
+        assert_eq!(rt;
+            split_bundle(b"%seed 00\n%schools\n%roster\n%lists\n"),
+            None
+        );
+        assert_eq!(rt; split_bundle(b"%seed\n%roster\n%schools\n%lists\n"), None);
+        assert_eq!(rt; split_bundle(b"%seed\n%schools\n%roster\n%list"), None);
+    }
+}
