@@ -1,10 +1,19 @@
 -- What the readers gave one after another is what the files make together.
-use Rattle.std.proofs.Common.{◌≡◌, ℕ, ◌<◌, inl, inr, ap, arith, Bool, false, List, Option, None, Some, Result, Ok, Err, length, refl, sym, ◌∙◌, subst}
+use Rattle.std.proofs.Common.{◌≡◌, ℕ, ◌<◌, ◌≤◌, inl, inr, ap, arith, nat_lt, Bool, true, false, List, Option, None, Some, Result, Ok, Err, length, take, refl, sym, ◌∙◌, subst, []}
+use Rattle.std.proofs.lemmas.Bool.Decides.{nat_tests}
 use Rattle.std.proofs.lemmas.Bool.{cases_lt}
 use Rattle.std.proofs.lemmas.List.{take_all, length-take-le}
 use Rattle.std.specs.Io.KnownBytes.{Appends, Keeps}
+use Rattle.sc_papers.specs.Log.{IsSettled}
 use Rattle.sc_papers.specs.Matching.{Matching, IsStudentOptimal}
+use Rattle.sc_papers.specs.declared.rejection.Rejection.{Rejection}
+use Rattle.sc_intake.specs.Fault.{fault_at}
+use Rattle.sc_intake.specs.declared.fault.Cause.TheVariants.{TooLong}
 use Rattle.sc_intake.specs.declared.fault.IntakeFault.{IntakeFault}
+use Rattle.sc_intake.specs.declared.fault.Source.{Source}
+use Rattle.sc_intake.specs.declared.fault.Source.TheVariants as input
+use Rattle.sc_report.specs.LogText.{log_text}
+use Rattle.sc_report.specs.Text.{IsReportText}
 use Rattle.sc_report.specs.Whole.{AppendsFront, GivesFirst}
 use Rattle.sc_runs.specs.declared.fault.RunFault.{RunFault}
 use Rattle.sc_runs.specs.declared.fault.RunFault.TheVariants.{Read, Intake, Journal, WriteOut, WriteJournal, OutOfMemory}
@@ -16,7 +25,8 @@ use Rattle.sc_intake.specs.Schools.{schools_in}
 use Rattle.sc_intake.specs.declared.lists.ListRow.{ListRow}
 use Rattle.sc_intake.specs.declared.roster.RosterRow.{RosterRow}
 use Rattle.sc_intake.specs.declared.schools.SchoolRow.{SchoolRow}
-use Rattle.sc_runs.specs.Opening.{papers_in, is_output_fault, IsOpeningFault, IsWhole, WritesMatch, WritesOut}
+use Rattle.sc_runs.specs.Inputs.{Texts, input_in, inputs_in, AreInputsFault, IsInputFault, IsWhole}
+use Rattle.sc_runs.specs.Opening.{papers_in, is_output_fault, IsCertificate, IsMatchText, IsOpeningFault, WritesExactly, WritesMatch, WritesText}
 
 pub papers_in-read : (seed schools roster lists : List ℕ) (s : List SchoolRow) (r : List RosterRow) (l : List ListRow) (m : Market)
     → schools_in schools ≡ Ok s → roster_in roster ≡ Ok r → lists_in lists ≡ Ok l → papers_of seed s r l ≡ Ok m
@@ -36,44 +46,16 @@ pub AppendsFront-whole : (a b : Option (List ℕ)) (text : List ℕ) → Appends
 AppendsFront-whole a b text written =
     (length text, subst (λ (front : List ℕ). Appends a b front) (sym (take_all (length text) text (omega arith))) written)
 
+-- a text that was written whole, and then nothing, was written as its own front
+pub Appends-front-kept : (a b c : Option (List ℕ)) (text : List ℕ) → Appends a b text → Keeps b c → AppendsFront a c text
+Appends-front-kept a b c text written kept = AppendsFront-whole a c text (Appends-kept a b c text written kept)
+
 -- a device that was not touched keeps its bytes
 pub Keeps-refl : (a : Option (List ℕ)) → Keeps a a
 Keeps-refl None = tt
 Keeps-refl (Some xs) = refl
 
--- what was written of the papers that were read
-pub WritesMatch-opened : (reading : Result Market IntakeFault) (m : Market) (a : Matching) (old new : Option (List ℕ)) (result : Result (Unit {0}) RunFault)
-    → reading ≡ Ok m → IsStudentOptimal m a → WritesOut m a old new result → WritesMatch reading old new result
-WritesMatch-opened reading m a old new (Ok done) read optimal (text, report, written) =
-    (text, record { papers = m; places = a; read = read; optimal = optimal; report = report }, written)
-WritesMatch-opened reading m a old new (Err WriteOut) read optimal (text, report, written) =
-    (text, record { papers = m; places = a; read = read; optimal = optimal; report = report }, written)
-WritesMatch-opened reading m a old new (Err (Read source)) read optimal wrote = absurd wrote
-WritesMatch-opened reading m a old new (Err (Intake fault)) read optimal wrote = absurd wrote
-WritesMatch-opened reading m a old new (Err (Journal fault)) read optimal wrote = absurd wrote
-WritesMatch-opened reading m a old new (Err WriteJournal) read optimal wrote = absurd wrote
-WritesMatch-opened reading m a old new (Err OutOfMemory) read optimal wrote = wrote
-
--- nothing was written where opening ended early
-pub WritesMatch-refused : (reading : Result Market IntakeFault) (old : Option (List ℕ)) (fault : RunFault)
-    → IsOpeningFault reading fault → WritesMatch reading old old (Err fault)
-WritesMatch-refused reading old WriteOut is = absurd is
-WritesMatch-refused reading old (Read source) is = absurd is
-WritesMatch-refused reading old (Intake fault) is = (is, Keeps-refl old)
-WritesMatch-refused reading old (Journal fault) is = absurd is
-WritesMatch-refused reading old WriteJournal is = absurd is
-WritesMatch-refused reading old OutOfMemory is = Keeps-refl old
-
--- and the output did not fail
-pub is_output_fault-refused : {A : Type 0} (reading : Result A IntakeFault) (fault : RunFault) → IsOpeningFault reading fault → is_output_fault (Err fault) ≡ false
-is_output_fault-refused reading WriteOut is = absurd is
-is_output_fault-refused reading (Read source) is = refl
-is_output_fault-refused reading (Intake fault) is = refl
-is_output_fault-refused reading (Journal fault) is = refl
-is_output_fault-refused reading WriteJournal is = absurd is
-is_output_fault-refused reading OutOfMemory is = refl
-
--- a reader that gave fewer bytes than it was asked for gave all that it had
+-- a reader gave fewer bytes than it was asked for gave all that it had
 pub IsWhole-short : (limit : ℕ) (bytes left : Option (List ℕ)) (given : List ℕ) → GivesFirst limit bytes left given → length given < limit → IsWhole bytes given
 IsWhole-short limit None left given gave short = tt
 IsWhole-short limit (Some bytes) None given gave short = absurd gave
@@ -84,3 +66,124 @@ IsWhole-short limit (Some bytes) (Some left) given gave short =
           let cut : length given ≡ limit = ap length gave.0 ∙ length-take-le limit bytes more in
           absurd (omega arith)
     ]
+
+-- whatever a reader had, there is a text that is the whole of it
+pub whole-some : (bytes : Option (List ℕ)) → (text : List ℕ) × IsWhole bytes text
+whole-some None = ([], tt)
+whole-some (Some bytes) = (bytes, refl)
+
+-- a reader that gave more bytes than a limit had a text that is longer
+pub whole-long : (limit most : ℕ) (bytes left : Option (List ℕ)) (given : List ℕ) → GivesFirst limit bytes left given → most < length given
+    → (text : List ℕ) × IsWhole bytes text × (most < length text)
+whole-long limit most None left given gave long = (given, tt, long)
+whole-long limit most (Some bytes) None given gave long = absurd gave
+whole-long limit most (Some bytes) (Some left) given gave long =
+    let cut : length given ≡ length (take limit bytes) = ap length gave.0 in (
+      bytes,
+      refl,
+      elim (cases_lt (length bytes) limit) [
+        | inl all ↦
+            let same = ap length (take_all limit bytes (omega arith)) in
+            omega arith
+        | inr more ↦
+            let same = length-take-le limit bytes more in
+            omega arith
+      ],
+    )
+
+-- an input within the limit is read, and a longer one is refused
+pub input_in-short : (source : Source) (text : List ℕ) → length text ≤ 67108864 → input_in source text ≡ Ok text
+unfolding input_in
+input_in-short source text short = let no : nat_lt 67108864 (length text) ≡ false = grind (arith, nat_tests) in rw no refl
+
+pub input_in-long : (source : Source) (text : List ℕ) → 67108864 < length text → input_in source text ≡ Err (fault_at source 0 TooLong)
+unfolding input_in
+input_in-long source text long = let yes : nat_lt 67108864 (length text) ≡ true = grind (arith, nat_tests) in rw yes refl
+
+-- what was written of a text is written of one of the texts that it is of
+pub WritesText-of : (Is : List ℕ → Type 0) (text : List ℕ) (old new : Option (List ℕ)) (result : Result (Unit {0}) RunFault)
+    → Is text → WritesExactly text old new result → WritesText Is old new result
+WritesText-of Is text old new (Ok done) is wrote = (text, is, wrote)
+WritesText-of Is text old new (Err WriteOut) is wrote = (text, is, wrote)
+WritesText-of Is text old new (Err (Read source)) is wrote = absurd wrote
+WritesText-of Is text old new (Err (Intake fault)) is wrote = absurd wrote
+WritesText-of Is text old new (Err (Journal fault)) is wrote = absurd wrote
+WritesText-of Is text old new (Err WriteJournal) is wrote = absurd wrote
+WritesText-of Is text old new (Err OutOfMemory) is wrote = absurd wrote
+
+-- the log of a certified clearing was written
+pub WritesText-log : (m : Market) (log : List Rejection) (text : List ℕ) (old new : Option (List ℕ)) (result : Result (Unit {0}) RunFault)
+    → IsSettled m log → text ≡ log_text log → WritesExactly text old new result → WritesText (IsCertificate m) old new result
+WritesText-log m log text old new result settled is wrote =
+    WritesText-of (IsCertificate m) text old new result (log, settled, is) wrote
+
+-- what was written of the papers that were read
+pub WritesMatch-opened : (show_log : Bool) (Is : List ℕ → Type 0) (reading : Result Market IntakeFault) (m : Market) (old new : Option (List ℕ)) (result : Result (Unit {0}) RunFault)
+    → reading ≡ Ok m → ((text : List ℕ) → Is text → IsMatchText show_log m text) → WritesText Is old new result → WritesMatch show_log reading old new result
+WritesMatch-opened show_log Is reading m old new (Ok done) read of (text, is, written) = (m, read, (text, of text is, written))
+WritesMatch-opened show_log Is reading m old new (Err WriteOut) read of (text, is, written) = (m, read, (text, of text is, written))
+WritesMatch-opened show_log Is reading m old new (Err (Read source)) read of wrote = absurd wrote
+WritesMatch-opened show_log Is reading m old new (Err (Intake fault)) read of wrote = absurd wrote
+WritesMatch-opened show_log Is reading m old new (Err (Journal fault)) read of wrote = absurd wrote
+WritesMatch-opened show_log Is reading m old new (Err WriteJournal) read of wrote = absurd wrote
+WritesMatch-opened show_log Is reading m old new (Err OutOfMemory) read of wrote = wrote
+
+-- the report was written, which was asked for
+pub WritesMatch-report : (show_log : Bool) (reading : Result Market IntakeFault) (m : Market) (a : Matching) (old new : Option (List ℕ)) (result : Result (Unit {0}) RunFault)
+    → show_log ≡ false → reading ≡ Ok m → IsStudentOptimal m a → WritesText (IsReportText m a) old new result → WritesMatch show_log reading old new result
+WritesMatch-report show_log reading m a old new result asked read optimal wrote =
+    subst (λ b. WritesMatch b reading old new result) (sym asked)
+    (WritesMatch-opened false (IsReportText m a) reading m old new result read (λ text is. (a, optimal, is)) wrote)
+
+-- the log was written, which was asked for
+pub WritesMatch-log : (show_log : Bool) (reading : Result Market IntakeFault) (m : Market) (old new : Option (List ℕ)) (result : Result (Unit {0}) RunFault)
+    → show_log ≡ true → reading ≡ Ok m → WritesText (IsCertificate m) old new result → WritesMatch show_log reading old new result
+WritesMatch-log show_log reading m old new result asked read wrote =
+    subst (λ b. WritesMatch b reading old new result) (sym asked)
+    (WritesMatch-opened true (IsCertificate m) reading m old new result read (λ text is. is) wrote)
+
+-- nothing was written where opening ended early
+pub WritesMatch-refused : (show_log : Bool) (reading : Result Market IntakeFault) (old : Option (List ℕ)) (fault : RunFault)
+    → IsOpeningFault reading fault → WritesMatch show_log reading old old (Err fault)
+WritesMatch-refused show_log reading old WriteOut is = absurd is
+WritesMatch-refused show_log reading old (Read source) is = absurd is
+WritesMatch-refused show_log reading old (Intake fault) is = (is, Keeps-refl old)
+WritesMatch-refused show_log reading old (Journal fault) is = absurd is
+WritesMatch-refused show_log reading old WriteJournal is = absurd is
+WritesMatch-refused show_log reading old OutOfMemory is = Keeps-refl old
+
+-- and the output did not fail
+pub is_output_fault-refused : {A : Type 0} (reading : Result A IntakeFault) (fault : RunFault) → IsOpeningFault reading fault → is_output_fault {A = Unit {0}} (Err fault) ≡ false
+is_output_fault-refused reading WriteOut is = absurd is
+is_output_fault-refused reading (Read source) is = refl
+is_output_fault-refused reading (Intake fault) is = refl
+is_output_fault-refused reading (Journal fault) is = refl
+is_output_fault-refused reading WriteJournal is = absurd is
+is_output_fault-refused reading OutOfMemory is = refl
+
+-- the first fault of an opening's files, by the file that it is of
+pub AreInputsFault-schools : (texts : Texts) (fault : RunFault) → IsInputFault input.Schools (input_in input.Schools texts.schools) fault → AreInputsFault (inputs_in texts) fault
+AreInputsFault-schools texts (Read source) is = tt
+AreInputsFault-schools texts (Intake fault) is = rw is refl
+AreInputsFault-schools texts (Journal fault) is = absurd is
+AreInputsFault-schools texts WriteOut is = absurd is
+AreInputsFault-schools texts WriteJournal is = absurd is
+AreInputsFault-schools texts OutOfMemory is = tt
+
+pub AreInputsFault-roster : (texts : Texts) (fault : RunFault) → input_in input.Schools texts.schools ≡ Ok texts.schools
+    → IsInputFault input.Roster (input_in input.Roster texts.roster) fault → AreInputsFault (inputs_in texts) fault
+AreInputsFault-roster texts (Read source) schools is = tt
+AreInputsFault-roster texts (Intake fault) schools is = rw (schools, is) refl
+AreInputsFault-roster texts (Journal fault) schools is = absurd is
+AreInputsFault-roster texts WriteOut schools is = absurd is
+AreInputsFault-roster texts WriteJournal schools is = absurd is
+AreInputsFault-roster texts OutOfMemory schools is = tt
+
+pub AreInputsFault-lists : (texts : Texts) (fault : RunFault) → input_in input.Schools texts.schools ≡ Ok texts.schools → input_in input.Roster texts.roster ≡ Ok texts.roster
+    → IsInputFault input.Lists (input_in input.Lists texts.lists) fault → AreInputsFault (inputs_in texts) fault
+AreInputsFault-lists texts (Read source) schools roster is = tt
+AreInputsFault-lists texts (Intake fault) schools roster is = rw (schools, roster, is) refl
+AreInputsFault-lists texts (Journal fault) schools roster is = absurd is
+AreInputsFault-lists texts WriteOut schools roster is = absurd is
+AreInputsFault-lists texts WriteJournal schools roster is = absurd is
+AreInputsFault-lists texts OutOfMemory schools roster is = tt

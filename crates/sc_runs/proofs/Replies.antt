@@ -1,10 +1,10 @@
 -- What the reply lines and the report come to together.
-use Rattle.std.proofs.Common.{append_assoc, append-nil, ◌≡◌, ◌≢◌, Bool, true, false, ◌||◌, ℕ, ◌+◌, ◌≤◌, ◌<◌, inl, inr, arith, List, [], ◌∷◌, ◌++◌, Option, None, Some, Result, Ok, Err, length, take, refl, sym, ◌∙◌, subst, ap}
+use Rattle.std.proofs.Common.{append_assoc, append-nil, ◌≡◌, ◌≢◌, Bool, true, false, ◌||◌, ℕ, ◌+◌, inl, inr, arith, List, [], ◌∷◌, ◌++◌, Option, None, Some, Result, Ok, Err, length, take, refl, sym, ◌∙◌, subst, ap}
 use Rattle.std.proofs.lemmas.Bool.{cases_lt}
 use Rattle.std.proofs.lemmas.List.{take_all, take-append-le}
 use Rattle.std.proofs.Math.Seq.{take-append-add, take-append_seam}
 use Rattle.std.proofs.KnownBytes.{Appends-trans}
-use Rattle.std.specs.Io.KnownBytes.{Appends, Keeps}
+use Rattle.std.specs.Io.KnownBytes.{Appends}
 use Rattle.sc_papers.specs.Market.{Market}
 use Rattle.sc_papers.specs.Matching.{Matching, IsStudentOptimal}
 use Rattle.sc_papers.specs.declared.amendment.Amendment.{Amendment}
@@ -15,10 +15,12 @@ use Rattle.sc_intake.specs.declared.fault.IntakeFault.{IntakeFault}
 use Rattle.sc_report.specs.Whole.{AppendsFront}
 use Rattle.sc_runs.specs.declared.fault.RunFault.{RunFault}
 use Rattle.sc_runs.specs.declared.fault.RunFault.TheVariants.{Read, Intake, Journal, WriteOut, WriteJournal, OutOfMemory}
-use Rattle.sc_runs.specs.Opening.{IsOpeningFault, WritesOut}
+use Rattle.sc_report.specs.Text.{IsReportText}
+use Rattle.sc_runs.specs.Opening.{IsOpeningFault, WritesText}
 use Rattle.sc_report.specs.Reply.{reply_text}
-use Rattle.sc_runs.specs.Run.{after_record, after_script, replies, reply_to, IsFirstFault, IsRunText, WritesFront, WritesReplies, WritesRun}
-use Rattle.sc_runs.proofs.Openings.{Appends-kept, AppendsFront-whole, Keeps-refl}
+use Rattle.sc_runs.specs.Run.{after_record, after_script, opened_in, replies, reply_to, RunsFiles, WritesReplies, WritesRun}
+use Rattle.sc_runs.specs.Inputs.{Texts, inputs_in, AreInputsFault, AreWhole}
+use Rattle.sc_runs.proofs.Openings.{Appends-front-kept, Keeps-refl, whole-some}
 
 -- a refusal that is not want of memory is the verdict
 unless_refused-refused : (found : Option Refusal) (refusal same : Refusal) → IsRefusal found refusal → same ≡ refusal → same ≢ refused_for_memory → Err same ≡ unless_refused found
@@ -60,9 +62,9 @@ Appends-nothing (Some xs) = sym (append-nil xs)
 
 -- the papers have a fault, and nothing was written
 pub WritesRun-unopened : (reading : Result Market IntakeFault) (scripted : Result (List (Result Amendment Refusal)) IntakeFault) (old : Option (List ℕ)) (fault : RunFault)
-    → IsOpeningFault reading fault → WritesRun reading scripted old old (Err fault)
+    → IsOpeningFault reading fault → WritesRun (opened_in reading scripted) old old (Err fault)
 WritesRun-unopened reading scripted old (Read source) is = absurd is
-WritesRun-unopened reading scripted old (Intake fault) is = (subst (λ r. IsFirstFault r scripted fault) (sym is) refl, Keeps-refl old)
+WritesRun-unopened reading scripted old (Intake fault) is = (ap (λ r. opened_in r scripted) is, Keeps-refl old)
 WritesRun-unopened reading scripted old (Journal fault) is = absurd is
 WritesRun-unopened reading scripted old WriteOut is = absurd is
 WritesRun-unopened reading scripted old WriteJournal is = absurd is
@@ -70,70 +72,71 @@ WritesRun-unopened reading scripted old OutOfMemory is = inl (Keeps-refl old)
 
 -- the papers were read, the script has a fault, and nothing was written
 pub WritesRun-unscripted : (reading : Result Market IntakeFault) (scripted : Result (List (Result Amendment Refusal)) IntakeFault) (m : Market) (old : Option (List ℕ)) (fault : RunFault)
-    → reading ≡ Ok m → IsOpeningFault scripted fault → WritesRun reading scripted old old (Err fault)
+    → reading ≡ Ok m → IsOpeningFault scripted fault → WritesRun (opened_in reading scripted) old old (Err fault)
 WritesRun-unscripted reading scripted m old (Read source) read is = absurd is
-WritesRun-unscripted reading scripted m old (Intake fault) read is = (subst (λ r. IsFirstFault r scripted fault) (sym read) is, Keeps-refl old)
+WritesRun-unscripted reading scripted m old (Intake fault) read is = (ap (λ r. opened_in r scripted) read ∙ ap (opened_in (Ok m)) is, Keeps-refl old)
 WritesRun-unscripted reading scripted m old (Journal fault) read is = absurd is
 WritesRun-unscripted reading scripted m old WriteOut read is = absurd is
 WritesRun-unscripted reading scripted m old WriteJournal read is = absurd is
 WritesRun-unscripted reading scripted m old OutOfMemory read is = inl (Keeps-refl old)
 
--- a text that was written whole, and then nothing, was written as its own front
-pub Appends-front-kept : (a b c : Option (List ℕ)) (text : List ℕ) → Appends a b text → Keeps b c → AppendsFront a c text
-Appends-front-kept a b c text written kept = AppendsFront-whole a c text (Appends-kept a b c text written kept)
+-- what was read of papers and a script
+opened_in-read : (reading : Result Market IntakeFault) (scripted : Result (List (Result Amendment Refusal)) IntakeFault) (m : Market) (script : List (Result Amendment Refusal))
+    → reading ≡ Ok m → scripted ≡ Ok script → opened_in reading scripted ≡ Ok (record { papers = m; script = script })
+opened_in-read reading scripted m script read script_read = ap (λ r. opened_in r scripted) read ∙ ap (opened_in (Ok m)) script_read
 
 -- the run ended amid the replies
 pub WritesRun-answered : (reading : Result Market IntakeFault) (scripted : Result (List (Result Amendment Refusal)) IntakeFault) (m : Market) (script : List (Result Amendment Refusal)) (old new : Option (List ℕ)) (fault : RunFault)
-    → reading ≡ Ok m → scripted ≡ Ok script → WritesReplies old new (Err fault) (replies 1 m script) → WritesRun reading scripted old new (Err fault)
+    → reading ≡ Ok m → scripted ≡ Ok script → WritesReplies old new (Err fault) (replies 1 m script) → WritesRun (opened_in reading scripted) old new (Err fault)
 WritesRun-answered reading scripted m script old new (Read source) read script_read wrote = absurd wrote
 WritesRun-answered reading scripted m script old new (Intake fault) read script_read wrote = absurd wrote
 WritesRun-answered reading scripted m script old new (Journal fault) read script_read wrote = absurd wrote
 WritesRun-answered reading scripted m script old new WriteJournal read script_read wrote = absurd wrote
 WritesRun-answered reading scripted m script old new WriteOut read script_read wrote =
-    record { papers = m; script = script; read = read; script_read = script_read; front = inl wrote }
+    (record { papers = m; script = script }, opened_in-read reading scripted m script read script_read, inl wrote)
 WritesRun-answered reading scripted m script old new OutOfMemory read script_read wrote =
-    inr (record { papers = m; script = script; read = read; script_read = script_read; front = inl wrote })
+    inr (record { papers = m; script = script }, opened_in-read reading scripted m script read script_read, inl wrote)
 
 -- all replies were written, and then the report, whole or in part
 pub WritesRun-written : (reading : Result Market IntakeFault) (scripted : Result (List (Result Amendment Refusal)) IntakeFault) (m : Market) (script : List (Result Amendment Refusal)) (a : Matching) (old mid new : Option (List ℕ)) (result : Result (Unit {0}) RunFault)
-    → reading ≡ Ok m → scripted ≡ Ok script → IsStudentOptimal (after_script m script) a → Appends old mid (replies 1 m script) → WritesOut (after_script m script) a mid new result
-    → WritesRun reading scripted old new result
+    → reading ≡ Ok m → scripted ≡ Ok script → IsStudentOptimal (after_script m script) a → Appends old mid (replies 1 m script) → WritesText (IsReportText (after_script m script) a) mid new result
+    → WritesRun (opened_in reading scripted) old new result
 WritesRun-written reading scripted m script a old mid new (Ok done) read script_read optimal replied (report, reported, wrote) = (
-  replies 1 m script ++ report,
-  record { papers = m; script = script; places = a; report = report; read = read; script_read = script_read; optimal = optimal; reported = reported; is = refl },
-  Appends-trans old mid new (replies 1 m script) report replied wrote,
-)
-WritesRun-written reading scripted m script a old mid new (Err WriteOut) read script_read optimal replied (report, reported, wrote) = record {
-  papers = m;
-  script = script;
-  read = read;
-  script_read = script_read;
-  front = inr (
+  record { papers = m; script = script },
+  opened_in-read reading scripted m script read script_read,
+  (
     replies 1 m script ++ report,
-    record { papers = m; script = script; places = a; report = report; read = read; script_read = script_read; optimal = optimal; reported = reported; is = refl },
+    (report, (a, optimal, reported), refl),
+    Appends-trans old mid new (replies 1 m script) report replied wrote,
+  ),
+)
+WritesRun-written reading scripted m script a old mid new (Err WriteOut) read script_read optimal replied (report, reported, wrote) = (
+  record { papers = m; script = script },
+  opened_in-read reading scripted m script read script_read,
+  inr (
+    replies 1 m script ++ report,
+    (report, (a, optimal, reported), refl),
     AppendsFront-more old mid new (replies 1 m script) report replied wrote,
-  );
-}
+  ),
+)
 WritesRun-written reading scripted m script a old mid new (Err (Read source)) read script_read optimal replied wrote = absurd wrote
 WritesRun-written reading scripted m script a old mid new (Err (Intake fault)) read script_read optimal replied wrote = absurd wrote
 WritesRun-written reading scripted m script a old mid new (Err (Journal fault)) read script_read optimal replied wrote = absurd wrote
 WritesRun-written reading scripted m script a old mid new (Err WriteJournal) read script_read optimal replied wrote = absurd wrote
 WritesRun-written reading scripted m script a old mid new (Err OutOfMemory) read script_read optimal replied wrote =
-    inr (record {
-      papers = m;
-      script = script;
-      read = read;
-      script_read = script_read;
-      front = inl (Appends-front-kept old mid new (replies 1 m script) replied wrote);
-    })
+    inr (
+      record { papers = m; script = script },
+      opened_in-read reading scripted m script read script_read,
+      inl (Appends-front-kept old mid new (replies 1 m script) replied wrote),
+    )
 
 -- the same of the papers that stand after the script, by whatever name
 pub WritesRun-after : (reading : Result Market IntakeFault) (scripted : Result (List (Result Amendment Refusal)) IntakeFault) (m : Market) (script : List (Result Amendment Refusal)) (later : Market) (a : Matching) (old mid new : Option (List ℕ)) (result : Result (Unit {0}) RunFault)
-    → reading ≡ Ok m → scripted ≡ Ok script → later ≡ after_script m script → IsStudentOptimal later a → Appends old mid (replies 1 m script) → WritesOut later a mid new result
-    → WritesRun reading scripted old new result
+    → reading ≡ Ok m → scripted ≡ Ok script → later ≡ after_script m script → IsStudentOptimal later a → Appends old mid (replies 1 m script) → WritesText (IsReportText later a) mid new result
+    → WritesRun (opened_in reading scripted) old new result
 WritesRun-after reading scripted m script later a old mid new result read script_read is optimal replied wrote =
     WritesRun-written reading scripted m script a old mid new result read script_read
-    (subst (λ n. IsStudentOptimal n a) is optimal) replied (subst (λ n. WritesOut n a mid new result) is wrote)
+    (subst (λ n. IsStudentOptimal n a) is optimal) replied (subst (λ n. WritesText (IsReportText n a) mid new result) is wrote)
 
 -- what was written so far, and the replies to the records that are left, are the replies to all
 pub record Said (old now : Option (List ℕ)) (opening : Market) (all : List (Result Amendment Refusal)) (number : ℕ) (m : Market) (left : List (Result Amendment Refusal)) : Type 0 where
@@ -200,3 +203,17 @@ Said-all old now opening all whole number m before said is same =
 
 pub or-same : (a b more : Bool) → a ≡ b → (a || more) ≡ (b || more)
 or-same a b more same = ap (λ c. c || more) same
+
+-- a file of the opening ended the run
+pub RunsFiles-unopened : (seed : List ℕ) (schools roster lists script old : Option (List ℕ)) (fault : RunFault) (texts : Texts)
+    → AreWhole schools roster lists texts → AreInputsFault (inputs_in texts) fault → RunsFiles seed schools roster lists script old old (Err fault)
+RunsFiles-unopened seed schools roster lists script old (Read source) texts whole is = inl (tt, Keeps-refl old)
+RunsFiles-unopened seed schools roster lists script old (Intake fault) texts whole is =
+    let last = whole-some script in
+    inr (texts, last.0, whole, last.1, (rw is refl, Keeps-refl old))
+RunsFiles-unopened seed schools roster lists script old (Journal fault) texts whole is = absurd is
+RunsFiles-unopened seed schools roster lists script old WriteOut texts whole is = absurd is
+RunsFiles-unopened seed schools roster lists script old WriteJournal texts whole is = absurd is
+RunsFiles-unopened seed schools roster lists script old OutOfMemory texts whole is =
+    let last = whole-some script in
+    inr (texts, last.0, whole, last.1, inl (Keeps-refl old))

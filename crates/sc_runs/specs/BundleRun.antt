@@ -1,21 +1,24 @@
 -- What running a bundle does, and how it ends.
-use Rattle.std.specs.Prelude.{◌≡◌, ℕ, List, Option, None, Some, Result, Ok, Err}
+use Rattle.std.specs.Prelude.{◌≡◌, ◌⊎◌, ℕ, Bool, true, false, List, ⊤, Option, None, Some, Result, Ok, Err}
 use Rattle.std.specs.Io.KnownBytes.{Keeps}
 use Rattle.sc_lottery.specs.Seed.{seed_of}
 use Rattle.sc_papers.specs.Market.{Market}
 use Rattle.sc_intake.specs.Script.{script_in}
 use Rattle.sc_intake.specs.declared.fault.IntakeFault.{IntakeFault}
+use Rattle.sc_intake.specs.declared.fault.Source.TheVariants as input
 use Rattle.sc_runs.specs.Bundle.{Sections, bundle_of}
-use Rattle.sc_runs.specs.Opening.{papers_in, IsReadFault, WritesMatch}
-use Rattle.sc_runs.specs.Run.{WritesRun}
+use Rattle.sc_runs.specs.Inputs.{input_in, IsWhole}
+use Rattle.sc_runs.specs.Opening.{papers_in, WritesMatch}
+use Rattle.sc_runs.specs.Run.{opened_in, WritesRun}
 use Rattle.sc_runs.specs.declared.ending.Ending.{Ending}
 use Rattle.sc_runs.specs.declared.ending.Ending.TheVariants.{Done, NotCertified, Torn, BadSeed, BadBundle, Fault}
 use Rattle.sc_runs.specs.declared.fault.RunFault.{RunFault}
+use Rattle.sc_runs.specs.declared.fault.RunFault.TheVariants.{Read, Intake, Journal, WriteOut, WriteJournal, OutOfMemory}
 
 -- what running the papers and a script does; without a script it is matching the papers alone
 abbrev pub WritesWith : Option (List ℕ) → Result Market IntakeFault → Option (List ℕ) → Option (List ℕ) → Result (Unit {0}) RunFault → Type 0
-WritesWith None reading old new result = WritesMatch reading old new result
-WritesWith (Some script) reading old new result = WritesRun reading (script_in script) old new result
+WritesWith None reading old new result = WritesMatch false reading old new result
+WritesWith (Some script) reading old new result = WritesRun (opened_in reading (script_in script)) old new result
 
 -- what running the sections of a bundle under a seed does
 abbrev pub WritesSections : List ℕ → Sections → Option (List ℕ) → Option (List ℕ) → Result (Unit {0}) RunFault → Type 0
@@ -41,11 +44,29 @@ EndsBundle text old new (BadSeed error) =
 EndsBundle text old new BadBundle = (bundle_of text ≡ None) × Keeps old new
 EndsBundle text old new (Fault fault) = RunsSections text old new (Err fault)
 
--- a bundle that could not be read, was too long, or had no memory
-abbrev pub EndsUnread : Ending → Type 0
-EndsUnread Done = ⊥
-EndsUnread NotCertified = ⊥
-EndsUnread Torn = ⊥
-EndsUnread (BadSeed error) = ⊥
-EndsUnread BadBundle = ⊥
-EndsUnread (Fault fault) = IsReadFault fault
+-- a bundle that is too long is refused, and nothing is written; otherwise what it holds is run
+abbrev pub EndsInput : Result (List ℕ) IntakeFault → Option (List ℕ) → Option (List ℕ) → Ending → Type 0
+EndsInput (Ok text) old new ending = EndsBundle text old new ending
+EndsInput (Err fault) old new ending = (ending ≡ Fault (Intake fault)) × Keeps old new
+
+abbrev IsUnreadFor : Bool → RunFault → Type 0
+IsUnreadFor failed (Read source) = (source ≡ input.Bundle) × (failed ≡ true)
+IsUnreadFor failed (Intake fault) = ⊥
+IsUnreadFor failed (Journal fault) = ⊥
+IsUnreadFor failed WriteOut = ⊥
+IsUnreadFor failed WriteJournal = ⊥
+IsUnreadFor failed OutOfMemory = ⊤
+
+-- a bundle was not read to its end: its reader failed, or there was no memory for it
+abbrev pub EndsUnread : Bool → Ending → Type 0
+EndsUnread failed Done = ⊥
+EndsUnread failed NotCertified = ⊥
+EndsUnread failed Torn = ⊥
+EndsUnread failed (BadSeed error) = ⊥
+EndsUnread failed BadBundle = ⊥
+EndsUnread failed (Fault fault) = IsUnreadFor failed fault
+
+-- what running a bundle did: it was not read to its end, and nothing was written; or it was read whole
+abbrev pub RunsBundle : Option (List ℕ) → Bool → Option (List ℕ) → Option (List ℕ) → Ending → Type 0
+RunsBundle bundle failed old new ending = (EndsUnread failed ending × Keeps old new)
+    ⊎ ((text : List ℕ) × IsWhole bundle text × EndsInput (input_in input.Bundle text) old new ending)

@@ -1,8 +1,10 @@
 -- What the files of an opening make, and what matching them does to the writer's bytes, where those are known.
-use Rattle.std.specs.Prelude.{◌≡◌, ℕ, Bool, true, false, List, Option, None, Some, Result, Ok, Err, ⊤}
+use Rattle.std.specs.Prelude.{◌≡◌, ◌⊎◌, ℕ, Bool, true, false, List, Option, Result, Ok, Err, ⊤}
 use Rattle.std.specs.Io.KnownBytes.{Appends, Keeps}
+use Rattle.sc_papers.specs.Log.{IsSettled}
 use Rattle.sc_papers.specs.Market.{Market}
 use Rattle.sc_papers.specs.Matching.{Matching, IsStudentOptimal}
+use Rattle.sc_papers.specs.declared.rejection.Rejection.{Rejection}
 use Rattle.sc_intake.specs.Fault.{◌>>=◌}
 use Rattle.sc_intake.specs.Lists.{lists_in}
 use Rattle.sc_intake.specs.Papers.{papers_of}
@@ -11,12 +13,14 @@ use Rattle.sc_intake.specs.Schools.{schools_in}
 use Rattle.sc_intake.specs.declared.fault.Cause.{Cause}
 use Rattle.sc_intake.specs.declared.fault.Cause.TheVariants as cause
 use Rattle.sc_intake.specs.declared.fault.IntakeFault.{IntakeFault}
+use Rattle.sc_report.specs.LogText.{log_text}
 use Rattle.sc_report.specs.Text.{IsReportText}
 use Rattle.sc_report.specs.Whole.{AppendsFront}
+use Rattle.sc_runs.specs.Inputs.{Texts, inputs_in, AreWhole, IsUnread}
 use Rattle.sc_runs.specs.declared.fault.RunFault.{RunFault}
 use Rattle.sc_runs.specs.declared.fault.RunFault.TheVariants.{Read, Intake, Journal, WriteOut, WriteJournal, OutOfMemory}
 
--- the papers that the files make under a seed, or the first fault: of the schools, the roster, the
+-- the papers that three texts make under a seed, or the first fault: of the schools, the roster, the
 -- lists, and then of what they say together
 abbrev pub papers_in : List ℕ → List ℕ → List ℕ → List ℕ → Result Market IntakeFault
 papers_in seed schools roster lists = do
@@ -24,6 +28,11 @@ papers_in seed schools roster lists = do
   roster_rows ← roster_in roster
   list_rows ← lists_in lists
   papers_of seed school_rows roster_rows list_rows
+
+-- the papers of an opening, or its first fault: a file that is too long comes before what stands in
+-- another
+abbrev pub opening_in : List ℕ → Texts → Result Market IntakeFault
+opening_in seed texts = inputs_in texts >>= λ read. papers_in seed read.schools read.roster read.lists
 
 -- reading ended early for the first fault of what was read, or for want of memory
 abbrev pub IsOpeningFault : {A : Type 0} → Result A IntakeFault → RunFault → Type 0
@@ -34,51 +43,58 @@ IsOpeningFault reading WriteOut = ⊥
 IsOpeningFault reading WriteJournal = ⊥
 IsOpeningFault reading OutOfMemory = ⊤
 
--- a text is the whole of what a reader had, where its bytes are known
-abbrev pub IsWhole : Option (List ℕ) → List ℕ → Type 0
-IsWhole None text = ⊤
-IsWhole (Some bytes) text = text ≡ bytes
+-- a writer was given one of these texts whole at `Ok`, a front of one where it failed, and nothing at
+-- want of memory
+abbrev pub WritesText : (List ℕ → Type 0) → Option (List ℕ) → Option (List ℕ) → Result (Unit {0}) RunFault → Type 0
+WritesText Is old new (Ok done) = (text : List ℕ) × Is text × Appends old new text
+WritesText Is old new (Err WriteOut) = (text : List ℕ) × Is text × AppendsFront old new text
+WritesText Is old new (Err (Read source)) = ⊥
+WritesText Is old new (Err (Intake fault)) = ⊥
+WritesText Is old new (Err (Journal fault)) = ⊥
+WritesText Is old new (Err WriteJournal) = ⊥
+WritesText Is old new (Err OutOfMemory) = Keeps old new
 
--- reading an input ended early: it could not be read, was too long, or there was no memory for it
-abbrev pub IsReadFault : RunFault → Type 0
-IsReadFault (Read source) = ⊤
-IsReadFault (Intake fault) = (fault.row ≡ 0) × (fault.cause ≡ cause.TooLong)
-IsReadFault (Journal fault) = ⊥
-IsReadFault WriteOut = ⊥
-IsReadFault WriteJournal = ⊥
-IsReadFault OutOfMemory = ⊤
+-- a writer was given this text whole at `Ok`, and a front of it where it failed
+abbrev pub WritesExactly : List ℕ → Option (List ℕ) → Option (List ℕ) → Result (Unit {0}) RunFault → Type 0
+WritesExactly text old new (Ok done) = Appends old new text
+WritesExactly text old new (Err WriteOut) = AppendsFront old new text
+WritesExactly text old new (Err (Read source)) = ⊥
+WritesExactly text old new (Err (Intake fault)) = ⊥
+WritesExactly text old new (Err (Journal fault)) = ⊥
+WritesExactly text old new (Err WriteJournal) = ⊥
+WritesExactly text old new (Err OutOfMemory) = ⊥
 
--- writing the report and flushing it gave the writer a report text whole at `Ok`, a front of one where
--- the writer failed, and nothing at want of memory
-abbrev pub WritesOut : Market → Matching → Option (List ℕ) → Option (List ℕ) → Result (Unit {0}) RunFault → Type 0
-WritesOut m a old new (Ok done) = (text : List ℕ) × IsReportText m a text × Appends old new text
-WritesOut m a old new (Err WriteOut) = (text : List ℕ) × IsReportText m a text × AppendsFront old new text
-WritesOut m a old new (Err (Read source)) = ⊥
-WritesOut m a old new (Err (Intake fault)) = ⊥
-WritesOut m a old new (Err (Journal fault)) = ⊥
-WritesOut m a old new (Err WriteJournal) = ⊥
-WritesOut m a old new (Err OutOfMemory) = Keeps old new
+-- a text is that of a log that is settled for the papers, and so certifies their matching
+abbrev pub IsCertificate : Market → List ℕ → Type 0
+IsCertificate m text = (log : List Rejection) × IsSettled m log × (text ≡ log_text log)
 
--- a text is the report of the papers that were read, under their student-optimal stable matching
-pub record Reports (reading : Result Market IntakeFault) (text : List ℕ) : Type 0 where
-  pub papers : Market
-  pub places : Matching
-  pub read : reading ≡ Ok papers
-  pub optimal : IsStudentOptimal papers places
-  pub report : IsReportText papers places text
+-- a text is the report of the papers under their student-optimal stable matching
+abbrev pub IsReport : Market → List ℕ → Type 0
+IsReport m text = (a : Matching) × IsStudentOptimal m a × IsReportText m a text
 
--- matching wrote the report whole at `Ok`, a front of it where the writer failed, and nothing else
-abbrev pub WritesMatch : Result Market IntakeFault → Option (List ℕ) → Option (List ℕ) → Result (Unit {0}) RunFault → Type 0
-WritesMatch reading old new (Ok done) = (text : List ℕ) × Reports reading text × Appends old new text
-WritesMatch reading old new (Err WriteOut) = (text : List ℕ) × Reports reading text × AppendsFront old new text
-WritesMatch reading old new (Err (Read source)) = ⊥
-WritesMatch reading old new (Err (Intake fault)) = (reading ≡ Err fault) × Keeps old new
-WritesMatch reading old new (Err (Journal fault)) = ⊥
-WritesMatch reading old new (Err WriteJournal) = ⊥
-WritesMatch reading old new (Err OutOfMemory) = Keeps old new
+-- what matching papers is to write: the report, or the log where that is asked for
+abbrev pub IsMatchText : Bool → Market → List ℕ → Type 0
+IsMatchText false m text = IsReport m text
+IsMatchText true m text = IsCertificate m text
+
+-- matching wrote its text of the papers that were read, and nothing where they have a fault
+abbrev pub WritesMatch : Bool → Result Market IntakeFault → Option (List ℕ) → Option (List ℕ) → Result (Unit {0}) RunFault → Type 0
+WritesMatch show_log reading old new (Ok done) = (m : Market) × (reading ≡ Ok m) × WritesText (IsMatchText show_log m) old new (Ok done)
+WritesMatch show_log reading old new (Err WriteOut) = (m : Market) × (reading ≡ Ok m) × WritesText (IsMatchText show_log m) old new (Err WriteOut)
+WritesMatch show_log reading old new (Err (Intake fault)) = (reading ≡ Err fault) × Keeps old new
+WritesMatch show_log reading old new (Err OutOfMemory) = Keeps old new
+WritesMatch show_log reading old new (Err (Read source)) = ⊥
+WritesMatch show_log reading old new (Err (Journal fault)) = ⊥
+WritesMatch show_log reading old new (Err WriteJournal) = ⊥
+
+-- what matching files did: an input could not be read, and nothing was written; or they were matched,
+-- each whole
+abbrev pub MatchesFiles : List ℕ → Bool → Option (List ℕ) → Option (List ℕ) → Option (List ℕ) → Option (List ℕ) → Option (List ℕ) → Result (Unit {0}) RunFault → Type 0
+MatchesFiles seed show_log schools roster lists old new result = (IsUnread result × Keeps old new)
+    ⊎ ((texts : Texts) × AreWhole schools roster lists texts × WritesMatch show_log (opening_in seed texts) old new result)
 
 -- whether a run ended because the output failed
-abbrev pub is_output_fault : Result (Unit {0}) RunFault → Bool
+abbrev pub is_output_fault : {A : Type 0} → Result A RunFault → Bool
 is_output_fault (Ok done) = false
 is_output_fault (Err (Read source)) = false
 is_output_fault (Err (Intake fault)) = false
@@ -102,23 +118,3 @@ run_fault_by cause.OutOfMemory fault = OutOfMemory
 -- a fault of an input as a fault of the run: want of memory is told as such, whatever the layer
 abbrev pub run_fault : IntakeFault → RunFault
 run_fault fault = run_fault_by fault.cause fault
-
--- the files were read whole, and the writer was given the report of the papers that they make
-pub record WritesReportOf (seed : List ℕ) (schools roster lists old new : Option (List ℕ)) : Type 0 where
-  pub schools_text : List ℕ
-  pub roster_text : List ℕ
-  pub lists_text : List ℕ
-  pub schools_whole : IsWhole schools schools_text
-  pub roster_whole : IsWhole roster roster_text
-  pub lists_whole : IsWhole lists lists_text
-  pub written : WritesMatch (papers_in seed schools_text roster_text lists_text) old new (Ok tt)
-
--- the run ended with nothing written, but for a fault of the output
-abbrev pub WritesNothing : Option (List ℕ) → Option (List ℕ) → Result (Unit {0}) RunFault → Type 0
-WritesNothing old new (Ok done) = ⊤
-WritesNothing old new (Err WriteOut) = ⊤
-WritesNothing old new (Err (Read source)) = Keeps old new
-WritesNothing old new (Err (Intake fault)) = Keeps old new
-WritesNothing old new (Err (Journal fault)) = ⊥
-WritesNothing old new (Err WriteJournal) = ⊥
-WritesNothing old new (Err OutOfMemory) = Keeps old new

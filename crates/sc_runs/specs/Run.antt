@@ -1,17 +1,18 @@
 -- What a script comes to: the papers after it, and the texts of a run.
-use Rattle.std.specs.Prelude.{◌≡◌, ◌⊎◌, ⊤, ℕ, ◌+◌, List, [], ◌∷◌, ◌++◌, Option, None, Some, Result, Ok, Err}
+use Rattle.std.specs.Prelude.{◌≡◌, ◌⊎◌, ℕ, ◌+◌, List, [], ◌∷◌, ◌++◌, Option, None, Some, Result, Ok, Err}
 use Rattle.std.specs.Io.KnownBytes.{Appends, Keeps}
 use Rattle.sc_papers.specs.Market.{Market}
-use Rattle.sc_papers.specs.Matching.{Matching, IsStudentOptimal}
 use Rattle.sc_papers.specs.Verdict.{after, unless_refused, verdict}
 use Rattle.sc_papers.specs.declared.amendment.Amendment.{Amendment}
 use Rattle.sc_papers.specs.declared.amendment.Refusal.{Refusal}
+use Rattle.sc_intake.specs.Fault.{◌>>=◌}
 use Rattle.sc_intake.specs.declared.fault.IntakeFault.{IntakeFault}
+use Rattle.sc_intake.specs.declared.fault.Source.TheVariants as input
 use Rattle.sc_report.specs.Reply.{reply_text}
-use Rattle.sc_report.specs.Text.{IsReportText}
 use Rattle.sc_report.specs.Whole.{AppendsFront}
 use Rattle.sc_intake.specs.Script.{script_in}
-use Rattle.sc_runs.specs.Opening.{papers_in, IsWhole}
+use Rattle.sc_runs.specs.Inputs.{Texts, input_in, inputs_in, AreWhole, IsUnread, IsWhole}
+use Rattle.sc_runs.specs.Opening.{papers_in, IsReport}
 use Rattle.sc_runs.specs.declared.fault.RunFault.{RunFault}
 use Rattle.sc_runs.specs.declared.fault.RunFault.TheVariants.{Read, Intake, Journal, WriteOut, WriteJournal, OutOfMemory}
 
@@ -52,63 +53,50 @@ WritesReplies old new (Err (Intake fault)) text = ⊥
 WritesReplies old new (Err (Journal fault)) text = ⊥
 WritesReplies old new (Err WriteJournal) text = ⊥
 
--- a text is what a run writes, of the papers and the script that were read: a reply line for each
--- record, and the report of the papers after them under their student-optimal stable matching
-pub record IsRunText (reading : Result Market IntakeFault) (scripted : Result (List (Result Amendment Refusal)) IntakeFault) (text : List ℕ) : Type 0 where
+-- what a run has read: the papers of the opening, and the records of the script
+pub record Opened : Type 0 where
   pub papers : Market
   pub script : List (Result Amendment Refusal)
-  pub places : Matching
-  pub report : List ℕ
-  pub read : reading ≡ Ok papers
-  pub script_read : scripted ≡ Ok script
-  pub optimal : IsStudentOptimal (after_script papers script) places
-  pub reported : IsReportText (after_script papers script) places report
-  pub is : text ≡ replies 1 papers script ++ report
 
--- the first fault of what was read: of the papers, and where those are well of the script
-abbrev pub IsFirstFault : Result Market IntakeFault → Result (List (Result Amendment Refusal)) IntakeFault → IntakeFault → Type 0
-IsFirstFault (Ok papers) scripted fault = scripted ≡ Err fault
-IsFirstFault (Err first) scripted fault = first ≡ fault
+-- papers and a script, or the first fault: of the papers, and then of the script
+abbrev pub opened_in : Result Market IntakeFault → Result (List (Result Amendment Refusal)) IntakeFault → Result Opened IntakeFault
+opened_in reading scripted = do
+  papers ← reading
+  script ← scripted
+  Ok (record { papers = papers; script = script })
+
+-- what a run's inputs read as, or their first fault: each is read whole before any is looked into
+abbrev pub run_in : List ℕ → Texts → List ℕ → Result Opened IntakeFault
+run_in seed texts script = do
+  read ← inputs_in texts
+  last ← input_in input.Script script
+  opened_in (papers_in seed read.schools read.roster read.lists) (script_in last)
+
+-- a text is what a run writes: a reply line for each record, and the report of the papers after them
+-- under their student-optimal stable matching
+abbrev pub IsRunText : Opened → List ℕ → Type 0
+IsRunText opened text = (report : List ℕ) × IsReport (after_script opened.papers opened.script) report
+    × (text ≡ replies 1 opened.papers opened.script ++ report)
 
 -- the writer was given a front of what the run would write: of the reply lines, or these and a front of
 -- the report
-pub record WritesFront (reading : Result Market IntakeFault) (scripted : Result (List (Result Amendment Refusal)) IntakeFault) (old new : Option (List ℕ)) : Type 0 where
-  pub papers : Market
-  pub script : List (Result Amendment Refusal)
-  pub read : reading ≡ Ok papers
-  pub script_read : scripted ≡ Ok script
-  pub front : AppendsFront old new (replies 1 papers script)
-      ⊎ ((text : List ℕ) × IsRunText reading scripted text × AppendsFront old new text)
+abbrev pub WritesFront : Opened → Option (List ℕ) → Option (List ℕ) → Type 0
+WritesFront opened old new = AppendsFront old new (replies 1 opened.papers opened.script)
+    ⊎ ((text : List ℕ) × IsRunText opened text × AppendsFront old new text)
 
 -- a run wrote its text whole at `Ok`, a front of it where the writer failed or memory was refused, and
 -- nothing where the papers or the script have a fault
-abbrev pub WritesRun : Result Market IntakeFault → Result (List (Result Amendment Refusal)) IntakeFault → Option (List ℕ) → Option (List ℕ) → Result (Unit {0}) RunFault → Type 0
-WritesRun reading scripted old new (Ok done) = (text : List ℕ) × IsRunText reading scripted text × Appends old new text
-WritesRun reading scripted old new (Err (Intake fault)) = IsFirstFault reading scripted fault × Keeps old new
-WritesRun reading scripted old new (Err WriteOut) = WritesFront reading scripted old new
-WritesRun reading scripted old new (Err OutOfMemory) = Keeps old new ⊎ WritesFront reading scripted old new
-WritesRun reading scripted old new (Err (Read source)) = ⊥
-WritesRun reading scripted old new (Err (Journal fault)) = ⊥
-WritesRun reading scripted old new (Err WriteJournal) = ⊥
+abbrev pub WritesRun : Result Opened IntakeFault → Option (List ℕ) → Option (List ℕ) → Result (Unit {0}) RunFault → Type 0
+WritesRun reading old new (Ok done) = (opened : Opened) × (reading ≡ Ok opened) × ((text : List ℕ) × IsRunText opened text × Appends old new text)
+WritesRun reading old new (Err (Intake fault)) = (reading ≡ Err fault) × Keeps old new
+WritesRun reading old new (Err WriteOut) = (opened : Opened) × (reading ≡ Ok opened) × WritesFront opened old new
+WritesRun reading old new (Err OutOfMemory) = Keeps old new ⊎ ((opened : Opened) × (reading ≡ Ok opened) × WritesFront opened old new)
+WritesRun reading old new (Err (Read source)) = ⊥
+WritesRun reading old new (Err (Journal fault)) = ⊥
+WritesRun reading old new (Err WriteJournal) = ⊥
 
--- the inputs were read whole, and the writer was given the text of running them
-pub record WritesRunOf (seed : List ℕ) (schools roster lists script old new : Option (List ℕ)) : Type 0 where
-  pub schools_text : List ℕ
-  pub roster_text : List ℕ
-  pub lists_text : List ℕ
-  pub script_text : List ℕ
-  pub schools_whole : IsWhole schools schools_text
-  pub roster_whole : IsWhole roster roster_text
-  pub lists_whole : IsWhole lists lists_text
-  pub script_whole : IsWhole script script_text
-  pub written : WritesRun (papers_in seed schools_text roster_text lists_text) (script_in script_text) old new (Ok tt)
-
--- nothing was written where an input could not be read, or has a fault
-abbrev pub KeepsUnread : Option (List ℕ) → Option (List ℕ) → Result (Unit {0}) RunFault → Type 0
-KeepsUnread old new (Ok done) = ⊤
-KeepsUnread old new (Err (Read source)) = Keeps old new
-KeepsUnread old new (Err (Intake fault)) = Keeps old new
-KeepsUnread old new (Err WriteOut) = ⊤
-KeepsUnread old new (Err OutOfMemory) = ⊤
-KeepsUnread old new (Err (Journal fault)) = ⊥
-KeepsUnread old new (Err WriteJournal) = ⊥
+-- what running files did: an input could not be read, and nothing was written; or they were run, each
+-- whole
+abbrev pub RunsFiles : List ℕ → Option (List ℕ) → Option (List ℕ) → Option (List ℕ) → Option (List ℕ) → Option (List ℕ) → Option (List ℕ) → Result (Unit {0}) RunFault → Type 0
+RunsFiles seed schools roster lists script old new result = (IsUnread result × Keeps old new)
+    ⊎ ((texts : Texts) × (last : List ℕ) × AreWhole schools roster lists texts × IsWhole script last × WritesRun (run_in seed texts last) old new result)

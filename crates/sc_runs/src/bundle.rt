@@ -1,15 +1,13 @@
 //! From one bundle to replies and an assignment.
 
-ghost use Rattle.std.specs.Prelude.{◌⊎◌, ℕ, List};
+ghost use Rattle.sc_report.specs.Watched.{device_of, has_failed};
 ghost use Rattle.sc_runs.specs.Bundle.{sections_of};
-ghost use Rattle.std.specs.Io.KnownBytes.{Keeps};
-ghost use Rattle.sc_report.specs.Watched.{device_of};
-ghost use Rattle.sc_runs.specs.BundleRun.{EndsBundle, EndsUnread, WritesSections};
-ghost use Rattle.sc_runs.specs.Opening.{IsWhole};
+ghost use Rattle.sc_runs.specs.BundleRun.{EndsBundle, RunsBundle, WritesSections};
 
 use crate::ending::Ending;
 use crate::fault::RunFault;
-use crate::matching::{Files, match_texts, read_input};
+use crate::inputs::{Files, read_input};
+use crate::matching::match_texts;
 use crate::running::run_texts;
 use crate::sections::{Bundle, split_bundle};
 use sc_intake::Source;
@@ -26,8 +24,8 @@ pub fn run_bundle<R: Read, W: Write>(
     input: &mut Watched<R>,
     out: &mut Watched<W>,
 ) -> Ending
-    ensures { ((text : List ℕ) × IsWhole (R.remaining (device_of input.old)) text × EndsBundle text (W.contents (device_of out.old)) (W.contents (device_of out.new)) result)
-        ⊎ (EndsUnread result × Keeps (W.contents (device_of out.old)) (W.contents (device_of out.new))) }
+    ensures { RunsBundle (R.remaining (device_of input.old)) (has_failed input.new)
+        (W.contents (device_of out.old)) (W.contents (device_of out.new)) result }
 {
     match read_input(alloc, input, Source::Bundle) {
         Ok(text) => run_text(alloc, text.as_slice(), out),
@@ -51,7 +49,7 @@ fn run_sections<W: Write>(
     };
     match bundle.script {
         Some(script) => run_texts(alloc, seed, files, script, out),
-        None => match_texts(alloc, seed, files, out),
+        None => match_texts(alloc, seed, files, false, out),
     }
 }
 

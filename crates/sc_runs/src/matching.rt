@@ -1,75 +1,63 @@
 //! From three files to an assignment.
 
-ghost use Rattle.std.specs.Prelude.{◌≡◌, ◌||◌, IfErr, IfOk, MatchResult, OnOk};
+ghost use Rattle.std.specs.Prelude.{◌≡◌, ◌||◌, IfErr, MatchResult, Ok};
 ghost use Rattle.sc_papers.specs.Matching.{IsStudentOptimal};
-ghost use Rattle.sc_repair.specs.Standing.{matching_of};
+ghost use Rattle.sc_repair.specs.Standing.{matching_of, IsCertified};
+ghost use Rattle.sc_report.specs.Text.{IsReportText};
 ghost use Rattle.sc_report.specs.Watched.{device_of, has_failed};
-ghost use Rattle.sc_runs.specs.Opening.{is_output_fault, papers_in, IsOpeningFault, IsReadFault, IsWhole, WritesMatch, WritesNothing, WritesOut, WritesReportOf};
+ghost use Rattle.sc_runs.specs.Inputs.{ReadersFailed};
+ghost use Rattle.sc_runs.specs.Opening.{is_output_fault, papers_in, IsCertificate, IsOpeningFault, MatchesFiles, WritesExactly, WritesMatch, WritesText};
 
 use crate::fault::RunFault;
-use sc_intake::{
-    Cause, IntakeFault, MOST_BYTES, Source, papers_of, read_lists, read_roster, read_schools,
-};
-use sc_papers::Seed;
+use crate::inputs::{Files, Opening, read_opening};
+use sc_intake::{papers_of, read_lists, read_roster, read_schools};
+use sc_papers::{Papers, Seed};
 use sc_repair::Clearing;
-use sc_report::{ReadFault, ReportFault, Watched, read_whole, write_report};
+use sc_report::{ReportFault, Watched, log_text, write_report, write_whole};
 use std::alloc::Global;
 use std::io::{Read, Write};
 
-/// The files from which papers are opened.
-#[derive(Drop)]
-pub struct Opening<R> {
-    pub schools: Watched<R>,
-    pub roster: Watched<R>,
-    pub lists: Watched<R>,
-}
-
-/// The files of an opening, read.
-#[derive(Clone, Copy)]
-pub struct Files<'a> {
-    pub schools: &'a [u8],
-    pub roster: &'a [u8],
-    pub lists: &'a [u8],
-}
-
-/// Reads an input whole, and refuses one that is too long.
-pub fn read_input<R: Read>(
-    alloc: Global,
-    from: &mut Watched<R>,
-    source: Source,
-) -> Result<Vec<u8>, RunFault>
-    ensures whole { IfOk result (λ text. IsWhole (R.remaining (device_of from.old)) text.items) }
-    ensures fault { IfErr result IsReadFault }
-{
-    match read_whole(alloc, from, MOST_BYTES + 1) {
-        Ok(bytes) => {
-            if bytes.len() > MOST_BYTES {
-                return Err(RunFault::Intake(IntakeFault {
-                    source,
-                    row: 0,
-                    cause: Cause::TooLong,
-                }));
-            }
-            Ok(bytes)
-        }
-        Err(ReadFault::Device) => Err(RunFault::Read { source }),
-        Err(ReadFault::OutOfMemory) => Err(RunFault::OutOfMemory),
-    }
-}
-
-/// The standing assignment of the papers that the files hold, or their first fault.
-pub fn open_files(alloc: Global, seed: &Seed, files: Files<'_>) -> Result<Clearing, RunFault>
+/// The papers that the files hold, or their first fault.
+pub fn read_papers(alloc: Global, seed: &Seed, files: Files<'_>) -> Result<Papers, RunFault>
     ensures { MatchResult result
-        (λ clearing. (papers_in seed.now files.entry.schools.now files.entry.roster.now files.entry.lists.now ≡ Ok clearing.papers) × IsStudentOptimal clearing.papers (matching_of clearing))
+        (λ papers. papers_in seed.now files.entry.schools.now files.entry.roster.now files.entry.lists.now ≡ Ok papers)
         (IsOpeningFault (papers_in seed.now files.entry.schools.now files.entry.roster.now files.entry.lists.now)) }
 {
     let schools = read_schools(alloc, files.schools)?;
     let roster = read_roster(alloc, files.roster)?;
     let lists = read_lists(alloc, files.lists)?;
     let papers = papers_of(alloc, *seed, &schools, &roster, &lists)?;
+    Ok(papers)
+}
+
+/// The standing assignment of the papers that the files hold, or their first fault.
+pub fn open_files(alloc: Global, seed: &Seed, files: Files<'_>) -> Result<Clearing, RunFault>
+    ensures { MatchResult result
+        (λ clearing. (papers_in seed.now files.entry.schools.now files.entry.roster.now files.entry.lists.now ≡ Ok clearing.papers) × IsCertified clearing)
+        (IsOpeningFault (papers_in seed.now files.entry.schools.now files.entry.roster.now files.entry.lists.now)) }
+{
+    let papers = match read_papers(alloc, seed, files) {
+        Ok(papers) => papers,
+        Err(fault) => return Err(fault),
+    };
     match Clearing::open(alloc, papers) {
         Ok(clearing) => Ok(clearing),
         Err(_) => Err(RunFault::OutOfMemory),
+    }
+}
+
+/// Writes a text, and flushes it.
+pub fn write_text<W: Write>(text: &[u8], out: &mut Watched<W>) -> Result<(), RunFault>
+    ensures bytes { WritesExactly text.now (W.contents (device_of out.old)) (W.contents (device_of out.new)) result }
+    ensures failed { has_failed out.new ≡ (has_failed out.old || is_output_fault result) }
+{
+    match write_whole(out, text) {
+        Ok(()) => {}
+        Err(_) => return Err(RunFault::WriteOut),
+    }
+    match out.flush() {
+        Ok(()) => Ok(()),
+        Err(_) => Err(RunFault::WriteOut),
     }
 }
 
@@ -79,7 +67,7 @@ pub fn write_out<W: Write>(
     clearing: &Clearing,
     out: &mut Watched<W>,
 ) -> Result<(), RunFault>
-    ensures bytes { WritesOut clearing.now.papers (matching_of clearing.now)
+    ensures bytes { WritesText (IsReportText clearing.now.papers (matching_of clearing.now))
         (W.contents (device_of out.old)) (W.contents (device_of out.new)) result }
     ensures failed { has_failed out.new ≡ (has_failed out.old || is_output_fault result) }
 {
@@ -94,45 +82,68 @@ pub fn write_out<W: Write>(
     }
 }
 
-/// Writes the report of the papers that the files hold, and flushes it.
+/// Writes the log of rejections that certifies the standing assignment, and flushes it.
+fn write_log<W: Write>(
+    alloc: Global,
+    clearing: &Clearing,
+    out: &mut Watched<W>,
+) -> Result<(), RunFault>
+    requires certified { IsCertified clearing.now }
+    ensures bytes { WritesText (IsCertificate clearing.now.papers)
+        (W.contents (device_of out.old)) (W.contents (device_of out.new)) result }
+    ensures failed { has_failed out.new ≡ (has_failed out.old || is_output_fault result) }
+{
+    match log_text(alloc, clearing.rejections()) {
+        Ok(text) => write_text(text.as_slice(), out),
+        Err(_) => Err(RunFault::OutOfMemory),
+    }
+}
+
+/// Writes the report of the papers that the files hold, or their log, and flushes it.
 pub fn match_texts<W: Write>(
     alloc: Global,
     seed: &Seed,
     files: Files<'_>,
+    show_log: bool,
     out: &mut Watched<W>,
 ) -> Result<(), RunFault>
-    ensures bytes { WritesMatch (papers_in seed.now files.entry.schools.now files.entry.roster.now files.entry.lists.now)
+    ensures bytes { WritesMatch show_log (papers_in seed.now files.entry.schools.now files.entry.roster.now files.entry.lists.now)
         (W.contents (device_of out.old)) (W.contents (device_of out.new)) result }
     ensures failed { has_failed out.new ≡ (has_failed out.old || is_output_fault result) }
 {
-    let clearing = open_files(alloc, seed, files)?;
-    write_out(alloc, &clearing, out)
+    let clearing = match open_files(alloc, seed, files) {
+        Ok(clearing) => clearing,
+        Err(fault) => return Err(fault),
+    };
+    if show_log {
+        write_log(alloc, &clearing, out)
+    } else {
+        write_out(alloc, &clearing, out)
+    }
 }
 
-/// Reads the three files, in the order schools, roster, lists, and writes the report of their papers.
+/// Reads the three files, in the order schools, roster, lists, and writes the report of their papers, or
+/// with `show_log` the log of rejections that certifies the assignment of the report.
 ///
-/// Nothing is written before the files are known to be good. With `show_log` it is to write the log
-/// in place of the report; for now it changes nothing.
+/// Nothing is written before the files are known to be good. An error is the first fault of the
+/// files, each of which is read whole before any is looked into; that a file or the output failed; or
+/// want of memory, after which nothing was written. After a fault of the output a front of the text was.
 pub fn match_files<R: Read, W: Write>(
     alloc: Global,
     seed: &Seed,
     opening: &mut Opening<R>,
-    _show_log: bool,
+    show_log: bool,
     out: &mut Watched<W>,
 ) -> Result<(), RunFault>
-    ensures ok { OnOk result (WritesReportOf seed.now
+    ensures bytes { MatchesFiles seed.now show_log
         (R.remaining (device_of opening.old.schools)) (R.remaining (device_of opening.old.roster)) (R.remaining (device_of opening.old.lists))
-        (W.contents (device_of out.old)) (W.contents (device_of out.new))) }
-    ensures err { WritesNothing (W.contents (device_of out.old)) (W.contents (device_of out.new)) result }
+        (W.contents (device_of out.old)) (W.contents (device_of out.new)) result }
     ensures failed { has_failed out.new ≡ (has_failed out.old || is_output_fault result) }
+    ensures read_failed { IfErr result (ReadersFailed (has_failed opening.new.schools) (has_failed opening.new.roster) (has_failed opening.new.lists)) }
 {
-    let schools = read_input(alloc, &mut opening.schools, Source::Schools)?;
-    let roster = read_input(alloc, &mut opening.roster, Source::Roster)?;
-    let lists = read_input(alloc, &mut opening.lists, Source::Lists)?;
-    let files = Files {
-        schools: schools.as_slice(),
-        roster: roster.as_slice(),
-        lists: lists.as_slice(),
+    let texts = match read_opening(alloc, opening) {
+        Ok(texts) => texts,
+        Err(fault) => return Err(fault),
     };
-    match_texts(alloc, seed, files, out)
+    match_texts(alloc, seed, texts.files(), show_log, out)
 }

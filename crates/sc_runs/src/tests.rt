@@ -1,7 +1,8 @@
 use crate::bundle::run_bundle;
 use crate::ending::{fault_line, status_of};
 use crate::fault::RunFault;
-use crate::matching::{Opening, match_files};
+use crate::inputs::Opening;
+use crate::matching::match_files;
 use crate::running::{Inputs, run};
 use sc_papers::Seed;
 use sc_report::Watched;

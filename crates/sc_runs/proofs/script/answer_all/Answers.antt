@@ -1,4 +1,4 @@
-use Rattle.std.proofs.Common.{false, refl, sym, ◌∙◌, ap, arith, rules, ◌≡◌, ◌∷◌, [], ◌+◌, length, subst, ◌||◌}
+use Rattle.std.proofs.Common.{false, refl, sym, ◌∙◌, ap, arith, rules, ◌≡◌, ◌∷◌, [], length}
 use Rattle.std.specs.Vec.Iter.{into_iter_items}
 use Rattle.sc_runs.specs.Run.{after_script}
 use Rattle.sc_runs.proofs.Replies.{Said-all, Said-failed, Said-next, nothing-left, or-nothing, or-same, said-first}
