@@ -1,0 +1,132 @@
+//! The line of an amendment.
+ghost use Rattle.std.specs.Prelude.{◌≡◌, ◌++◌, IfOk, OnOk, codes, decimal, flat_map};
+ghost use Rattle.sc_journal.specs.Line.{amendment_text, further_text, line_text, list_field, list_text, number_field};
+
+use crate::line_no::LineNo;
+use itoa::Buffer;
+use sc_papers::{Amendment, SchoolList, SchoolNo};
+use std::alloc::{AllocError, Global};
+
+/// Adds a number in decimal digits.
+fn push_number(text: &mut Vec<u8>, number: u32) -> Result<(), AllocError>
+    ensures { OnOk result (text.new.items ≡ text.old.items ++ decimal number) }
+{
+    let mut buffer = Buffer::new();
+    text.extend_from_slice(buffer.format(number).as_bytes())
+}
+
+/// Adds the schools that follow the first of a list.
+fn push_further(text: &mut Vec<u8>, schools: &[SchoolNo]) -> Result<(), AllocError>
+    ensures { OnOk result (text.new.items ≡ text.old.items ++ flat_map further_text schools.now) }
+{
+    for school in schools {
+        text.extend_from_slice(b" ")?;
+        push_number(text, school.get())?;
+    }
+    Ok(())
+}
+
+/// Adds a list of schools.
+fn push_list(text: &mut Vec<u8>, schools: &[SchoolNo]) -> Result<(), AllocError>
+    ensures { OnOk result (text.new.items ≡ text.old.items ++ list_text schools.now) }
+{
+    match schools {
+        [] => Ok(()),
+        [first, further @ ..] => {
+            push_number(text, first.get())?;
+            push_further(text, further)
+        }
+    }
+}
+
+/// Adds a comma and a number.
+fn push_number_field(text: &mut Vec<u8>, number: u32) -> Result<(), AllocError>
+    ensures { OnOk result (text.new.items ≡ text.old.items ++ number_field number) }
+{
+    text.extend_from_slice(b",")?;
+    push_number(text, number)
+}
+
+/// Adds a comma and a list of schools.
+fn push_list_field(text: &mut Vec<u8>, schools: &SchoolList) -> Result<(), AllocError>
+    ensures { OnOk result (text.new.items ≡ text.old.items ++ list_field schools.now) }
+{
+    text.extend_from_slice(b",")?;
+    push_list(text, schools.as_slice())
+}
+
+/// Adds the record of an amendment.
+fn push_amendment(text: &mut Vec<u8>, amendment: &Amendment) -> Result<(), AllocError>
+    ensures { OnOk result (text.new.items ≡ text.old.items ++ amendment_text amendment.now) }
+{
+    match amendment {
+        Amendment::Enter {
+            student,
+            zone,
+            siblings,
+            choices,
+        } => {
+            text.extend_from_slice(b"enter")?;
+            push_number_field(text, student.get())?;
+            push_number_field(text, zone.get())?;
+            push_list_field(text, siblings)?;
+            push_list_field(text, choices)
+        }
+        Amendment::Withdraw { student } => {
+            text.extend_from_slice(b"withdraw")?;
+            push_number_field(text, student.get())
+        }
+        Amendment::Rerank { student, choices } => {
+            text.extend_from_slice(b"rerank")?;
+            push_number_field(text, student.get())?;
+            push_list_field(text, choices)
+        }
+        Amendment::Add { school, count } => {
+            text.extend_from_slice(b"add")?;
+            push_number_field(text, school.get())?;
+            push_number_field(text, count.get())
+        }
+        Amendment::Close { school, count } => {
+            text.extend_from_slice(b"close")?;
+            push_number_field(text, school.get())?;
+            push_number_field(text, count.get())
+        }
+        Amendment::Correct {
+            student,
+            zone,
+            siblings,
+        } => {
+            text.extend_from_slice(b"correct")?;
+            push_number_field(text, student.get())?;
+            push_number_field(text, zone.get())?;
+            push_list_field(text, siblings)
+        }
+    }
+}
+
+/// The line of an amendment without its newline.
+pub(crate) fn spelling(
+    alloc: Global,
+    number: LineNo,
+    amendment: &Amendment,
+) -> Result<Vec<u8>, AllocError>
+    ensures { IfOk result (λ text. text.items ≡ line_text number amendment.now) }
+{
+    let mut text = Vec::new(alloc);
+    push_number(&mut text, number.get())?;
+    text.extend_from_slice(b",")?;
+    push_amendment(&mut text, amendment)?;
+    Ok(text)
+}
+
+/// The line of an accepted amendment, with its newline: its number, a comma, and the amendment's
+/// record. Each amendment has this one spelling: decimal digits without leading zeros, one space
+/// between the numbers of a list, an empty field for an empty list, and no quotes. The only error is
+/// want of memory; the cost is the length of the line.
+pub fn line(alloc: Global, number: LineNo, amendment: &Amendment) -> Result<Vec<u8>, AllocError>
+    ensures { IfOk result (λ text. text.items ≡ line_text number amendment.now ++ codes "\n") }
+{
+    let mut text = spelling(alloc, number, amendment)?;
+    text.extend_from_slice(b"\n")?;
+    Ok(text)
+}
