@@ -1,3 +1,4 @@
 pub mod Cutting
 pub mod Openings
 pub mod Replies
+pub mod Pieces

@@ -1,219 +1,302 @@
--- What the reply lines and the report come to together.
-use Rattle.std.proofs.Common.{append_assoc, append-nil, ◌≡◌, ◌≢◌, Bool, true, false, ◌||◌, ℕ, ◌+◌, inl, inr, arith, List, [], ◌∷◌, ◌++◌, Option, None, Some, Result, Ok, Err, length, take, refl, sym, ◌∙◌, subst, ap}
-use Rattle.std.proofs.lemmas.Bool.{cases_lt}
-use Rattle.std.proofs.lemmas.List.{take_all, take-append-le}
-use Rattle.std.proofs.Math.Seq.{take-append-add, take-append_seam}
+-- What the lines, the reply lines and the report come to together.
+use Rattle.std.proofs.Common.{append_assoc, append-nil, ◌≡◌, ◌≢◌, Bool, true, false, ◌||◌, ℕ, ◌+◌, ◌≤◌, inl, inr, arith, List, [], ◌∷◌, ◌++◌, Option, None, Some, Result, Ok, Err, length, refl, sym, ◌∙◌, subst, ap, codes}
+use Rattle.std.specs.Io.KnownBytes.{Appends, Keeps}
 use Rattle.std.proofs.KnownBytes.{Appends-trans}
-use Rattle.std.specs.Io.KnownBytes.{Appends}
+use Rattle.std.proofs.lemmas.Bool.{true≢false}
+use Rattle.std.specs.Result.{is_err, result_err}
 use Rattle.sc_papers.specs.Market.{Market}
 use Rattle.sc_papers.specs.Matching.{Matching, IsStudentOptimal}
+use Rattle.sc_papers.specs.Verdict.{after, unless_refused, verdict, IsRefusal}
 use Rattle.sc_papers.specs.declared.amendment.Amendment.{Amendment}
 use Rattle.sc_papers.specs.declared.amendment.Refusal.{Refusal}
 use Rattle.sc_papers.specs.declared.amendment.Refusal.TheVariants.{OutOfMemory as refused_for_memory}
-use Rattle.sc_papers.specs.Verdict.{unless_refused, verdict, IsRefusal}
 use Rattle.sc_intake.specs.declared.fault.IntakeFault.{IntakeFault}
-use Rattle.sc_report.specs.Whole.{AppendsFront}
+use Rattle.sc_journal.specs.Line.{line_text}
+use Rattle.sc_report.specs.Reply.{reply_text}
+use Rattle.sc_report.specs.Text.{report_text}
+use Rattle.sc_intake.specs.declared.fault.Source.TheVariants as input
+use Rattle.sc_runs.specs.Inputs.{Texts, input_in, inputs_in, AreInputsFault, AreWhole, IsInputFault, IsWhole}
+use Rattle.sc_runs.specs.Opening.{IsOpeningFault}
+use Rattle.sc_runs.specs.Pieces.{Held, Piece, journal_of, output_of, to_journal, to_output, GrowsByAll, GrowsByFront}
+use Rattle.sc_runs.specs.Run.{accepted, accepted_in, after_record, after_script, answer_to, answers, journal_text, lines_for, made, made_by, opened_in, replies, reply_to, unless_verdict, IsFull, KeepsBoth, RunsFiles, Writes, WritesFront, WritesRun}
 use Rattle.sc_runs.specs.declared.fault.RunFault.{RunFault}
 use Rattle.sc_runs.specs.declared.fault.RunFault.TheVariants.{Read, Intake, Journal, WriteOut, WriteJournal, OutOfMemory}
-use Rattle.sc_report.specs.Text.{IsReportText}
-use Rattle.sc_runs.specs.Opening.{IsOpeningFault, WritesText}
-use Rattle.sc_report.specs.Reply.{reply_text}
-use Rattle.sc_runs.specs.Run.{after_record, after_script, opened_in, replies, reply_to, RunsFiles, WritesReplies, WritesRun}
-use Rattle.sc_runs.specs.Inputs.{Texts, inputs_in, AreInputsFault, AreWhole}
-use Rattle.sc_runs.proofs.Openings.{Appends-front-kept, Keeps-refl, whole-some}
+use Rattle.sc_runs.proofs.Openings.{Keeps-refl, whole-some}
+use Rattle.sc_runs.proofs.Pieces.{GrowsByAll-none, GrowsByAll-trans, GrowsByFront-after, GrowsByFront-all, GrowsByFront-longer, GrowsByFront-nothing, journal_of-append, output_of-append}
 
 -- a refusal that is not want of memory is the verdict
-unless_refused-refused : (found : Option Refusal) (refusal same : Refusal) → IsRefusal found refusal → same ≡ refusal → same ≢ refused_for_memory → Err same ≡ unless_refused found
-unless_refused-refused None refusal same is eq by_rules = absurd (by_rules (eq ∙ is))
-unless_refused-refused (Some first) refusal same is eq by_rules = ap Err (eq ∙ is)
+pub refused-by_rules : (found : Option Refusal) (refusal same : Refusal) → IsRefusal found refusal → same ≡ refusal → same ≢ refused_for_memory → found ≡ Some same
+refused-by_rules None refusal same is eq by_rules = absurd (by_rules (eq ∙ is))
+refused-by_rules (Some first) refusal same is eq by_rules = ap Some (sym (eq ∙ is))
 
--- and so it is the reply to an amendment's record
-pub reply_to-refused : (m : Market) (entry : Result Amendment Refusal) (amendment : Amendment) (refusal same : Refusal)
-    → entry ≡ Ok amendment → IsRefusal (verdict m amendment) refusal → same ≡ refusal → same ≢ refused_for_memory → Err same ≡ reply_to m entry
-reply_to-refused m entry amendment refusal same entered is eq by_rules =
-    subst (λ e. Err same ≡ reply_to m e) (sym entered) (unless_refused-refused (verdict m amendment) refusal same is eq by_rules)
-
--- what ended without a fault of the output did not make it fail
+-- what ended without a fault of a writer did not make it fail
 pub or-nothing : (failed more : Bool) → more ≡ false → failed ≡ (failed || more)
 or-nothing false more none = sym none
 or-nothing true more none = refl
 
--- where nothing was written, a front of any text was
-pub AppendsFront-nothing : (a : Option (List ℕ)) (text : List ℕ) → AppendsFront a a text
-AppendsFront-nothing None text = (0, tt)
-AppendsFront-nothing (Some xs) text = (0, sym (append-nil xs))
-
--- a front of what stands after a text that was written whole is a front of both together
-pub AppendsFront-more : (a b c : Option (List ℕ)) (xs ys : List ℕ) → Appends a b xs → AppendsFront b c ys → AppendsFront a c (xs ++ ys)
-AppendsFront-more a b c xs ys first (count, second) =
-    (length xs + count, subst (Appends a c) (sym (take-append-add xs ys count)) (Appends-trans a b c xs (take count ys) first second))
-
--- a front of a text is one also of a longer text that begins with it
-pub AppendsFront-longer : (a b : Option (List ℕ)) (xs ys : List ℕ) → AppendsFront a b xs → AppendsFront a b (xs ++ ys)
-AppendsFront-longer a b xs ys (count, written) = elim (cases_lt (length xs) count) [
-  | inl past ↦ (length xs, subst (Appends a b) (take_all count xs (omega arith) ∙ sym (take-append_seam xs ys)) written)
-  | inr within ↦ (count, subst (Appends a b) (sym (take-append-le count xs ys (omega arith))) written)
-]
-
--- where nothing was written, nothing was added
-pub Appends-nothing : (a : Option (List ℕ)) → Appends a a []
-Appends-nothing None = tt
-Appends-nothing (Some xs) = sym (append-nil xs)
-
--- the papers have a fault, and nothing was written
-pub WritesRun-unopened : (reading : Result Market IntakeFault) (scripted : Result (List (Result Amendment Refusal)) IntakeFault) (old : Option (List ℕ)) (fault : RunFault)
-    → IsOpeningFault reading fault → WritesRun (opened_in reading scripted) old old (Err fault)
-WritesRun-unopened reading scripted old (Read source) is = absurd is
-WritesRun-unopened reading scripted old (Intake fault) is = (ap (λ r. opened_in r scripted) is, Keeps-refl old)
-WritesRun-unopened reading scripted old (Journal fault) is = absurd is
-WritesRun-unopened reading scripted old WriteOut is = absurd is
-WritesRun-unopened reading scripted old WriteJournal is = absurd is
-WritesRun-unopened reading scripted old OutOfMemory is = inl (Keeps-refl old)
-
--- the papers were read, the script has a fault, and nothing was written
-pub WritesRun-unscripted : (reading : Result Market IntakeFault) (scripted : Result (List (Result Amendment Refusal)) IntakeFault) (m : Market) (old : Option (List ℕ)) (fault : RunFault)
-    → reading ≡ Ok m → IsOpeningFault scripted fault → WritesRun (opened_in reading scripted) old old (Err fault)
-WritesRun-unscripted reading scripted m old (Read source) read is = absurd is
-WritesRun-unscripted reading scripted m old (Intake fault) read is = (ap (λ r. opened_in r scripted) read ∙ ap (opened_in (Ok m)) is, Keeps-refl old)
-WritesRun-unscripted reading scripted m old (Journal fault) read is = absurd is
-WritesRun-unscripted reading scripted m old WriteOut read is = absurd is
-WritesRun-unscripted reading scripted m old WriteJournal read is = absurd is
-WritesRun-unscripted reading scripted m old OutOfMemory read is = inl (Keeps-refl old)
-
--- what was read of papers and a script
-opened_in-read : (reading : Result Market IntakeFault) (scripted : Result (List (Result Amendment Refusal)) IntakeFault) (m : Market) (script : List (Result Amendment Refusal))
-    → reading ≡ Ok m → scripted ≡ Ok script → opened_in reading scripted ≡ Ok (record { papers = m; script = script })
-opened_in-read reading scripted m script read script_read = ap (λ r. opened_in r scripted) read ∙ ap (opened_in (Ok m)) script_read
-
--- the run ended amid the replies
-pub WritesRun-answered : (reading : Result Market IntakeFault) (scripted : Result (List (Result Amendment Refusal)) IntakeFault) (m : Market) (script : List (Result Amendment Refusal)) (old new : Option (List ℕ)) (fault : RunFault)
-    → reading ≡ Ok m → scripted ≡ Ok script → WritesReplies old new (Err fault) (replies 1 m script) → WritesRun (opened_in reading scripted) old new (Err fault)
-WritesRun-answered reading scripted m script old new (Read source) read script_read wrote = absurd wrote
-WritesRun-answered reading scripted m script old new (Intake fault) read script_read wrote = absurd wrote
-WritesRun-answered reading scripted m script old new (Journal fault) read script_read wrote = absurd wrote
-WritesRun-answered reading scripted m script old new WriteJournal read script_read wrote = absurd wrote
-WritesRun-answered reading scripted m script old new WriteOut read script_read wrote =
-    (record { papers = m; script = script }, opened_in-read reading scripted m script read script_read, inl wrote)
-WritesRun-answered reading scripted m script old new OutOfMemory read script_read wrote =
-    inr (record { papers = m; script = script }, opened_in-read reading scripted m script read script_read, inl wrote)
-
--- all replies were written, and then the report, whole or in part
-pub WritesRun-written : (reading : Result Market IntakeFault) (scripted : Result (List (Result Amendment Refusal)) IntakeFault) (m : Market) (script : List (Result Amendment Refusal)) (a : Matching) (old mid new : Option (List ℕ)) (result : Result (Unit {0}) RunFault)
-    → reading ≡ Ok m → scripted ≡ Ok script → IsStudentOptimal (after_script m script) a → Appends old mid (replies 1 m script) → WritesText (IsReportText (after_script m script) a) mid new result
-    → WritesRun (opened_in reading scripted) old new result
-WritesRun-written reading scripted m script a old mid new (Ok done) read script_read optimal replied (report, reported, wrote) = (
-  record { papers = m; script = script },
-  opened_in-read reading scripted m script read script_read,
-  (
-    replies 1 m script ++ report,
-    (report, (a, optimal, reported), refl),
-    Appends-trans old mid new (replies 1 m script) report replied wrote,
-  ),
-)
-WritesRun-written reading scripted m script a old mid new (Err WriteOut) read script_read optimal replied (report, reported, wrote) = (
-  record { papers = m; script = script },
-  opened_in-read reading scripted m script read script_read,
-  inr (
-    replies 1 m script ++ report,
-    (report, (a, optimal, reported), refl),
-    AppendsFront-more old mid new (replies 1 m script) report replied wrote,
-  ),
-)
-WritesRun-written reading scripted m script a old mid new (Err (Read source)) read script_read optimal replied wrote = absurd wrote
-WritesRun-written reading scripted m script a old mid new (Err (Intake fault)) read script_read optimal replied wrote = absurd wrote
-WritesRun-written reading scripted m script a old mid new (Err (Journal fault)) read script_read optimal replied wrote = absurd wrote
-WritesRun-written reading scripted m script a old mid new (Err WriteJournal) read script_read optimal replied wrote = absurd wrote
-WritesRun-written reading scripted m script a old mid new (Err OutOfMemory) read script_read optimal replied wrote =
-    inr (
-      record { papers = m; script = script },
-      opened_in-read reading scripted m script read script_read,
-      inl (Appends-front-kept old mid new (replies 1 m script) replied wrote),
-    )
-
--- the same of the papers that stand after the script, by whatever name
-pub WritesRun-after : (reading : Result Market IntakeFault) (scripted : Result (List (Result Amendment Refusal)) IntakeFault) (m : Market) (script : List (Result Amendment Refusal)) (later : Market) (a : Matching) (old mid new : Option (List ℕ)) (result : Result (Unit {0}) RunFault)
-    → reading ≡ Ok m → scripted ≡ Ok script → later ≡ after_script m script → IsStudentOptimal later a → Appends old mid (replies 1 m script) → WritesText (IsReportText later a) mid new result
-    → WritesRun (opened_in reading scripted) old new result
-WritesRun-after reading scripted m script later a old mid new result read script_read is optimal replied wrote =
-    WritesRun-written reading scripted m script a old mid new result read script_read
-    (subst (λ n. IsStudentOptimal n a) is optimal) replied (subst (λ n. WritesText (IsReportText n a) mid new result) is wrote)
-
--- what was written so far, and the replies to the records that are left, are the replies to all
-pub record Said (old now : Option (List ℕ)) (opening : Market) (all : List (Result Amendment Refusal)) (number : ℕ) (m : Market) (left : List (Result Amendment Refusal)) : Type 0 where
-  pub written : List ℕ
-  pub wrote : Appends old now written
-  pub rest : written ++ replies (number + 1) m left ≡ replies 1 opening all
-
-pub said-first : (old : Option (List ℕ)) (m : Market) (all : List (Result Amendment Refusal)) → Said old old m all 0 m all
-said-first old m all = record { written = []; wrote = Appends-nothing old; rest = refl }
-
-pub said-next : (old now next : Option (List ℕ)) (opening : Market) (all : List (Result Amendment Refusal)) (number : ℕ) (m later : Market) (entry : Result Amendment Refusal) (left : List (Result Amendment Refusal))
-    → Said old now opening all number m (entry ∷ left) → later ≡ after_record m entry → Appends now next (reply_text (number + 1) (reply_to m entry))
-    → Said old next opening all (number + 1) later left
-said-next old now next opening all number m later entry left said is wrote = record {
-  written = said.written ++ reply_text (number + 1) (reply_to m entry);
-  wrote = Appends-trans old now next said.written (reply_text (number + 1) (reply_to m entry)) said.wrote wrote;
-  rest = append_assoc said.written (reply_text (number + 1) (reply_to m entry)) (replies (number + 1 + 1) later left)
-      ∙ ap (λ n. said.written ++ (reply_text (number + 1) (reply_to m entry) ++ replies (number + 1 + 1) n left)) is ∙ said.rest;
-}
-
-pub said-all : (old now : Option (List ℕ)) (opening : Market) (all : List (Result Amendment Refusal)) (number : ℕ) (m : Market)
-    → Said old now opening all number m [] → Appends old now (replies 1 opening all)
-said-all old now opening all number m said = subst (Appends old now) (sym (append-nil said.written) ∙ said.rest) said.wrote
-
-said-front : (old now next : Option (List ℕ)) (opening : Market) (all : List (Result Amendment Refusal)) (number : ℕ) (m : Market) (entry : Result Amendment Refusal) (left : List (Result Amendment Refusal))
-    → Said old now opening all number m (entry ∷ left) → AppendsFront now next (reply_text (number + 1) (reply_to m entry)) → AppendsFront old next (replies 1 opening all)
-said-front old now next opening all number m entry left said front =
-    subst (AppendsFront old next) (append_assoc said.written (reply_text (number + 1) (reply_to m entry)) (replies (number + 1 + 1) (after_record m entry) left) ∙ said.rest)
-    (AppendsFront-longer old next (said.written ++ reply_text (number + 1) (reply_to m entry)) (replies (number + 1 + 1) (after_record m entry) left)
-    (AppendsFront-more old now next said.written (reply_text (number + 1) (reply_to m entry)) said.wrote front))
-
-pub said-failed : (old now next : Option (List ℕ)) (opening : Market) (all : List (Result Amendment Refusal)) (number : ℕ) (m : Market) (entry : Result Amendment Refusal) (left : List (Result Amendment Refusal)) (fault : RunFault)
-    → Said old now opening all number m (entry ∷ left) → WritesReplies now next (Err fault) (reply_text (number + 1) (reply_to m entry)) → WritesReplies old next (Err fault) (replies 1 opening all)
-said-failed old now next opening all number m entry left (Read source) said wrote = absurd wrote
-said-failed old now next opening all number m entry left (Intake fault) said wrote = absurd wrote
-said-failed old now next opening all number m entry left (Journal fault) said wrote = absurd wrote
-said-failed old now next opening all number m entry left WriteJournal said wrote = absurd wrote
-said-failed old now next opening all number m entry left WriteOut said wrote = said-front old now next opening all number m entry left said wrote
-said-failed old now next opening all number m entry left OutOfMemory said wrote = said-front old now next opening all number m entry left said wrote
+pub or-same : (a b more : Bool) → a ≡ b → (a || more) ≡ (b || more)
+or-same a b more same = ap (λ c. c || more) same
 
 -- a list without a member is empty
 pub nothing-left : {X : Type 0} (xs : List X) → length xs ≡ 0 → xs ≡ []
 nothing-left [] none = refl
 nothing-left (x ∷ xs) none = absurd (omega arith)
 
--- the same where the records that are left are known by an equation
-pub Said-next : (old now next : Option (List ℕ)) (opening : Market) (all : List (Result Amendment Refusal)) (number : ℕ) (m later : Market) (entry : Result Amendment Refusal) (before left : List (Result Amendment Refusal))
-    → Said old now opening all number m before → before ≡ entry ∷ left → later ≡ after_record m entry → Appends now next (reply_text (number + 1) (reply_to m entry))
-    → Said old next opening all (number + 1) later left
-Said-next old now next opening all number m later entry before left said is =
-    said-next old now next opening all number m later entry left (subst (Said old now opening all number m) is said)
+KeepsBoth-refl : (a : Held) → KeepsBoth a a
+KeepsBoth-refl a = (Keeps-refl a.journal, Keeps-refl a.output)
 
-pub Said-failed : (old now next : Option (List ℕ)) (opening : Market) (all whole : List (Result Amendment Refusal)) (number : ℕ) (m : Market) (entry : Result Amendment Refusal) (before left : List (Result Amendment Refusal)) (fault : RunFault)
-    → Said old now opening all number m before → before ≡ entry ∷ left → all ≡ whole → WritesReplies now next (Err fault) (reply_text (number + 1) (reply_to m entry))
-    → WritesReplies old next (Err fault) (replies 1 opening whole)
-Said-failed old now next opening all whole number m entry before left fault said is same wrote =
-    subst (λ xs. WritesReplies old next (Err fault) (replies 1 opening xs)) same
-    (said-failed old now next opening all number m entry left fault (subst (Said old now opening all number m) is said) wrote)
+-- the writes that answer an amendment whose line is the next
+made_by-line : (number lines : ℕ) (amendment : Amendment) (found : Option Refusal)
+    → made_by (line_text (lines + 1) amendment ++ codes "\n") number found ≡ lines_for lines (unless_verdict amendment found) ++ to_output (reply_text number (unless_refused found)) ∷ []
+made_by-line number lines amendment None = refl
+made_by-line number lines amendment (Some refusal) = refl
 
-pub Said-all : (old now : Option (List ℕ)) (opening : Market) (all whole : List (Result Amendment Refusal)) (number : ℕ) (m : Market) (before : List (Result Amendment Refusal))
-    → Said old now opening all number m before → before ≡ [] → all ≡ whole → Appends old now (replies 1 opening whole)
-Said-all old now opening all whole number m before said is same =
-    subst (λ xs. Appends old now (replies 1 opening xs)) same (said-all old now opening all number m (subst (Said old now opening all number m) is said))
+pub made-line : (number lines next : ℕ) (m : Market) (amendment : Amendment) (line : List ℕ) → next ≡ lines + 1 → line ≡ line_text next amendment ++ codes "\n"
+    → made line number m amendment ≡ answer_to number lines m (Ok amendment)
+made-line number lines next m amendment line is_next is =
+    ap (λ text. made text number m amendment) (is ∙ ap (λ n. line_text n amendment ++ codes "\n") is_next)
+    ∙ made_by-line number lines amendment (verdict m amendment)
 
-pub or-same : (a b more : Bool) → a ≡ b → (a || more) ≡ (b || more)
-or-same a b more same = ap (λ c. c || more) same
+-- a refusal that is answered is the verdict
+pub verdict-refused : (found : Option Refusal) (refusal : Refusal) → Err refusal ≡ unless_refused found → found ≡ Some refusal
+verdict-refused None refusal is = absurd (true≢false (ap is_err is))
+verdict-refused (Some first) refusal is = sym (ap result_err is)
+
+-- and its writes are its reply alone
+pub made-refused : (line : List ℕ) (number : ℕ) (m : Market) (amendment : Amendment) (refusal : Refusal) → Err refusal ≡ unless_refused (verdict m amendment)
+    → made line number m amendment ≡ to_output (reply_text number (Err refusal)) ∷ []
+made-refused line number m amendment refusal is = ap (made_by line number) (verdict-refused (verdict m amendment) refusal is)
+
+-- what was written so far, and the answers to the records that are left, are the answers to all
+pub record Said (old now : Held) (opening : Market) (all : List (Result Amendment Refusal)) (number lines : ℕ) (m : Market) (left : List (Result Amendment Refusal)) : Type 0 where
+  pub written : List Piece
+  pub wrote : GrowsByAll written old now
+  pub rest : written ++ answers (number + 1) lines m left ≡ answers 1 0 opening all
+
+pub said-first : (old : Held) (m : Market) (all : List (Result Amendment Refusal)) → Said old old m all 0 0 m all
+said-first old m all = record { written = []; wrote = GrowsByAll-none old; rest = refl }
+
+pub said-next : (old now next : Held) (opening : Market) (all : List (Result Amendment Refusal)) (number lines more : ℕ) (m later : Market) (entry : Result Amendment Refusal) (before left : List (Result Amendment Refusal))
+    → Said old now opening all number lines m before → before ≡ entry ∷ left → later ≡ after_record m entry → more ≡ lines + length (accepted_in m entry)
+    → GrowsByAll (answer_to (number + 1) lines m entry) now next
+    → Said old next opening all (number + 1) more later left
+said-next old now next opening all number lines more m later entry before left said begins is count wrote = record {
+  written = said.written ++ answer_to (number + 1) lines m entry;
+  wrote = GrowsByAll-trans said.written (answer_to (number + 1) lines m entry) old now next said.wrote wrote;
+  rest = append_assoc said.written (answer_to (number + 1) lines m entry) (answers (number + 1 + 1) more later left)
+      ∙ ap (λ n. said.written ++ (answer_to (number + 1) lines m entry ++ answers (number + 1 + 1) n later left)) count
+      ∙ ap (λ n. said.written ++ (answer_to (number + 1) lines m entry ++ answers (number + 1 + 1) (lines + length (accepted_in m entry)) n left)) is
+      ∙ ap (λ records. said.written ++ answers (number + 1) lines m records) (sym begins)
+      ∙ said.rest;
+}
+
+pub said-all : (old now : Held) (opening : Market) (all whole : List (Result Amendment Refusal)) (number lines : ℕ) (m : Market) (left : List (Result Amendment Refusal))
+    → Said old now opening all number lines m left → left ≡ [] → all ≡ whole → GrowsByAll (answers 1 0 opening whole) old now
+said-all old now opening all whole number lines m left said none same =
+    subst (λ records. GrowsByAll (answers 1 0 opening records) old now) same
+    (subst (λ pieces. GrowsByAll pieces old now)
+    (sym (append-nil said.written) ∙ ap (λ records. said.written ++ answers (number + 1) lines m records) (sym none) ∙ said.rest) said.wrote)
+
+-- a front of the answers to the next record is one of the answers to all
+said-front : (old now next : Held) (opening : Market) (all : List (Result Amendment Refusal)) (number lines : ℕ) (m : Market) (entry : Result Amendment Refusal) (left : List (Result Amendment Refusal))
+    → Said old now opening all number lines m (entry ∷ left) → GrowsByFront (answer_to (number + 1) lines m entry) now next → GrowsByFront (answers 1 0 opening all) old next
+said-front old now next opening all number lines m entry left said front =
+    subst (λ pieces. GrowsByFront pieces old next)
+    (append_assoc said.written (answer_to (number + 1) lines m entry) (answers (number + 1 + 1) (lines + length (accepted_in m entry)) (after_record m entry) left) ∙ said.rest)
+    (GrowsByFront-longer (said.written ++ answer_to (number + 1) lines m entry) (answers (number + 1 + 1) (lines + length (accepted_in m entry)) (after_record m entry) left) old next
+    (GrowsByFront-after said.written (answer_to (number + 1) lines m entry) old now next said.wrote front))
+
+said-ended : (old now next : Held) (opening : Market) (all : List (Result Amendment Refusal)) (number lines : ℕ) (m : Market) (entry : Result Amendment Refusal) (left : List (Result Amendment Refusal)) (fault : RunFault)
+    → Said old now opening all number lines m (entry ∷ left) → Writes {A = Unit {0}} (answer_to (number + 1) lines m entry) now next (Err fault) → Writes {A = Unit {0}} (answers 1 0 opening all) old next (Err fault)
+said-ended old now next opening all number lines m entry left (Read source) said wrote = absurd wrote
+said-ended old now next opening all number lines m entry left (Intake fault) said wrote = absurd wrote
+said-ended old now next opening all number lines m entry left (Journal fault) said wrote = said-front old now next opening all number lines m entry left said wrote
+said-ended old now next opening all number lines m entry left WriteJournal said wrote = said-front old now next opening all number lines m entry left said wrote
+said-ended old now next opening all number lines m entry left WriteOut said wrote = said-front old now next opening all number lines m entry left said wrote
+said-ended old now next opening all number lines m entry left OutOfMemory said wrote = said-front old now next opening all number lines m entry left said wrote
+
+pub said-failed : (old now next : Held) (opening : Market) (all whole : List (Result Amendment Refusal)) (number lines : ℕ) (m : Market) (entry : Result Amendment Refusal) (before left : List (Result Amendment Refusal)) (fault : RunFault)
+    → Said old now opening all number lines m before → before ≡ entry ∷ left → all ≡ whole → Writes {A = Unit {0}} (answer_to (number + 1) lines m entry) now next (Err fault)
+    → Writes {A = Unit {0}} (answers 1 0 opening whole) old next (Err fault)
+said-failed old now next opening all whole number lines m entry before left fault said is same wrote =
+    subst (λ records. Writes {A = Unit {0}} (answers 1 0 opening records) old next (Err fault)) same
+    (said-ended old now next opening all number lines m entry left fault (subst (Said old now opening all number lines m) is said) wrote)
+
+-- a journal that is full after so many lines is full after more
+pub IsFull-more : (few many : ℕ) (result : Result (Unit {0}) RunFault) → few ≤ many → IsFull few result → IsFull many result
+IsFull-more few many (Ok done) more full = tt
+IsFull-more few many (Err (Read source)) more full = tt
+IsFull-more few many (Err (Intake fault)) more full = tt
+IsFull-more few many (Err (Journal fault)) more full =
+    let least = full.1 in
+    (full.0, omega arith)
+IsFull-more few many (Err WriteOut) more full = tt
+IsFull-more few many (Err WriteJournal) more full = tt
+IsFull-more few many (Err OutOfMemory) more full = tt
+
+-- what the answers give to the output is the reply lines
+output_of-lines : (lines : ℕ) (amendments : List Amendment) → output_of (lines_for lines amendments) ≡ []
+output_of-lines lines [] = refl
+output_of-lines lines (amendment ∷ rest) = output_of-lines (lines + 1) rest
+
+pub output_of-answers : (number lines : ℕ) (m : Market) (script : List (Result Amendment Refusal)) → output_of (answers number lines m script) ≡ replies number m script
+output_of-answers number lines m [] = refl
+output_of-answers number lines m (entry ∷ rest) =
+    output_of-append (answer_to number lines m entry) (answers (number + 1) (lines + length (accepted_in m entry)) (after_record m entry) rest)
+    ∙ ap (λ text. text ++ output_of (answers (number + 1) (lines + length (accepted_in m entry)) (after_record m entry) rest))
+    (output_of-append (lines_for lines (accepted_in m entry)) (to_output (reply_text number (reply_to m entry)) ∷ [])
+    ∙ ap (λ text. text ++ (reply_text number (reply_to m entry) ++ [])) (output_of-lines lines (accepted_in m entry))
+    ∙ append-nil (reply_text number (reply_to m entry)))
+    ∙ ap (λ text. reply_text number (reply_to m entry) ++ text) (output_of-answers (number + 1) (lines + length (accepted_in m entry)) (after_record m entry) rest)
+
+-- what the answers give to the journal is the lines of the accepted amendments
+journal_of-lines : (lines : ℕ) (amendments : List Amendment) → journal_of (lines_for lines amendments) ≡ journal_text (lines + 1) amendments
+journal_of-lines lines [] = refl
+journal_of-lines lines (amendment ∷ rest) =
+    ap (λ text. line_text (lines + 1) amendment ++ codes "\n" ++ text) (journal_of-lines (lines + 1) rest)
+
+next-number : (first : ℕ) (x : Amendment) (xs : List Amendment) → first + 1 + length xs ≡ first + length (x ∷ xs)
+next-number first x xs = omega arith
+
+journal_text-append : (first : ℕ) (xs ys : List Amendment) → journal_text first (xs ++ ys) ≡ journal_text first xs ++ journal_text (first + length xs) ys
+journal_text-append first [] ys = ap (λ n. journal_text n ys) (omega arith)
+journal_text-append first (x ∷ xs) ys =
+    ap (λ text. line_text first x ++ codes "\n" ++ text) (journal_text-append (first + 1) xs ys)
+    ∙ sym (append_assoc (line_text first x ++ codes "\n") (journal_text (first + 1) xs) (journal_text (first + 1 + length xs) ys))
+    ∙ ap (λ n. journal_text first (x ∷ xs) ++ journal_text n ys) (next-number first x xs)
+
+pub journal_of-answers : (number lines : ℕ) (m : Market) (script : List (Result Amendment Refusal)) → journal_of (answers number lines m script) ≡ journal_text (lines + 1) (accepted m script)
+journal_of-answers number lines m [] = refl
+journal_of-answers number lines m (entry ∷ rest) =
+    journal_of-append (answer_to number lines m entry) (answers (number + 1) (lines + length (accepted_in m entry)) (after_record m entry) rest)
+    ∙ ap (λ text. text ++ journal_of (answers (number + 1) (lines + length (accepted_in m entry)) (after_record m entry) rest))
+    (journal_of-append (lines_for lines (accepted_in m entry)) (to_output (reply_text number (reply_to m entry)) ∷ [])
+    ∙ append-nil (journal_of (lines_for lines (accepted_in m entry)))
+    ∙ journal_of-lines lines (accepted_in m entry))
+    ∙ ap (λ text. journal_text (lines + 1) (accepted_in m entry) ++ text)
+    (journal_of-answers (number + 1) (lines + length (accepted_in m entry)) (after_record m entry) rest
+    ∙ ap (λ n. journal_text n (accepted (after_record m entry) rest)) (omega arith))
+    ∙ sym (journal_text-append (lines + 1) (accepted_in m entry) (accepted (after_record m entry) rest))
+
+-- the papers have a fault, and nothing was written
+pub WritesRun-unopened : (reading : Result Market IntakeFault) (scripted : Result (List (Result Amendment Refusal)) IntakeFault) (old : Held) (fault : RunFault)
+    → IsOpeningFault reading fault → WritesRun (opened_in reading scripted) old old (Err fault)
+WritesRun-unopened reading scripted old (Read source) is = absurd is
+WritesRun-unopened reading scripted old (Intake fault) is = (ap (λ r. opened_in r scripted) is, KeepsBoth-refl old)
+WritesRun-unopened reading scripted old (Journal fault) is = absurd is
+WritesRun-unopened reading scripted old WriteOut is = absurd is
+WritesRun-unopened reading scripted old WriteJournal is = absurd is
+WritesRun-unopened reading scripted old OutOfMemory is = inl (KeepsBoth-refl old)
+
+-- the papers were read, the script has a fault, and nothing was written
+pub WritesRun-unscripted : (scripted : Result (List (Result Amendment Refusal)) IntakeFault) (m : Market) (old : Held) (fault : RunFault)
+    → IsOpeningFault scripted fault → WritesRun (opened_in (Ok m) scripted) old old (Err fault)
+WritesRun-unscripted scripted m old (Read source) is = absurd is
+WritesRun-unscripted scripted m old (Intake fault) is = (ap (opened_in (Ok m)) is, KeepsBoth-refl old)
+WritesRun-unscripted scripted m old (Journal fault) is = absurd is
+WritesRun-unscripted scripted m old WriteOut is = absurd is
+WritesRun-unscripted scripted m old WriteJournal is = absurd is
+WritesRun-unscripted scripted m old OutOfMemory is = inl (KeepsBoth-refl old)
+
+-- the run ended amid the answers
+pub WritesRun-answered : (scripted : Result (List (Result Amendment Refusal)) IntakeFault) (m : Market) (script : List (Result Amendment Refusal)) (old new : Held) (fault : RunFault)
+    → scripted ≡ Ok script → Writes {A = Unit {0}} (answers 1 0 m script) old new (Err fault) → IsFull {A = Unit {0}} (length script) (Err fault) → WritesRun (opened_in (Ok m) scripted) old new (Err fault)
+WritesRun-answered scripted m script old new (Read source) read wrote full = absurd wrote
+WritesRun-answered scripted m script old new (Intake fault) read wrote full = absurd wrote
+WritesRun-answered scripted m script old new (Journal fault) read wrote full = (record { papers = m; script = script }, ap (opened_in (Ok m)) read, full, inl wrote)
+WritesRun-answered scripted m script old new WriteJournal read wrote full = (record { papers = m; script = script }, ap (opened_in (Ok m)) read, inl wrote)
+WritesRun-answered scripted m script old new WriteOut read wrote full = (record { papers = m; script = script }, ap (opened_in (Ok m)) read, inl wrote)
+WritesRun-answered scripted m script old new OutOfMemory read wrote full = inr (record { papers = m; script = script }, ap (opened_in (Ok m)) read, inl wrote)
+
+-- all answers were written, and then the report in part
+WritesFront-finished : (m : Market) (script : List (Result Amendment Refusal)) (a : Matching) (old mid new : Held)
+    → IsStudentOptimal (after_script m script) a → GrowsByAll (answers 1 0 m script) old mid
+    → GrowsByFront (to_output (report_text (after_script m script) a) ∷ []) mid new
+    → WritesFront (record { papers = m; script = script }) old new
+WritesFront-finished m script a old mid new optimal answered wrote = inr (
+  report_text (after_script m script) a,
+  (a, optimal, refl),
+  GrowsByFront-after (answers 1 0 m script) (to_output (report_text (after_script m script) a) ∷ []) old mid new answered wrote,
+)
+
+-- all answers were written, and then the report, whole or in part
+WritesRun-written : (scripted : Result (List (Result Amendment Refusal)) IntakeFault) (m : Market) (script : List (Result Amendment Refusal)) (a : Matching) (old mid new : Held) (result : Result (Unit {0}) RunFault)
+    → scripted ≡ Ok script → IsStudentOptimal (after_script m script) a → GrowsByAll (answers 1 0 m script) old mid
+    → Writes (to_output (report_text (after_script m script) a) ∷ []) mid new result → IsFull 0 result
+    → WritesRun (opened_in (Ok m) scripted) old new result
+WritesRun-written scripted m script a old mid new (Ok done) read optimal answered wrote full =
+    let report = report_text (after_script m script) a in
+    let both = GrowsByAll-trans (answers 1 0 m script) (to_output report ∷ []) old mid new answered wrote in (
+      record { papers = m; script = script },
+      ap (opened_in (Ok m)) read,
+      (
+        report,
+        (a, optimal, refl),
+        (
+          subst (Appends old.journal new.journal)
+              (journal_of-append (answers 1 0 m script) (to_output report ∷ []) ∙ append-nil (journal_of (answers 1 0 m script)) ∙ journal_of-answers 1 0 m script)
+              both.0,
+          subst (Appends old.output new.output)
+              (output_of-append (answers 1 0 m script) (to_output report ∷ [])
+              ∙ ap (λ text. output_of (answers 1 0 m script) ++ text) (append-nil report)
+              ∙ ap (λ text. text ++ report) (output_of-answers 1 0 m script))
+              both.1,
+        ),
+      ),
+    )
+WritesRun-written scripted m script a old mid new (Err WriteOut) read optimal answered wrote full =
+    (record { papers = m; script = script }, ap (opened_in (Ok m)) read, WritesFront-finished m script a old mid new optimal answered wrote)
+WritesRun-written scripted m script a old mid new (Err WriteJournal) read optimal answered wrote full =
+    (record { papers = m; script = script }, ap (opened_in (Ok m)) read, WritesFront-finished m script a old mid new optimal answered wrote)
+WritesRun-written scripted m script a old mid new (Err OutOfMemory) read optimal answered wrote full =
+    inr (record { papers = m; script = script }, ap (opened_in (Ok m)) read, WritesFront-finished m script a old mid new optimal answered wrote)
+WritesRun-written scripted m script a old mid new (Err (Journal fault)) read optimal answered wrote full =
+    let none = full.1 in
+    absurd (omega arith)
+WritesRun-written scripted m script a old mid new (Err (Read source)) read optimal answered wrote full = absurd wrote
+WritesRun-written scripted m script a old mid new (Err (Intake fault)) read optimal answered wrote full = absurd wrote
+
+-- the same of the papers that stand after the script, by whatever name
+pub WritesRun-after : (scripted : Result (List (Result Amendment Refusal)) IntakeFault) (m : Market) (script : List (Result Amendment Refusal)) (later : Market) (a : Matching) (old mid new : Held) (result : Result (Unit {0}) RunFault)
+    → scripted ≡ Ok script → later ≡ after_script m script → IsStudentOptimal later a → GrowsByAll (answers 1 0 m script) old mid
+    → Writes (to_output (report_text later a) ∷ []) mid new result → IsFull 0 result
+    → WritesRun (opened_in (Ok m) scripted) old new result
+WritesRun-after scripted m script later a old mid new result read is optimal answered wrote full =
+    WritesRun-written scripted m script a old mid new result read
+    (subst (λ n. IsStudentOptimal n a) is optimal) answered (subst (λ n. Writes (to_output (report_text n a) ∷ []) mid new result) is wrote) full
 
 -- a file of the opening ended the run
-pub RunsFiles-unopened : (seed : List ℕ) (schools roster lists script old : Option (List ℕ)) (fault : RunFault) (texts : Texts)
+pub RunsFiles-unopened : (seed : List ℕ) (schools roster lists script : Option (List ℕ)) (old : Held) (fault : RunFault) (texts : Texts)
     → AreWhole schools roster lists texts → AreInputsFault (inputs_in texts) fault → RunsFiles seed schools roster lists script old old (Err fault)
-RunsFiles-unopened seed schools roster lists script old (Read source) texts whole is = inl (tt, Keeps-refl old)
+RunsFiles-unopened seed schools roster lists script old (Read source) texts whole is = inl (tt, KeepsBoth-refl old)
 RunsFiles-unopened seed schools roster lists script old (Intake fault) texts whole is =
     let last = whole-some script in
-    inr (texts, last.0, whole, last.1, (rw is refl, Keeps-refl old))
+    inr (texts, last.0, whole, last.1, (rw is refl, KeepsBoth-refl old))
 RunsFiles-unopened seed schools roster lists script old (Journal fault) texts whole is = absurd is
 RunsFiles-unopened seed schools roster lists script old WriteOut texts whole is = absurd is
 RunsFiles-unopened seed schools roster lists script old WriteJournal texts whole is = absurd is
 RunsFiles-unopened seed schools roster lists script old OutOfMemory texts whole is =
     let last = whole-some script in
-    inr (texts, last.0, whole, last.1, inl (Keeps-refl old))
+    inr (texts, last.0, whole, last.1, inl (KeepsBoth-refl old))
+
+unless_verdict-one : (amendment : Amendment) (found : Option Refusal) → length (unless_verdict amendment found) ≤ 1
+unless_verdict-one amendment None = omega arith
+unless_verdict-one amendment (Some refusal) = omega arith
+
+-- a record has at most one accepted amendment
+pub accepted_in-one : (m : Market) (entry : Result Amendment Refusal) → length (accepted_in m entry) ≤ 1
+accepted_in-one m (Err refusal) = omega arith
+accepted_in-one m (Ok amendment) = unless_verdict-one amendment (verdict m amendment)
+
+-- the script ended the run
+pub RunsFiles-unscripted : (seed : List ℕ) (schools roster lists script : Option (List ℕ)) (old : Held) (fault : RunFault) (texts : Texts) (last : List ℕ)
+    → AreWhole schools roster lists texts → IsWhole script last → inputs_in texts ≡ Ok texts → IsInputFault input.Script (input_in input.Script last) fault
+    → RunsFiles seed schools roster lists script old old (Err fault)
+RunsFiles-unscripted seed schools roster lists script old (Read source) texts last whole script_whole read is = inl (tt, KeepsBoth-refl old)
+RunsFiles-unscripted seed schools roster lists script old (Intake fault) texts last whole script_whole read is =
+    inr (texts, last, whole, script_whole, (rw (read, is) refl, KeepsBoth-refl old))
+RunsFiles-unscripted seed schools roster lists script old (Journal fault) texts last whole script_whole read is = absurd is
+RunsFiles-unscripted seed schools roster lists script old WriteOut texts last whole script_whole read is = absurd is
+RunsFiles-unscripted seed schools roster lists script old WriteJournal texts last whole script_whole read is = absurd is
+RunsFiles-unscripted seed schools roster lists script old OutOfMemory texts last whole script_whole read is =
+    inr (texts, last, whole, script_whole, inl (KeepsBoth-refl old))

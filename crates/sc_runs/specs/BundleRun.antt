@@ -15,10 +15,12 @@ use Rattle.sc_runs.specs.declared.ending.Ending.TheVariants.{Done, NotCertified,
 use Rattle.sc_runs.specs.declared.fault.RunFault.{RunFault}
 use Rattle.sc_runs.specs.declared.fault.RunFault.TheVariants.{Read, Intake, Journal, WriteOut, WriteJournal, OutOfMemory}
 
--- what running the papers and a script does; without a script it is matching the papers alone
+-- what running the papers and a script does, with a journal that keeps nothing; without a script it is
+-- matching the papers alone
 abbrev pub WritesWith : Option (List ℕ) → Result Market IntakeFault → Option (List ℕ) → Option (List ℕ) → Result (Unit {0}) RunFault → Type 0
 WritesWith None reading old new result = WritesMatch false reading old new result
-WritesWith (Some script) reading old new result = WritesRun (opened_in reading (script_in script)) old new result
+WritesWith (Some script) reading old new result =
+    WritesRun (opened_in reading (script_in script)) (record { journal = None; output = old }) (record { journal = None; output = new }) result
 
 -- what running the sections of a bundle under a seed does
 abbrev pub WritesSections : List ℕ → Sections → Option (List ℕ) → Option (List ℕ) → Result (Unit {0}) RunFault → Type 0

@@ -71,6 +71,24 @@ ReadersFailed schools roster lists WriteOut = ⊤
 ReadersFailed schools roster lists WriteJournal = ⊤
 ReadersFailed schools roster lists OutOfMemory = ⊤
 
+-- the same where a script is read with the opening
+abbrev pub has_failed_with_script : Bool → Bool → Bool → Bool → Source → Bool
+has_failed_with_script schools roster lists script input.Schools = schools
+has_failed_with_script schools roster lists script input.Roster = roster
+has_failed_with_script schools roster lists script input.Lists = lists
+has_failed_with_script schools roster lists script input.Script = script
+has_failed_with_script schools roster lists script input.Log = false
+has_failed_with_script schools roster lists script input.Journal = false
+has_failed_with_script schools roster lists script input.Bundle = false
+
+abbrev pub RunReadersFailed : Bool → Bool → Bool → Bool → RunFault → Type 0
+RunReadersFailed schools roster lists script (Read source) = has_failed_with_script schools roster lists script source ≡ true
+RunReadersFailed schools roster lists script (Intake fault) = ⊤
+RunReadersFailed schools roster lists script (Journal fault) = ⊤
+RunReadersFailed schools roster lists script WriteOut = ⊤
+RunReadersFailed schools roster lists script WriteJournal = ⊤
+RunReadersFailed schools roster lists script OutOfMemory = ⊤
+
 -- reading the files of an opening ended early: a reader failed, a file is refused, or there was no
 -- memory for one
 abbrev pub AreInputsFault : {A : Type 0} → Result A IntakeFault → RunFault → Type 0

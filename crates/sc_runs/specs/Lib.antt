@@ -5,4 +5,5 @@ pub mod Ending
 pub mod Inputs
 pub mod Opening
 pub mod BundleRun
+pub mod Pieces
 pub mod Run

@@ -1,18 +1,20 @@
 -- What a script comes to: the papers after it, and the texts of a run.
-use Rattle.std.specs.Prelude.{◌≡◌, ◌⊎◌, ℕ, ◌+◌, List, [], ◌∷◌, ◌++◌, Option, None, Some, Result, Ok, Err}
-use Rattle.std.specs.Io.KnownBytes.{Appends, Keeps}
+use Rattle.std.specs.Prelude.{◌≡◌, ◌⊎◌, ⊤, ℕ, ◌+◌, ◌≤◌, Bool, true, false, List, [], ◌∷◌, ◌++◌, length, codes, Option, None, Some, Result, Ok, Err}
+use Rattle.std.specs.Io.KnownBytes.{Keeps}
 use Rattle.sc_papers.specs.Market.{Market}
 use Rattle.sc_papers.specs.Verdict.{after, unless_refused, verdict}
 use Rattle.sc_papers.specs.declared.amendment.Amendment.{Amendment}
 use Rattle.sc_papers.specs.declared.amendment.Refusal.{Refusal}
 use Rattle.sc_intake.specs.Fault.{◌>>=◌}
+use Rattle.sc_intake.specs.Script.{script_in}
 use Rattle.sc_intake.specs.declared.fault.IntakeFault.{IntakeFault}
 use Rattle.sc_intake.specs.declared.fault.Source.TheVariants as input
+use Rattle.sc_journal.specs.Line.{line_text}
 use Rattle.sc_report.specs.Reply.{reply_text}
-use Rattle.sc_report.specs.Whole.{AppendsFront}
-use Rattle.sc_intake.specs.Script.{script_in}
 use Rattle.sc_runs.specs.Inputs.{Texts, input_in, inputs_in, AreWhole, IsUnread, IsWhole}
 use Rattle.sc_runs.specs.Opening.{papers_in, IsReport}
+use Rattle.sc_runs.specs.Pieces.{Held, Piece, to_journal, to_output, Grows, GrowsByAll, GrowsByFront}
+use Rattle.sc_runs.specs.declared.fault.JournalCause.TheVariants.{JournalFull}
 use Rattle.sc_runs.specs.declared.fault.RunFault.{RunFault}
 use Rattle.sc_runs.specs.declared.fault.RunFault.TheVariants.{Read, Intake, Journal, WriteOut, WriteJournal, OutOfMemory}
 
@@ -42,16 +44,80 @@ abbrev pub replies : ℕ → Market → List (Result Amendment Refusal) → List
 replies number m [] = []
 replies number m (entry ∷ rest) = reply_text number (reply_to m entry) ++ replies (number + 1) (after_record m entry) rest
 
--- the writer was given this text whole at `Ok`, and a front of it where the run ended early: where the
--- writer failed, or memory was refused
-abbrev pub WritesReplies : Option (List ℕ) → Option (List ℕ) → Result (Unit {0}) RunFault → List ℕ → Type 0
-WritesReplies old new (Ok done) text = Appends old new text
-WritesReplies old new (Err WriteOut) text = AppendsFront old new text
-WritesReplies old new (Err OutOfMemory) text = AppendsFront old new text
-WritesReplies old new (Err (Read source)) text = ⊥
-WritesReplies old new (Err (Intake fault)) text = ⊥
-WritesReplies old new (Err (Journal fault)) text = ⊥
-WritesReplies old new (Err WriteJournal) text = ⊥
+-- the amendment of this verdict, where it is accepted
+abbrev pub unless_verdict : Amendment → Option Refusal → List Amendment
+unless_verdict amendment None = amendment ∷ []
+unless_verdict amendment (Some refusal) = []
+
+-- the amendment of a record, where it is one and is accepted
+abbrev pub accepted_in : Market → Result Amendment Refusal → List Amendment
+accepted_in m (Ok amendment) = unless_verdict amendment (verdict m amendment)
+accepted_in m (Err refusal) = []
+
+-- the amendments that are accepted, of a script's records in turn
+abbrev pub accepted : Market → List (Result Amendment Refusal) → List Amendment
+accepted m [] = []
+accepted m (entry ∷ rest) = accepted_in m entry ++ accepted (after_record m entry) rest
+
+-- the lines of a journal of these amendments, the first of which has this number
+abbrev pub journal_text : ℕ → List Amendment → List ℕ
+journal_text first [] = []
+journal_text first (amendment ∷ rest) = line_text first amendment ++ codes "\n" ++ journal_text (first + 1) rest
+
+-- the writes that make accepted amendments known, each in the journal, after this many lines
+abbrev pub lines_for : ℕ → List Amendment → List Piece
+lines_for lines [] = []
+lines_for lines (amendment ∷ rest) = to_journal (line_text (lines + 1) amendment ++ codes "\n") ∷ lines_for (lines + 1) rest
+
+-- the writes that answer a record: the line of an accepted amendment, and then the reply
+abbrev pub answer_to : ℕ → ℕ → Market → Result Amendment Refusal → List Piece
+answer_to number lines m entry = lines_for lines (accepted_in m entry) ++ to_output (reply_text number (reply_to m entry)) ∷ []
+
+-- the writes that answer a script's records in turn, the first of which has this number, where the
+-- journal has so many lines
+abbrev pub answers : ℕ → ℕ → Market → List (Result Amendment Refusal) → List Piece
+answers number lines m [] = []
+answers number lines m (entry ∷ rest) =
+    answer_to number lines m entry ++ answers (number + 1) (lines + length (accepted_in m entry)) (after_record m entry) rest
+
+-- the writes that answer an amendment of this verdict, whose line is this text
+abbrev pub made_by : List ℕ → ℕ → Option Refusal → List Piece
+made_by line number None = to_journal line ∷ to_output (reply_text number (Ok tt)) ∷ []
+made_by line number (Some refusal) = to_output (reply_text number (Err refusal)) ∷ []
+
+-- the same by the papers
+abbrev pub made : List ℕ → ℕ → Market → Amendment → List Piece
+made line number m amendment = made_by line number (verdict m amendment)
+
+-- the journal is full: it has as many lines as there are numbers for
+abbrev pub IsFull : {A : Type 0} → ℕ → Result A RunFault → Type 0
+IsFull lines (Ok done) = ⊤
+IsFull lines (Err (Read source)) = ⊤
+IsFull lines (Err (Intake fault)) = ⊤
+IsFull lines (Err (Journal fault)) = (fault.cause ≡ JournalFull) × (999999999 ≤ lines)
+IsFull lines (Err WriteOut) = ⊤
+IsFull lines (Err WriteJournal) = ⊤
+IsFull lines (Err OutOfMemory) = ⊤
+
+-- these writes were made, all at `Ok`, and a front of them where making them ended early
+abbrev pub Writes : {A : Type 0} → List Piece → Held → Held → Result A RunFault → Type 0
+Writes pieces old new (Ok done) = GrowsByAll pieces old new
+Writes pieces old new (Err WriteOut) = GrowsByFront pieces old new
+Writes pieces old new (Err WriteJournal) = GrowsByFront pieces old new
+Writes pieces old new (Err OutOfMemory) = GrowsByFront pieces old new
+Writes pieces old new (Err (Journal fault)) = GrowsByFront pieces old new
+Writes pieces old new (Err (Read source)) = ⊥
+Writes pieces old new (Err (Intake fault)) = ⊥
+
+-- whether a run ended because the journal could not be written
+abbrev pub is_journal_fault : {A : Type 0} → Result A RunFault → Bool
+is_journal_fault (Ok done) = false
+is_journal_fault (Err (Read source)) = false
+is_journal_fault (Err (Intake fault)) = false
+is_journal_fault (Err (Journal fault)) = false
+is_journal_fault (Err WriteOut) = false
+is_journal_fault (Err WriteJournal) = true
+is_journal_fault (Err OutOfMemory) = false
 
 -- what a run has read: the papers of the opening, and the records of the script
 pub record Opened : Type 0 where
@@ -72,31 +138,40 @@ run_in seed texts script = do
   last ← input_in input.Script script
   opened_in (papers_in seed read.schools read.roster read.lists) (script_in last)
 
--- a text is what a run writes: a reply line for each record, and the report of the papers after them
--- under their student-optimal stable matching
-abbrev pub IsRunText : Opened → List ℕ → Type 0
-IsRunText opened text = (report : List ℕ) × IsReport (after_script opened.papers opened.script) report
-    × (text ≡ replies 1 opened.papers opened.script ++ report)
+-- a text is the report after a run: that of the papers as they then stand, under their student-optimal
+-- stable matching
+abbrev pub IsLastReport : Opened → List ℕ → Type 0
+IsLastReport opened report = IsReport (after_script opened.papers opened.script) report
 
--- the writer was given a front of what the run would write: of the reply lines, or these and a front of
--- the report
-abbrev pub WritesFront : Opened → Option (List ℕ) → Option (List ℕ) → Type 0
-WritesFront opened old new = AppendsFront old new (replies 1 opened.papers opened.script)
-    ⊎ ((text : List ℕ) × IsRunText opened text × AppendsFront old new text)
+-- a run wrote its texts: to the output a reply line for each record, and then the report; to the journal
+-- the lines of the accepted amendments
+abbrev pub WritesAll : Opened → Held → Held → Type 0
+WritesAll opened old new = (report : List ℕ) × IsLastReport opened report
+    × Grows old new (journal_text 1 (accepted opened.papers opened.script)) (replies 1 opened.papers opened.script ++ report)
 
--- a run wrote its text whole at `Ok`, a front of it where the writer failed or memory was refused, and
+-- a run ended amid its writes: amid the answers to the records, or amid these and the report
+abbrev pub WritesFront : Opened → Held → Held → Type 0
+WritesFront opened old new = GrowsByFront (answers 1 0 opened.papers opened.script) old new
+    ⊎ ((report : List ℕ) × IsLastReport opened report × GrowsByFront (answers 1 0 opened.papers opened.script ++ to_output report ∷ []) old new)
+
+-- nothing was written
+abbrev pub KeepsBoth : Held → Held → Type 0
+KeepsBoth old new = Keeps old.journal new.journal × Keeps old.output new.output
+
+-- a run wrote its texts whole at `Ok`, a front of its writes where a writer failed or memory was refused, and
 -- nothing where the papers or the script have a fault
-abbrev pub WritesRun : Result Opened IntakeFault → Option (List ℕ) → Option (List ℕ) → Result (Unit {0}) RunFault → Type 0
-WritesRun reading old new (Ok done) = (opened : Opened) × (reading ≡ Ok opened) × ((text : List ℕ) × IsRunText opened text × Appends old new text)
-WritesRun reading old new (Err (Intake fault)) = (reading ≡ Err fault) × Keeps old new
+abbrev pub WritesRun : Result Opened IntakeFault → Held → Held → Result (Unit {0}) RunFault → Type 0
+WritesRun reading old new (Ok done) = (opened : Opened) × (reading ≡ Ok opened) × WritesAll opened old new
+WritesRun reading old new (Err (Intake fault)) = (reading ≡ Err fault) × KeepsBoth old new
 WritesRun reading old new (Err WriteOut) = (opened : Opened) × (reading ≡ Ok opened) × WritesFront opened old new
-WritesRun reading old new (Err OutOfMemory) = Keeps old new ⊎ ((opened : Opened) × (reading ≡ Ok opened) × WritesFront opened old new)
+WritesRun reading old new (Err WriteJournal) = (opened : Opened) × (reading ≡ Ok opened) × WritesFront opened old new
+WritesRun reading old new (Err OutOfMemory) = KeepsBoth old new ⊎ ((opened : Opened) × (reading ≡ Ok opened) × WritesFront opened old new)
+WritesRun reading old new (Err (Journal fault)) =
+    (opened : Opened) × (reading ≡ Ok opened) × ((fault.cause ≡ JournalFull) × (999999999 ≤ length opened.script)) × WritesFront opened old new
 WritesRun reading old new (Err (Read source)) = ⊥
-WritesRun reading old new (Err (Journal fault)) = ⊥
-WritesRun reading old new (Err WriteJournal) = ⊥
 
 -- what running files did: an input could not be read, and nothing was written; or they were run, each
 -- whole
-abbrev pub RunsFiles : List ℕ → Option (List ℕ) → Option (List ℕ) → Option (List ℕ) → Option (List ℕ) → Option (List ℕ) → Option (List ℕ) → Result (Unit {0}) RunFault → Type 0
-RunsFiles seed schools roster lists script old new result = (IsUnread result × Keeps old new)
+abbrev pub RunsFiles : List ℕ → Option (List ℕ) → Option (List ℕ) → Option (List ℕ) → Option (List ℕ) → Held → Held → Result (Unit {0}) RunFault → Type 0
+RunsFiles seed schools roster lists script old new result = (IsUnread result × KeepsBoth old new)
     ⊎ ((texts : Texts) × (last : List ℕ) × AreWhole schools roster lists texts × IsWhole script last × WritesRun (run_in seed texts last) old new result)

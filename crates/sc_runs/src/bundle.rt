@@ -14,7 +14,7 @@ use sc_intake::Source;
 use sc_papers::Seed;
 use sc_report::Watched;
 use std::alloc::Global;
-use std::io::{Read, Write};
+use std::io::{Read, Write, sink};
 
 /// Reads a bundle whole, and its seed, and runs its sections: with a script, its records are answered in
 /// turn before the report is written, and without one the report of the opening is written. Before the
@@ -48,7 +48,7 @@ fn run_sections<W: Write>(
         lists: bundle.lists,
     };
     match bundle.script {
-        Some(script) => run_texts(alloc, seed, files, script, out),
+        Some(script) => run_texts(alloc, seed, files, script, out, &mut Watched::new(sink())),
         None => match_texts(alloc, seed, files, false, out),
     }
 }

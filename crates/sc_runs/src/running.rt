@@ -1,20 +1,23 @@
 //! From four files to replies and an assignment.
 
-ghost use Rattle.std.specs.Prelude.{◌≡◌, ◌||◌, MatchResult, Ok};
+ghost use Rattle.std.specs.Prelude.{◌≡◌, ◌||◌, ℕ, List, ◌∷◌, [], Option, false, IfErr, MatchResult, Ok};
 ghost use Rattle.sc_intake.specs.Script.{script_in};
-ghost use Rattle.sc_repair.specs.Standing.{IsOptimal};
+ghost use Rattle.sc_repair.specs.Standing.{matching_of, IsOptimal};
+ghost use Rattle.sc_report.specs.Text.{report_text};
 ghost use Rattle.sc_report.specs.Watched.{device_of, has_failed};
 ghost use Rattle.sc_runs.specs.Opening.{is_output_fault, papers_in, IsOpeningFault};
-ghost use Rattle.sc_runs.specs.Run.{opened_in, RunsFiles, WritesRun};
+ghost use Rattle.sc_runs.specs.Inputs.{RunReadersFailed};
+ghost use Rattle.sc_runs.specs.Pieces.{to_output};
+ghost use Rattle.sc_runs.specs.Run.{is_journal_fault, opened_in, IsFull, RunsFiles, Writes, WritesRun};
 
 use crate::fault::RunFault;
 use crate::inputs::{Files, Opening, read_input, read_opening};
-use crate::matching::{open_files, write_out};
-use crate::script::answer_all;
+use crate::matching::open_files;
+use crate::script::{answer_all, write_line};
 use sc_intake::{Source, read_script};
 use sc_papers::{Amendment, Refusal, Seed};
 use sc_repair::Clearing;
-use sc_report::Watched;
+use sc_report::{Watched, report_text};
 use std::alloc::Global;
 use std::io::{Read, Write};
 
@@ -33,53 +36,107 @@ fn read_records(alloc: Global, script: &[u8]) -> Result<Vec<Result<Amendment, Re
     Ok(records)
 }
 
-/// Answers the records of the script in turn, and writes the reply lines and the report of the papers as
-/// they then stand.
-fn run_opened<W: Write>(
+/// Writes the report of the standing assignment.
+fn write_last<W: Write>(
+    alloc: Global,
+    clearing: &Clearing,
+    out: &mut Watched<W>,
+) -> Result<(), RunFault>
+    ensures writes { (kept : Option (List ℕ)) → Writes (to_output (report_text clearing.now.papers (matching_of clearing.now)) ∷ [])
+        (record { journal = kept; output = W.contents (device_of out.old) })
+        (record { journal = kept; output = W.contents (device_of out.new) }) result }
+    ensures full { IsFull 0 result }
+    ensures failed { has_failed out.new ≡ (has_failed out.old || is_output_fault result) }
+    ensures kept { is_journal_fault result ≡ false }
+{
+    match report_text(alloc, clearing) {
+        Ok(text) => write_line(text.as_slice(), out),
+        Err(_) => Err(RunFault::OutOfMemory),
+    }
+}
+
+/// Writes the report of the standing assignment, and flushes the journal and then the output.
+fn finish<W: Write, J: Write>(
+    alloc: Global,
+    clearing: &Clearing,
+    out: &mut Watched<W>,
+    journal: &mut Watched<J>,
+) -> Result<(), RunFault>
+    ensures writes { Writes (to_output (report_text clearing.now.papers (matching_of clearing.now)) ∷ [])
+        (record { journal = J.contents (device_of journal.old); output = W.contents (device_of out.old) })
+        (record { journal = J.contents (device_of journal.new); output = W.contents (device_of out.new) }) result }
+    ensures full { IsFull 0 result }
+    ensures failed { has_failed out.new ≡ (has_failed out.old || is_output_fault result) }
+    ensures journal_failed { has_failed journal.new ≡ (has_failed journal.old || is_journal_fault result) }
+{
+    if let Err(fault) = write_last(alloc, clearing, out) {
+        return Err(fault);
+    }
+    match journal.flush() {
+        Ok(()) => {}
+        Err(_) => return Err(RunFault::WriteJournal),
+    }
+    match out.flush() {
+        Ok(()) => Ok(()),
+        Err(_) => Err(RunFault::WriteOut),
+    }
+}
+
+/// Answers the records of the script in turn, and writes the report of the papers as they then stand.
+fn run_opened<W: Write, J: Write>(
     alloc: Global,
     clearing: &mut Clearing,
     script: &[u8],
     out: &mut Watched<W>,
+    journal: &mut Watched<J>,
 ) -> Result<(), RunFault>
     requires optimal { IsOptimal clearing.old }
-    ensures bytes { WritesRun (opened_in (Ok clearing.old.papers) (script_in script.now))
-        (W.contents (device_of out.old)) (W.contents (device_of out.new)) result }
+    ensures writes { WritesRun (opened_in (Ok clearing.old.papers) (script_in script.now))
+        (record { journal = J.contents (device_of journal.old); output = W.contents (device_of out.old) })
+        (record { journal = J.contents (device_of journal.new); output = W.contents (device_of out.new) }) result }
     ensures failed { has_failed out.new ≡ (has_failed out.old || is_output_fault result) }
+    ensures journal_failed { has_failed journal.new ≡ (has_failed journal.old || is_journal_fault result) }
 {
     let records = match read_records(alloc, script) {
         Ok(records) => records,
         Err(fault) => return Err(fault),
     };
-    match answer_all(alloc, clearing, records, out) {
-        Ok(()) => write_out(alloc, clearing, out),
+    match answer_all(alloc, clearing, records, out, journal) {
+        Ok(()) => finish(alloc, clearing, out, journal),
         Err(fault) => Err(fault),
     }
 }
 
 /// Opens the papers that the files hold, answers the records of the script in turn, and writes the
-/// reply lines and the report of the papers as they then stand.
-pub fn run_texts<W: Write>(
+/// report of the papers as they then stand.
+pub fn run_texts<W: Write, J: Write>(
     alloc: Global,
     seed: &Seed,
     files: Files<'_>,
     script: &[u8],
     out: &mut Watched<W>,
+    journal: &mut Watched<J>,
 ) -> Result<(), RunFault>
-    ensures bytes { WritesRun (opened_in (papers_in seed.now files.entry.schools.now files.entry.roster.now files.entry.lists.now) (script_in script.now))
-        (W.contents (device_of out.old)) (W.contents (device_of out.new)) result }
+    ensures writes { WritesRun (opened_in (papers_in seed.now files.entry.schools.now files.entry.roster.now files.entry.lists.now) (script_in script.now))
+        (record { journal = J.contents (device_of journal.old); output = W.contents (device_of out.old) })
+        (record { journal = J.contents (device_of journal.new); output = W.contents (device_of out.new) }) result }
     ensures failed { has_failed out.new ≡ (has_failed out.old || is_output_fault result) }
+    ensures journal_failed { has_failed journal.new ≡ (has_failed journal.old || is_journal_fault result) }
 {
     match open_files(alloc, seed, files) {
-        Ok(mut clearing) => run_opened(alloc, &mut clearing, script, out),
+        Ok(mut clearing) => run_opened(alloc, &mut clearing, script, out, journal),
         Err(fault) => Err(fault),
     }
 }
 
-/// Reads the four inputs, in the order schools, roster, lists, script, and runs them: the reply lines
-/// and the report are written to the output.
+/// Reads the four inputs, in the order schools, roster, lists, script, and runs them: the line of each
+/// accepted amendment is written to the journal, and then its reply line to the output; last the report of
+/// the papers as they then stand is.
 ///
-/// Nothing is written before the inputs are known to be good. The journal is taken and given no byte
-/// for now.
+/// Nothing is written before the inputs are known to be good. An error is the first fault of the inputs,
+/// each of which is read whole before any is looked into; that an input or a writer failed; want of
+/// memory; or that the journal is full. After it the writers hold a front of what the run writes, in its
+/// order: so each `ok` that stands whole in the output has its line whole in the journal.
 pub fn run<R: Read, W: Write, J: Write>(
     alloc: Global,
     seed: &Seed,
@@ -87,12 +144,14 @@ pub fn run<R: Read, W: Write, J: Write>(
     out: &mut Watched<W>,
     journal: &mut Watched<J>,
 ) -> Result<(), RunFault>
-    ensures bytes { RunsFiles seed.now
+    ensures writes { RunsFiles seed.now
         (R.remaining (device_of inputs.old.opening.schools)) (R.remaining (device_of inputs.old.opening.roster)) (R.remaining (device_of inputs.old.opening.lists))
         (R.remaining (device_of inputs.old.script))
-        (W.contents (device_of out.old)) (W.contents (device_of out.new)) result }
-    ensures journal { J.contents (device_of journal.new) ≡ J.contents (device_of journal.old) }
+        (record { journal = J.contents (device_of journal.old); output = W.contents (device_of out.old) })
+        (record { journal = J.contents (device_of journal.new); output = W.contents (device_of out.new) }) result }
     ensures failed { has_failed out.new ≡ (has_failed out.old || is_output_fault result) }
+    ensures journal_failed { has_failed journal.new ≡ (has_failed journal.old || is_journal_fault result) }
+    ensures read_failed { IfErr result (RunReadersFailed (has_failed inputs.new.opening.schools) (has_failed inputs.new.opening.roster) (has_failed inputs.new.opening.lists) (has_failed inputs.new.script)) }
 {
     let texts = match read_opening(alloc, &mut inputs.opening) {
         Ok(texts) => texts,
@@ -102,5 +161,5 @@ pub fn run<R: Read, W: Write, J: Write>(
         Ok(script) => script,
         Err(fault) => return Err(fault),
     };
-    run_texts(alloc, seed, texts.files(), script.as_slice(), out)
+    run_texts(alloc, seed, texts.files(), script.as_slice(), out, journal)
 }

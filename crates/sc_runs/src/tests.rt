@@ -5,7 +5,8 @@ use crate::inputs::Opening;
 use crate::matching::match_files;
 use crate::running::{Inputs, run};
 use sc_papers::Seed;
-use sc_report::Watched;
+use sc_report::devices::{Ending, FailingWriter};
+use sc_report::{Watched, write_whole};
 use std::alloc::{AllocError, Global};
 use std::test::Fail;
 
@@ -185,44 +186,89 @@ fn whole_reports(rt: HostRuntime) -> Result<(), Fail> {
     Ok(())
 }
 
-/// What the call on readers writes for three files and a script.
-fn amended(
+/// The inputs of a run in memory.
+fn inputs<'a>(
+    schools: &'a [u8],
+    roster: &'a [u8],
+    lists: &'a [u8],
+    script: &'a [u8],
+) -> Inputs<&'a [u8]> {
+    let opening = Opening {
+        schools: Watched::new(schools),
+        roster: Watched::new(roster),
+        lists: Watched::new(lists),
+    };
+    Inputs {
+        opening,
+        script: Watched::new(script),
+    }
+}
+
+/// What a run writes: the output, and after it the journal.
+fn ran(
     alloc: Global,
     seed: &Seed,
     schools: &[u8],
     roster: &[u8],
     lists: &[u8],
     script: &[u8],
-) -> Result<Watched<Vec<u8>>, RunFault> {
-    let opening = Opening {
-        schools: Watched::new(schools),
-        roster: Watched::new(roster),
-        lists: Watched::new(lists),
-    };
-    let mut inputs = Inputs {
-        opening,
-        script: Watched::new(script),
-    };
+) -> Result<Vec<u8>, RunFault> {
+    let mut inputs = inputs(schools, roster, lists, script);
     let mut out = Watched::new(Vec::new(alloc));
     let mut journal = Watched::new(Vec::new(alloc));
     run(alloc, seed, &mut inputs, &mut out, &mut journal)?;
-    Ok(out)
+    let _whole = write_whole(&mut out, journal.inner().as_slice());
+    match Vec::from_slice(alloc, out.inner().as_slice()) {
+        Ok(both) => Ok(both),
+        Err(_) => Err(RunFault::OutOfMemory),
+    }
 }
 
 #[test]
-fn three_files_and_a_script(rt: HostRuntime) -> Result<(), Fail> {
+fn the_whole_run(rt: HostRuntime) -> Result<(), Fail> {
     let seed = Seed::from_hex(ZEROS.as_bytes())?;
-    let out = amended(
+    let both = ran(
         rt.alloc(),
         &seed,
-        b"school,zone,seats\n1,0,1\n",
-        b"student,zone,siblings\n1,0,\n2,0,\n",
-        b"student,choices\n1,1\n2,1\n",
-        b"withdraw,2\n",
+        b"school,zone,seats\n10,1,1\n20,0,1\n",
+        b"student,zone,siblings\n1,0,20\n2,0,10\n",
+        b"student,choices\n1,10 20\n2,20 10\n",
+        b"enter,3,1,10,10\nnonsense\nwithdraw,99\nadd,77,1\nwithdraw,3\n",
     )?;
-    let whole =
-        b"1,ok\nstudent,school\n1,1\nschool,seats,held,class,draw,student\n1,1,1,3,e56a5d4028bd8653,1\nstudent,school,reason\n";
-    assert!(rt; out.inner().as_slice() == whole.as_slice());
+    let want =
+        b"1,ok\n2,refused,1,Shape\n3,refused,2,UnknownStudent\n4,refused,6,UnknownSchool,77\n5,ok\nstudent,school\n1,10\n2,20\nschool,seats,held,class,draw,student\n10,1,1,3,e56a5d4028bd8653,1\n20,1,1,3,b819d2bd1aed8da0,2\nstudent,school,reason\n1,enter,3,1,10,10\n2,withdraw,3\n";
+    assert!(rt; both.as_slice() == want.as_slice());
+    Ok(())
+}
+
+/// The fault of a run whose journal takes so many bytes, with the output that it leaves.
+fn stopped(
+    alloc: Global,
+    seed: &Seed,
+    room: usize,
+    script: &[u8],
+) -> Result<(Option<RunFault>, Vec<u8>), AllocError> {
+    let mut inputs = inputs(
+        b"school,zone,seats\n10,1,1\n20,0,1\n",
+        b"student,zone,siblings\n1,0,20\n2,0,10\n",
+        b"student,choices\n1,10 20\n2,20 10\n",
+        script,
+    );
+    let taken = Vec::with_capacity(alloc, room)?;
+    let mut out = Watched::new(Vec::new(alloc));
+    let mut journal = Watched::new(FailingWriter::new(taken, room, 99, Ending::Fails));
+    let fault = run(alloc, seed, &mut inputs, &mut out, &mut journal).err();
+    Ok((fault, Vec::from_slice(alloc, out.inner().as_slice())?))
+}
+
+#[test]
+fn failing_writers(rt: HostRuntime) -> Result<(), Fail> {
+    let seed = Seed::from_hex(ZEROS.as_bytes())?;
+    for (room, want) in [(0, ""), (20, "1,ok\n")] {
+        let (fault, out) = stopped(rt.alloc(), &seed, room, b"enter,3,1,10,10\nwithdraw,3\n")?;
+        assert!(rt; fault == Some(RunFault::WriteJournal));
+        assert!(rt; out.as_slice() == want.as_bytes());
+    }
     Ok(())
 }
 
@@ -305,6 +351,7 @@ fn matched(
     schools: &[u8],
     roster: &[u8],
     lists: &[u8],
+    show_log: bool,
 ) -> Result<Watched<Vec<u8>>, RunFault> {
     let mut opening = Opening {
         schools: Watched::new(schools),
@@ -312,7 +359,7 @@ fn matched(
         lists: Watched::new(lists),
     };
     let mut out = Watched::new(Vec::new(alloc));
-    match_files(alloc, seed, &mut opening, false, &mut out)?;
+    match_files(alloc, seed, &mut opening, show_log, &mut out)?;
     Ok(out)
 }
 
@@ -325,9 +372,25 @@ fn three_files(rt: HostRuntime) -> Result<(), Fail> {
         b"school,zone,seats\n1,0,1\n",
         b"student,zone,siblings\n1,0,\n2,0,\n",
         b"student,choices\n1,1\n2,1\n",
+        false,
     )?;
     let whole =
         b"student,school\n1,-\n2,1\nschool,seats,held,class,draw,student\n1,1,1,3,b819d2bd1aed8da0,2\nstudent,school,reason\n1,1,lottery\n";
     assert!(rt; out.inner().as_slice() == whole.as_slice());
+    Ok(())
+}
+
+#[test]
+fn the_log_of_an_opening(rt: HostRuntime) -> Result<(), Fail> {
+    let seed = Seed::from_hex(ZEROS.as_bytes())?;
+    let out = matched(
+        rt.alloc(),
+        &seed,
+        b"school,zone,seats\n10,1,1\n20,0,1\n",
+        b"student,zone,siblings\n1,0,20\n2,0,10\n3,1,10\n",
+        b"student,choices\n1,10 20\n2,20 10\n3,10\n",
+        true,
+    )?;
+    assert!(rt; out.inner().as_slice() == b"1,10\n2,20\n2,10\n".as_slice());
     Ok(())
 }

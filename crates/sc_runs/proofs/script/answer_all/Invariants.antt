@@ -1,4 +1,4 @@
-use Rattle.std.proofs.Common.{◌≡◌, ◌+◌, length}
+use Rattle.std.proofs.Common.{◌≡◌, ◌+◌, ◌≤◌, length}
 use Rattle.std.specs.Vec.Iter.{into_iter_items, into_iter_len}
 use Rattle.sc_repair.specs.Standing.{IsOptimal}
 use Rattle.sc_report.specs.Watched.{device_of, has_failed}
@@ -9,9 +9,15 @@ use Rattle.sc_runs.proofs.script.answer_all.Given as goal
 abbrev pub invariant-loop-entry : goal.invariant-loop-entry
 invariant-loop-entry g l = record {
   papers : after_script l.initial.clearing.papers (into_iter_items l.initial.entry-iterator) ≡ after_script l.clearing.papers (into_iter_items l.entry-iterator);
-  said : Said (g.W.Write.contents (device_of l.initial.out)) (g.W.Write.contents (device_of l.out)) l.initial.clearing.papers (into_iter_items l.initial.entry-iterator) l.number l.clearing.papers (into_iter_items l.entry-iterator);
+  said : Said
+      (record { journal = g.J.Write.contents (device_of l.initial.journal); output = g.W.Write.contents (device_of l.initial.out) })
+      (record { journal = g.J.Write.contents (device_of l.journal); output = g.W.Write.contents (device_of l.out) })
+      l.initial.clearing.papers (into_iter_items l.initial.entry-iterator) l.number l.lines l.clearing.papers (into_iter_items l.entry-iterator);
   left : into_iter_len l.entry-iterator ≡ length (into_iter_items l.entry-iterator);
   count : l.number + length (into_iter_items l.entry-iterator) ≡ length (into_iter_items l.initial.entry-iterator);
+  room : l.lines ≤ 999999999;
+  lines : l.lines ≤ l.number;
   optimal : IsOptimal l.clearing;
   failed : has_failed l.out ≡ has_failed l.initial.out;
+  journal_failed : has_failed l.journal ≡ has_failed l.initial.journal;
 }
