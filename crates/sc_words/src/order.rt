@@ -1,3 +1,7 @@
+ghost use Rattle.std.specs.Prelude.{◌≡◌, ◌↔◌, true, [], Ok, IfOk, IfSome, IsSomeAnd, codes};
+ghost use Rattle.clap.specs.Words.{found_of, rows_of, subcommand_rows_of};
+ghost use Rattle.sc_words.specs.Orders.{IsGiven, IsOpeningIn, IsOrderIn, IsOrderOf, IsSet};
+
 use crate::program::program;
 use crate::word::Word;
 use clap::error::ErrorKind;
@@ -45,47 +49,73 @@ pub enum Order<'a> {
     },
 }
 
+/// The text given for an option.
+fn text_in<'a>(found: &ArgMatches<'a>, name: &str) -> Option<&'a str>
+    ensures { IfSome result (IsGiven (rows_of (found_of found.now)) name.now) }
+{
+    found.get_str(name)
+}
+
+/// Whether a flag is set.
+fn is_set(found: &ArgMatches<'_>, name: &str) -> bool
+    ensures { (result ≡ true) ↔ IsSet (rows_of (found_of found.now)) name.now }
+{
+    found.get_one::<bool>(name).unwrap_or(false)
+}
+
 /// The options of an opening.
-fn opening_in<'a>(found: &ArgMatches<'a>) -> Option<OpeningWords<'a>> {
+fn opening_in<'a>(found: &ArgMatches<'a>) -> Option<OpeningWords<'a>>
+    ensures { IfSome result (IsOpeningIn (rows_of (found_of found.now))) }
+{
     Some(OpeningWords {
-        seed: found.get_str("seed")?,
-        schools: found.get_str("schools")?,
-        roster: found.get_str("roster")?,
-        lists: found.get_str("lists")?,
+        seed: text_in(found, "seed")?,
+        schools: text_in(found, "schools")?,
+        roster: text_in(found, "roster")?,
+        lists: text_in(found, "lists")?,
     })
 }
 
-fn match_in<'a>(found: &ArgMatches<'a>) -> Option<Order<'a>> {
+fn match_in<'a>(found: &ArgMatches<'a>) -> Option<Order<'a>>
+    ensures { IfSome result (IsOrderIn (codes "match") (rows_of (found_of found.now))) }
+{
     Some(Order::Match {
         opening: opening_in(found)?,
-        show_log: found.get_flag("print-log"),
+        show_log: is_set(found, "print-log"),
     })
 }
 
-fn run_in<'a>(found: &ArgMatches<'a>) -> Option<Order<'a>> {
+fn run_in<'a>(found: &ArgMatches<'a>) -> Option<Order<'a>>
+    ensures { IfSome result (IsOrderIn (codes "run") (rows_of (found_of found.now))) }
+{
     Some(Order::Run {
         opening: opening_in(found)?,
-        script: found.get_str("script")?,
-        journal: found.get_str("journal")?,
+        script: text_in(found, "script")?,
+        journal: text_in(found, "journal")?,
     })
 }
 
-fn audit_in<'a>(found: &ArgMatches<'a>) -> Option<Order<'a>> {
+fn audit_in<'a>(found: &ArgMatches<'a>) -> Option<Order<'a>>
+    ensures { IfSome result (IsOrderIn (codes "audit") (rows_of (found_of found.now))) }
+{
     Some(Order::Audit {
         opening: opening_in(found)?,
-        log: found.get_str("log")?,
+        log: text_in(found, "log")?,
     })
 }
 
-fn replay_in<'a>(found: &ArgMatches<'a>) -> Option<Order<'a>> {
+fn replay_in<'a>(found: &ArgMatches<'a>) -> Option<Order<'a>>
+    ensures { IfSome result (IsOrderIn (codes "replay") (rows_of (found_of found.now))) }
+{
     Some(Order::Replay {
         opening: opening_in(found)?,
-        journal: found.get_str("journal")?,
+        journal: text_in(found, "journal")?,
     })
 }
 
 /// The order of a subcommand, or `None` where there is none or it lacks an option.
-fn order_in<'a>(matches: &ArgMatches<'a>) -> Option<Order<'a>> {
+fn order_in<'a>(matches: &ArgMatches<'a>) -> Option<Order<'a>>
+    ensures { IfSome result (λ order. IsSomeAnd (subcommand_rows_of matches.now) (λ found. IsOrderIn found.0 found.1 order)) }
+{
     match matches.subcommand()? {
         ("match", found) => match_in(found),
         ("run", found) => run_in(found),
@@ -97,7 +127,10 @@ fn order_in<'a>(matches: &ArgMatches<'a>) -> Option<Order<'a>> {
 
 /// What the words after the program's name order. An error is `clap`'s: wrong words, or that help was
 /// asked for, or want of memory. The order borrows its texts from the words.
-pub fn order_of<'a>(alloc: Global, words: &'a [Word]) -> Result<Order<'a>, Error> {
+pub fn order_of<'a>(alloc: Global, words: &'a [Word]) -> Result<Order<'a>, Error>
+    ensures no_words { (result ≡ Ok Order.NoWords) ↔ (words.entry.now ≡ []) }
+    ensures order { IfOk result (IsOrderOf words.entry.now) }
+{
     if words.is_empty() {
         return Ok(Order::NoWords);
     }

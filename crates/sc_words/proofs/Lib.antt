@@ -1,0 +1,3 @@
+mod Given
+mod Reading
+mod Told
