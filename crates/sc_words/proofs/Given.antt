@@ -1,8 +1,8 @@
 -- From what clap's getters answer to the rows of the matches.
-use Rattle.std.proofs.Common.{◌≡◌, ◌∙◌, ◌↔◌, ℕ, Bool, true, false, [], Option, Some, None, option_map, unwrap_or, IfSome, refl, sym, ap, true≢false, arith, slice_index, codes}
+use Rattle.std.proofs.Common.{◌≡◌, ◌∙◌, ◌↔◌, ℕ, Bool, true, false, [], Option, Some, None, option_map, unwrap_or, is_some, IfSome, IsSome, refl, sym, ap, true≢false, arith, slice_index, codes}
 use Rattle.std.specs.Borrow.{Bor}
 use Rattle.std.specs.Str.Parse.{ParsesBool}
-use Rattle.clap.specs.Words.{Text, ReadsOne, first_value, one_text, rows_of}
+use Rattle.clap.specs.Words.{Text, ReadsOne, first_of, first_value, one_text, rows_of}
 use Rattle.clap.specs.declared.parser.matches.Found.{Found}
 use Rattle.clap.proofs.WalkLemmas.{first_value-rows, one_text-rows}
 use Rattle.sc_words.specs.Orders.{IsGiven, IsSet}
@@ -10,6 +10,10 @@ use Rattle.sc_words.specs.Orders.{IsGiven, IsSet}
 pub given : (f : Found) (id : Text) (r : Option (Bor Text)) → option_map (λ s. s.now) r ≡ first_value f id → IfSome r (IsGiven (rows_of f) id)
 given f id None e = tt
 given f id (Some t) e = sym (first_value-rows f id) ∙ sym e
+
+pub found : (f : Found) (id : Text) (r : Option (Bor Text)) → option_map (λ s. s.now) r ≡ first_value f id → IsSome (first_of id (rows_of f)) → IsSome r
+found f id None e some = absurd (true≢false (sym some ∙ sym (ap is_some (e ∙ first_value-rows f id))))
+found f id (Some t) e some = refl
 
 -- the first byte of a text, if there is one
 abbrev head : Option Text → ℕ

@@ -1,5 +1,5 @@
 -- The command line of the program, in the words of `clap`'s specs.
-use Rattle.std.specs.Prelude.{◌≡◌, true, false, List, [], ◌∷◌, ◌++◌, Some, codes}
+use Rattle.std.specs.Prelude.{◌≡◌, true, false, List, [], ◌∷◌, ◌++◌, map, Some, codes}
 use Rattle.clap.specs.Words.{App, Rule, Shape, Text, app_of, new_rule}
 use Rattle.clap.specs.Simple.{new_shape}
 use Rattle.clap.specs.declared.builder.command.Command.TheViews.{out-Command as fields_of}
@@ -19,21 +19,33 @@ required_option name = record (new_rule name) {
 abbrev pub flag : Text → Rule
 flag name = record (new_rule name) { long = Some name; action = Some SetTrue }
 
+-- the names of the options that must be given
+abbrev pub opening_names : List Text
+opening_names = codes "seed" ∷ codes "schools" ∷ codes "roster" ∷ codes "lists" ∷ []
+
+abbrev pub run_names : List Text
+run_names = opening_names ++ codes "script" ∷ codes "journal" ∷ []
+
+abbrev pub audit_names : List Text
+audit_names = opening_names ++ codes "log" ∷ []
+
+abbrev pub replay_names : List Text
+replay_names = opening_names ++ codes "journal" ∷ []
+
 abbrev pub opening_options : List Rule
-opening_options = required_option (codes "seed") ∷ required_option (codes "schools")
-    ∷ required_option (codes "roster") ∷ required_option (codes "lists") ∷ []
+opening_options = map required_option opening_names
 
 abbrev pub match_options : List Rule
 match_options = opening_options ++ flag (codes "print-log") ∷ []
 
 abbrev pub run_options : List Rule
-run_options = opening_options ++ required_option (codes "script") ∷ required_option (codes "journal") ∷ []
+run_options = map required_option run_names
 
 abbrev pub audit_options : List Rule
-audit_options = opening_options ++ required_option (codes "log") ∷ []
+audit_options = map required_option audit_names
 
 abbrev pub replay_options : List Rule
-replay_options = opening_options ++ required_option (codes "journal") ∷ []
+replay_options = map required_option replay_names
 
 -- a subcommand with these options
 abbrev pub subcommand : Text → List Rule → Shape

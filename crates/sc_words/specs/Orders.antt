@@ -1,7 +1,7 @@
 -- The order that words give, by what `clap` reads in them.
 use Rattle.std.specs.Prelude.{◌≡◌, ◌↔◌, true, List, [], ◌∷◌, Some, IsSomeAnd, codes}
 use Rattle.std.specs.Borrow.{Bor}
-use Rattle.clap.specs.Words.{Row, Text, first_of, one_of, subcommand_of}
+use Rattle.clap.specs.Words.{Row, Text, Kinds, fault_of, first_of, one_of, subcommand_of}
 use Rattle.sc_words.specs.CommandLine.{command_line}
 use Rattle.sc_words.specs.declared.order.OpeningWords.{OpeningWords}
 use Rattle.sc_words.specs.declared.order.Order.{Order}
@@ -37,3 +37,8 @@ abbrev pub IsOrderOf : List Text → Order → Type 0
 IsOrderOf [] order = order ≡ NoWords
 IsOrderOf (word ∷ rest) order =
     IsSomeAnd (subcommand_of command_line (word ∷ rest)) (λ found. IsOrderIn found.0 found.1 order)
+
+-- the kinds of error that `clap` finds in the words; no words are no error
+abbrev pub faults_of : List Text → Kinds
+faults_of [] = []
+faults_of (word ∷ rest) = fault_of command_line (word ∷ rest)

@@ -1,10 +1,11 @@
-ghost use Rattle.std.specs.Prelude.{◌≡◌, ◌↔◌, true, [], Ok, IfOk, IfSome, IsSomeAnd, codes};
-ghost use Rattle.clap.specs.Words.{found_of, rows_of, subcommand_rows_of};
-ghost use Rattle.sc_words.specs.Orders.{IsGiven, IsOpeningIn, IsOrderIn, IsOrderOf, IsSet};
+ghost use Rattle.std.specs.Prelude.{◌≡◌, ◌↔◌, true, [], Ok, IfOk, IfSome, IsSome, IsSomeAnd, codes};
+ghost use Rattle.clap.specs.Words.{FailsBy, first_of, found_of, rows_of, subcommand_rows_of};
+ghost use Rattle.sc_words.specs.CommandLine.{audit_names, opening_names, replay_names, run_names};
+ghost use Rattle.sc_words.specs.Complete.{HasOptions, IsComplete};
+ghost use Rattle.sc_words.specs.Orders.{IsGiven, IsOpeningIn, IsOrderIn, IsOrderOf, IsSet, faults_of};
 
 use crate::program::program;
 use crate::word::Word;
-use clap::error::ErrorKind;
 use clap::{ArgMatches, Error};
 use std::alloc::Global;
 
@@ -51,7 +52,8 @@ pub enum Order<'a> {
 
 /// The text given for an option.
 fn text_in<'a>(found: &ArgMatches<'a>, name: &str) -> Option<&'a str>
-    ensures { IfSome result (IsGiven (rows_of (found_of found.now)) name.now) }
+    ensures given { IfSome result (IsGiven (rows_of (found_of found.now)) name.now) }
+    ensures found { IsSome (first_of name.now (rows_of (found_of found.now))) → IsSome result }
 {
     found.get_str(name)
 }
@@ -60,12 +62,14 @@ fn text_in<'a>(found: &ArgMatches<'a>, name: &str) -> Option<&'a str>
 fn is_set(found: &ArgMatches<'_>, name: &str) -> bool
     ensures { (result ≡ true) ↔ IsSet (rows_of (found_of found.now)) name.now }
 {
+    // As `get_flag`, which promises nothing of a text that is no `bool`.
     found.get_one::<bool>(name).unwrap_or(false)
 }
 
 /// The options of an opening.
 fn opening_in<'a>(found: &ArgMatches<'a>) -> Option<OpeningWords<'a>>
-    ensures { IfSome result (IsOpeningIn (rows_of (found_of found.now))) }
+    ensures given { IfSome result (IsOpeningIn (rows_of (found_of found.now))) }
+    ensures found { HasOptions (rows_of (found_of found.now)) opening_names → IsSome result }
 {
     Some(OpeningWords {
         seed: text_in(found, "seed")?,
@@ -76,7 +80,8 @@ fn opening_in<'a>(found: &ArgMatches<'a>) -> Option<OpeningWords<'a>>
 }
 
 fn match_in<'a>(found: &ArgMatches<'a>) -> Option<Order<'a>>
-    ensures { IfSome result (IsOrderIn (codes "match") (rows_of (found_of found.now))) }
+    ensures given { IfSome result (IsOrderIn (codes "match") (rows_of (found_of found.now))) }
+    ensures found { HasOptions (rows_of (found_of found.now)) opening_names → IsSome result }
 {
     Some(Order::Match {
         opening: opening_in(found)?,
@@ -85,7 +90,8 @@ fn match_in<'a>(found: &ArgMatches<'a>) -> Option<Order<'a>>
 }
 
 fn run_in<'a>(found: &ArgMatches<'a>) -> Option<Order<'a>>
-    ensures { IfSome result (IsOrderIn (codes "run") (rows_of (found_of found.now))) }
+    ensures given { IfSome result (IsOrderIn (codes "run") (rows_of (found_of found.now))) }
+    ensures found { HasOptions (rows_of (found_of found.now)) run_names → IsSome result }
 {
     Some(Order::Run {
         opening: opening_in(found)?,
@@ -95,7 +101,8 @@ fn run_in<'a>(found: &ArgMatches<'a>) -> Option<Order<'a>>
 }
 
 fn audit_in<'a>(found: &ArgMatches<'a>) -> Option<Order<'a>>
-    ensures { IfSome result (IsOrderIn (codes "audit") (rows_of (found_of found.now))) }
+    ensures given { IfSome result (IsOrderIn (codes "audit") (rows_of (found_of found.now))) }
+    ensures found { HasOptions (rows_of (found_of found.now)) audit_names → IsSome result }
 {
     Some(Order::Audit {
         opening: opening_in(found)?,
@@ -104,7 +111,8 @@ fn audit_in<'a>(found: &ArgMatches<'a>) -> Option<Order<'a>>
 }
 
 fn replay_in<'a>(found: &ArgMatches<'a>) -> Option<Order<'a>>
-    ensures { IfSome result (IsOrderIn (codes "replay") (rows_of (found_of found.now))) }
+    ensures given { IfSome result (IsOrderIn (codes "replay") (rows_of (found_of found.now))) }
+    ensures found { HasOptions (rows_of (found_of found.now)) replay_names → IsSome result }
 {
     Some(Order::Replay {
         opening: opening_in(found)?,
@@ -114,7 +122,10 @@ fn replay_in<'a>(found: &ArgMatches<'a>) -> Option<Order<'a>>
 
 /// The order of a subcommand, or `None` where there is none or it lacks an option.
 fn order_in<'a>(matches: &ArgMatches<'a>) -> Option<Order<'a>>
-    ensures { IfSome result (λ order. IsSomeAnd (subcommand_rows_of matches.now) (λ found. IsOrderIn found.0 found.1 order)) }
+    ensures given { IfSome result (λ order. IsSomeAnd (subcommand_rows_of matches.now)
+        (λ p. IsOrderIn p.0 p.1 order)) }
+    ensures found { IsSomeAnd (subcommand_rows_of matches.now) (λ p. IsComplete p.0 p.1)
+        → IsSome result }
 {
     match matches.subcommand()? {
         ("match", found) => match_in(found),
@@ -125,23 +136,23 @@ fn order_in<'a>(matches: &ArgMatches<'a>) -> Option<Order<'a>>
     }
 }
 
-/// What the words after the program's name order. An error is `clap`'s: wrong words, or that help was
-/// asked for, or want of memory. The order borrows its texts from the words.
+/// What the words after the program's name order: with no words the bundle, and else what `clap` reads
+/// in them. The order borrows its texts from the words.
+///
+/// An error is `clap`'s, and has one of the kinds that its own statements find in the words (wrong
+/// words, or that help was asked for), or means want of memory.
 pub fn order_of<'a>(alloc: Global, words: &'a [Word]) -> Result<Order<'a>, Error>
     ensures no_words { (result ≡ Ok Order.NoWords) ↔ (words.entry.now ≡ []) }
     ensures order { IfOk result (IsOrderOf words.entry.now) }
+    ensures refused { FailsBy (faults_of words.entry.now) result }
 {
     if words.is_empty() {
         return Ok(Order::NoWords);
     }
-    let mut program = program(alloc)?;
-    let matches = program.try_get_matches_from_mut(words)?;
+    let matches = program(alloc)?.try_get_matches_from(words)?;
     match order_in(&matches) {
         Some(order) => Ok(order),
-        // `clap` has refused such words before.
-        None => Err(program.error(
-            ErrorKind::MissingRequiredArgument,
-            "a required option is missing",
-        )?),
+        // `clap` has refused words without a subcommand, or without an option that must be given.
+        None => unreachable!(),
     }
 }

@@ -86,6 +86,15 @@ fn refused(alloc: Global, line: &str) -> Result<Option<ErrorKind>, AllocError> {
     }
 }
 
+/// The text of that.
+fn told(alloc: Global, line: &str) -> Result<String, AllocError> {
+    let words = words_of(alloc, line)?;
+    match order_of(alloc, words.as_slice()) {
+        Ok(_) => Ok(String::new(alloc)),
+        Err(error) => format!(in alloc; "{error}"),
+    }
+}
+
 #[test]
 fn wrong_command_lines(rt: HostRuntime) -> Result<(), Fail> {
     let alloc = rt.alloc();
@@ -114,6 +123,38 @@ fn wrong_command_lines(rt: HostRuntime) -> Result<(), Fail> {
     ] {
         let kind = refused(alloc, line)?;
         assert!(rt; kind == Some(want), "{line}: {kind:?}");
+    }
+    Ok(())
+}
+
+#[test]
+fn help_texts(rt: HostRuntime) -> Result<(), Fail> {
+    let alloc = rt.alloc();
+    for (line, piece) in [
+        ("--help", "Usage: clearinghouse <COMMAND>"),
+        ("--help", "Exit status: 0 done, 1 the log is not certified"),
+        (
+            "match|--help",
+            "Usage: clearinghouse match [OPTIONS] --seed <HEX>",
+        ),
+        ("match|--help", "school,zone,seats"),
+        ("match|--help", "student,zone,siblings"),
+        ("match|--help", "student,choices"),
+        ("match|--help", "--print-log"),
+        ("match|--help", "Example:\n  clearinghouse match"),
+        ("run|--help", "enter,STUDENT,ZONE,SIBLINGS,CHOICES"),
+        ("run|--help", "Example:\n  clearinghouse run"),
+        ("audit|--help", "STUDENT,SCHOOL"),
+        ("audit|--help", "Example:\n  clearinghouse audit"),
+        ("replay|--help", "--journal <FILE>"),
+        ("replay|--help", "Example:\n  clearinghouse replay"),
+        (
+            "match",
+            "error: the following required arguments were not provided:",
+        ),
+    ] {
+        let told = told(alloc, line)?;
+        assert!(rt; told.as_str().contains(piece), "{line}: {told}");
     }
     Ok(())
 }
