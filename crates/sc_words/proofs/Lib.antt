@@ -1,0 +1,5 @@
+mod Complete
+mod Filled
+mod Given
+mod Reading
+mod Told

@@ -1,0 +1,10 @@
+use Rattle.std.proofs.lemmas.Result.{IfOk-weaker}
+use Rattle.sc_words.proofs.Told.{with_command}
+use Rattle.sc_words.proofs.program.program.Goals as goal
+
+pub returns : goal.returns
+returns c =
+    let matching = with_command _ _ c.in_ok-subcommand.field-0 _ _ c.in_ok-subcommand.ensures c.in_ok-match_command.ensures c.in_ok-program_alone.ensures.0 in
+    let run = with_command _ _ c.in_ok-subcommand-2.field-0 _ _ c.in_ok-subcommand-2.ensures c.in_ok-run_command.ensures matching in
+    let audit = with_command _ _ c.in_ok-subcommand-3.field-0 _ _ c.in_ok-subcommand-3.ensures c.in_ok-audit_command.ensures run in
+    IfOk-weaker c.subcommand-4.result _ _ (λ r adds. with_command _ _ r _ _ adds c.in_ok-replay_command.ensures audit) c.subcommand-4.ensures

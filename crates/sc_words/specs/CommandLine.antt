@@ -1,0 +1,72 @@
+-- The command line of the program, in the words of `clap`'s specs.
+use Rattle.std.specs.Prelude.{◌≡◌, true, false, List, [], ◌∷◌, ◌++◌, map, Some, codes}
+use Rattle.clap.specs.Words.{App, Rule, Shape, Text, app_of, new_rule}
+use Rattle.clap.specs.Simple.{new_shape}
+use Rattle.clap.specs.declared.builder.command.Command.TheViews.{out-Command as fields_of}
+use Rattle.clap.specs.declared.builder.ArgAction.TheVariants.{Set, SetTrue}
+use Rattle.clap.specs.declared.builder.command.Command.{Command}
+
+-- `--NAME VALUE`, which must be given
+abbrev pub required_option : Text → Rule
+required_option name = record (new_rule name) {
+  long = Some name;
+  action = Some Set;
+  value_names = 1;
+  required = true;
+}
+
+-- `--NAME`, which may be given
+abbrev pub flag : Text → Rule
+flag name = record (new_rule name) { long = Some name; action = Some SetTrue }
+
+-- the names of the options that must be given
+abbrev pub opening_names : List Text
+opening_names = codes "seed" ∷ codes "schools" ∷ codes "roster" ∷ codes "lists" ∷ []
+
+abbrev pub run_names : List Text
+run_names = opening_names ++ codes "script" ∷ codes "journal" ∷ []
+
+abbrev pub audit_names : List Text
+audit_names = opening_names ++ codes "log" ∷ []
+
+abbrev pub replay_names : List Text
+replay_names = opening_names ++ codes "journal" ∷ []
+
+abbrev pub opening_options : List Rule
+opening_options = map required_option opening_names
+
+abbrev pub match_options : List Rule
+match_options = opening_options ++ flag (codes "print-log") ∷ []
+
+abbrev pub run_options : List Rule
+run_options = map required_option run_names
+
+abbrev pub audit_options : List Rule
+audit_options = map required_option audit_names
+
+abbrev pub replay_options : List Rule
+replay_options = map required_option replay_names
+
+-- a subcommand with these options
+abbrev pub subcommand : Text → List Rule → Shape
+subcommand name options = record (new_shape name) { rules = options }
+
+-- the program without its subcommands; the words that it reads do not begin with its name
+abbrev pub program_alone : Shape
+program_alone = record (new_shape (codes "clearinghouse")) {
+  no_binary_name = true;
+  subcommand_required = true;
+}
+
+-- one of the four subcommands with its options, and nothing else
+abbrev pub command_line : App
+command_line = record {
+  top = record program_alone { is_leaf = false };
+  subs = subcommand (codes "match") match_options ∷ subcommand (codes "run") run_options
+      ∷ subcommand (codes "audit") audit_options ∷ subcommand (codes "replay") replay_options ∷ [];
+}
+
+-- `clap` has been told of this command, without subcommands
+abbrev pub IsCommand : Command → Shape → Type 0
+IsCommand c s =
+    (app_of c ≡ record { top = s; subs = [] }) × ((fields_of c).has_globals ≡ false)

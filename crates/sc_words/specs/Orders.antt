@@ -1,0 +1,44 @@
+-- The order that words give, by what `clap` reads in them.
+use Rattle.std.specs.Prelude.{◌≡◌, ◌↔◌, true, List, [], ◌∷◌, Some, IsSomeAnd, codes}
+use Rattle.std.specs.Borrow.{Bor}
+use Rattle.clap.specs.Words.{Row, Text, Kinds, fault_of, first_of, one_of, subcommand_of}
+use Rattle.sc_words.specs.CommandLine.{command_line}
+use Rattle.sc_words.specs.declared.order.OpeningWords.{OpeningWords}
+use Rattle.sc_words.specs.declared.order.Order.{Order}
+use Rattle.sc_words.specs.declared.order.Order.TheVariants.{NoWords, Match, Run, Audit, Replay}
+
+-- the text given for the option of this name
+abbrev pub IsGiven : List Row → Text → Bor Text → Type 0
+IsGiven rows name text = first_of name rows ≡ Some text.now
+
+-- the flag of this name
+abbrev pub IsSet : List Row → Text → Type 0
+IsSet rows name = one_of name rows ≡ Some (codes "true")
+
+-- the four options of an opening
+abbrev pub IsOpeningIn : List Row → OpeningWords → Type 0
+IsOpeningIn rows o = IsGiven rows (codes "seed") o.seed × IsGiven rows (codes "schools") o.schools
+    × IsGiven rows (codes "roster") o.roster × IsGiven rows (codes "lists") o.lists
+
+-- the order of the subcommand of this name, by what its options are
+abbrev pub IsOrderIn : Text → List Row → Order → Type 0
+IsOrderIn name rows NoWords = ⊥
+IsOrderIn name rows (Match opening show_log) = (name ≡ codes "match") × IsOpeningIn rows opening
+    × ((show_log ≡ true) ↔ IsSet rows (codes "print-log"))
+IsOrderIn name rows (Run opening script journal) = (name ≡ codes "run") × IsOpeningIn rows opening
+    × IsGiven rows (codes "script") script × IsGiven rows (codes "journal") journal
+IsOrderIn name rows (Audit opening log) =
+    (name ≡ codes "audit") × IsOpeningIn rows opening × IsGiven rows (codes "log") log
+IsOrderIn name rows (Replay opening journal) =
+    (name ≡ codes "replay") × IsOpeningIn rows opening × IsGiven rows (codes "journal") journal
+
+-- no words, or the order of the subcommand that `clap` reads in them
+abbrev pub IsOrderOf : List Text → Order → Type 0
+IsOrderOf [] order = order ≡ NoWords
+IsOrderOf (word ∷ rest) order =
+    IsSomeAnd (subcommand_of command_line (word ∷ rest)) (λ found. IsOrderIn found.0 found.1 order)
+
+-- the kinds of error that `clap` finds in the words; no words are no error
+abbrev pub faults_of : List Text → Kinds
+faults_of [] = []
+faults_of (word ∷ rest) = fault_of command_line (word ∷ rest)

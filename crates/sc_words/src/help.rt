@@ -1,0 +1,92 @@
+//! What `--help` says.
+
+pub(crate) const PROGRAM: &str =
+    "Assign school places by the student-optimal stable matching; with no words, of the bundle on standard input";
+
+pub(crate) const STATUSES: &str = "\
+Exit status: 0 done, 1 the log is not certified (audit alone), 2 wrong words or a bad seed, 3 a fault in an
+input, 4 a file or stream that cannot be opened, read or written, 5 out of memory. A fault is told in one line
+on standard error.
+
+Example:
+  clearinghouse < bundle";
+
+pub(crate) const MATCH: &str =
+    "Assign the places of an opening and write the report, or with --print-log its log of rejections";
+
+pub(crate) const MATCH_AFTER: &str = "\
+The report is the assignment, the cutoffs and the reasons. The log of rejections has one record for each
+rejection, STUDENT,SCHOOL, and no header; audit reads it.
+
+Exit status: 0 done, 2 wrong words or a bad seed, 3 a fault in an input, 4 a file or stream that cannot be
+opened, read or written, 5 out of memory.
+
+Example:
+  clearinghouse match --seed 0000000000000000000000000000000000000000000000000000000000000000 \\
+      --schools schools.csv --roster roster.csv --lists lists.csv";
+
+pub(crate) const RUN: &str =
+    "Answer a script of amendments after an opening, write the replies and the report, and keep a journal of what was accepted";
+
+pub(crate) const RUN_AFTER: &str = "\
+A script has no header. Its records:
+  enter,STUDENT,ZONE,SIBLINGS,CHOICES   the student enters
+  withdraw,STUDENT                      the student leaves
+  rerank,STUDENT,CHOICES                the choices are replaced
+  add,SCHOOL,COUNT                      the school has so many seats more
+  close,SCHOOL,COUNT                    the school has so many seats fewer
+  correct,STUDENT,ZONE,SIBLINGS         the zone and the siblings' schools are replaced
+Each has a reply before the report: its number and ok, or refused and why. A refused one changes nothing.
+
+Exit status: 0 done, 2 wrong words or a bad seed, 3 a fault in an input, 4 a file or stream that cannot be
+opened, read or written, 5 out of memory.
+
+Example:
+  clearinghouse run --seed 0000000000000000000000000000000000000000000000000000000000000000 \\
+      --schools schools.csv --roster roster.csv --lists lists.csv --script script.csv --journal journal";
+
+pub(crate) const AUDIT: &str =
+    "Check a log of rejections against an opening, without trusting who made it";
+
+pub(crate) const AUDIT_AFTER: &str = "\
+Exit status: 0 the log is certified, 1 it is not, 2 wrong words or a bad seed, 3 a fault in an input, 4 a file
+or stream that cannot be opened, read or written, 5 out of memory.
+
+Example:
+  clearinghouse audit --seed 0000000000000000000000000000000000000000000000000000000000000000 \\
+      --schools schools.csv --roster roster.csv --lists lists.csv --log log.csv";
+
+pub(crate) const REPLAY: &str = "Replay a journal over an opening and write the report";
+
+pub(crate) const REPLAY_AFTER: &str = "\
+A last line that was cut short is left out and told on standard error; that is no fault.
+
+Exit status: 0 done, 2 wrong words or a bad seed, 3 a fault in an input, 4 a file or stream that cannot be
+opened, read or written, 5 out of memory.
+
+Example:
+  clearinghouse replay --seed 0000000000000000000000000000000000000000000000000000000000000000 \\
+      --schools schools.csv --roster roster.csv --lists lists.csv --journal journal";
+
+pub(crate) const SEED: &str = "The lottery's seed, 64 hexadecimal digits";
+
+pub(crate) const SCHOOLS: &str =
+    "The schools, one a row under the header school,zone,seats (zone 0: none)";
+
+pub(crate) const ROSTER: &str =
+    "The students, one a row under the header student,zone,siblings (the schools of its siblings)";
+
+pub(crate) const LISTS: &str =
+    "The students' choices, one student a row under the header student,choices (schools, best first)";
+
+pub(crate) const PRINT_LOG: &str = "Write the log of rejections in place of the report";
+
+pub(crate) const SCRIPT: &str = "The amendments, one a record and no header (below)";
+
+pub(crate) const NEW_JOURNAL: &str =
+    "The file that keeps the accepted amendments; it is made new or emptied";
+
+pub(crate) const LOG: &str = "The log of rejections, a record STUDENT,SCHOOL each and no header";
+
+pub(crate) const OLD_JOURNAL: &str =
+    "The journal that a run kept: a line for each accepted amendment, its number and the amendment";

@@ -1,0 +1,15 @@
+//! The words of the command line, read into an order.
+//!
+//! `clap` is named here alone: code above sees an `Order` or the error that `clap` tells.
+#![tactic(auto)]
+
+mod help;
+mod order;
+mod program;
+mod word;
+
+pub use order::{OpeningWords, Order, order_of};
+pub use word::Word;
+
+#[cfg(test)]
+mod tests;

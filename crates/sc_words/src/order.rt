@@ -1,0 +1,158 @@
+ghost use Rattle.std.specs.Prelude.{◌≡◌, ◌↔◌, true, [], Ok, IfOk, IfSome, IsSome, IsSomeAnd, codes};
+ghost use Rattle.clap.specs.Words.{FailsBy, first_of, found_of, rows_of, subcommand_rows_of};
+ghost use Rattle.sc_words.specs.CommandLine.{audit_names, opening_names, replay_names, run_names};
+ghost use Rattle.sc_words.specs.Complete.{HasOptions, IsComplete};
+ghost use Rattle.sc_words.specs.Orders.{IsGiven, IsOpeningIn, IsOrderIn, IsOrderOf, IsSet, faults_of};
+
+use crate::program::program;
+use crate::word::Word;
+use clap::{ArgMatches, Error};
+use std::alloc::Global;
+
+/// The seed and the files of an opening, as the words give them.
+#[derive(Clone, Copy, Debug, PartialEq, Eq)]
+pub struct OpeningWords<'a> {
+    /// The lottery's seed, as hexadecimal digits.
+    pub seed: &'a str,
+    /// The file of the schools.
+    pub schools: &'a str,
+    /// The file of the students.
+    pub roster: &'a str,
+    /// The file of the students' choices.
+    pub lists: &'a str,
+}
+
+/// What the program is to do.
+#[derive(Clone, Copy, Debug, PartialEq, Eq)]
+pub enum Order<'a> {
+    /// Run the bundle on standard input.
+    NoWords,
+    /// Write the report of an opening, or its log of rejections.
+    Match {
+        opening: OpeningWords<'a>,
+        show_log: bool,
+    },
+    /// Answer a script after an opening, write the report and keep a journal.
+    Run {
+        opening: OpeningWords<'a>,
+        script: &'a str,
+        journal: &'a str,
+    },
+    /// Check a log of rejections against an opening.
+    Audit {
+        opening: OpeningWords<'a>,
+        log: &'a str,
+    },
+    /// Replay a journal over an opening, and write the report.
+    Replay {
+        opening: OpeningWords<'a>,
+        journal: &'a str,
+    },
+}
+
+/// The text given for an option.
+fn text_in<'a>(found: &ArgMatches<'a>, name: &str) -> Option<&'a str>
+    ensures given { IfSome result (IsGiven (rows_of (found_of found.now)) name.now) }
+    ensures found { IsSome (first_of name.now (rows_of (found_of found.now))) → IsSome result }
+{
+    found.get_str(name)
+}
+
+/// Whether a flag is set.
+fn is_set(found: &ArgMatches<'_>, name: &str) -> bool
+    ensures { (result ≡ true) ↔ IsSet (rows_of (found_of found.now)) name.now }
+{
+    // As `get_flag`, which promises nothing of a text that is no `bool`.
+    found.get_one::<bool>(name).unwrap_or(false)
+}
+
+/// The options of an opening.
+fn opening_in<'a>(found: &ArgMatches<'a>) -> Option<OpeningWords<'a>>
+    ensures given { IfSome result (IsOpeningIn (rows_of (found_of found.now))) }
+    ensures found { HasOptions (rows_of (found_of found.now)) opening_names → IsSome result }
+{
+    Some(OpeningWords {
+        seed: text_in(found, "seed")?,
+        schools: text_in(found, "schools")?,
+        roster: text_in(found, "roster")?,
+        lists: text_in(found, "lists")?,
+    })
+}
+
+fn match_in<'a>(found: &ArgMatches<'a>) -> Option<Order<'a>>
+    ensures given { IfSome result (IsOrderIn (codes "match") (rows_of (found_of found.now))) }
+    ensures found { HasOptions (rows_of (found_of found.now)) opening_names → IsSome result }
+{
+    Some(Order::Match {
+        opening: opening_in(found)?,
+        show_log: is_set(found, "print-log"),
+    })
+}
+
+fn run_in<'a>(found: &ArgMatches<'a>) -> Option<Order<'a>>
+    ensures given { IfSome result (IsOrderIn (codes "run") (rows_of (found_of found.now))) }
+    ensures found { HasOptions (rows_of (found_of found.now)) run_names → IsSome result }
+{
+    Some(Order::Run {
+        opening: opening_in(found)?,
+        script: text_in(found, "script")?,
+        journal: text_in(found, "journal")?,
+    })
+}
+
+fn audit_in<'a>(found: &ArgMatches<'a>) -> Option<Order<'a>>
+    ensures given { IfSome result (IsOrderIn (codes "audit") (rows_of (found_of found.now))) }
+    ensures found { HasOptions (rows_of (found_of found.now)) audit_names → IsSome result }
+{
+    Some(Order::Audit {
+        opening: opening_in(found)?,
+        log: text_in(found, "log")?,
+    })
+}
+
+fn replay_in<'a>(found: &ArgMatches<'a>) -> Option<Order<'a>>
+    ensures given { IfSome result (IsOrderIn (codes "replay") (rows_of (found_of found.now))) }
+    ensures found { HasOptions (rows_of (found_of found.now)) replay_names → IsSome result }
+{
+    Some(Order::Replay {
+        opening: opening_in(found)?,
+        journal: text_in(found, "journal")?,
+    })
+}
+
+/// The order of a subcommand, or `None` where there is none or it lacks an option.
+fn order_in<'a>(matches: &ArgMatches<'a>) -> Option<Order<'a>>
+    ensures given { IfSome result (λ order. IsSomeAnd (subcommand_rows_of matches.now)
+        (λ p. IsOrderIn p.0 p.1 order)) }
+    ensures found { IsSomeAnd (subcommand_rows_of matches.now) (λ p. IsComplete p.0 p.1)
+        → IsSome result }
+{
+    match matches.subcommand()? {
+        ("match", found) => match_in(found),
+        ("run", found) => run_in(found),
+        ("audit", found) => audit_in(found),
+        ("replay", found) => replay_in(found),
+        _ => None,
+    }
+}
+
+/// What the words after the program's name order: with no words the bundle, and else what `clap` reads
+/// in them. The order borrows its texts from the words.
+///
+/// An error is `clap`'s, and has one of the kinds that its own statements find in the words (wrong
+/// words, or that help was asked for), or means want of memory.
+pub fn order_of<'a>(alloc: Global, words: &'a [Word]) -> Result<Order<'a>, Error>
+    ensures no_words { (result ≡ Ok Order.NoWords) ↔ (words.entry.now ≡ []) }
+    ensures order { IfOk result (IsOrderOf words.entry.now) }
+    ensures refused { FailsBy (faults_of words.entry.now) result }
+{
+    if words.is_empty() {
+        return Ok(Order::NoWords);
+    }
+    let matches = program(alloc)?.try_get_matches_from(words)?;
+    match order_in(&matches) {
+        Some(order) => Ok(order),
+        // `clap` has refused words without a subcommand, or without an option that must be given.
+        None => unreachable!(),
+    }
+}

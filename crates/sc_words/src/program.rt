@@ -1,0 +1,111 @@
+//! The command line, as `clap` is told of it.
+
+ghost use Rattle.std.specs.Prelude.{◌≡◌, false, IfOk, codes};
+ghost use Rattle.clap.specs.Words.{app_of, rule_of};
+ghost use Rattle.sc_words.specs.CommandLine.{IsCommand, required_option, subcommand};
+ghost use Rattle.sc_words.specs.CommandLine.{opening_options, match_options, run_options};
+ghost use Rattle.sc_words.specs.CommandLine.{audit_options, replay_options, command_line};
+ghost use Rattle.sc_words.specs.CommandLine as line;
+
+use crate::help;
+use clap::{Arg, ArgAction, Command};
+use std::alloc::{AllocError, Global};
+
+/// A required option with a value.
+fn option<'a>(alloc: Global, name: &'a str, value: &'a str, help: &'a str) -> Arg<'a>
+    ensures rule { rule_of result ≡ required_option name.entry.now }
+    ensures local { result.global ≡ false }
+{
+    Arg::new(alloc, name)
+        .long(name)
+        .value_name(value)
+        .help(help)
+        .action(ArgAction::Set)
+        .required(true)
+}
+
+/// A required option that names a file.
+fn file<'a>(alloc: Global, name: &'a str, help: &'a str) -> Arg<'a>
+    ensures rule { rule_of result ≡ required_option name.entry.now }
+    ensures local { result.global ≡ false }
+{
+    option(alloc, name, "FILE", help)
+}
+
+/// A subcommand with the four options of an opening.
+fn with_opening<'a>(
+    alloc: Global,
+    name: &'a str,
+    about: &'a str,
+    after: &'a str,
+) -> Result<Command<'a>, AllocError>
+    ensures { IfOk result (λ c. IsCommand c (subcommand name.entry.now opening_options)) }
+{
+    Command::new(alloc, name)
+        .about(about)
+        .after_help(after)
+        .arg(option(alloc, "seed", "HEX", help::SEED))?
+        .arg(file(alloc, "schools", help::SCHOOLS))?
+        .arg(file(alloc, "roster", help::ROSTER))?
+        .arg(file(alloc, "lists", help::LISTS))
+}
+
+fn match_command<'a>(alloc: Global) -> Result<Command<'a>, AllocError>
+    ensures { IfOk result (λ c. IsCommand c (subcommand (codes "match") match_options)) }
+{
+    let print_log = Arg::new(alloc, "print-log")
+        .long("print-log")
+        .help(help::PRINT_LOG)
+        .action(ArgAction::SetTrue);
+    with_opening(alloc, "match", help::MATCH, help::MATCH_AFTER)?.arg(print_log)
+}
+
+fn run_command<'a>(alloc: Global) -> Result<Command<'a>, AllocError>
+    ensures { IfOk result (λ c. IsCommand c (subcommand (codes "run") run_options)) }
+{
+    with_opening(alloc, "run", help::RUN, help::RUN_AFTER)?
+        .arg(file(alloc, "script", help::SCRIPT))?
+        .arg(file(alloc, "journal", help::NEW_JOURNAL))
+}
+
+fn audit_command<'a>(alloc: Global) -> Result<Command<'a>, AllocError>
+    ensures { IfOk result (λ c. IsCommand c (subcommand (codes "audit") audit_options)) }
+{
+    with_opening(alloc, "audit", help::AUDIT, help::AUDIT_AFTER)?.arg(file(alloc, "log", help::LOG))
+}
+
+fn replay_command<'a>(alloc: Global) -> Result<Command<'a>, AllocError>
+    ensures { IfOk result (λ c. IsCommand c (subcommand (codes "replay") replay_options)) }
+{
+    with_opening(alloc, "replay", help::REPLAY, help::REPLAY_AFTER)?.arg(file(
+        alloc,
+        "journal",
+        help::OLD_JOURNAL,
+    ))
+}
+
+/// The program without its subcommands. Its name stands in the usage lines, since the words that it
+/// reads do not begin with it.
+fn program_alone<'a>(alloc: Global) -> Result<Command<'a>, AllocError>
+    ensures { IfOk result (λ c. IsCommand c line.program_alone) }
+{
+    Ok(
+        Command::new(alloc, "clearinghouse")
+            .bin_name("clearinghouse")?
+            .about(help::PROGRAM)
+            .after_help(help::STATUSES)
+            .no_binary_name(true)
+            .subcommand_required(true),
+    )
+}
+
+/// The program's command line.
+pub(crate) fn program<'a>(alloc: Global) -> Result<Command<'a>, AllocError>
+    ensures { IfOk result (λ c. app_of c ≡ command_line) }
+{
+    program_alone(alloc)?
+        .subcommand(match_command(alloc)?)?
+        .subcommand(run_command(alloc)?)?
+        .subcommand(audit_command(alloc)?)?
+        .subcommand(replay_command(alloc)?)
+}
