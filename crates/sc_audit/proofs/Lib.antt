@@ -1,0 +1,9 @@
+mod Tables
+mod Keeping
+mod Entries
+mod Offered
+mod Ledgers
+mod Openings
+mod Takings
+mod Least
+mod Verdicts

@@ -1,0 +1,5 @@
+pub mod Over
+pub mod Verdict
+pub mod Offers
+pub mod Ledger
+pub mod Books
