@@ -12,7 +12,7 @@ use Rattle.sc_papers.specs.Market.{Market, student_of, students_of, schools_of, 
 use Rattle.sc_papers.specs.WellFormed.{WellFormed, WithinLimits, IsShort, IsProper}
 use Rattle.sc_papers.specs.declared.key.Key.{Key}
 use Rattle.sc_papers.specs.declared.records.Student.{Student}
-use Rattle.sc_papers.proofs.Choices.{contains-at}
+use Rattle.sc_papers.proofs.Choices.{contains-at, place-of}
 use Rattle.std.proofs.lemmas.List.Elements.{All-contains}
 use Rattle.sc_audit.specs.Offers.{key_cmp, Offers}
 use Rattle.sc_audit.specs.Ledger.{Ledger, stand_of, next_of, is_kept, set_aside, keys_at, KeepsBest, Fits, Comes}
@@ -225,3 +225,7 @@ pub offer-seen : {X : Type 0} (f : X → List Key) (m : Market) (xs : List X) (i
 offer-seen f m xs i s at now seats key keys out low is seats_is key_is made =
     subst (λ old. Offers old (seats_of m s) (key_of m i s) keys out) (sym (read-mapped f xs at now [] low is))
     (subst (λ n. Offers (f now) n (key_of m i s) keys out) seats_is (subst (λ k. Offers (f now) seats k keys out) key_is made))
+
+-- a listed school is a school of the papers
+pub listed-known : (m : Market) → WellFormed m → (i s : ℕ) → Contains (choices_of m i) s → is_school m s ≡ true
+listed-known m well i s listed = let (k, at) = place-of (choices_of m i) s listed in choice-known m well i k s at

@@ -5,5 +5,10 @@ mod Offered
 mod Ledgers
 mod Openings
 mod Takings
-mod Least
+mod Lessers
+mod Over
 mod Verdicts
+mod Tallying
+mod Blocking
+mod Listing
+mod Stabilities

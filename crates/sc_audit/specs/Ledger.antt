@@ -1,5 +1,5 @@
 -- What the auditor keeps of students and schools.
-use Rattle.std.specs.Prelude.{◌≡◌, ℕ, ◌≤◌, nat_eq, ◌==◌, Bool, true, false, ◌&&◌, List, [], ◌∷◌, ◌++◌, length, Option, None, Some, All, count_by, position, slice_get, slice_index_or, not, nat_lt, if◌then◌else◌}
+use Rattle.std.specs.Prelude.{◌≡◌, ℕ, ◌≤◌, nat_eq, ◌==◌, Bool, true, false, ◌&&◌, List, [], ◌∷◌, ◌++◌, length, Option, None, Some, All, count_by, position, slice_get, slice_index_or, not, if◌then◌else◌}
 use Rattle.std.specs.BinaryHeap.{IsHeap}
 use Rattle.std.specs.Option.{option_map, option_map_or}
 use Rattle.sc_papers.specs.Key.{key_of, is_ahead}
@@ -46,12 +46,6 @@ waiting_place (Some stand) s = if not stand.kept && stand.school == s then Some 
 abbrev pub waiting_at : Option Stand → Option ℕ
 waiting_at None = None
 waiting_at (Some stand) = if stand.kept then None else Some stand.school
-
--- the lesser of two numbers, where there are two
-abbrev pub lesser_of : Option ℕ → Option ℕ → Option ℕ
-lesser_of None other = other
-lesser_of (Some least) None = Some least
-lesser_of (Some least) (Some other) = Some (if nat_lt other least then other else least)
 
 -- the keys kept at a school
 unfoldable pub keys_at : Market → List (List Key) → ℕ → List Key

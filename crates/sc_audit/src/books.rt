@@ -1,19 +1,19 @@
 //! The auditor's books.
-ghost use Rattle.std.specs.Prelude.{◌≡◌, ℕ, ◌<◌, true, All, List, [], length, slice_get, position, nat_eq, Some, None, IfOk, OnOk, IfSome, IfNone};
+ghost use Rattle.std.specs.Prelude.{◌≡◌, ℕ, ◌<◌, true, All, List, [], length, slice_get, Some, None, IfOk, OnOk, IfSome, IfNone};
 ghost use Rattle.std.specs.BinaryHeap.{heap_items, IsHeap};
-ghost use Rattle.sc_papers.specs.Key.{key_of};
 ghost use Rattle.sc_papers.specs.Log.{IsValidLog};
-ghost use Rattle.sc_papers.specs.Market.{choices_of, is_school, is_student, schools_of, seats_of, students_of};
+ghost use Rattle.sc_papers.specs.Market.{is_student, students_of};
 ghost use Rattle.sc_papers.specs.Matching.{WithinSeats};
 ghost use Rattle.sc_papers.specs.declared.rejection.Rejection.{Rejection as Rejected};
-ghost use Rattle.sc_audit.specs.Ledger.{lesser_of};
 ghost use Rattle.sc_audit.specs.Offers.{key_cmp};
 ghost use Rattle.sc_audit.specs.Over.{IsFirstOver};
 
+use crate::least::lesser;
+use crate::lookups::{choice_at, key_at};
 use crate::offers::offer;
 use crate::stand::Stand;
 use crate::stands::{no_stands, put, put_aside, stand_of};
-use sc_papers::{Key, Papers, Rejection, SchoolNo, Seats, StudentNo};
+use sc_papers::{Key, Papers, Rejection, SchoolNo, StudentNo};
 use std::alloc::{AllocError, Global};
 use std::collections::BinaryHeap;
 
@@ -36,55 +36,6 @@ fn no_keys(alloc: Global, count: usize) -> Result<Vec<BinaryHeap<Key>>, AllocErr
         kept.push(BinaryHeap::new(alloc))?;
     }
     Ok(kept)
-}
-
-/// The student's choice at a place, from 0.
-#[tactic(auto, unfolding(sc_papers::specs::Market::choices_of))]
-fn choice_at(papers: &Papers, student: StudentNo, place: usize) -> Option<SchoolNo>
-    ensures { result ≡ slice_get (choices_of papers.now student) place }
-{
-    papers
-        .student(student)?
-        .choices
-        .as_slice()
-        .get(place)
-        .copied()
-}
-
-/// A school's position, its seats, and the student's key there.
-fn key_at(papers: &Papers, student: StudentNo, school: SchoolNo) -> (usize, Seats, Key)
-    requires student { is_student papers.now student ≡ true }
-    requires school { is_school papers.now school ≡ true }
-    ensures position { position (nat_eq school) (schools_of papers.now) ≡ Some result.0 }
-    ensures seats { result.1 ≡ seats_of papers.now school }
-    ensures key { result.2 ≡ key_of papers.now student school }
-{
-    let Some(position) = papers.school_position(school) else {
-        unreachable!()
-    };
-    let Some(found) = papers.school(school) else {
-        unreachable!()
-    };
-    let Some(key) = papers.key(student, school) else {
-        unreachable!()
-    };
-    (position, found.seats, key)
-}
-
-/// The lesser of the least school so far and another.
-fn lesser(least: Option<SchoolNo>, other: Option<SchoolNo>) -> Option<SchoolNo>
-    ensures { result ≡ lesser_of least other }
-{
-    let Some(first) = least else {
-        return other;
-    };
-    let Some(second) = other else {
-        return least;
-    };
-    if second.get() < first.get() {
-        return Some(second);
-    }
-    Some(first)
 }
 
 impl Books {

@@ -3,12 +3,22 @@
 #![tactic(auto)]
 
 mod auditor;
+mod blocks;
 mod books;
+mod checker;
 pub mod laws;
+mod least;
+mod lookups;
+mod membership;
 mod offers;
+mod stability;
 mod stand;
 mod stands;
+mod tallies;
+mod tally;
 mod verdict;
 
 pub use auditor::audit;
+pub use checker::check_stable;
+pub use stability::Stability;
 pub use verdict::Verdict;
