@@ -1,0 +1,14 @@
+mod Tables
+mod Keeping
+mod Entries
+mod Offered
+mod Ledgers
+mod Openings
+mod Takings
+mod Lessers
+mod Over
+mod Verdicts
+mod Tallying
+mod Blocking
+mod Listing
+mod Stabilities

@@ -1,0 +1,129 @@
+-- The ledger before the first entry.
+use Rattle.std.proofs.Common.{◌≡◌, inl, inr, refl, ap, sym, subst, ◌∙◌, ℕ, ◌+◌, ◌<◌, ◌≤◌, nat_eq, false, not, ◌&&◌, List, [], ◌∷◌, length, get_or, find, Option, Some, None, All, position, slice_get, arith}
+use Rattle.std.specs.BinaryHeap.{IsHeap}
+use Rattle.std.specs.Option.{option_map, option_map_or}
+use Rattle.std.proofs.lemmas.Bool.{cases_eq, cases_lt, and_left, and_right}
+use Rattle.std.proofs.lemmas.Map.Entries.{length-keys_of}
+use Rattle.std.proofs.lemmas.Option.{none-some, same_Some, slice_get-get_or}
+use Rattle.sc_papers.specs.Log.{next_choice, is_rejected}
+use Rattle.sc_papers.specs.Market.{Market, students_of, schools_of, choices_of}
+use Rattle.sc_papers.specs.Matching.{has}
+use Rattle.sc_papers.specs.WellFormed.{WellFormed, WithinLimits}
+use Rattle.sc_papers.specs.declared.key.Key.{Key}
+use Rattle.sc_papers.proofs.Choices.{contains-at, one-place}
+use Rattle.sc_papers.proofs.Students.{how_many-none, lister-among}
+use Rattle.sc_audit.specs.Offers.{key_cmp}
+use Rattle.sc_audit.specs.Ledger.{Ledger, stand_of, next_of, is_kept, keys_at, keeps, KeepsBest, Fits, Comes, Follows}
+use Rattle.sc_audit.specs.declared.stand.Stand.{Stand}
+use Rattle.sc_audit.proofs.Tables.{position-at, position-one, among-student, student-position, stand-away}
+
+-- nobody stands anywhere
+pub nobody-stands : (m : Market) (stands : List (Option Stand)) → length stands ≡ length m.students → All (λ stand. stand ≡ None) stands → (i : ℕ) → stand_of m stands i ≡ None
+unfolding stand_of
+nobody-stands m stands long nobody i = go (position (nat_eq i) (students_of m)) refl
+  where
+    go : (o : Option ℕ) → position (nat_eq i) (students_of m) ≡ o → option_map_or (λ at. get_or stands at None) o None ≡ None
+    go None is = refl
+    go (Some at) is = nobody at None (omega (arith, (position-at (students_of m) i at is).0, length-keys_of m.students, long))
+
+-- no key is kept anywhere
+nothing-kept : (m : Market) (kept : List (List Key)) → length kept ≡ length m.schools → All (λ keys. keys ≡ []) kept → (s : ℕ) → keys_at m kept s ≡ []
+unfolding keys_at
+nothing-kept m kept long nothing s = go (position (nat_eq s) (schools_of m)) refl
+  where
+    go : (o : Option ℕ) → position (nat_eq s) (schools_of m) ≡ o → option_map_or (λ at. get_or kept at []) o [] ≡ []
+    go None is = refl
+    go (Some at) is = nothing at [] (omega (arith, (position-at (schools_of m) s at is).0, length-keys_of m.schools, long))
+
+no-next : (m : Market) (l : Ledger) → ((i : ℕ) → stand_of m l.stands i ≡ None) → (i : ℕ) → next_of m l.stands i ≡ None
+no-next m l nobody i = ap (option_map (λ (stand : Stand). stand.school)) (nobody i)
+
+keeps-nobody : (m : Market) (l : Ledger) → ((i : ℕ) → stand_of m l.stands i ≡ None) → (s : ℕ) → KeepsBest m (next_of m l.stands) (is_kept m l.stands) s []
+keeps-nobody m l nobody s =
+    let absent : (j : ℕ) → next_of m l.stands j ≡ Some s → ⊥ = λ j at. none-some s (sym (no-next m l nobody j) ∙ at) in
+    record {
+      exact_keys = record {
+        keyed = λ k d low. absurd (omega (arith, low));
+        exact = λ p. sym (how_many-none m (λ j. p j && keeps (next_of m l.stands) (is_kept m l.stands) s j)
+            (λ j among. and_right (p j) (keeps (next_of m l.stands) (is_kept m l.stands) s j) (and_left (has (next_of m l.stands) s j) (is_kept m l.stands j) (ap (λ o. option_map_or (λ t. nat_eq t s) o false) (no-next m l nobody j)))));
+      };
+      within = omega arith;
+      full = λ i at waits. absurd (absent i at);
+      ahead = λ i j at waits at_j held. absurd (absent i at);
+    }
+
+pub fits-empty : (m : Market) (l : Ledger) → WellFormed m → WithinLimits m → length l.stands ≡ length m.students → length l.kept ≡ length m.schools → ((i : ℕ) → stand_of m l.stands i ≡ None) → All (λ keys. keys ≡ []) l.kept → All (IsHeap key_cmp) l.kept → Fits m l
+fits-empty m l well within stands schools nobody nothing heaps = record {
+  well_formed = well;
+  within_limits = within;
+  stands = stands;
+  schools = schools;
+  heaps = heaps;
+  placed = λ i stand is. absurd (none-some stand (sym (nobody i) ∙ is));
+  each = λ s. subst (KeepsBest m (next_of m l.stands) (is_kept m l.stands) s) (sym (nothing-kept m l.kept schools nothing s)) (keeps-nobody m l nobody s);
+}
+
+-- the first k students have come to their first choices
+pub record Opened (m : Market) (l : Ledger) (k : ℕ) : Type 0 where
+  pub fits : Fits m l
+  pub came : (i at : ℕ) → position (nat_eq i) (students_of m) ≡ Some at → at < k → next_of m l.stands i ≡ slice_get (choices_of m i) 0
+  pub later : (i at : ℕ) → position (nat_eq i) (students_of m) ≡ Some at → k ≤ at → stand_of m l.stands i ≡ None
+
+pub opened-none : (m : Market) (l : Ledger) → Fits m l → ((i : ℕ) → stand_of m l.stands i ≡ None) → Opened m l 0
+opened-none m l fits nobody = record {
+  fits = fits;
+  came = λ i at found low. absurd (omega (arith, low));
+  later = λ i at found past. nobody i;
+}
+
+-- a student's position is the place in the order of entry
+place-position : (m : Market) → WellFormed m → (k i : ℕ) → slice_get (students_of m) k ≡ Some i → position (nat_eq i) (students_of m) ≡ Some k
+place-position m well k i here =
+    let (at, found) = student-position m i (among-student m i (contains-at (students_of m) k i here)) in
+    let place = position-at (students_of m) i at found in
+    found ∙ ap Some (one-place (students_of m) at k i well.students_differ (slice_get-get_or (students_of m) at i place.0 ∙ ap Some place.1) here)
+
+pub opened-nowhere : (m : Market) (l : Ledger) (k i : ℕ) → Opened m l k → slice_get (students_of m) k ≡ Some i → stand_of m l.stands i ≡ None
+opened-nowhere m l k i opened here = opened.later i k (place-position m opened.fits.well_formed k i here) (omega arith)
+
+no-school : (o : Option Stand) → option_map (λ (stand : Stand). stand.school) o ≡ None → o ≡ None
+no-school None none = refl
+no-school (Some stand) none = absurd (none-some stand.school (sym none))
+
+pub opened-more : (m : Market) (l new : Ledger) (k i : ℕ) → Opened m l k → slice_get (students_of m) k ≡ Some i → Comes m l i 0 new → Opened m new (k + 1)
+opened-more m l new k i opened here comes =
+    let own : position (nat_eq i) (students_of m) ≡ Some k = place-position m opened.fits.well_formed k i here in
+    record {
+      fits = comes.fits;
+      came = λ j at found low. elim (cases_eq j i) [
+        | inl same ↦ ap (next_of m new.stands) same ∙ comes.own ∙ ap (λ n. slice_get (choices_of m n) 0) (sym same)
+        | inr apart ↦
+            let before : at < k = elim (cases_lt at k) [ inl below ↦ below | inr past ↦ absurd (apart (position-one (students_of m) i j k own (found ∙ ap Some (omega (arith, low, past))))) ] in
+            comes.others j apart ∙ opened.came j at found before
+      ];
+      later = λ j at found past.
+          let apart : j ≡ i → ⊥ = λ same. omega (arith, past, same_Some at k (sym found ∙ ap (λ n. position (nat_eq n) (students_of m)) same ∙ own)) in
+          no-school (stand_of m new.stands j) (comes.others j apart ∙ ap (option_map (λ (stand : Stand). stand.school)) (opened.later j at found (omega (arith, past))));
+    }
+
+-- before the first entry the next choice is the first
+first-open : (m : Market) (i : ℕ) → next_choice m [] i ≡ slice_get (choices_of m i) 0
+unfolding next_choice
+first-open m i = go (choices_of m i)
+  where
+    go : (xs : List ℕ) → find (λ s. not (is_rejected [] i s)) xs ≡ slice_get xs 0
+    go [] = refl
+    go (x ∷ xs) = refl
+
+pub opened-all : (m : Market) (l : Ledger) (k : ℕ) → length m.students ≤ k → Opened m l k → Follows m [] l
+opened-all m l k all opened = record {
+  fits = opened.fits;
+  next = λ i. first-open m i ∙ go i (position (nat_eq i) (students_of m)) refl (slice_get (choices_of m i) 0) refl;
+}
+  where
+    go : (i : ℕ) (o : Option ℕ) → position (nat_eq i) (students_of m) ≡ o → (first : Option ℕ) → slice_get (choices_of m i) 0 ≡ first → slice_get (choices_of m i) 0 ≡ next_of m l.stands i
+    go i (Some at) found first is = sym (opened.came i at found (omega (arith, all, (position-at (students_of m) i at found).0, length-keys_of m.students)))
+    go i None away (Some s) is =
+        let (at, found) = student-position m i (among-student m i (lister-among m i s (contains-at (choices_of m i) 0 s is))) in
+        absurd (none-some at (sym away ∙ found))
+    go i None away None is = is ∙ sym (ap (option_map (λ (stand : Stand). stand.school)) (sym (stand-away m l.stands i away)))

@@ -1,0 +1,76 @@
+use Rattle.std.proofs.Common.{◌∙◌, sym, ap, subst, cond, nat_eq, [], length, Some, None, arith}
+use Rattle.std.specs.BinaryHeap.{heap_items, IsHeap}
+use Rattle.std.specs.Option.{option_map}
+use Rattle.sc_audit.specs.Ledger.{set_aside}
+use Rattle.sc_audit.specs.Books.{ledger_of}
+use Rattle.sc_audit.specs.Offers.{key_cmp, Offers}
+use Rattle.sc_audit.proofs.Tables.{read-mapped, map-set}
+use Rattle.sc_audit.proofs.Ledgers.{choice-known, school-low, keys-within, offer-seen, out-known, placing-comes}
+use Rattle.sc_audit.proofs.books.Books.come.Goals as goal
+
+pub key_at-at-requires-clause-school : goal.key_at-at-requires-clause-school
+key_at-at-requires-clause-school c = choice-known c.args.papers.now c.requires.fits.well_formed c.args.student c.args.place c.in-Some.school (sym c.in-Some.ensures)
+
+pub offer-requires-clause-heap : goal.offer-requires-clause-heap
+offer-requires-clause-heap c =
+    let at = c.key_at-at.result.0 in
+    let low = school-low c.args.papers.now (ledger_of c.args.self.now) c.in-Some.school at c.requires.fits c.key_at-at.ensures.position in
+    subst (IsHeap key_cmp) (read-mapped heap_items c.args.self.now.kept.items at c.index_mut.result.now [] low c.index_mut.ensures.value) (c.requires.fits.heaps at [] low)
+
+pub offer-requires-clause-within : goal.offer-requires-clause-within
+offer-requires-clause-within c =
+    let at = c.key_at-at.result.0 in
+    let low = school-low c.args.papers.now (ledger_of c.args.self.now) c.in-Some.school at c.requires.fits c.key_at-at.ensures.position in
+    omega (
+      arith,
+      ap length (read-mapped heap_items c.args.self.now.kept.items at c.index_mut.result.now [] low c.index_mut.ensures.value),
+      c.key_at-at.ensures.seats,
+      keys-within c.args.papers.now (ledger_of c.args.self.now) c.in-Some.school at c.requires.fits c.key_at-at.ensures.position,
+    )
+
+pub put_aside-requires-clause-known : goal.put_aside-requires-clause-known
+put_aside-requires-clause-known c =
+    let m = c.args.papers.now in
+    let at = c.key_at-at.result.0 in
+    let low = school-low m (ledger_of c.args.self.now) c.in-Some.school at c.requires.fits c.key_at-at.ensures.position in
+    out-known m (ledger_of c.args.self.now) c.args.student c.in-Some.school at (heap_items c.offer.new.keys) c.in-Some-out.last c.requires.fits c.requires.known c.key_at-at.ensures.position
+    (offer-seen heap_items m c.args.self.now.kept.items c.args.student c.in-Some.school at c.index_mut.result.now c.key_at-at.result.1 c.key_at-at.result.2 (heap_items c.offer.new.keys) (Some c.in-Some-out.last) low c.index_mut.ensures.value c.key_at-at.ensures.seats c.key_at-at.ensures.key
+    (subst (Offers (heap_items c.index_mut.result.now) c.key_at-at.result.1 c.key_at-at.result.2 (heap_items c.offer.new.keys)) c.in-Some-out.is c.in_ok-out.ensures.offered))
+
+pub returns-in-Some-out : goal.returns-in-Some-out
+returns-in-Some-out c =
+    let m = c.args.papers.now in
+    let at = c.key_at-at.result.0 in
+    let low = school-low m (ledger_of c.args.self.now) c.in-Some.school at c.requires.fits c.key_at-at.ensures.position in
+    placing-comes (record {
+      fits = c.requires.fits;
+      known = c.requires.known;
+      nowhere = c.requires.nowhere;
+      choice = sym c.in-Some.ensures;
+      found = c.key_at-at.ensures.position;
+      heap = c.in_ok-out.ensures.heap;
+      offered = offer-seen heap_items m c.args.self.now.kept.items c.args.student c.in-Some.school at c.index_mut.result.now c.key_at-at.result.1 c.key_at-at.result.2 (heap_items c.offer.new.keys) (Some c.in-Some-out.last) low c.index_mut.ensures.value c.key_at-at.ensures.seats c.key_at-at.ensures.key
+          (subst (Offers (heap_items c.index_mut.result.now) c.key_at-at.result.1 c.key_at-at.result.2 (heap_items c.offer.new.keys)) c.in-Some-out.is c.in_ok-out.ensures.offered);
+      kept = map-set heap_items c.args.self.now.kept.items at c.offer.new.keys;
+      long = c.put_aside.ensures.length ∙ c.put.ensures.length ∙ c.requires.fits.stands;
+      stands = λ j. c.put_aside.ensures.stands j ∙ ap (λ o. cond (nat_eq j c.in-Some-out.last.student) (option_map set_aside o) o) (c.put.ensures.stands j);
+    })
+
+pub returns-in_default-out : goal.returns-in_default-out
+returns-in_default-out c =
+    let m = c.args.papers.now in
+    let at = c.key_at-at.result.0 in
+    let low = school-low m (ledger_of c.args.self.now) c.in-Some.school at c.requires.fits c.key_at-at.ensures.position in
+    placing-comes (record {
+      fits = c.requires.fits;
+      known = c.requires.known;
+      nowhere = c.requires.nowhere;
+      choice = sym c.in-Some.ensures;
+      found = c.key_at-at.ensures.position;
+      heap = c.in_ok-out.ensures.heap;
+      offered = offer-seen heap_items m c.args.self.now.kept.items c.args.student c.in-Some.school at c.index_mut.result.now c.key_at-at.result.1 c.key_at-at.result.2 (heap_items c.offer.new.keys) None low c.index_mut.ensures.value c.key_at-at.ensures.seats c.key_at-at.ensures.key
+          (subst (Offers (heap_items c.index_mut.result.now) c.key_at-at.result.1 c.key_at-at.result.2 (heap_items c.offer.new.keys)) c.in_default-out.is c.in_ok-out.ensures.offered);
+      kept = map-set heap_items c.args.self.now.kept.items at c.offer.new.keys;
+      long = c.put.ensures.length ∙ c.requires.fits.stands;
+      stands = c.put.ensures.stands;
+    })

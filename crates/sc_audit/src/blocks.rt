@@ -1,0 +1,114 @@
+//! Who blocks an assignment.
+ghost use Rattle.std.specs.Prelude.{◌≡◌, ◌==◌, ℕ, ◌<◌, true, false, Some, length, slice_get, IfSome, IfNone};
+ghost use Rattle.std.specs.Option.{option_map_or};
+ghost use Rattle.sc_papers.specs.Assignment.{assigned};
+ghost use Rattle.sc_papers.specs.Market.{choices_of, is_student, students_of};
+ghost use Rattle.sc_papers.specs.Matching.{IsMatching, Blocks};
+ghost use Rattle.sc_papers.specs.WellFormed.{WellFormed};
+ghost use Rattle.sc_audit.specs.Stability.{IsEarliestBlock, IsFirstBlock};
+ghost use Rattle.sc_audit.specs.Tallies.{earlier_of, end_at, AreTallies};
+
+use crate::lookups::{choice_at, choices_len};
+use crate::tallies::would_take;
+use crate::tally::Tally;
+use sc_papers::{Assignment, Papers, SchoolNo, StudentNo};
+
+/// Whether what is given is this school.
+fn is_given(given: Option<SchoolNo>, school: SchoolNo) -> bool
+    ensures { result ≡ option_map_or (λ t. t == school) given false }
+{
+    given == Some(school)
+}
+
+/// Whether the student's preferred choices end at this place, and the school there if the student would
+/// be taken.
+fn end_at(
+    tallies: &[Tally],
+    papers: &Papers,
+    assignment: &Assignment,
+    student: StudentNo,
+    place: usize,
+) -> Option<Option<SchoolNo>>
+    requires well_formed { WellFormed papers.now }
+    requires known { is_student papers.now student ≡ true }
+    requires within { place < length (choices_of papers.now student) }
+    requires tallies { length tallies.now ≡ length papers.now.schools }
+    ensures { (s : ℕ) → slice_get (choices_of papers.now student) place ≡ Some s → result ≡ end_at papers.now tallies.now (assigned assignment.now student) student s }
+{
+    let Some(school) = choice_at(papers, student, place) else {
+        unreachable!()
+    };
+    if is_given(assignment.get(student), school) {
+        return Some(None);
+    }
+    if would_take(tallies, papers, student, school) {
+        return Some(Some(school));
+    }
+    None
+}
+
+/// The first of the choices that the student prefers to what it has at which it would be taken.
+fn earliest_block(
+    tallies: &[Tally],
+    papers: &Papers,
+    assignment: &Assignment,
+    student: StudentNo,
+) -> Option<SchoolNo>
+    requires well_formed { WellFormed papers.now }
+    requires known { is_student papers.now student ≡ true }
+    requires matching { IsMatching papers.now (assigned assignment.now) }
+    requires tallies { AreTallies papers.now (assigned assignment.now) (students_of papers.now) tallies.now }
+    ensures block { IfSome result (IsEarliestBlock papers.now (assigned assignment.now) student) }
+    ensures none { IfNone result ((s : ℕ) → ¬ Blocks papers.now (assigned assignment.now) student s) }
+{
+    for place in 0..choices_len(papers, student) {
+        if let Some(end) = end_at(tallies, papers, assignment, student, place) {
+            return end;
+        }
+    }
+    None
+}
+
+/// The block of the student, if it has one and its number is the least so far, and else the first so
+/// far.
+fn earlier(
+    first: Option<(StudentNo, SchoolNo)>,
+    student: StudentNo,
+    block: Option<SchoolNo>,
+) -> Option<(StudentNo, SchoolNo)>
+    ensures { result ≡ earlier_of first student block }
+{
+    let Some(school) = block else {
+        return first;
+    };
+    let Some((other, there)) = first else {
+        return Some((student, school));
+    };
+    if student < other {
+        Some((student, school))
+    } else {
+        Some((other, there))
+    }
+}
+
+/// The student of the least number who blocks, and its earliest choice at which it does.
+pub(crate) fn first_block(
+    tallies: &[Tally],
+    papers: &Papers,
+    assignment: &Assignment,
+) -> Option<(StudentNo, SchoolNo)>
+    requires matching { IsMatching papers.now (assigned assignment.now) }
+    requires tallies { AreTallies papers.now (assigned assignment.now) (students_of papers.now) tallies.now }
+    ensures block { IfSome result (λ block. IsFirstBlock papers.now (assigned assignment.now) block.0 block.1) }
+    ensures none { IfNone result ((i s : ℕ) → ¬ Blocks papers.now (assigned assignment.now) i s) }
+{
+    let mut first = None;
+    for position in 0..papers.students_len() {
+        let Some(student) = papers.student_at(position) else {
+            unreachable!()
+        };
+        let block = earliest_block(tallies, papers, assignment, student);
+        first = earlier(first, student, block);
+    }
+    first
+}

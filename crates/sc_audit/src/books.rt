@@ -1,0 +1,152 @@
+//! The auditor's books.
+ghost use Rattle.std.specs.Prelude.{◌≡◌, ℕ, ◌<◌, true, All, List, [], length, slice_get, Some, None, IfOk, OnOk, IfSome, IfNone};
+ghost use Rattle.std.specs.BinaryHeap.{heap_items, IsHeap};
+ghost use Rattle.sc_papers.specs.Log.{IsValidLog};
+ghost use Rattle.sc_papers.specs.Market.{is_student, students_of};
+ghost use Rattle.sc_papers.specs.Matching.{WithinSeats};
+ghost use Rattle.sc_papers.specs.declared.rejection.Rejection.{Rejection as Rejected};
+ghost use Rattle.sc_audit.specs.Offers.{key_cmp};
+ghost use Rattle.sc_audit.specs.Over.{IsFirstOver};
+
+use crate::least::lesser;
+use crate::lookups::{choice_at, key_at};
+use crate::offers::offer;
+use crate::stand::Stand;
+use crate::stands::{no_stands, put, put_aside, stand_of};
+use sc_papers::{Key, Papers, Rejection, SchoolNo, StudentNo};
+use std::alloc::{AllocError, Global};
+use std::collections::BinaryHeap;
+
+/// Who stands where after the entries so far, and the best keys of each school, as many as it has
+/// seats. Students and schools go by their positions in the papers.
+#[derive(Drop)]
+pub(crate) struct Books {
+    stands: Vec<Option<Stand>>,
+    kept: Vec<BinaryHeap<Key>>,
+}
+
+/// No key is kept at any of so many schools.
+fn no_keys(alloc: Global, count: usize) -> Result<Vec<BinaryHeap<Key>>, AllocError>
+    ensures length { IfOk result (λ kept. length kept.items ≡ count) }
+    ensures empty { IfOk result (λ kept. All (λ keys. heap_items keys ≡ []) kept.items) }
+    ensures heaps { IfOk result (λ kept. All (λ keys. IsHeap key_cmp (heap_items keys)) kept.items) }
+{
+    let mut kept = Vec::with_capacity(alloc, count)?;
+    for _added in 0..count {
+        kept.push(BinaryHeap::new(alloc))?;
+    }
+    Ok(kept)
+}
+
+impl Books {
+    ghost use Rattle.sc_audit.specs.Books.{ledger_of};
+    ghost use Rattle.sc_audit.specs.Ledger.{stand_of, next_of, waiting_place, waiting_at, Fits, Comes, Follows, Finds};
+    ghost use Rattle.std.specs.Prelude.{◌≡◌, ℕ, ◌<◌, true, List, [], length, slice_get, Some, None, IfOk, OnOk, IfSome, IfNone};
+
+    /// The student comes to the choice at a place, if there is one there.
+    fn come(&mut self, papers: &Papers, student: StudentNo, place: usize) -> Result<(), AllocError>
+        requires fits { Fits papers.now (ledger_of self.old) }
+        requires known { is_student papers.now student ≡ true }
+        requires nowhere { stand_of papers.now self.old.stands.items student ≡ None }
+        ensures { OnOk result (Comes papers.now (ledger_of self.old) student place (ledger_of self.new)) }
+    {
+        let Some(school) = choice_at(papers, student, place) else {
+            return Ok(());
+        };
+        let (at, seats, key) = key_at(papers, student, school);
+        let out = offer(&mut self.kept[at], seats, key)?;
+        let stand = Stand {
+            place,
+            school,
+            kept: true,
+        };
+        put(&mut self.stands, papers, student, Some(stand));
+        if let Some(last) = out {
+            put_aside(&mut self.stands, papers, last.student);
+        }
+        Ok(())
+    }
+
+    /// The books before the first entry: each student stands at the first choice. The cost is an offer
+    /// for each student, and memory is taken for each student and each school.
+    pub(crate) fn open(alloc: Global, papers: &Papers) -> Result<Self, AllocError>
+        ensures { IfOk result (λ books. Follows papers.now [] (ledger_of books)) }
+    {
+        let students = papers.students_len();
+        let mut books = Books {
+            stands: no_stands(alloc, students)?,
+            kept: no_keys(alloc, papers.schools_len())?,
+        };
+        books.come_all(papers)?;
+        Ok(books)
+    }
+
+    /// All students, who stand nowhere, come to their first choices.
+    fn come_all(&mut self, papers: &Papers) -> Result<(), AllocError>
+        requires fits { Fits papers.now (ledger_of self.old) }
+        requires nowhere { (i : ℕ) → stand_of papers.now self.old.stands.items i ≡ None }
+        ensures { OnOk result (Follows papers.now [] (ledger_of self.new)) }
+    {
+        for position in 0..papers.students_len() {
+            let Some(student) = papers.student_at(position) else {
+                unreachable!()
+            };
+            self.come(papers, student, 0)?;
+        }
+        Ok(())
+    }
+
+    /// Takes one more entry of a log, if it is valid after those before: the student leaves the school
+    /// and comes to the next choice. The cost is a few look-ups and an offer.
+    pub(crate) fn take(&mut self, papers: &Papers, entry: Rejection) -> Result<bool, AllocError>
+        requires fits { Fits papers.now (ledger_of self.old) }
+        ensures { IfOk result (λ valid. (log : List Rejected) → IsValidLog papers.now log → Follows papers.now log (ledger_of self.old) → Finds papers.now log entry valid (ledger_of self.new)) }
+    {
+        let student = entry.student;
+        let Some(place) = self.waiting_place(papers, entry) else {
+            return Ok(false);
+        };
+        let nowhere = None;
+        put(&mut self.stands, papers, student, nowhere);
+        self.come(papers, student, place + 1)?;
+        Ok(true)
+    }
+
+    /// The place in the student's choices at which it stands at the entry's school without being kept
+    /// there.
+    fn waiting_place(&self, papers: &Papers, entry: Rejection) -> Option<usize>
+        requires { length self.now.stands.items ≡ length papers.now.students }
+        ensures { result ≡ waiting_place (stand_of papers.now self.now.stands.items entry.student) entry.school }
+    {
+        match stand_of(self.stands.as_slice(), papers, entry.student) {
+            Some(stand) if !stand.kept && stand.school == entry.school => Some(stand.place),
+            _ => None,
+        }
+    }
+
+    /// The least number of a school at which a student stands without being kept there.
+    pub(crate) fn least_over(&self, papers: &Papers) -> Option<SchoolNo>
+        requires { Fits papers.now (ledger_of self.now) }
+        ensures over { IfSome result (IsFirstOver papers.now (next_of papers.now self.now.stands.items)) }
+        ensures within { IfNone result (WithinSeats papers.now (next_of papers.now self.now.stands.items)) }
+    {
+        let mut least = None;
+        for position in 0..papers.students_len() {
+            least = lesser(least, self.waiting_at(papers, position));
+        }
+        least
+    }
+
+    /// The school at which the student at the position stands without being kept there.
+    fn waiting_at(&self, papers: &Papers, position: usize) -> Option<SchoolNo>
+        requires within { position < length papers.now.students }
+        requires stands { length self.now.stands.items ≡ length papers.now.students }
+        ensures { (i : ℕ) → slice_get (students_of papers.now) position ≡ Some i → result ≡ waiting_at (stand_of papers.now self.now.stands.items i) }
+    {
+        let student = papers.student_at(position)?;
+        match stand_of(self.stands.as_slice(), papers, student) {
+            Some(stand) if !stand.kept => Some(stand.school),
+            _ => None,
+        }
+    }
+}

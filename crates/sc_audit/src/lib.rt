@@ -1,0 +1,27 @@
+//! The auditor: a second reading of the rules, which shares no code with what settles papers. It takes
+//! a log or an assignment from anybody, and answers what the papers alone say of it.
+#![tactic(auto)]
+
+mod auditor;
+mod blocks;
+mod books;
+mod checker;
+pub mod laws;
+mod least;
+mod lookups;
+mod membership;
+mod offers;
+mod stability;
+mod stand;
+mod stands;
+mod tallies;
+mod tally;
+mod verdict;
+
+pub use auditor::audit;
+pub use checker::check_stable;
+pub use stability::Stability;
+pub use verdict::Verdict;
+
+#[cfg(test)]
+mod tests;

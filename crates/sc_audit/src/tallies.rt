@@ -1,0 +1,167 @@
+//! One pass over the students: how many have each school, and the last key among them.
+ghost use Rattle.std.specs.Prelude.{◌≡◌, ℕ, ◌+◌, ◌<◌, ◌≤◌, true, All, Some, length, nat_eq, slice_get, take, IfOk, OnOk, if◌then◌else◌};
+ghost use Rattle.sc_papers.specs.Assignment.{assigned};
+ghost use Rattle.sc_papers.specs.Market.{is_school, is_student, schools_of, students_of};
+ghost use Rattle.sc_papers.specs.Matching.{IsMatching};
+ghost use Rattle.sc_papers.specs.WellFormed.{WellFormed};
+ghost use Rattle.sc_audit.specs.Least.{LeastOf};
+ghost use Rattle.sc_audit.specs.Tallies.{no_tally, or_later, over_at, tally_at, with_key, would_take, AreTallies};
+
+use crate::least::lesser;
+use crate::lookups::key_at;
+use crate::tally::Tally;
+use sc_papers::{Assignment, Key, Papers, SchoolNo, StudentNo};
+use std::alloc::{AllocError, Global};
+
+/// The later of a key and the last one so far.
+fn later(last: Option<Key>, key: Key) -> Option<Key>
+    ensures { result ≡ or_later last key }
+{
+    let Some(before) = last else {
+        return Some(key);
+    };
+    if key < before {
+        Some(before)
+    } else {
+        Some(key)
+    }
+}
+
+/// A tally of nobody for each of so many schools.
+fn no_tallies(alloc: Global, count: usize) -> Result<Vec<Tally>, AllocError>
+    ensures length { IfOk result (λ tallies. length tallies.items ≡ count) }
+    ensures nobody { IfOk result (λ tallies. All (λ tally. tally ≡ no_tally) tallies.items) }
+{
+    let mut tallies = Vec::with_capacity(alloc, count)?;
+    for _added in 0..count {
+        tallies.push(Tally {
+            held: 0,
+            last: None,
+        })?;
+    }
+    Ok(tallies)
+}
+
+/// The tally of a school of the papers.
+fn tally_of(tallies: &[Tally], papers: &Papers, school: SchoolNo) -> Tally
+    requires known { is_school papers.now school ≡ true }
+    requires tallies { length tallies.now ≡ length papers.now.schools }
+    ensures { result ≡ tally_at papers.now tallies.now school }
+{
+    let Some(at) = papers.school_position(school) else {
+        unreachable!()
+    };
+    tallies[at]
+}
+
+/// Counts one more key for a school of the papers.
+fn count(tallies: &mut Vec<Tally>, papers: &Papers, school: SchoolNo, key: Key)
+    requires known { is_school papers.now school ≡ true }
+    requires tallies { length tallies.old.items ≡ length papers.now.schools }
+    requires few { (tally_at papers.now tallies.old.items school).held < 200000 }
+    ensures length { length tallies.new.items ≡ length tallies.old.items }
+    ensures tallies { (s : ℕ) → tally_at papers.now tallies.new.items s ≡ (if nat_eq s school then with_key (tally_at papers.now tallies.old.items school) key else tally_at papers.now tallies.old.items s) }
+{
+    let Some(at) = papers.school_position(school) else {
+        unreachable!()
+    };
+    let before = tallies[at];
+    tallies[at] = Tally {
+        held: before.held + 1,
+        last: later(before.last, key),
+    };
+}
+
+/// Counts the student at the position of the order of entry.
+fn count_student(
+    tallies: &mut Vec<Tally>,
+    papers: &Papers,
+    assignment: &Assignment,
+    position: usize,
+)
+    requires within { position < length papers.now.students }
+    requires limit { length papers.now.students ≤ 200000 }
+    requires well_formed { WellFormed papers.now }
+    requires matching { IsMatching papers.now (assigned assignment.now) }
+    requires before { AreTallies papers.now (assigned assignment.now) (take position (students_of papers.now)) tallies.old.items }
+    ensures { AreTallies papers.now (assigned assignment.now) (take (position + 1) (students_of papers.now)) tallies.new.items }
+{
+    let Some(student) = papers.student_at(position) else {
+        unreachable!()
+    };
+    if let Some(school) = assignment.get(student) {
+        let (_, _, key) = key_at(papers, student, school);
+        count(tallies, papers, school, key);
+    }
+}
+
+/// Each school's tally, by the school's position.
+pub(crate) fn tallies(
+    alloc: Global,
+    papers: &Papers,
+    assignment: &Assignment,
+) -> Result<Vec<Tally>, AllocError>
+    requires { IsMatching papers.now (assigned assignment.now) }
+    ensures tallies { IfOk result (λ tallies. AreTallies papers.now (assigned assignment.now) (students_of papers.now) tallies.items) }
+    ensures well_formed { OnOk result (WellFormed papers.now) }
+{
+    let mut tallies = no_tallies(alloc, papers.schools_len())?;
+    for position in 0..papers.students_len() {
+        count_student(&mut tallies, papers, assignment, position);
+    }
+    Ok(tallies)
+}
+
+/// The school at the position, if more students have it than it has seats.
+fn over_at(tallies: &[Tally], papers: &Papers, position: usize) -> Option<SchoolNo>
+    requires within { position < length papers.now.schools }
+    requires tallies { length tallies.now ≡ length papers.now.schools }
+    ensures { (s : ℕ) → slice_get (schools_of papers.now) position ≡ Some s → result ≡ over_at papers.now tallies.now s }
+{
+    let Some(school) = papers.school_at(position) else {
+        unreachable!()
+    };
+    let Some(found) = papers.school(school) else {
+        unreachable!()
+    };
+    if found.seats.get() < tally_of(tallies, papers, school).held {
+        Some(school)
+    } else {
+        None
+    }
+}
+
+/// The least number of a school that more students have than it has seats.
+pub(crate) fn least_over(tallies: &[Tally], papers: &Papers) -> Option<SchoolNo>
+    requires { length tallies.now ≡ length papers.now.schools }
+    ensures { LeastOf (schools_of papers.now) (over_at papers.now tallies.now) (length papers.now.schools) result }
+{
+    let mut least = None;
+    for position in 0..papers.schools_len() {
+        least = lesser(least, over_at(tallies, papers, position));
+    }
+    least
+}
+
+/// Whether the school has a free seat, or the student is ahead there of somebody who has it.
+pub(crate) fn would_take(
+    tallies: &[Tally],
+    papers: &Papers,
+    student: StudentNo,
+    school: SchoolNo,
+) -> bool
+    requires student { is_student papers.now student ≡ true }
+    requires school { is_school papers.now school ≡ true }
+    requires tallies { length tallies.now ≡ length papers.now.schools }
+    ensures { result ≡ would_take papers.now tallies.now student school }
+{
+    let (_, seats, key) = key_at(papers, student, school);
+    let tally = tally_of(tallies, papers, school);
+    if tally.held < seats.get() {
+        return true;
+    }
+    match tally.last {
+        Some(last) => key < last,
+        None => false,
+    }
+}
