@@ -1,1 +1,4 @@
 pub mod Line
+pub mod Spelling
+pub mod Reading
+pub mod Inside

@@ -4,8 +4,13 @@
 //! `specs/`.
 #![tactic(auto)]
 
+mod fields;
 mod line_no;
 mod lines;
+mod numbers;
+mod reading;
+mod unread;
 
 pub use line_no::LineNo;
 pub use lines::line;
+pub use reading::{JournalLine, read_line};

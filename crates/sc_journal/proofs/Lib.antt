@@ -1,0 +1,4 @@
+mod Digits
+mod Giving
+mod Words
+mod Records
