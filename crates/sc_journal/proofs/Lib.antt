@@ -2,3 +2,4 @@ mod Digits
 mod Giving
 mod Words
 mod Records
+mod Replays
