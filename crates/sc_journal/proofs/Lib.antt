@@ -3,3 +3,4 @@ mod Giving
 mod Words
 mod Records
 mod Replays
+mod Answering

@@ -1,14 +1,15 @@
 -- Lines, both ways.
-use Rattle.std.proofs.Common.{◌≡◌, ℕ, ◌≤◌, true, List, [], ◌∷◌, length, refl, sym, ◌∙◌, ap, arith, append_assoc, ◌⊎◌, inl, inr}
+use Rattle.std.proofs.Common.{◌≡◌, ℕ, ◌<◌, ◌≤◌, true, false, List, [], ◌∷◌, length, refl, sym, ◌∙◌, ap, arith, append_assoc, ◌⊎◌, inl, inr}
 use Rattle.std.specs.Prelude.{◌==◌, codes, Ok, Err}
 use Rattle.std.specs.Fmt.{decimal}
-use Rattle.std.specs.List.{join_with_byte, slice_split}
+use Rattle.std.specs.List.{All, join_with_byte, slice_split}
 use Rattle.std.proofs.lemmas.Bool.Decides.{nat_tests}
+use Rattle.std.proofs.lemmas.List.Elements.{All-append, All-cons, All-same}
 use Rattle.std.proofs.lemmas.List.Splits.{join_with_byte-slice_split}
 use Rattle.std.proofs.lemmas.Slice.Eq.{bytes_eq-Decides}
 use Rattle.sc_papers.specs.declared.amendment.Amendment.{Amendment}
 use Rattle.sc_papers.specs.declared.amendment.Amendment.TheVariants.{Enter, Withdraw, Rerank, Add, Close, Correct}
-use Rattle.sc_journal.specs.Line.{amendment_text, fields_of, line_text}
+use Rattle.sc_journal.specs.Line.{amendment_text, fields_of, line_text, list_text}
 use Rattle.sc_journal.specs.Reading.{add_in, amendment_in, close_in, correct_in, count_in, enter_in, field_at, is_named, line_in, line_of, list_in, ranged_in, rerank_in, school_in, student_in, withdraw_in, zone_in}
 use Rattle.sc_journal.specs.Spelling.{IsCount, IsInRanges, IsLineOf, IsSchool, IsStudent, IsZone}
 use Rattle.sc_journal.specs.declared.reading.JournalLine.{JournalLine}
@@ -17,30 +18,87 @@ use Rattle.sc_journal.specs.declared.unread.Unread.TheVariants.{NoLine, OutOfMem
 use Rattle.sc_journal.proofs.Giving.{choose, decimal-ranged, IsPassed, passed, ranged-decimal, second}
 use Rattle.sc_journal.proofs.Words.{decimal-free, IsFree, list-free, list-text, split-last, split-next, text-list, word-free}
 
--- the digits of a number of a line hold no comma
-plain : (n : ℕ) → n ≤ 999999999 → IsFree 44 (decimal n)
-plain n small = decimal-free 44 n (omega arith) (omega arith)
+-- a byte that stands in no field: it is before the digits, no space, and in no word
+pub record IsOutside (c : ℕ) : Type 0 where
+  pub low : c < 48
+  pub no-space : (32 == c) ≡ false
+  pub enter : IsFree c (codes "enter")
+  pub withdraw : IsFree c (codes "withdraw")
+  pub rerank : IsFree c (codes "rerank")
+  pub add : IsFree c (codes "add")
+  pub close : IsFree c (codes "close")
+  pub correct : IsFree c (codes "correct")
 
-student-plain : (i : ℕ) → IsStudent i → IsFree 44 (decimal i)
-student-plain i ok = plain i ok.1
+comma-outside : IsOutside 44
+comma-outside = record {
+  low = omega arith;
+  no-space = refl;
+  enter = word-free 44 (codes "enter") refl;
+  withdraw = word-free 44 (codes "withdraw") refl;
+  rerank = word-free 44 (codes "rerank") refl;
+  add = word-free 44 (codes "add") refl;
+  close = word-free 44 (codes "close") refl;
+  correct = word-free 44 (codes "correct") refl;
+}
 
-zone-plain : (zone : ℕ) → IsZone zone → IsFree 44 (decimal zone)
-zone-plain zone ok = let high = ok.1 in plain zone (omega arith)
+newline-outside : IsOutside 10
+newline-outside = record {
+  low = omega arith;
+  no-space = refl;
+  enter = word-free 10 (codes "enter") refl;
+  withdraw = word-free 10 (codes "withdraw") refl;
+  rerank = word-free 10 (codes "rerank") refl;
+  add = word-free 10 (codes "add") refl;
+  close = word-free 10 (codes "close") refl;
+  correct = word-free 10 (codes "correct") refl;
+}
 
-school-plain : (s : ℕ) → IsSchool s → IsFree 44 (decimal s)
-school-plain s ok = let high = ok.1 in plain s (omega arith)
+-- it stands not in the digits of a number of a line
+plain : (c n : ℕ) → IsOutside c → n ≤ 999999999 → IsFree c (decimal n)
+plain c n out small = decimal-free c n out.low (omega arith)
 
-count-plain : (count : ℕ) → IsCount count → IsFree 44 (decimal count)
-count-plain count ok = let high = ok.1 in plain count (omega arith)
+student-plain : (c i : ℕ) → IsOutside c → IsStudent i → IsFree c (decimal i)
+student-plain c i out ok = plain c i out ok.1
 
--- texts without the byte at which they are joined are the parts again
-abbrev AreFree : List ℕ → List (List ℕ) → Type 0
-AreFree first [] = IsFree 44 first
-AreFree first (next ∷ rest) = IsFree 44 first × AreFree next rest
+zone-plain : (c zone : ℕ) → IsOutside c → IsZone zone → IsFree c (decimal zone)
+zone-plain c zone out ok = let high = ok.1 in plain c zone out (omega arith)
 
-split-joined : (first : List ℕ) (rest : List (List ℕ)) → AreFree first rest → slice_split (λ b. b == 44) (join_with_byte 44 (first ∷ rest)) ≡ first ∷ rest
+school-plain : (c s : ℕ) → IsOutside c → IsSchool s → IsFree c (decimal s)
+school-plain c s out ok = let high = ok.1 in plain c s out (omega arith)
+
+count-plain : (c count : ℕ) → IsOutside c → IsCount count → IsFree c (decimal count)
+count-plain c count out ok = let high = ok.1 in plain c count out (omega arith)
+
+list-plain : (c : ℕ) (xs : List ℕ) → IsOutside c → All IsSchool xs → IsFree c (list_text xs)
+list-plain c xs out ok = list-free c xs out.low out.no-space ok
+
+-- texts without the byte
+abbrev AreFree : ℕ → List ℕ → List (List ℕ) → Type 0
+AreFree c first [] = IsFree c first
+AreFree c first (next ∷ rest) = IsFree c first × AreFree c next rest
+
+-- no field has it
+fields-free : (c n : ℕ) (a : Amendment) → IsOutside c → n ≤ 999999999 → IsInRanges a → AreFree c (decimal n) (fields_of a)
+fields-free c n (Enter i zone siblings choices) out small ok =
+    (plain c n out small, (out.enter, (student-plain c i out ok.0, (zone-plain c zone out ok.1, (list-plain c siblings out ok.2, list-plain c choices out ok.3)))))
+fields-free c n (Withdraw i) out small ok = (plain c n out small, (out.withdraw, student-plain c i out ok))
+fields-free c n (Rerank i choices) out small ok = (plain c n out small, (out.rerank, (student-plain c i out ok.0, list-plain c choices out ok.1)))
+fields-free c n (Add s count) out small ok = (plain c n out small, (out.add, (school-plain c s out ok.0, count-plain c count out ok.1)))
+fields-free c n (Close s count) out small ok = (plain c n out small, (out.close, (school-plain c s out ok.0, count-plain c count out ok.1)))
+fields-free c n (Correct i zone siblings) out small ok =
+    (plain c n out small, (out.correct, (student-plain c i out ok.0, (zone-plain c zone out ok.1, list-plain c siblings out ok.2))))
+
+-- texts without a comma, joined by commas, are the parts again
+split-joined : (first : List ℕ) (rest : List (List ℕ)) → AreFree 44 first rest → slice_split (λ b. b == 44) (join_with_byte 44 (first ∷ rest)) ≡ first ∷ rest
 split-joined first [] free = split-last 44 first free
 split-joined first (next ∷ rest) free = split-next 44 first (join_with_byte 44 (next ∷ rest)) (next ∷ rest) free.0 (split-joined next rest free.1)
+
+-- texts without a newline, joined by commas, have none
+joined-free : (first : List ℕ) (rest : List (List ℕ)) → AreFree 10 first rest → IsFree 10 (join_with_byte 44 (first ∷ rest))
+joined-free first [] free = free
+joined-free first (next ∷ rest) free =
+    All-append (λ b. (b == 10) ≡ false) first (44 ∷ join_with_byte 44 (next ∷ rest)) free.0
+    (All-cons (λ b. (b == 10) ≡ false) 44 (join_with_byte 44 (next ∷ rest)) refl (joined-free next rest free.1))
 
 -- the fields joined are the line's text
 join-line : (n : ℕ) (a : Amendment) → join_with_byte 44 (decimal n ∷ fields_of a) ≡ line_text n a
@@ -51,20 +109,13 @@ join-line n (Add s count) = sym (append_assoc (decimal n) (codes ",") (amendment
 join-line n (Close s count) = sym (append_assoc (decimal n) (codes ",") (amendment_text (Close s count)))
 join-line n (Correct i zone siblings) = sym (append_assoc (decimal n) (codes ",") (amendment_text (Correct i zone siblings)))
 
--- no field has a comma
-fields-free : (n : ℕ) (a : Amendment) → n ≤ 999999999 → IsInRanges a → AreFree (decimal n) (fields_of a)
-fields-free n (Enter i zone siblings choices) small ok =
-    (plain n small, (word-free (codes "enter") refl, (student-plain i ok.0, (zone-plain zone ok.1, (list-free siblings ok.2, list-free choices ok.3)))))
-fields-free n (Withdraw i) small ok = (plain n small, (word-free (codes "withdraw") refl, student-plain i ok))
-fields-free n (Rerank i choices) small ok = (plain n small, (word-free (codes "rerank") refl, (student-plain i ok.0, list-free choices ok.1)))
-fields-free n (Add s count) small ok = (plain n small, (word-free (codes "add") refl, (school-plain s ok.0, count-plain count ok.1)))
-fields-free n (Close s count) small ok = (plain n small, (word-free (codes "close") refl, (school-plain s ok.0, count-plain count ok.1)))
-fields-free n (Correct i zone siblings) small ok =
-    (plain n small, (word-free (codes "correct") refl, (student-plain i ok.0, (zone-plain zone ok.1, list-free siblings ok.2))))
-
 -- what stands between the commas of a line's text
 split-line : (n : ℕ) (a : Amendment) → n ≤ 999999999 → IsInRanges a → slice_split (λ b. b == 44) (line_text n a) ≡ decimal n ∷ fields_of a
-split-line n a small ok = ap (slice_split (λ b. b == 44)) (sym (join-line n a)) ∙ split-joined (decimal n) (fields_of a) (fields-free n a small ok)
+split-line n a small ok = ap (slice_split (λ b. b == 44)) (sym (join-line n a)) ∙ split-joined (decimal n) (fields_of a) (fields-free 44 n a comma-outside small ok)
+
+-- no newline stands in a line's text
+pub line-free : (n : ℕ) (a : Amendment) → n ≤ 999999999 → IsInRanges a → IsFree 10 (line_text n a)
+line-free n a small ok = All-same (λ b. (b == 10) ≡ false) (line_text n a) (join_with_byte 44 (decimal n ∷ fields_of a)) (sym (join-line n a)) (joined-free (decimal n) (fields_of a) (fields-free 10 n a newline-outside small ok))
 
 -- the fields of an amendment read as that amendment
 amendment-fields : (n : ℕ) (a : Amendment) → IsInRanges a → amendment_in (decimal n ∷ fields_of a) ≡ Ok a
@@ -235,3 +286,14 @@ read-line text line reads =
 pub no-line : (text : List ℕ) (e : Unread) → e ≡ NoLine → ((line_in text ≡ Err e) ⊎ (e ≡ OutOfMemory)) → (n : ℕ) (a : Amendment) → IsLineOf text n a → ⊥
 no-line text e none (inl bad) n a is = let good = line-read text n a is in cc
 no-line text e none (inr memory) n a is = cc
+
+-- a text is the line of one number and one amendment
+pub record AreSame (n k : ℕ) (a b : Amendment) : Type 0 where
+  pub number : n ≡ k
+  pub amendment : a ≡ b
+
+pub one-line : (text : List ℕ) (n k : ℕ) (a b : Amendment) → IsLineOf text n a → IsLineOf text k b → AreSame n k a b
+one-line text n k a b is other =
+    let lines : (l : JournalLine) (m : JournalLine) → line_in text ≡ Ok l → line_in text ≡ Ok m → l ≡ m = λ l m e f. cc in
+    let same = lines (record { number = n; amendment = a }) (record { number = k; amendment = b }) (line-read text n a is) (line-read text k b other) in
+    record { number = ap (λ (l : JournalLine). l.number) same; amendment = ap (λ (l : JournalLine). l.amendment) same }

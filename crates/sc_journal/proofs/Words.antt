@@ -129,22 +129,22 @@ text-list (c ∷ cs) xs reads =
     let whole : join_with_byte 32 (map decimal is.schools) ≡ c ∷ cs = ap (join_with_byte 32) (sym is.spelled) ∙ join_with_byte-slice_split 32 (c ∷ cs) in
     record { spelled = joined (c ∷ cs) is.schools (omega arith) whole ∙ ap list_text (sym same); ranges = rw same is.ranges }
 
-further-free : (xs : List ℕ) → All IsSchool xs → IsFree 44 (flat_map further_text xs)
-further-free [] ok = All-nil (λ b. (b == 44) ≡ false)
-further-free (x ∷ xs) ok =
-    let digits = decimal-free 44 x (omega arith) (school-small x (All-head IsSchool x xs ok)) in
-    All-append (λ b. (b == 44) ≡ false) (further_text x) (flat_map further_text xs) (All-cons (λ b. (b == 44) ≡ false) 32 (decimal x) refl digits) (further-free xs (All-tail IsSchool x xs ok))
+further-free : (c : ℕ) (xs : List ℕ) → c < 48 → (32 == c) ≡ false → All IsSchool xs → IsFree c (flat_map further_text xs)
+further-free c [] low other ok = All-nil (λ b. (b == c) ≡ false)
+further-free c (x ∷ xs) low other ok =
+    let digits = decimal-free c x low (school-small x (All-head IsSchool x xs ok)) in
+    All-append (λ b. (b == c) ≡ false) (further_text x) (flat_map further_text xs) (All-cons (λ b. (b == c) ≡ false) 32 (decimal x) other digits) (further-free c xs low other (All-tail IsSchool x xs ok))
 
--- no comma stands in a list's text
-pub list-free : (xs : List ℕ) → All IsSchool xs → IsFree 44 (list_text xs)
-list-free [] ok = All-nil (λ b. (b == 44) ≡ false)
-list-free (x ∷ xs) ok =
-    All-append (λ b. (b == 44) ≡ false) (decimal x) (flat_map further_text xs) (decimal-free 44 x (omega arith) (school-small x (All-head IsSchool x xs ok))) (further-free xs (All-tail IsSchool x xs ok))
+-- a list's text has digits and spaces alone
+pub list-free : (c : ℕ) (xs : List ℕ) → c < 48 → (32 == c) ≡ false → All IsSchool xs → IsFree c (list_text xs)
+list-free c [] low other ok = All-nil (λ b. (b == c) ≡ false)
+list-free c (x ∷ xs) low other ok =
+    All-append (λ b. (b == c) ≡ false) (decimal x) (flat_map further_text xs) (decimal-free c x low (school-small x (All-head IsSchool x xs ok))) (further-free c xs low other (All-tail IsSchool x xs ok))
 
--- a text that is tested to have no comma
-pub word-free : (word : List ℕ) → list_all (λ b. not (b == 44)) word ≡ true → IsFree 44 word
-word-free word e =
-    All-weaker (λ b. not (b == 44) ≡ true) (λ b. (b == 44) ≡ false) (λ b h. not-true (b == 44) h) word (AllPass-from_list_all (λ b. not (b == 44)) word e)
+-- a text that is tested to have no such byte
+pub word-free : (c : ℕ) (word : List ℕ) → list_all (λ b. not (b == c)) word ≡ true → IsFree c word
+word-free c word e =
+    All-weaker (λ b. not (b == c) ≡ true) (λ b. (b == c) ≡ false) (λ b h. not-true (b == c) h) word (AllPass-from_list_all (λ b. not (b == c)) word e)
 
 -- the texts that are left, where one is read next
 schools-next : (earlier : List ℕ) (words : List (Bor (List ℕ))) (i : ℕ) (d : Bor (List ℕ)) → i < length words

@@ -7,6 +7,7 @@
 mod fault;
 mod fields;
 mod journal;
+pub mod laws;
 mod line_no;
 mod lines;
 mod numbers;
