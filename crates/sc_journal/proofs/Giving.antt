@@ -1,10 +1,10 @@
 -- Readings that are made of several, one after another.
-use Rattle.std.proofs.Common.{◌≡◌, ℕ, ◌≤◌, Bool, true, false, refl, ◌∙◌, ap, List, arith}
+use Rattle.std.proofs.Common.{◌≡◌, ℕ, ◌≤◌, Bool, true, false, refl, ◌∙◌, ap, List, arith, inl}
 use Rattle.std.specs.Prelude.{Result, Ok, Err, nat_le, ◌&&◌, if◌then◌else◌}
 use Rattle.std.specs.Fmt.{decimal}
 use Rattle.std.specs.Int.{IsInRange}
 use Rattle.std.proofs.lemmas.Bool.Decides.{nat_tests}
-use Rattle.sc_journal.specs.Reading.{◌>>=◌, number_in, ranged_in, within}
+use Rattle.sc_journal.specs.Reading.{◌>>=◌, Gives, number_in, ranged_in, within}
 use Rattle.sc_journal.specs.declared.unread.Unread.{Unread}
 use Rattle.sc_journal.specs.declared.unread.Unread.TheVariants.{NoLine}
 use Rattle.sc_journal.proofs.Digits.{and-left, and-right, decimal-number, number-decimal}
@@ -65,3 +65,8 @@ decimal-ranged least greatest n text reads =
       spelled = decimal-number text m step.gave ∙ ap decimal same;
       range = (omega (arith, same, least-m), omega (arith, same, m-greatest));
     }
+
+-- an answer that is the reading's error
+pub Gives-error : {A : Type 0} (reading answer : Result A Unread) (e : Unread) → reading ≡ Err e → answer ≡ Err e → Gives reading answer
+Gives-error reading (Ok x) e bad same = cc same
+Gives-error reading (Err f) e bad same = let is : e ≡ f = cc same in inl (bad ∙ ap Err is)

@@ -1,5 +1,5 @@
 -- Lists of schools as a line spells them, both ways.
-use Rattle.std.proofs.Common.{◌≡◌, ℕ, ◌+◌, ◌^◌, ◌<◌, ◌≤◌, true, false, List, [], ◌∷◌, ◌++◌, length, get_or, drop, map, Bor, refl, sym, ◌∙◌, ap, arith, append_assoc, inl}
+use Rattle.std.proofs.Common.{◌≡◌, ℕ, ◌+◌, ◌^◌, ◌<◌, ◌≤◌, true, false, List, [], ◌∷◌, ◌++◌, length, get_or, drop, map, Bor, refl, sym, ◌∙◌, ap, arith, append_assoc}
 use Rattle.std.specs.Prelude.{◌==◌, nat_le, not, flat_map, Result, Ok, Err}
 use Rattle.std.specs.Char.{is_ascii_digit}
 use Rattle.std.specs.Fmt.{decimal}
@@ -11,7 +11,7 @@ use Rattle.std.proofs.lemmas.List.Elements.{All-append, All-cons, All-from_get_o
 use Rattle.std.proofs.lemmas.List.Splits.{join_with_byte-slice_split, slice_split_at, slice_split_none}
 use Rattle.std.proofs.lemmas.List.Sums.{AllPass-from_list_all}
 use Rattle.sc_journal.specs.Line.{further_text, list_text}
-use Rattle.sc_journal.specs.Reading.{◌>>=◌, Gives, list_in, school_in, schools_after}
+use Rattle.sc_journal.specs.Reading.{◌>>=◌, list_in, school_in, schools_after}
 use Rattle.sc_journal.specs.Spelling.{IsSchool}
 use Rattle.sc_journal.specs.declared.unread.Unread.{Unread}
 use Rattle.sc_journal.proofs.Digits.{and-left, not-true, own}
@@ -165,8 +165,3 @@ pub schools-bad : (earlier : List ℕ) (words : List (Bor (List ℕ))) (i : ℕ)
     → schools_after earlier (map (λ word. word.now) (drop i words)) ≡ Err e
 schools-bad earlier words i d e inside reads =
     schools-next earlier words i d inside ∙ ap (λ (r : Result ℕ Unread). r >>= λ t. schools_after (earlier ++ t ∷ []) (map (λ word. word.now) (drop (i + 1) words))) reads
-
--- an answer that is the reading's error
-pub Gives-error : {A : Type 0} (reading answer : Result A Unread) (e : Unread) → reading ≡ Err e → answer ≡ Err e → Gives reading answer
-Gives-error reading (Ok x) e bad same = cc same
-Gives-error reading (Err f) e bad same = let is : e ≡ f = cc same in inl (bad ∙ ap Err is)

@@ -63,7 +63,7 @@ IsCause m number text JournalFull = (999999999 < number) × ((n : ℕ) × (amend
 IsCause m number text (Refused refusal) = (amendment : Amendment) × IsLineOf text number amendment × (verdict m amendment ≡ Some refusal)
 IsCause m number text OutOfMemory = ⊥
 
--- the lines before the faulty one are taken, and it is not for this cause
+-- the lines before the faulty one are taken, and this one is not, for this cause
 pub record IsFirstFault (before : Market) (bytes : List ℕ) (fault : JournalFault) : Type 0 where
   pub now : Market
   pub line : List ℕ

@@ -1,4 +1,4 @@
-ghost use Rattle.std.specs.Prelude.{◌≡◌, ◌==◌, ℕ, IfOk, List, map};
+ghost use Rattle.std.specs.Prelude.{◌≡◌, ◌==◌, IfOk, map};
 ghost use Rattle.std.specs.List.{slice_split};
 
 use std::alloc::{AllocError, Global};
@@ -30,7 +30,6 @@ fn between_commas(alloc: Global, text: &[u8]) -> Result<Vec<&[u8]>, AllocError>
 impl<'a> Fields<'a> {
     ghost use Rattle.std.specs.Prelude.{◌≡◌, ◌==◌, IfOk, length};
     ghost use Rattle.std.specs.List.{slice_split};
-    ghost use Rattle.std.specs.Str.{bytes_eq};
     ghost use Rattle.sc_journal.specs.Reading.{field_at, is_named};
 
     /// The fields of a line. The only error is want of memory.

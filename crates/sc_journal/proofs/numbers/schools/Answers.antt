@@ -1,7 +1,8 @@
 use Rattle.std.proofs.Common.{◌≡◌, List, ℕ, map, drop, ◌+◌, sym, ap, ◌∙◌, arith, rules}
 use Rattle.std.specs.Prelude.{Ok, Err}
 use Rattle.sc_journal.specs.Reading.{schools_after}
-use Rattle.sc_journal.proofs.Words.{Gives-error, schools-bad, schools-end, schools-more}
+use Rattle.sc_journal.proofs.Giving.{Gives-error}
+use Rattle.sc_journal.proofs.Words.{schools-bad, schools-end, schools-more}
 use Rattle.sc_journal.proofs.numbers.schools.Goals as goal
 
 pub returns-in_err-school : goal.returns-in_err-school
