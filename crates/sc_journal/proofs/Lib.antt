@@ -1,6 +1,7 @@
-mod Digits
-mod Giving
-mod Words
-mod Records
-mod Replays
-mod Answering
+pub mod Digits
+pub mod Giving
+pub mod Words
+pub mod Records
+pub mod Growing
+pub mod Replays
+pub mod Answering

@@ -1,15 +1,15 @@
 -- A journal replayed, one line more.
 use Rattle.std.proofs.Common.{◌≡◌, ◌≢◌, ℕ, ◌+◌, ◌-◌, ◌<◌, ◌≤◌, List, [], ◌∷◌, ◌++◌, length, get_or, drop, refl, sym, ◌∙◌, ap, arith, append_assoc, inl, inr}
-use Rattle.std.specs.Prelude.{codes, slice_range, None}
-use Rattle.std.proofs.lemmas.List.{append-nil, at_drop_all, at_drop_more, drop-drop, length-append, length-drop, take_all, take-append-drop, take_more, get_or-drop}
+use Rattle.std.specs.Prelude.{codes, slice_range}
+use Rattle.std.proofs.lemmas.List.{at_drop_all, at_drop_more, drop-drop, length-append, length-drop, take_all, take-append-drop, take_more, get_or-drop}
 use Rattle.std.proofs.lemmas.List.Elements.{All-nil, All-push, All-same}
 use Rattle.sc_papers.specs.Market.{Market}
 use Rattle.sc_papers.specs.Verdict.{after, verdict}
-use Rattle.sc_papers.specs.declared.amendment.Amendment.{Amendment}
-use Rattle.sc_journal.specs.Journal.{after_all, AreAccepted, IsCause, IsFirstFault, IsReplayed, IsReplayFault, IsUnbroken, journal_text, tail_of}
+use Rattle.sc_journal.specs.Journal.{IsCause, IsFirstFault, IsReplayed, IsReplayFault, IsUnbroken, journal_text, tail_of}
 use Rattle.sc_journal.specs.Line.{line_text}
 use Rattle.sc_journal.specs.Replaying.{IsCauseOrMemory, IsLineEnd, IsTaken, line_of}
 use Rattle.sc_journal.specs.Spelling.{IsInRanges}
+use Rattle.sc_journal.proofs.Growing.{accepted-more, after-more, journal-more}
 use Rattle.sc_journal.specs.declared.fault.JournalCause.{JournalCause}
 use Rattle.sc_journal.specs.declared.fault.JournalCause.TheVariants.{Shape, Number, JournalFull, Refused, OutOfMemory}
 use Rattle.sc_journal.specs.declared.fault.JournalFault.{JournalFault}
@@ -51,25 +51,6 @@ tail-torn bytes i inside = sym (ap tail_of (at_drop_more (λ (bs : List ℕ). bs
 
 pub tail-whole : (bytes : List ℕ) (i : ℕ) → length bytes ≤ i → Whole ≡ tail_of (drop i bytes)
 tail-whole bytes i past = sym (ap tail_of (at_drop_all (λ (bs : List ℕ). bs) bytes i past))
-
--- one amendment more
-after-more : (m : Market) (xs : List Amendment) (a : Amendment) → after_all m (xs ++ a ∷ []) ≡ after (after_all m xs) a
-after-more m [] a = refl
-after-more m (x ∷ xs) a = after-more (after m x) xs a
-
-accepted-more : (m : Market) (xs : List Amendment) (a : Amendment) → AreAccepted m xs → verdict (after_all m xs) a ≡ None → AreAccepted m (xs ++ a ∷ [])
-accepted-more m [] a ok next = (next, tt)
-accepted-more m (x ∷ xs) a ok next = (ok.0, accepted-more (after m x) xs a ok.1 next)
-
-journal-more : (first : ℕ) (xs : List Amendment) (a : Amendment) → journal_text first (xs ++ a ∷ []) ≡ journal_text first xs ++ (line_text (first + length xs) a ++ codes "\n")
-journal-more first [] a =
-    let place : first ≡ first + 0 = omega arith in
-    append-nil (line_text first a ++ codes "\n") ∙ ap (λ n. line_text n a ++ codes "\n") place
-journal-more first (x ∷ xs) a =
-    let place : first + 1 + length xs ≡ first + length (x ∷ xs) = omega arith in
-    ap (λ (text : List ℕ). line_text first x ++ codes "\n" ++ text) (journal-more (first + 1) xs a)
-    ∙ sym (append_assoc (line_text first x ++ codes "\n") (journal_text (first + 1) xs) (line_text (first + 1 + length xs) a ++ codes "\n"))
-    ∙ ap (λ n. line_text first x ++ codes "\n" ++ journal_text (first + 1) xs ++ (line_text n a ++ codes "\n")) place
 
 -- where a replay stands: the whole lines before a place are taken, so many of them
 pub record IsGoing (before now : Market) (bytes : List ℕ) (start number : ℕ) : Type 0 where
