@@ -1,1 +1,6 @@
 pub mod Line
+pub mod Spelling
+pub mod Journal
+pub mod Reading
+pub mod Replaying
+pub mod Inside

@@ -1,6 +1,7 @@
 -- The lines of a journal: each amendment has one spelling.
 use Rattle.std.specs.Prelude.{ℕ, List, [], ◌∷◌, ◌++◌, codes, flat_map}
 use Rattle.std.specs.Fmt.{decimal}
+use Rattle.std.specs.List.{join_with_byte}
 use Rattle.sc_papers.specs.declared.amendment.Amendment.{Amendment}
 use Rattle.sc_papers.specs.declared.amendment.Amendment.TheVariants.{Enter, Withdraw, Rerank, Add, Close, Correct}
 
@@ -13,22 +14,18 @@ abbrev pub list_text : List ℕ → List ℕ
 list_text [] = []
 list_text (s ∷ rest) = decimal s ++ flat_map further_text rest
 
--- a field: a comma, and a number
-abbrev pub number_field : ℕ → List ℕ
-number_field n = codes "," ++ decimal n
+-- the fields of an amendment's record: its word, and its numbers and lists
+abbrev pub fields_of : Amendment → List (List ℕ)
+fields_of (Enter i zone siblings choices) = codes "enter" ∷ decimal i ∷ decimal zone ∷ list_text siblings ∷ list_text choices ∷ []
+fields_of (Withdraw i) = codes "withdraw" ∷ decimal i ∷ []
+fields_of (Rerank i choices) = codes "rerank" ∷ decimal i ∷ list_text choices ∷ []
+fields_of (Add s count) = codes "add" ∷ decimal s ∷ decimal count ∷ []
+fields_of (Close s count) = codes "close" ∷ decimal s ∷ decimal count ∷ []
+fields_of (Correct i zone siblings) = codes "correct" ∷ decimal i ∷ decimal zone ∷ list_text siblings ∷ []
 
--- a field: a comma, and a list of schools
-abbrev pub list_field : List ℕ → List ℕ
-list_field schools = codes "," ++ list_text schools
-
--- an amendment's record: its word, and its fields
+-- an amendment's record: its fields, with a comma, byte 44, between each two
 abbrev pub amendment_text : Amendment → List ℕ
-amendment_text (Enter i zone siblings choices) = codes "enter" ++ number_field i ++ number_field zone ++ list_field siblings ++ list_field choices
-amendment_text (Withdraw i) = codes "withdraw" ++ number_field i
-amendment_text (Rerank i choices) = codes "rerank" ++ number_field i ++ list_field choices
-amendment_text (Add s count) = codes "add" ++ number_field s ++ number_field count
-amendment_text (Close s count) = codes "close" ++ number_field s ++ number_field count
-amendment_text (Correct i zone siblings) = codes "correct" ++ number_field i ++ number_field zone ++ list_field siblings
+amendment_text amendment = join_with_byte 44 (fields_of amendment)
 
 -- a line without its newline: its number, a comma, and the amendment's record
 abbrev pub line_text : ℕ → Amendment → List ℕ

@@ -4,8 +4,21 @@
 //! `specs/`.
 #![tactic(auto)]
 
+mod fault;
+mod fields;
+mod journal;
+pub mod laws;
 mod line_no;
 mod lines;
+mod numbers;
+mod reading;
+mod unread;
 
+pub use fault::{JournalCause, JournalFault};
+pub use journal::{Tail, replay};
 pub use line_no::LineNo;
 pub use lines::line;
+pub use reading::{JournalLine, read_line};
+
+#[cfg(test)]
+mod tests;

@@ -1,10 +1,10 @@
 //! The line of an amendment.
 ghost use Rattle.std.specs.Prelude.{◌≡◌, ◌++◌, IfOk, OnOk, codes, decimal, flat_map};
-ghost use Rattle.sc_journal.specs.Line.{amendment_text, further_text, line_text, list_field, list_text, number_field};
+ghost use Rattle.sc_journal.specs.Line.{amendment_text, further_text, line_text, list_text};
 
 use crate::line_no::LineNo;
 use itoa::Buffer;
-use sc_papers::{Amendment, SchoolList, SchoolNo};
+use sc_papers::{Amendment, SchoolList, SchoolNo, Zone};
 use std::alloc::{AllocError, Global};
 
 /// Adds a number in decimal digits.
@@ -41,7 +41,7 @@ fn push_list(text: &mut Vec<u8>, schools: &[SchoolNo]) -> Result<(), AllocError>
 
 /// Adds a comma and a number.
 fn push_number_field(text: &mut Vec<u8>, number: u32) -> Result<(), AllocError>
-    ensures { OnOk result (text.new.items ≡ text.old.items ++ number_field number) }
+    ensures { OnOk result (text.new.items ≡ text.old.items ++ codes "," ++ decimal number) }
 {
     text.extend_from_slice(b",")?;
     push_number(text, number)
@@ -49,10 +49,18 @@ fn push_number_field(text: &mut Vec<u8>, number: u32) -> Result<(), AllocError>
 
 /// Adds a comma and a list of schools.
 fn push_list_field(text: &mut Vec<u8>, schools: &SchoolList) -> Result<(), AllocError>
-    ensures { OnOk result (text.new.items ≡ text.old.items ++ list_field schools.now) }
+    ensures { OnOk result (text.new.items ≡ text.old.items ++ codes "," ++ list_text schools.now) }
 {
     text.extend_from_slice(b",")?;
     push_list(text, schools.as_slice())
+}
+
+/// Adds a zone and the schools of siblings, each after a comma.
+fn push_home(text: &mut Vec<u8>, zone: Zone, siblings: &SchoolList) -> Result<(), AllocError>
+    ensures { OnOk result (text.new.items ≡ text.old.items ++ (codes "," ++ decimal zone ++ (codes "," ++ list_text siblings.now))) }
+{
+    push_number_field(text, zone.get())?;
+    push_list_field(text, siblings)
 }
 
 /// Adds the record of an amendment.
@@ -68,8 +76,7 @@ fn push_amendment(text: &mut Vec<u8>, amendment: &Amendment) -> Result<(), Alloc
         } => {
             text.extend_from_slice(b"enter")?;
             push_number_field(text, student.get())?;
-            push_number_field(text, zone.get())?;
-            push_list_field(text, siblings)?;
+            push_home(text, *zone, siblings)?;
             push_list_field(text, choices)
         }
         Amendment::Withdraw { student } => {
@@ -98,8 +105,7 @@ fn push_amendment(text: &mut Vec<u8>, amendment: &Amendment) -> Result<(), Alloc
         } => {
             text.extend_from_slice(b"correct")?;
             push_number_field(text, student.get())?;
-            push_number_field(text, zone.get())?;
-            push_list_field(text, siblings)
+            push_home(text, *zone, siblings)
         }
     }
 }

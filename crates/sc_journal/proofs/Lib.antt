@@ -1,0 +1,7 @@
+pub mod Digits
+pub mod Giving
+pub mod Words
+pub mod Records
+pub mod Growing
+pub mod Replays
+pub mod Answering

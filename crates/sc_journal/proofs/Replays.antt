@@ -1,0 +1,131 @@
+-- A journal replayed, one line more.
+use Rattle.std.proofs.Common.{◌≡◌, ◌≢◌, ℕ, ◌+◌, ◌-◌, ◌<◌, ◌≤◌, List, [], ◌∷◌, ◌++◌, length, get_or, drop, refl, sym, ◌∙◌, ap, arith, append_assoc, inl, inr}
+use Rattle.std.specs.Prelude.{codes, slice_range}
+use Rattle.std.proofs.lemmas.List.{at_drop_all, at_drop_more, drop-drop, length-append, length-drop, take_all, take-append-drop, take_more, get_or-drop}
+use Rattle.std.proofs.lemmas.List.Elements.{All-nil, All-push, All-same}
+use Rattle.sc_papers.specs.Market.{Market}
+use Rattle.sc_papers.specs.Verdict.{after, verdict}
+use Rattle.sc_journal.specs.Journal.{IsCause, IsFirstFault, IsReplayed, IsReplayFault, IsUnbroken, journal_text, tail_of}
+use Rattle.sc_journal.specs.Line.{line_text}
+use Rattle.sc_journal.specs.Replaying.{IsCauseOrMemory, IsLineEnd, IsTaken, line_of}
+use Rattle.sc_journal.specs.Spelling.{IsInRanges}
+use Rattle.sc_journal.proofs.Growing.{accepted-more, after-more, journal-more}
+use Rattle.sc_journal.specs.declared.fault.JournalCause.{JournalCause}
+use Rattle.sc_journal.specs.declared.fault.JournalCause.TheVariants.{Shape, Number, JournalFull, Refused, OutOfMemory}
+use Rattle.sc_journal.specs.declared.fault.JournalFault.{JournalFault}
+use Rattle.sc_journal.specs.declared.journal.Tail.TheVariants.{Torn, Whole}
+
+-- one more byte of a line
+slice_range-more : (text : List ℕ) (start i d : ℕ) → start ≤ i → i < length text
+    → slice_range text start (i + 1) ≡ slice_range text start i ++ get_or text i d ∷ []
+slice_range-more text start i d from inside =
+    let span : i + 1 - start ≡ i - start + 1 = omega arith in
+    let place : start + (i - start) ≡ i = omega arith in
+    rw (span, take_more (drop start text) (i - start) d (omega (arith, length-drop start text)), get_or-drop start text (i - start) d, place) refl
+
+-- no byte of a line that has not begun
+pub unbroken-start : (bytes : List ℕ) (start : ℕ) → IsUnbroken (slice_range bytes start start)
+unbroken-start bytes start = let none : start - start ≡ 0 = omega arith in rw none (All-nil (λ byte. byte ≢ 10))
+
+pub unbroken-more : (bytes : List ℕ) (start i : ℕ) → start ≤ i → i < length bytes → get_or bytes i 0 ≢ 10 → IsUnbroken (slice_range bytes start i) → IsUnbroken (slice_range bytes start (i + 1))
+unbroken-more bytes start i from inside other free =
+    rw (slice_range-more bytes start i 0 from inside) (All-push (λ byte. byte ≢ 10) (slice_range bytes start i) (get_or bytes i 0) free other)
+
+-- all that is left is one line
+pub unbroken-end : (bytes : List ℕ) (start i : ℕ) → start ≤ i → length bytes ≤ i → IsUnbroken (slice_range bytes start i) → IsUnbroken (drop start bytes)
+unbroken-end bytes start i from past free =
+    let all : slice_range bytes start i ≡ drop start bytes = take_all (i - start) (drop start bytes) (omega (arith, length-drop start bytes)) in
+    All-same (λ byte. byte ≢ 10) (drop start bytes) (slice_range bytes start i) (sym all) free
+
+-- the bytes from a line on, cut at its newline
+pub line-cut : (bytes : List ℕ) (start i : ℕ) → start ≤ i → i < length bytes → get_or bytes i 0 ≡ 10 → drop start bytes ≡ slice_range bytes start i ++ 10 ∷ drop (i + 1) bytes
+line-cut bytes start i from inside newline =
+    let place : start + (i - start) ≡ i = omega arith in
+    let rest : drop (i - start) (drop start bytes) ≡ drop i bytes = drop-drop (i - start) start bytes ∙ ap (λ n. drop n bytes) place in
+    let next : drop i bytes ≡ 10 ∷ drop (i + 1) bytes = at_drop_more (λ (bs : List ℕ). bs) bytes i 0 inside ∙ ap (λ (b : ℕ). b ∷ drop (i + 1) bytes) newline in
+    sym (take-append-drop (i - start) (drop start bytes)) ∙ ap (λ (bs : List ℕ). slice_range bytes start i ++ bs) (rest ∙ next)
+
+-- bytes that are left are a torn line
+pub tail-torn : (bytes : List ℕ) (i : ℕ) → i < length bytes → Torn ≡ tail_of (drop i bytes)
+tail-torn bytes i inside = sym (ap tail_of (at_drop_more (λ (bs : List ℕ). bs) bytes i 0 inside))
+
+pub tail-whole : (bytes : List ℕ) (i : ℕ) → length bytes ≤ i → Whole ≡ tail_of (drop i bytes)
+tail-whole bytes i past = sym (ap tail_of (at_drop_all (λ (bs : List ℕ). bs) bytes i past))
+
+-- where a replay stands: the whole lines before a place are taken, so many of them
+pub record IsGoing (before now : Market) (bytes : List ℕ) (start number : ℕ) : Type 0 where
+  pub inside : start ≤ length bytes
+  pub replayed : IsReplayed before now bytes (drop start bytes)
+  pub count : number ≡ length replayed.amendments
+
+pub going-start : (m : Market) (bytes : List ℕ) → IsGoing m m bytes 0 0
+going-start m bytes = record {
+  inside = omega arith;
+  replayed = record { amendments = []; ranges = All-nil IsInRanges; count = omega arith; text = refl; accepted = tt; papers = refl };
+  count = refl;
+}
+
+pub going-more : (before now next : Market) (bytes : List ℕ) (start number end : ℕ) → IsGoing before now bytes start number
+    → IsLineEnd bytes start end → IsTaken now next (number + 1) (slice_range bytes start end) → IsGoing before next bytes (end + 1) (number + 1)
+going-more before now next bytes start number end at line taken =
+    let r = at.replayed in
+    let a = taken.amendment in
+    let xs = r.amendments in
+    let rest = drop (end + 1) bytes in
+    let size : length (xs ++ a ∷ []) ≡ number + 1 = omega (arith, at.count, length-append xs (a ∷ [])) in
+    let place : 1 + length xs ≡ number + 1 = omega (arith, at.count) in
+    let number-range = taken.spelled.number_in_range in
+    let high : number + 1 ≤ 999999999 = number-range.1 in
+    let line-is : slice_range bytes start end ≡ line_text (1 + length xs) a = taken.spelled.spelled ∙ ap (λ n. line_text n a) (sym place) in
+    let left : drop start bytes ≡ line_text (1 + length xs) a ++ codes "\n" ++ rest =
+    line.cut ∙ ap (λ (bs : List ℕ). bs ++ 10 ∷ rest) line-is ∙ sym (append_assoc (line_text (1 + length xs) a) (codes "\n") rest) in
+    let text : bytes ≡ journal_text 1 (xs ++ a ∷ []) ++ rest =
+    r.text ∙ ap (λ (bs : List ℕ). journal_text 1 xs ++ bs) left
+    ∙ sym (append_assoc (journal_text 1 xs) (line_text (1 + length xs) a ++ codes "\n") rest)
+    ∙ ap (λ (bs : List ℕ). bs ++ rest) (sym (journal-more 1 xs a)) in
+    let inside = line.inside in
+    record {
+      inside = omega arith;
+      replayed = record {
+        amendments = xs ++ a ∷ [];
+        ranges = All-push IsInRanges xs a r.ranges taken.spelled.amendment_in_ranges;
+        count = omega (arith, size, high);
+        text = text;
+        accepted = accepted-more before xs a r.accepted (ap (λ m. verdict m a) (sym r.papers) ∙ taken.accepted);
+        papers = taken.papers ∙ ap (λ m. after m a) r.papers ∙ sym (after-more before xs a);
+      };
+      count = sym size;
+    }
+
+-- the line that follows a place, which is not taken for this cause, is the first
+pub is-first : (before now : Market) (bytes : List ℕ) (start number end : ℕ) (fault : JournalFault) → IsGoing before now bytes start number
+    → IsLineEnd bytes start end → fault.line ≡ number + 1 → IsCause now (number + 1) (slice_range bytes start end) fault.cause → IsFirstFault before bytes fault
+is-first before now bytes start number end fault at line is why =
+    let r = at.replayed in
+    let text = slice_range bytes start end in
+    let rest = drop (end + 1) bytes in record {
+      now = now;
+      line = text;
+      rest = rest;
+      replayed = record {
+        amendments = r.amendments;
+        ranges = r.ranges;
+        count = r.count;
+        text = r.text ∙ ap (λ (bs : List ℕ). journal_text 1 r.amendments ++ bs) (line.cut ∙ sym (append_assoc text (codes "\n") rest));
+        accepted = r.accepted;
+        papers = r.papers;
+      };
+      unbroken = line.unbroken;
+      number = is ∙ ap (λ n. n + 1) at.count;
+      cause = rw is why;
+    }
+
+pub first-fault : (before now : Market) (bytes : List ℕ) (start number end : ℕ) (cause : JournalCause) → IsGoing before now bytes start number
+    → IsLineEnd bytes start end → IsCauseOrMemory now (number + 1) (slice_range bytes start end) cause
+    → IsReplayFault before bytes (record { line = line_of (number + 1) cause; cause = cause })
+first-fault before now bytes start number end cause at line (inl memory) = inl (rw memory refl)
+first-fault before now bytes start number end Shape at line (inr why) = inr (is-first before now bytes start number end _ at line refl why)
+first-fault before now bytes start number end Number at line (inr why) = inr (is-first before now bytes start number end _ at line refl why)
+first-fault before now bytes start number end JournalFull at line (inr why) = inr (is-first before now bytes start number end _ at line refl why)
+first-fault before now bytes start number end (Refused refusal) at line (inr why) = inr (is-first before now bytes start number end _ at line refl why)
+first-fault before now bytes start number end OutOfMemory at line (inr why) = absurd why

@@ -1,0 +1,82 @@
+-- The journal's text, and what replaying it comes to.
+use Rattle.std.specs.Prelude.{◌≡◌, ◌≢◌, ◌⊎◌, ⊤, ℕ, ◌+◌, ◌<◌, ◌≤◌, List, [], ◌∷◌, ◌++◌, length, codes, None, Some}
+use Rattle.std.specs.List.{All}
+use Rattle.sc_papers.specs.Market.{Market}
+use Rattle.sc_papers.specs.Verdict.{after, verdict}
+use Rattle.sc_papers.specs.declared.amendment.Amendment.{Amendment}
+use Rattle.sc_journal.specs.Line.{line_text}
+use Rattle.sc_journal.specs.Spelling.{IsInRanges, IsLineOf}
+use Rattle.sc_journal.specs.declared.fault.JournalCause.{JournalCause}
+use Rattle.sc_journal.specs.declared.fault.JournalCause.TheVariants.{Shape, Number, JournalFull, Refused, OutOfMemory}
+use Rattle.sc_journal.specs.declared.fault.JournalFault.{JournalFault}
+use Rattle.sc_journal.specs.declared.journal.Tail.{Tail}
+use Rattle.sc_journal.specs.declared.journal.Tail.TheVariants.{Whole, Torn}
+
+-- the lines of amendments, each with its newline, the first of which has this number
+abbrev pub journal_text : ℕ → List Amendment → List ℕ
+journal_text first [] = []
+journal_text first (amendment ∷ rest) = line_text first amendment ++ codes "\n" ++ journal_text (first + 1) rest
+
+-- the papers after amendments in turn
+abbrev pub after_all : Market → List Amendment → Market
+after_all m [] = m
+after_all m (amendment ∷ rest) = after_all (after m amendment) rest
+
+-- each amendment is accepted, in the papers after those before it
+abbrev pub AreAccepted : Market → List Amendment → Type 0
+AreAccepted m [] = ⊤
+AreAccepted m (amendment ∷ rest) = (verdict m amendment ≡ None) × AreAccepted (after m amendment) rest
+
+-- no newline stands in a text
+abbrev pub IsUnbroken : List ℕ → Type 0
+IsUnbroken text = All (λ byte. byte ≢ 10) text
+
+-- the bytes begin with the journal of amendments that papers accept in turn, which makes them these other
+-- papers, and `rest` follows it
+pub record IsReplayed (before now : Market) (bytes rest : List ℕ) : Type 0 where
+  pub amendments : List Amendment
+  pub ranges : All IsInRanges amendments
+  pub count : length amendments ≤ 999999999
+  pub text : bytes ≡ journal_text 1 amendments ++ rest
+  pub accepted : AreAccepted before amendments
+  pub papers : now ≡ after_all before amendments
+
+-- how a journal ends, by what follows its last newline
+abbrev pub tail_of : List ℕ → Tail
+tail_of [] = Whole
+tail_of (byte ∷ rest) = Torn
+
+-- the whole lines of the bytes are the journal of amendments that papers accept in turn, which makes them
+-- these other papers, and the tail says whether bytes follow the last newline
+pub record IsReplay (before now : Market) (bytes : List ℕ) (tail : Tail) : Type 0 where
+  pub rest : List ℕ
+  pub replayed : IsReplayed before now bytes rest
+  pub unbroken : IsUnbroken rest
+  pub ending : tail ≡ tail_of rest
+
+-- why the line of this number cannot be taken, in the papers before it. `Shape` is tested before the
+-- number, and this before the amendment
+abbrev pub IsCause : Market → ℕ → List ℕ → JournalCause → Type 0
+IsCause m number text Shape = (n : ℕ) (amendment : Amendment) → IsLineOf text n amendment → ⊥
+IsCause m number text Number = (number ≤ 999999999) × ((n : ℕ) × (amendment : Amendment) × IsLineOf text n amendment × (n ≢ number))
+IsCause m number text JournalFull = (999999999 < number) × ((n : ℕ) × (amendment : Amendment) × IsLineOf text n amendment)
+IsCause m number text (Refused refusal) = (amendment : Amendment) × IsLineOf text number amendment × (verdict m amendment ≡ Some refusal)
+IsCause m number text OutOfMemory = ⊥
+
+-- the lines before the faulty one are taken, and this one is not, for this cause
+pub record IsFirstFault (before : Market) (bytes : List ℕ) (fault : JournalFault) : Type 0 where
+  pub now : Market
+  pub line : List ℕ
+  pub rest : List ℕ
+  pub replayed : IsReplayed before now bytes (line ++ codes "\n" ++ rest)
+  pub unbroken : IsUnbroken line
+  pub number : fault.line ≡ length replayed.amendments + 1
+  pub cause : IsCause now fault.line line fault.cause
+
+-- want of memory, which is of no line
+abbrev pub no_memory : JournalFault
+no_memory = record { line = 0; cause = OutOfMemory }
+
+-- a replay's fault: the first, or in its place want of memory
+abbrev pub IsReplayFault : Market → List ℕ → JournalFault → Type 0
+IsReplayFault before bytes fault = (fault ≡ no_memory) ⊎ IsFirstFault before bytes fault

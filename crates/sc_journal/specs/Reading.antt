@@ -1,0 +1,140 @@
+-- How a line is read. Public contracts do not cite it: they say what text a line is the spelling of.
+use Rattle.std.specs.Prelude.{◌≡◌, ◌⊎◌, ℕ, ◌+◌, ◌-◌, ◌*◌, ◌==◌, Bool, not, ◌&&◌, nat_le, nat_lt, List, [], ◌∷◌, ◌++◌, length, fold, slice_index, slice_get, unwrap_or, codes, if◌then◌else◌, Result, Ok, Err}
+use Rattle.std.specs.Char.{is_ascii_digit}
+use Rattle.std.specs.List.{list_all, slice_split}
+use Rattle.std.specs.Str.{bytes_eq}
+use Rattle.sc_papers.specs.declared.amendment.Amendment.{Amendment}
+use Rattle.sc_papers.specs.declared.amendment.Amendment.TheVariants.{Enter, Withdraw, Rerank, Add, Close, Correct}
+use Rattle.sc_journal.specs.declared.unread.Unread.{Unread}
+use Rattle.sc_journal.specs.declared.unread.Unread.TheVariants.{NoLine, OutOfMemory}
+use Rattle.sc_journal.specs.declared.reading.JournalLine.{JournalLine}
+
+-- one step after another: the first error, or what the second gives
+infixl 10 ◌>>=◌
+abbrev pub ◌>>=◌ : {A B : Type 0} → Result A Unread → (A → Result B Unread) → Result B Unread
+Ok x >>= f = f x
+Err e >>= f = Err e
+
+-- an answer is what a reading gives, or want of memory
+abbrev pub Gives : {A : Type 0} → Result A Unread → Result A Unread → Type 0
+Gives reading (Ok x) = reading ≡ Ok x
+Gives reading (Err e) = (reading ≡ Err e) ⊎ (e ≡ OutOfMemory)
+
+-- a number is written in 1 to 9 digits, the first of which is 0 only where it is the only one
+unfoldable pub is_number : List ℕ → Bool
+is_number text = nat_le 1 (length text) && nat_le (length text) 9 && list_all is_ascii_digit text && not (nat_lt 1 (length text) && slice_index text 0 == 48)
+
+-- the number that digits write
+unfoldable pub decimal_of : List ℕ → ℕ
+decimal_of text = fold (λ n c. n * 10 + (c - 48)) 0 text
+
+-- the number that a text writes
+unfoldable pub number_in : List ℕ → Result ℕ Unread
+number_in text = if is_number text then Ok (decimal_of text) else Err NoLine
+
+-- a number of a range
+abbrev pub within : ℕ → ℕ → ℕ → Result ℕ Unread
+within least greatest n = if nat_le least n && nat_le n greatest then Ok n else Err NoLine
+
+-- the number of a range that a text writes
+abbrev pub ranged_in : ℕ → ℕ → List ℕ → Result ℕ Unread
+ranged_in least greatest text = number_in text >>= within least greatest
+
+-- the student's number that a text writes
+abbrev pub student_in : List ℕ → Result ℕ Unread
+student_in text = ranged_in 1 999999999 text
+
+-- the zone that a text writes
+abbrev pub zone_in : List ℕ → Result ℕ Unread
+zone_in text = ranged_in 0 9999 text
+
+-- the school's number that a text writes
+abbrev pub school_in : List ℕ → Result ℕ Unread
+school_in text = ranged_in 1 99999 text
+
+-- how many seats a text adds or closes
+abbrev pub count_in : List ℕ → Result ℕ Unread
+count_in text = ranged_in 1 10000 text
+
+-- the schools that texts write, after earlier ones
+unfoldable pub schools_after : List ℕ → List (List ℕ) → Result (List ℕ) Unread
+schools_after earlier [] = Ok earlier
+schools_after earlier (text ∷ rest) = school_in text >>= λ s. schools_after (earlier ++ s ∷ []) rest
+
+-- the list of schools that a text writes
+unfoldable pub list_in : List ℕ → Result (List ℕ) Unread
+list_in text = if length text == 0 then Ok [] else schools_after [] (slice_split (λ c. c == 32) text)
+
+-- a field of a line; one past the last is empty
+abbrev pub field_at : List (List ℕ) → ℕ → List ℕ
+field_at fields place = unwrap_or (slice_get fields place) []
+
+-- `N,enter,STUDENT,ZONE,SIBLINGS,CHOICES`
+unfoldable pub enter_in : List (List ℕ) → Result Amendment Unread
+enter_in fields = if length fields == 6 then (do
+  student ← student_in (field_at fields 2)
+  zone ← zone_in (field_at fields 3)
+  siblings ← list_in (field_at fields 4)
+  choices ← list_in (field_at fields 5)
+  Ok (Enter student zone siblings choices)) else Err NoLine
+
+-- `N,withdraw,STUDENT`
+unfoldable pub withdraw_in : List (List ℕ) → Result Amendment Unread
+withdraw_in fields = if length fields == 3 then (do
+  student ← student_in (field_at fields 2)
+  Ok (Withdraw student)) else Err NoLine
+
+-- `N,rerank,STUDENT,CHOICES`
+unfoldable pub rerank_in : List (List ℕ) → Result Amendment Unread
+rerank_in fields = if length fields == 4 then (do
+  student ← student_in (field_at fields 2)
+  choices ← list_in (field_at fields 3)
+  Ok (Rerank student choices)) else Err NoLine
+
+-- `N,add,SCHOOL,COUNT`
+unfoldable pub add_in : List (List ℕ) → Result Amendment Unread
+add_in fields = if length fields == 4 then (do
+  school ← school_in (field_at fields 2)
+  count ← count_in (field_at fields 3)
+  Ok (Add school count)) else Err NoLine
+
+-- `N,close,SCHOOL,COUNT`
+unfoldable pub close_in : List (List ℕ) → Result Amendment Unread
+close_in fields = if length fields == 4 then (do
+  school ← school_in (field_at fields 2)
+  count ← count_in (field_at fields 3)
+  Ok (Close school count)) else Err NoLine
+
+-- `N,correct,STUDENT,ZONE,SIBLINGS`
+unfoldable pub correct_in : List (List ℕ) → Result Amendment Unread
+correct_in fields = if length fields == 5 then (do
+  student ← student_in (field_at fields 2)
+  zone ← zone_in (field_at fields 3)
+  siblings ← list_in (field_at fields 4)
+  Ok (Correct student zone siblings)) else Err NoLine
+
+-- the second field of a line is this word
+abbrev pub is_named : List (List ℕ) → List ℕ → Bool
+is_named fields word = bytes_eq (field_at fields 1) word
+
+-- the amendment that a line's fields read as, by the word in the second
+unfoldable pub amendment_in : List (List ℕ) → Result Amendment Unread
+amendment_in fields =
+    if is_named fields (codes "enter") then enter_in fields
+    else if is_named fields (codes "withdraw") then withdraw_in fields
+    else if is_named fields (codes "rerank") then rerank_in fields
+    else if is_named fields (codes "add") then add_in fields
+    else if is_named fields (codes "close") then close_in fields
+    else if is_named fields (codes "correct") then correct_in fields
+    else Err NoLine
+
+-- the line that fields read as
+unfoldable pub line_of : List (List ℕ) → Result JournalLine Unread
+line_of fields = do
+  number ← ranged_in 1 999999999 (field_at fields 0)
+  amendment ← amendment_in fields
+  Ok (record { number = number; amendment = amendment })
+
+-- the line that a text reads as
+abbrev pub line_in : List ℕ → Result JournalLine Unread
+line_in text = line_of (slice_split (λ c. c == 44) text)

@@ -1,0 +1,44 @@
+-- What a text is the spelling of.
+use Rattle.std.specs.Prelude.{◌≡◌, ℕ, List, Option, None, Some}
+use Rattle.std.specs.Int.{IsInRange}
+use Rattle.std.specs.List.{All}
+use Rattle.sc_papers.specs.declared.amendment.Amendment.{Amendment}
+use Rattle.sc_papers.specs.declared.amendment.Amendment.TheVariants.{Enter, Withdraw, Rerank, Add, Close, Correct}
+use Rattle.sc_journal.specs.Line.{line_text}
+use Rattle.sc_journal.specs.declared.reading.JournalLine.{JournalLine}
+
+-- a student's number
+abbrev pub IsStudent : ℕ → Type 0
+IsStudent i = IsInRange 1 999999999 i
+
+-- a zone, 0 where there is none
+abbrev pub IsZone : ℕ → Type 0
+IsZone zone = IsInRange 0 9999 zone
+
+-- a school's number
+abbrev pub IsSchool : ℕ → Type 0
+IsSchool s = IsInRange 1 99999 s
+
+-- how many seats are added or closed
+abbrev pub IsCount : ℕ → Type 0
+IsCount count = IsInRange 1 10000 count
+
+-- the numbers of an amendment are in their ranges, as those of every value of the type are
+abbrev pub IsInRanges : Amendment → Type 0
+IsInRanges (Enter i zone siblings choices) = IsStudent i × IsZone zone × All IsSchool siblings × All IsSchool choices
+IsInRanges (Withdraw i) = IsStudent i
+IsInRanges (Rerank i choices) = IsStudent i × All IsSchool choices
+IsInRanges (Add s count) = IsSchool s × IsCount count
+IsInRanges (Close s count) = IsSchool s × IsCount count
+IsInRanges (Correct i zone siblings) = IsStudent i × IsZone zone × All IsSchool siblings
+
+-- a text is the line, without its newline, of an amendment under a number
+pub record IsLineOf (text : List ℕ) (number : ℕ) (amendment : Amendment) : Type 0 where
+  pub number_in_range : IsInRange 1 999999999 number
+  pub amendment_in_ranges : IsInRanges amendment
+  pub spelled : text ≡ line_text number amendment
+
+-- a text is the line that was read, or is no line
+abbrev pub ReadsAs : List ℕ → Option JournalLine → Type 0
+ReadsAs text None = (number : ℕ) (amendment : Amendment) → IsLineOf text number amendment → ⊥
+ReadsAs text (Some line) = IsLineOf text line.number line.amendment

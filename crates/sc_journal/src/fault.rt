@@ -1,0 +1,49 @@
+//! What can be wrong with a journal.
+ghost use Rattle.std.specs.Prelude.{◌≡◌};
+ghost use Rattle.sc_journal.specs.Journal.{no_memory};
+ghost use Rattle.sc_journal.specs.Replaying.{line_of};
+
+use sc_papers::Refusal;
+
+/// Why a line of a journal is not taken. The causes of one line are tested in this order.
+#[derive(Clone, Copy, Debug, PartialEq, Eq)]
+pub enum JournalCause {
+    /// It is not the one spelling of an amendment under a number.
+    Shape,
+    /// Its number is not the next one; the first is 1.
+    Number,
+    /// Line 999,999,999 went before.
+    JournalFull,
+    /// The papers refuse the amendment.
+    Refused(Refusal),
+    /// A growth was refused.
+    OutOfMemory,
+}
+
+/// The first fault of a journal: which line, and what.
+#[derive(Clone, Copy, Debug, PartialEq, Eq)]
+pub struct JournalFault {
+    /// Counted from 1, or 0 where a growth was refused.
+    pub line: u64,
+    pub cause: JournalCause,
+}
+
+impl JournalFault {
+    /// The fault of a line. Want of memory is of no line, and takes line 0.
+    pub(crate) fn at(line: u64, cause: JournalCause) -> Self
+        ensures { result ≡ record { line = line_of line cause; cause = cause } }
+    {
+        let line = match cause {
+            JournalCause::OutOfMemory => 0,
+            _ => line,
+        };
+        JournalFault { line, cause }
+    }
+
+    /// Want of memory, which is of no line.
+    pub(crate) fn no_memory() -> Self
+        ensures { result ≡ no_memory }
+    {
+        JournalFault::at(0, JournalCause::OutOfMemory)
+    }
+}

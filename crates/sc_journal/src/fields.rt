@@ -1,0 +1,64 @@
+ghost use Rattle.std.specs.Prelude.{◌≡◌, ◌==◌, IfOk, map};
+ghost use Rattle.std.specs.List.{slice_split};
+
+use std::alloc::{AllocError, Global};
+use std::marker::Model;
+
+/// The fields of a line: what stands between its commas.
+#[derive(Drop)]
+pub(crate) struct Fields<'a> {
+    fields: Vec<&'a [u8]>,
+}
+
+impl<'a> Model for Fields<'a> {
+    ghost use Rattle.std.specs.Prelude.{ℕ, List};
+
+    ghost Value = { List (List ℕ) };
+
+    ghost use Rattle.sc_journal.specs.Inside.{fields_of};
+
+    ghost view = { fields_of };
+}
+
+/// What stands between the commas of a text.
+fn between_commas(alloc: Global, text: &[u8]) -> Result<Vec<&[u8]>, AllocError>
+    ensures { IfOk result (λ fields. map (λ field. field.now) fields.items ≡ slice_split (λ c. c == 44) text.now) }
+{
+    text.split(|byte| *byte == b',').collect(alloc)
+}
+
+impl<'a> Fields<'a> {
+    ghost use Rattle.std.specs.Prelude.{◌≡◌, ◌==◌, IfOk, length};
+    ghost use Rattle.std.specs.List.{slice_split};
+    ghost use Rattle.sc_journal.specs.Reading.{field_at, is_named};
+
+    /// The fields of a line. The only error is want of memory.
+    pub(crate) fn of(alloc: Global, text: &'a [u8]) -> Result<Self, AllocError>
+        ensures { IfOk result (λ fields. fields ≡ slice_split (λ c. c == 44) text.now) }
+    {
+        Ok(Fields {
+            fields: between_commas(alloc, text)?,
+        })
+    }
+
+    /// How many fields there are.
+    pub(crate) fn len(&self) -> usize
+        ensures { result ≡ length self.now }
+    {
+        self.fields.len()
+    }
+
+    /// A field, counted from 0; one past the last is empty.
+    pub(crate) fn at(&self, place: usize) -> &'a [u8]
+        ensures { result.now ≡ field_at self.now place }
+    {
+        self.fields.get(place).copied().unwrap_or(&[])
+    }
+
+    /// Whether the second field, which names the amendment, is this word.
+    pub(crate) fn are_named(&self, word: &[u8]) -> bool
+        ensures { result ≡ is_named self.now word.now }
+    {
+        self.at(1) == word
+    }
+}

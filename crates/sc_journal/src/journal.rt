@@ -1,0 +1,125 @@
+//! The journal replayed over the papers that it was kept for.
+ghost use Rattle.std.specs.Prelude.{◌≡◌, ◌≤◌, drop, length, IfOk, MatchOption, MatchResult};
+ghost use Rattle.sc_journal.specs.Journal.{tail_of, IsReplay, IsReplayFault, IsUnbroken};
+ghost use Rattle.sc_journal.specs.Replaying.{IsCauseOrMemory, IsEnd, IsLineEnd, IsReadCause, IsTaken};
+ghost use Rattle.sc_journal.specs.Spelling.{IsLineOf};
+ghost use Rattle.sc_repair.specs.Standing.{proposals_from_scratch, IsCertified};
+
+use crate::fault::{JournalCause, JournalFault};
+use crate::line_no::LineNo;
+use crate::reading::read_line;
+use sc_papers::{Amendment, Papers, Refusal};
+use sc_repair::Clearing;
+use std::alloc::Global;
+
+/// How a journal ends.
+#[derive(Clone, Copy, Debug, PartialEq, Eq)]
+pub enum Tail {
+    /// With a newline, or without a byte.
+    Whole,
+    /// With bytes after the last newline: a line that was not written whole. They are left unread.
+    Torn,
+}
+
+/// Where the line that begins at a place ends: at the next newline, if there is one.
+fn line_end(bytes: &[u8], start: usize) -> Option<usize>
+    requires { start ≤ length bytes.now }
+    ensures { MatchOption result (IsUnbroken (drop start bytes.now)) (IsLineEnd bytes.now start) }
+{
+    for place in start..bytes.len() {
+        if bytes[place] == b'\n' {
+            return Some(place);
+        }
+    }
+    None
+}
+
+/// The amendment of the line of this number.
+pub(crate) fn numbered(alloc: Global, number: u64, text: &[u8]) -> Result<Amendment, JournalCause>
+    ensures { MatchResult result (IsLineOf text.now number) (IsReadCause number text.now) }
+{
+    let Ok(line) = read_line(alloc, text) else {
+        return Err(JournalCause::OutOfMemory);
+    };
+    let Some(line) = line else {
+        return Err(JournalCause::Shape);
+    };
+    if number > u64::from(LineNo::GREATEST) {
+        return Err(JournalCause::JournalFull);
+    }
+    if u64::from(line.number.get()) != number {
+        return Err(JournalCause::Number);
+    }
+    Ok(line.amendment)
+}
+
+/// Makes the amendment of the line of this number.
+fn apply_line(
+    alloc: Global,
+    papers: &mut Papers,
+    number: u64,
+    text: &[u8],
+) -> Result<(), JournalCause>
+    ensures { MatchResult result (λ done. IsTaken papers.old papers.new number text.now) (IsCauseOrMemory papers.old number text.now) }
+{
+    let amendment = match numbered(alloc, number, text) {
+        Ok(amendment) => amendment,
+        Err(cause) => return Err(cause),
+    };
+    match papers.apply(amendment) {
+        Ok(()) => Ok(()),
+        Err(Refusal::OutOfMemory) => Err(JournalCause::OutOfMemory),
+        Err(refusal) => Err(JournalCause::Refused(refusal)),
+    }
+}
+
+/// Makes the amendments of the whole lines in turn, and says where the last of them ends.
+fn apply_lines(alloc: Global, papers: &mut Papers, bytes: &[u8]) -> Result<usize, JournalFault>
+    ensures { MatchResult result (IsEnd papers.old papers.new bytes.now) (IsReplayFault papers.old bytes.now) }
+{
+    let mut start = 0;
+    let mut number = 0;
+    'lines: while let Some(end) = line_end(bytes, start) {
+        number += 1;
+        if let Err(cause) = apply_line(alloc, papers, number, &bytes[start..end]) {
+            return Err(JournalFault::at(number, cause));
+        }
+        start = end + 1;
+    }
+    Ok(start)
+}
+
+/// How a journal ends whose last newline stands before a place.
+fn tail_after(bytes: &[u8], end: usize) -> Tail
+    ensures { result ≡ tail_of (drop end bytes.now) }
+{
+    if end < bytes.len() {
+        Tail::Torn
+    } else {
+        Tail::Whole
+    }
+}
+
+/// Makes the amendments of a journal in turn, and opens a clearing of the papers as they then stand:
+/// that of the run whose journal it is, order of entry included. Bytes after the last newline are
+/// left unread, and the tail says whether there are any.
+///
+/// The fault names the first line that is not taken, with the first cause that applies. After a fault
+/// the papers are given up; who needs them keeps a copy.
+///
+/// The cost is one pass over the bytes, the cost of each amendment's `apply`, and one settling.
+pub fn replay(alloc: Global, papers: Papers, bytes: &[u8]) -> Result<(Clearing, Tail), JournalFault>
+    ensures replay { MatchResult result (λ done. IsReplay papers done.0.papers bytes.now done.1) (IsReplayFault papers bytes.now) }
+    ensures certified { IfOk result (λ done. IsCertified done.0) }
+    ensures proposals { IfOk result (λ done. done.0.proposals ≡ proposals_from_scratch done.0) }
+{
+    let mut papers = papers;
+    let end = apply_lines(alloc, &mut papers, bytes)?;
+    let tail = tail_after(bytes, end);
+    // A clearing settles its papers from scratch at each amendment, so one that is opened at the end
+    // stands as one that was amended line by line.
+    match Clearing::open(alloc, papers) {
+        Ok(clearing) => Ok((clearing, tail)),
+        Err(_) => Err(JournalFault::no_memory()),
+    }
+}

@@ -1,0 +1,163 @@
+//! A line read back.
+
+ghost use Rattle.std.specs.Prelude.{◌≡◌, IfOk};
+ghost use Rattle.sc_journal.specs.Reading.{add_in, amendment_in, close_in, correct_in, enter_in, line_in, line_of, rerank_in, withdraw_in, Gives};
+ghost use Rattle.sc_journal.specs.Spelling.{ReadsAs};
+
+use crate::fields::Fields;
+use crate::line_no::LineNo;
+use crate::numbers::{count, line_no, list, school, student, zone};
+use crate::unread::Unread;
+use sc_papers::Amendment;
+use std::alloc::{AllocError, Global};
+
+/// A line of the journal: an accepted amendment, under its number.
+#[derive(Debug, Drop)]
+pub struct JournalLine {
+    pub number: LineNo,
+    pub amendment: Amendment,
+}
+
+/// `N,enter,STUDENT,ZONE,SIBLINGS,CHOICES`
+#[tactic(auto, unfolding(crate::specs::Reading::enter_in))]
+fn enter(alloc: Global, fields: &Fields) -> Result<Amendment, Unread>
+    ensures { Gives (enter_in fields.now) result }
+{
+    if fields.len() != 6 {
+        return Err(Unread::NoLine);
+    }
+    Ok(Amendment::Enter {
+        student: student(fields.at(2))?,
+        zone: zone(fields.at(3))?,
+        siblings: list(alloc, fields.at(4))?,
+        choices: list(alloc, fields.at(5))?,
+    })
+}
+
+/// `N,withdraw,STUDENT`
+#[tactic(auto, unfolding(crate::specs::Reading::withdraw_in))]
+fn withdraw(fields: &Fields) -> Result<Amendment, Unread>
+    ensures { result ≡ withdraw_in fields.now }
+{
+    if fields.len() != 3 {
+        return Err(Unread::NoLine);
+    }
+    Ok(Amendment::Withdraw {
+        student: student(fields.at(2))?,
+    })
+}
+
+/// `N,rerank,STUDENT,CHOICES`
+#[tactic(auto, unfolding(crate::specs::Reading::rerank_in))]
+fn rerank(alloc: Global, fields: &Fields) -> Result<Amendment, Unread>
+    ensures { Gives (rerank_in fields.now) result }
+{
+    if fields.len() != 4 {
+        return Err(Unread::NoLine);
+    }
+    Ok(Amendment::Rerank {
+        student: student(fields.at(2))?,
+        choices: list(alloc, fields.at(3))?,
+    })
+}
+
+/// `N,add,SCHOOL,COUNT`
+#[tactic(auto, unfolding(crate::specs::Reading::add_in))]
+fn add(fields: &Fields) -> Result<Amendment, Unread>
+    ensures { result ≡ add_in fields.now }
+{
+    if fields.len() != 4 {
+        return Err(Unread::NoLine);
+    }
+    Ok(Amendment::Add {
+        school: school(fields.at(2))?,
+        count: count(fields.at(3))?,
+    })
+}
+
+/// `N,close,SCHOOL,COUNT`
+#[tactic(auto, unfolding(crate::specs::Reading::close_in))]
+fn close(fields: &Fields) -> Result<Amendment, Unread>
+    ensures { result ≡ close_in fields.now }
+{
+    if fields.len() != 4 {
+        return Err(Unread::NoLine);
+    }
+    Ok(Amendment::Close {
+        school: school(fields.at(2))?,
+        count: count(fields.at(3))?,
+    })
+}
+
+/// `N,correct,STUDENT,ZONE,SIBLINGS`
+#[tactic(auto, unfolding(crate::specs::Reading::correct_in))]
+fn correct(alloc: Global, fields: &Fields) -> Result<Amendment, Unread>
+    ensures { Gives (correct_in fields.now) result }
+{
+    if fields.len() != 5 {
+        return Err(Unread::NoLine);
+    }
+    Ok(Amendment::Correct {
+        student: student(fields.at(2))?,
+        zone: zone(fields.at(3))?,
+        siblings: list(alloc, fields.at(4))?,
+    })
+}
+
+/// The amendment that the fields of a line read as, by the word in the second.
+#[tactic(auto, unfolding(crate::specs::Reading::amendment_in))]
+fn amendment(alloc: Global, fields: &Fields) -> Result<Amendment, Unread>
+    ensures { Gives (amendment_in fields.now) result }
+{
+    if fields.are_named(b"enter") {
+        return enter(alloc, fields);
+    }
+    if fields.are_named(b"withdraw") {
+        return withdraw(fields);
+    }
+    if fields.are_named(b"rerank") {
+        return rerank(alloc, fields);
+    }
+    if fields.are_named(b"add") {
+        return add(fields);
+    }
+    if fields.are_named(b"close") {
+        return close(fields);
+    }
+    if fields.are_named(b"correct") {
+        return correct(alloc, fields);
+    }
+    Err(Unread::NoLine)
+}
+
+/// The line that fields read as.
+#[tactic(auto, unfolding(crate::specs::Reading::line_of))]
+fn line_of(alloc: Global, fields: &Fields) -> Result<JournalLine, Unread>
+    ensures { Gives (line_of fields.now) result }
+{
+    Ok(JournalLine {
+        number: line_no(fields.at(0))?,
+        amendment: amendment(alloc, fields)?,
+    })
+}
+
+/// The line that a text reads as.
+fn line_in(alloc: Global, text: &[u8]) -> Result<JournalLine, Unread>
+    ensures { Gives (line_in text.now) result }
+{
+    let fields = Fields::of(alloc, text)?;
+    line_of(alloc, &fields)
+}
+
+/// Reads a line of the journal, given without its newline: its number and its amendment, or `None`
+/// where the bytes are no line's spelling. So whatever `line` writes is read back, and nothing else is
+/// read. The only error is want of memory; cost and memory are in proportion to the length.
+pub fn read_line(alloc: Global, bytes: &[u8]) -> Result<Option<JournalLine>, AllocError>
+    ensures { IfOk result (ReadsAs bytes.now) }
+{
+    match line_in(alloc, bytes) {
+        Ok(line) => Ok(Some(line)),
+        Err(Unread::NoLine) => Ok(None),
+        Err(Unread::OutOfMemory) => Err(AllocError),
+    }
+}
