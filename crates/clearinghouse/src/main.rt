@@ -4,16 +4,19 @@
 //! status that it answers.
 #![tactic(auto)]
 
+use sc_words::Word;
 use std::process::ExitCode;
 use std::{env, io};
 
-mod order;
 mod perform;
 #[cfg(test)]
 mod tests;
 
 fn main(rt: HostRuntime) -> io::Result<ExitCode> {
-    let words: Vec<String> = env::args(&rt)?.skip(1).collect(rt.alloc())?;
+    let words: Vec<Word> = env::args(&rt)?
+        .skip(1)
+        .map(Word::from_text)
+        .collect(rt.alloc())?;
     let input = rt.stdin();
     let output = rt.stdout();
     let errors = rt.stderr();

@@ -1,6 +1,5 @@
 //! The program, over any files and streams.
 
-use crate::order::{OpeningWords, Order, order_of};
 use clap::Error;
 use clap::error::ErrorKind;
 use sc_intake::Source;
@@ -10,7 +9,6 @@ use sc_runs::{
     Ending, Inputs, Opening, RunFault, fault_line, match_files, run, run_bundle, status_of,
 };
 use std::alloc::Global;
-use std::convert::AsStr;
 use std::fs::File;
 use std::io::{Read, Write};
 use std::rt::Files;
@@ -45,10 +43,12 @@ fn match_opening<R: Files + AllocGlobal, W: Write>(
     rt: &R,
     seed: &Seed,
     words: &OpeningWords<'_>,
+    show_log: bool,
     out: &mut Watched<W>,
-) -> Result<(), RunFault> {
+) -> Result<Ending, RunFault> {
     let mut opening = open_opening(rt, words)?;
-    match_files(rt.alloc(), seed, &mut opening, false, out)
+    match_files(rt.alloc(), seed, &mut opening, show_log, out)?;
+    Ok(Ending::Done)
 }
 
 /// Runs a script after an opening.
@@ -59,52 +59,104 @@ fn run_script<R: Files + AllocGlobal, W: Write>(
     script: &str,
     journal: &str,
     out: &mut Watched<W>,
-) -> Result<(), RunFault> {
+) -> Result<Ending, RunFault> {
     let mut inputs = Inputs {
         opening: open_opening(rt, words)?,
         script: open_input(rt, script, Source::Script)?,
     };
     let mut journal = create_journal(rt, journal)?;
-    run(rt.alloc(), seed, &mut inputs, out, &mut journal)
+    run(rt.alloc(), seed, &mut inputs, out, &mut journal)?;
+    Ok(Ending::Done)
 }
 
-/// How a call that was made ends.
-fn ended(called: Result<(), RunFault>) -> Ending {
-    match called {
-        Ok(()) => Ending::Done,
-        Err(fault) => Ending::Fault(fault),
+/// Audits a log under an opening.
+fn audit_log<R: Files + AllocGlobal, W: Write>(
+    rt: &R,
+    seed: &Seed,
+    words: &OpeningWords<'_>,
+    log: &str,
+    out: &mut Watched<W>,
+) -> Result<Ending, RunFault> {
+    let mut opening = open_opening(rt, words)?;
+    let mut log = open_input(rt, log, Source::Log)?;
+    match audit_files(rt.alloc(), seed, &mut opening, &mut log, out)? {
+        Verdict::Certified => Ok(Ending::Done),
+        _ => Ok(Ending::NotCertified),
     }
 }
 
-/// Does what the words order.
+/// Replays a journal over an opening.
+fn replay_journal<R: Files + AllocGlobal, W: Write>(
+    rt: &R,
+    seed: &Seed,
+    words: &OpeningWords<'_>,
+    journal: &str,
+    out: &mut Watched<W>,
+) -> Result<Ending, RunFault> {
+    let mut opening = open_opening(rt, words)?;
+    let mut journal = open_input(rt, journal, Source::Journal)?;
+    match replay_files(rt.alloc(), seed, &mut opening, &mut journal, out)? {
+        Tail::Whole => Ok(Ending::Done),
+        Tail::Torn => Ok(Ending::Torn),
+    }
+}
+
+/// Makes the call that an order asks for, under its seed; without words there is none to make.
+fn call<R: Files + AllocGlobal, W: Write>(
+    rt: &R,
+    order: &Order<'_>,
+    seed: &Seed,
+    out: &mut Watched<W>,
+) -> Result<Ending, RunFault> {
+    match order {
+        Order::NoWords => Ok(Ending::Done),
+        Order::Match { opening, show_log } => match_opening(rt, seed, opening, *show_log, out),
+        Order::Run {
+            opening,
+            script,
+            journal,
+        } => run_script(rt, seed, opening, script, journal, out),
+        Order::Audit { opening, log } => audit_log(rt, seed, opening, log, out),
+        Order::Replay { opening, journal } => replay_journal(rt, seed, opening, journal, out),
+    }
+}
+
+/// The seed's text in an order; without words there is none.
+fn seed_in<'a>(order: &Order<'a>) -> Option<&'a str> {
+    match order {
+        Order::NoWords => None,
+        Order::Match { opening, .. } => Some(opening.seed),
+        Order::Run { opening, .. } => Some(opening.seed),
+        Order::Audit { opening, .. } => Some(opening.seed),
+        Order::Replay { opening, .. } => Some(opening.seed),
+    }
+}
+
+/// Does what an order asks for. Its seed is read before a file is opened.
 fn carry_out<R: Files + AllocGlobal, I: Read + Drop, W: Write>(
     rt: &R,
     order: &Order<'_>,
     input: I,
     out: &mut Watched<W>,
 ) -> Ending {
-    match order {
-        Order::NoWords => run_bundle(rt.alloc(), &mut Watched::new(input), out),
-        Order::Match { opening } => match Seed::from_hex(opening.seed.as_bytes()) {
-            Ok(seed) => ended(match_opening(rt, &seed, opening, out)),
-            Err(error) => Ending::BadSeed(error),
-        },
-        Order::Run {
-            opening,
-            script,
-            journal,
-        } => match Seed::from_hex(opening.seed.as_bytes()) {
-            Ok(seed) => ended(run_script(rt, &seed, opening, script, journal, out)),
-            Err(error) => Ending::BadSeed(error),
-        },
+    let Some(seed) = seed_in(order) else {
+        return run_bundle(rt.alloc(), &mut Watched::new(input), out);
+    };
+    let seed = match Seed::from_hex(seed.as_bytes()) {
+        Ok(seed) => seed,
+        Err(error) => return Ending::BadSeed(error),
+    };
+    match call(rt, order, &seed, out) {
+        Ok(ending) => ending,
+        Err(fault) => Ending::Fault(fault),
     }
 }
 
 /// Does what the words after the program's name order, over these files and streams: the reply lines
 /// and the report go to the output, the line of a fault to the errors. It answers the exit status.
-pub fn perform<R: Files + AllocGlobal, S: AsStr, I: Read + Drop, O: Write + Drop, E: Write + Drop>(
+pub fn perform<R: Files + AllocGlobal, I: Read + Drop, O: Write + Drop, E: Write + Drop>(
     rt: &R,
-    words: &[S],
+    words: &[Word],
     input: I,
     output: O,
     errors: E,

@@ -1,105 +1,208 @@
-use crate::order::{OpeningWords, Order, order_of};
 use crate::perform::perform;
-use std::alloc::AllocError;
+use sc_words::Word;
+use std::alloc::{AllocError, Global};
 use std::fs;
 use std::test::Fail;
 
 const ZEROS: &str = "0000000000000000000000000000000000000000000000000000000000000000";
 
-/// What the program writes under these words: the whole output, the errors and the status.
-fn ordered(rt: &HostRuntime, words: &[&str]) -> Result<String, AllocError> {
+/// The words of a command line.
+fn words(alloc: Global, texts: &[&str]) -> Result<Vec<Word>, AllocError> {
+    let mut words = Vec::new(alloc);
+    for text in texts {
+        words.push(Word::from_text(String::from_str(alloc, *text)?))?;
+    }
+    Ok(words)
+}
+
+/// What the program writes under a subcommand, Market B's files and other options: the whole output, the
+/// errors and the status.
+fn ordered(rt: &HostRuntime, subcommand: &str, options: &[&str]) -> Result<String, AllocError> {
     let alloc = rt.alloc();
+    let mut words = words(
+        alloc,
+        &[
+            subcommand,
+            "--seed",
+            ZEROS,
+            "--schools",
+            "schools",
+            "--roster",
+            "roster",
+            "--lists",
+            "lists",
+        ],
+    )?;
+    for option in options {
+        words.push(Word::from_text(String::from_str(alloc, *option)?))?;
+    }
     let mut output = Vec::new(alloc);
     let mut errors = Vec::new(alloc);
-    let status = perform(rt, words, b"".as_slice(), &mut output, &mut errors);
+    let status = perform(
+        rt,
+        words.as_slice(),
+        b"".as_slice(),
+        &mut output,
+        &mut errors,
+    );
     let output = String::from_utf8_lossy(alloc, output.as_slice())?;
     let errors = String::from_utf8_lossy(alloc, errors.as_slice())?;
     format!(in alloc; "{output}{errors}{status}")
 }
 
-/// Writes Market B's files, and a script, into the test's own folder.
+/// Writes Market B's files into the test's own folder.
 fn write_files(rt: &HostRuntime) -> Result<(), Fail> {
     fs::write(rt, "schools", "school,zone,seats\n10,1,1\n20,0,1\n")?;
     fs::write(rt, "roster", "student,zone,siblings\n1,0,20\n2,0,10\n")?;
     fs::write(rt, "lists", "student,choices\n1,10 20\n2,20 10\n")?;
-    fs::write(rt, "script", "enter,3,1,10,10\nwithdraw,3\n")?;
     Ok(())
 }
-
-const MATCH: [&str; 9] = [
-    "match",
-    "--seed",
-    ZEROS,
-    "--schools",
-    "schools",
-    "--roster",
-    "roster",
-    "--lists",
-    "lists",
-];
-
-const RUN: [&str; 13] = [
-    "run",
-    "--seed",
-    ZEROS,
-    "--schools",
-    "schools",
-    "--roster",
-    "roster",
-    "--lists",
-    "lists",
-    "--script",
-    "script",
-    "--journal",
-    "journal",
-];
 
 const REPORT: &str =
     "student,school\n1,10\n2,20\nschool,seats,held,class,draw,student\n10,1,1,3,e56a5d4028bd8653,1\n20,1,1,3,b819d2bd1aed8da0,2\nstudent,school,reason\n";
 
+const NEWCOMER: &str =
+    "student,school\n1,20\n2,-\n3,10\nschool,seats,held,class,draw,student\n10,1,1,0,ccef36a8c70d778b,3\n20,1,1,1,e56a5d4028bd8653,1\nstudent,school,reason\n1,10,class\n2,20,class\n2,10,class\n";
+
 #[test]
-fn subcommands_on_files(rt: HostRuntime) -> Result<(), Fail> {
+fn a_match_and_its_log(rt: HostRuntime) -> Result<(), Fail> {
     write_files(&rt)?;
-    let matched = ordered(&rt, MATCH.as_slice())?;
+    let told = ordered(&rt, "match", &[])?;
     let want = format!(in rt.alloc(); "{REPORT}0")?;
-    assert!(rt; matched.as_str() == want.as_str(), "{matched}");
-    let ran = ordered(&rt, RUN.as_slice())?;
-    let want = format!(in rt.alloc(); "1,ok\n2,ok\n{REPORT}0")?;
-    assert!(rt; ran.as_str() == want.as_str(), "{ran}");
+    assert!(rt; told.as_str() == want.as_str(), "{told}");
+    fs::write(
+        &rt,
+        "roster",
+        "student,zone,siblings\n1,0,20\n2,0,10\n3,1,10\n",
+    )?;
+    fs::write(&rt, "lists", "student,choices\n1,10 20\n2,20 10\n3,10\n")?;
+    let log = ordered(&rt, "match", &["--print-log"])?;
+    assert!(rt; log.as_str() == "1,10\n2,20\n2,10\n0", "{log}");
+    for (log, want) in [
+        ("1,10\n2,20\n2,10\n", "certified\n0"),
+        ("2,10\n1,10\n2,20\n", "bad entry 1\n1"),
+        ("1,10\n2,10\n2,20\n", "bad entry 2\n1"),
+        ("", "over 10\n1"),
+        ("1,10\n9,10\n", "bad entry 2\n1"),
+        ("1\n", "clearinghouse: log row 1: Fields\n3"),
+    ] {
+        fs::write(&rt, "log", log)?;
+        let told = ordered(&rt, "audit", &["--log", "log"])?;
+        assert!(rt; told.as_str() == want, "{told}");
+    }
+    Ok(())
+}
+
+#[test]
+fn a_run_and_its_replay(rt: HostRuntime) -> Result<(), Fail> {
+    write_files(&rt)?;
+    fs::write(&rt, "script", "enter,3,1,10,10\nnonsense\nwithdraw,3\n")?;
+    let told = ordered(&rt, "run", &["--script", "script", "--journal", "journal"])?;
+    let want = format!(in rt.alloc(); "1,ok\n2,refused,1,Shape\n3,ok\n{REPORT}0")?;
+    assert!(rt; told.as_str() == want.as_str(), "{told}");
     let journal = fs::read(&rt, "journal")?;
-    assert!(rt; journal.is_empty());
+    assert!(rt; journal.as_slice() == b"1,enter,3,1,10,10\n2,withdraw,3\n".as_slice());
+    for (journal, report, end) in [
+        ("1,enter,3,1,10,10\n2,withdraw,3\n", REPORT, "0"),
+        (
+            "1,enter,3,1,10,10\n2,withdraw,3",
+            NEWCOMER,
+            "clearinghouse: journal torn\n0",
+        ),
+        ("", REPORT, "0"),
+        (
+            "1,enter,3,1,10,10\n3,withdraw,3\n",
+            "",
+            "clearinghouse: journal line 2: Number\n3",
+        ),
+        (
+            "1,enter,3,1,10,10\nnonsense\n",
+            "",
+            "clearinghouse: journal line 2: Shape\n3",
+        ),
+        (
+            "1,enter,3,1,10,10\n2,withdraw,3\r\n",
+            "",
+            "clearinghouse: journal line 2: Shape\n3",
+        ),
+        (
+            "1,enter,3,1,10,10\n2,withdraw,9\n",
+            "",
+            "clearinghouse: journal line 2: Refused 2 UnknownStudent\n3",
+        ),
+    ] {
+        fs::write(&rt, "journal", journal)?;
+        let told = ordered(&rt, "replay", &["--journal", "journal"])?;
+        let want = format!(in rt.alloc(); "{report}{end}")?;
+        assert!(rt; told.as_str() == want.as_str(), "{told}");
+    }
+    Ok(())
+}
+
+#[test]
+fn a_stopped_run_goes_on(rt: HostRuntime) -> Result<(), Fail> {
+    write_files(&rt)?;
+    // The run stopped after its first record. Its journal has the line, whose record is the part after the
+    // number.
+    fs::write(&rt, "journal", "1,enter,3,1,10,10\n")?;
+    let stood = ordered(&rt, "replay", &["--journal", "journal"])?;
+    let want = format!(in rt.alloc(); "{NEWCOMER}0")?;
+    assert!(rt; stood.as_str() == want.as_str(), "{stood}");
+    // The accepted records and then the rest of the script give what the whole run gives.
+    fs::write(&rt, "script", "enter,3,1,10,10\nwithdraw,3\n")?;
+    let whole = ordered(&rt, "run", &["--script", "script", "--journal", "journal"])?;
+    let want = format!(in rt.alloc(); "1,ok\n2,ok\n{REPORT}0")?;
+    assert!(rt; whole.as_str() == want.as_str(), "{whole}");
+    let replayed = ordered(&rt, "replay", &["--journal", "journal"])?;
+    let want = format!(in rt.alloc(); "{REPORT}0")?;
+    assert!(rt; replayed.as_str() == want.as_str(), "{replayed}");
     Ok(())
 }
 
 #[test]
 fn files_that_are_not_there(rt: HostRuntime) -> Result<(), Fail> {
-    let told = ordered(&rt, MATCH.as_slice())?;
+    let told = ordered(&rt, "match", &[])?;
     assert!(rt;
         told.as_str() == "clearinghouse: cannot read schools\n4",
         "{told}"
     );
+    write_files(&rt)?;
+    let told = ordered(&rt, "audit", &["--log", "log"])?;
+    assert!(rt;
+        told.as_str() == "clearinghouse: cannot read log\n4",
+        "{told}"
+    );
+    let told = ordered(&rt, "replay", &["--journal", "journal"])?;
+    assert!(rt;
+        told.as_str() == "clearinghouse: cannot read journal\n4",
+        "{told}"
+    );
+    let told = ordered(&rt, "match", &["--seed", "00"])?;
+    assert!(rt; told.ends_with("2"), "{told}");
     Ok(())
 }
 
 #[test]
-fn command_lines(rt: HostRuntime) -> Result<(), Fail> {
-    let words: [&str; 0] = [];
-    assert!(rt; order_of(rt.alloc(), words.as_slice()).ok() == Some(Order::NoWords));
-    let opening = OpeningWords {
-        seed: ZEROS,
-        schools: "schools",
-        roster: "roster",
-        lists: "lists",
-    };
-    let order = order_of(rt.alloc(), MATCH.as_slice()).ok();
-    assert!(rt; order == Some(Order::Match { opening }));
-    assert!(rt; order_of(rt.alloc(), &MATCH[..7]).is_err());
-    let order = order_of(rt.alloc(), RUN.as_slice()).ok();
-    let run = Order::Run {
-        opening,
-        script: "script",
-        journal: "journal",
-    };
-    assert!(rt; order == Some(run));
+fn a_bundle(rt: HostRuntime) -> Result<(), Fail> {
+    let alloc = rt.alloc();
+    let input = format!(in alloc;
+        "%seed\n{ZEROS}\n%schools\nschool,zone,seats\n%roster\nstudent,zone,siblings\n%lists\nstudent,choices\n"
+    )?;
+    let mut output = Vec::new(alloc);
+    let mut errors = Vec::new(alloc);
+    let words = words(alloc, &[])?;
+    let status = perform(
+        &rt,
+        words.as_slice(),
+        input.as_bytes(),
+        &mut output,
+        &mut errors,
+    );
+    assert!(rt; status == 0);
+    assert!(rt;
+        output.as_slice()
+            == b"student,school\nschool,seats,held,class,draw,student\nstudent,school,reason\n".as_slice()
+    );
+    assert!(rt; errors.is_empty());
     Ok(())
 }

@@ -4,6 +4,7 @@ ghost use Rattle.sc_journal.specs.Journal.{no_memory};
 ghost use Rattle.sc_journal.specs.Replaying.{line_of};
 
 use sc_papers::Refusal;
+use std::fmt;
 
 /// Why a line of a journal is not taken. The causes of one line are tested in this order.
 #[derive(Clone, Copy, Debug, PartialEq, Eq)]
@@ -20,12 +21,30 @@ pub enum JournalCause {
     OutOfMemory,
 }
 
+impl fmt::Display for JournalCause {
+    fn fmt<W: fmt::Write>(&self, f: &mut fmt::Formatter<W>) -> fmt::Result {
+        match self {
+            JournalCause::Shape => f.write_str("Shape"),
+            JournalCause::Number => f.write_str("Number"),
+            JournalCause::Refused(refusal) => write!(f, "Refused {} {refusal}", refusal.code()),
+            JournalCause::JournalFull => f.write_str("JournalFull"),
+            JournalCause::OutOfMemory => f.write_str("OutOfMemory"),
+        }
+    }
+}
+
 /// The first fault of a journal: which line, and what.
 #[derive(Clone, Copy, Debug, PartialEq, Eq)]
 pub struct JournalFault {
     /// Counted from 1, or 0 where a growth was refused.
     pub line: u64,
     pub cause: JournalCause,
+}
+
+impl fmt::Display for JournalFault {
+    fn fmt<W: fmt::Write>(&self, f: &mut fmt::Formatter<W>) -> fmt::Result {
+        write!(f, "journal line {}: {}", self.line, self.cause)
+    }
 }
 
 impl JournalFault {

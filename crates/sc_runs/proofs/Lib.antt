@@ -2,3 +2,4 @@ pub mod Cutting
 pub mod Openings
 pub mod Replies
 pub mod Pieces
+pub mod Lasts

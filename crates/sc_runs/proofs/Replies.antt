@@ -11,6 +11,7 @@ use Rattle.sc_papers.specs.declared.amendment.Amendment.{Amendment}
 use Rattle.sc_papers.specs.declared.amendment.Refusal.{Refusal}
 use Rattle.sc_papers.specs.declared.amendment.Refusal.TheVariants.{OutOfMemory as refused_for_memory}
 use Rattle.sc_intake.specs.declared.fault.IntakeFault.{IntakeFault}
+use Rattle.sc_journal.specs.Journal.{journal_text}
 use Rattle.sc_journal.specs.Line.{line_text}
 use Rattle.sc_report.specs.Reply.{reply_text}
 use Rattle.sc_report.specs.Text.{report_text}
@@ -18,7 +19,7 @@ use Rattle.sc_intake.specs.declared.fault.Source.TheVariants as input
 use Rattle.sc_runs.specs.Inputs.{Texts, input_in, inputs_in, AreInputsFault, AreWhole, IsInputFault, IsWhole}
 use Rattle.sc_runs.specs.Opening.{IsOpeningFault}
 use Rattle.sc_runs.specs.Pieces.{Held, Piece, journal_of, output_of, to_journal, to_output, GrowsByAll, GrowsByFront}
-use Rattle.sc_runs.specs.Run.{accepted, accepted_in, after_record, after_script, answer_to, answers, journal_text, lines_for, made, made_by, opened_in, replies, reply_to, unless_verdict, IsFull, KeepsBoth, RunsFiles, Writes, WritesFront, WritesRun}
+use Rattle.sc_runs.specs.Run.{accepted, accepted_in, after_record, after_script, answer_to, answers, lines_for, made, made_by, opened_in, replies, reply_to, unless_verdict, IsFull, KeepsBoth, RunsFiles, Writes, WritesFront, WritesRun}
 use Rattle.sc_runs.specs.declared.fault.RunFault.{RunFault}
 use Rattle.sc_runs.specs.declared.fault.RunFault.TheVariants.{Read, Intake, Journal, WriteOut, WriteJournal, OutOfMemory}
 use Rattle.sc_runs.proofs.Openings.{Keeps-refl, whole-some}

@@ -71,7 +71,7 @@ ReadersFailed schools roster lists WriteOut = ⊤
 ReadersFailed schools roster lists WriteJournal = ⊤
 ReadersFailed schools roster lists OutOfMemory = ⊤
 
--- the same where a script is read with the opening
+-- the same where one more input is read after the opening
 abbrev pub has_failed_with_script : Bool → Bool → Bool → Bool → Source → Bool
 has_failed_with_script schools roster lists script input.Schools = schools
 has_failed_with_script schools roster lists script input.Roster = roster
@@ -81,6 +81,24 @@ has_failed_with_script schools roster lists script input.Log = false
 has_failed_with_script schools roster lists script input.Journal = false
 has_failed_with_script schools roster lists script input.Bundle = false
 
+abbrev pub has_failed_with_log : Bool → Bool → Bool → Bool → Source → Bool
+has_failed_with_log schools roster lists log input.Schools = schools
+has_failed_with_log schools roster lists log input.Roster = roster
+has_failed_with_log schools roster lists log input.Lists = lists
+has_failed_with_log schools roster lists log input.Script = false
+has_failed_with_log schools roster lists log input.Log = log
+has_failed_with_log schools roster lists log input.Journal = false
+has_failed_with_log schools roster lists log input.Bundle = false
+
+abbrev pub has_failed_with_journal : Bool → Bool → Bool → Bool → Source → Bool
+has_failed_with_journal schools roster lists journal input.Schools = schools
+has_failed_with_journal schools roster lists journal input.Roster = roster
+has_failed_with_journal schools roster lists journal input.Lists = lists
+has_failed_with_journal schools roster lists journal input.Script = false
+has_failed_with_journal schools roster lists journal input.Log = false
+has_failed_with_journal schools roster lists journal input.Journal = journal
+has_failed_with_journal schools roster lists journal input.Bundle = false
+
 abbrev pub RunReadersFailed : Bool → Bool → Bool → Bool → RunFault → Type 0
 RunReadersFailed schools roster lists script (Read source) = has_failed_with_script schools roster lists script source ≡ true
 RunReadersFailed schools roster lists script (Intake fault) = ⊤
@@ -88,6 +106,22 @@ RunReadersFailed schools roster lists script (Journal fault) = ⊤
 RunReadersFailed schools roster lists script WriteOut = ⊤
 RunReadersFailed schools roster lists script WriteJournal = ⊤
 RunReadersFailed schools roster lists script OutOfMemory = ⊤
+
+abbrev pub LogReadersFailed : Bool → Bool → Bool → Bool → RunFault → Type 0
+LogReadersFailed schools roster lists log (Read source) = has_failed_with_log schools roster lists log source ≡ true
+LogReadersFailed schools roster lists log (Intake fault) = ⊤
+LogReadersFailed schools roster lists log (Journal fault) = ⊤
+LogReadersFailed schools roster lists log WriteOut = ⊤
+LogReadersFailed schools roster lists log WriteJournal = ⊤
+LogReadersFailed schools roster lists log OutOfMemory = ⊤
+
+abbrev pub JournalReadersFailed : Bool → Bool → Bool → Bool → RunFault → Type 0
+JournalReadersFailed schools roster lists journal (Read source) = has_failed_with_journal schools roster lists journal source ≡ true
+JournalReadersFailed schools roster lists journal (Intake fault) = ⊤
+JournalReadersFailed schools roster lists journal (Journal fault) = ⊤
+JournalReadersFailed schools roster lists journal WriteOut = ⊤
+JournalReadersFailed schools roster lists journal WriteJournal = ⊤
+JournalReadersFailed schools roster lists journal OutOfMemory = ⊤
 
 -- reading the files of an opening ended early: a reader failed, a file is refused, or there was no
 -- memory for one

@@ -7,3 +7,5 @@ pub mod Opening
 pub mod BundleRun
 pub mod Pieces
 pub mod Run
+pub mod Auditing
+pub mod Replaying

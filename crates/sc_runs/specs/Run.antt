@@ -9,12 +9,13 @@ use Rattle.sc_intake.specs.Fault.{◌>>=◌}
 use Rattle.sc_intake.specs.Script.{script_in}
 use Rattle.sc_intake.specs.declared.fault.IntakeFault.{IntakeFault}
 use Rattle.sc_intake.specs.declared.fault.Source.TheVariants as input
+use Rattle.sc_journal.specs.Journal.{journal_text}
 use Rattle.sc_journal.specs.Line.{line_text}
 use Rattle.sc_report.specs.Reply.{reply_text}
 use Rattle.sc_runs.specs.Inputs.{Texts, input_in, inputs_in, AreWhole, IsUnread, IsWhole}
 use Rattle.sc_runs.specs.Opening.{papers_in, IsReport}
 use Rattle.sc_runs.specs.Pieces.{Held, Piece, to_journal, to_output, Grows, GrowsByAll, GrowsByFront}
-use Rattle.sc_runs.specs.declared.fault.JournalCause.TheVariants.{JournalFull}
+use Rattle.sc_journal.specs.declared.fault.JournalCause.TheVariants.{JournalFull}
 use Rattle.sc_runs.specs.declared.fault.RunFault.{RunFault}
 use Rattle.sc_runs.specs.declared.fault.RunFault.TheVariants.{Read, Intake, Journal, WriteOut, WriteJournal, OutOfMemory}
 
@@ -58,11 +59,6 @@ accepted_in m (Err refusal) = []
 abbrev pub accepted : Market → List (Result Amendment Refusal) → List Amendment
 accepted m [] = []
 accepted m (entry ∷ rest) = accepted_in m entry ++ accepted (after_record m entry) rest
-
--- the lines of a journal of these amendments, the first of which has this number
-abbrev pub journal_text : ℕ → List Amendment → List ℕ
-journal_text first [] = []
-journal_text first (amendment ∷ rest) = line_text first amendment ++ codes "\n" ++ journal_text (first + 1) rest
 
 -- the writes that make accepted amendments known, each in the journal, after this many lines
 abbrev pub lines_for : ℕ → List Amendment → List Piece

@@ -3,50 +3,9 @@
 ghost use Rattle.std.specs.Prelude.{◌≡◌};
 
 use sc_intake::{Cause, IntakeFault, Source};
-use sc_papers::Refusal;
+use sc_journal::{JournalCause, JournalFault};
 use std::error::Error;
 use std::fmt;
-
-/// What is wrong with a line of a journal.
-#[derive(Clone, Copy, Debug, PartialEq, Eq)]
-pub enum JournalCause {
-    /// The bytes are no line's spelling.
-    Shape,
-    /// The number is not the next one.
-    Number,
-    /// The papers refuse the amendment.
-    Refused(Refusal),
-    /// Line 999,999,999 went before.
-    JournalFull,
-    /// A growth was refused.
-    OutOfMemory,
-}
-
-impl fmt::Display for JournalCause {
-    fn fmt<W: fmt::Write>(&self, f: &mut fmt::Formatter<W>) -> fmt::Result {
-        match self {
-            JournalCause::Shape => f.write_str("Shape"),
-            JournalCause::Number => f.write_str("Number"),
-            JournalCause::Refused(refusal) => write!(f, "Refused {} {refusal}", refusal.code()),
-            JournalCause::JournalFull => f.write_str("JournalFull"),
-            JournalCause::OutOfMemory => f.write_str("OutOfMemory"),
-        }
-    }
-}
-
-/// The first faulty line of a journal, counted from 1, and what is wrong with it.
-#[derive(Clone, Copy, Debug, PartialEq, Eq)]
-pub struct JournalFault {
-    /// 0 with want of memory.
-    pub line: u64,
-    pub cause: JournalCause,
-}
-
-impl fmt::Display for JournalFault {
-    fn fmt<W: fmt::Write>(&self, f: &mut fmt::Formatter<W>) -> fmt::Result {
-        write!(f, "journal line {}: {}", self.line, self.cause)
-    }
-}
 
 /// Why a call of the program ended early.
 #[derive(Clone, Copy, Debug, PartialEq, Eq)]
@@ -89,6 +48,19 @@ impl From<IntakeFault> for RunFault {
         match fault.cause {
             Cause::OutOfMemory => RunFault::OutOfMemory,
             _ => RunFault::Intake(fault),
+        }
+    }
+}
+
+impl From<JournalFault> for RunFault {
+    ghost use Rattle.sc_runs.specs.Replaying.{journal_fault};
+
+    ghost from_gives = { λ fault r. r ≡ journal_fault fault };
+
+    fn from(fault: JournalFault) -> Self {
+        match fault.cause {
+            JournalCause::OutOfMemory => RunFault::OutOfMemory,
+            _ => RunFault::Journal(fault),
         }
     }
 }

@@ -3,6 +3,7 @@
 //! writes, and adds no rule of its own.
 #![tactic(auto)]
 
+mod auditing;
 mod blanks;
 mod bundle;
 mod ending;
@@ -10,16 +11,21 @@ mod fault;
 mod inputs;
 mod markers;
 mod matching;
+mod replaying;
 mod running;
 mod script;
 mod sections;
 #[cfg(test)]
 mod tests;
 
+pub use auditing::audit_files;
 pub use bundle::run_bundle;
 pub use ending::{Ending, fault_line, status_of};
-pub use fault::{JournalCause, JournalFault, RunFault};
+pub use fault::RunFault;
 pub use inputs::Opening;
 pub use matching::match_files;
+pub use replaying::replay_files;
 pub use running::{Inputs, run};
+pub use sc_audit::Verdict;
+pub use sc_journal::{JournalCause, JournalFault, Tail};
 pub use sections::{Bundle, split_bundle};

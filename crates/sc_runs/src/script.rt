@@ -10,8 +10,8 @@ ghost use Rattle.sc_runs.specs.Opening.{is_output_fault};
 ghost use Rattle.sc_runs.specs.Pieces.{to_journal, to_output};
 ghost use Rattle.sc_runs.specs.Run.{accepted_in, made, after_record, after_script, after_verdict, answer_to, answers, is_journal_fault, unless_verdict, IsFull, Writes};
 
-use crate::fault::{JournalCause, JournalFault, RunFault};
-use sc_journal::{LineNo, line};
+use crate::fault::RunFault;
+use sc_journal::{JournalCause, JournalFault, LineNo, line};
 use sc_papers::{Amendment, Refusal};
 use sc_repair::Clearing;
 use sc_report::{Watched, reply_line, write_whole};

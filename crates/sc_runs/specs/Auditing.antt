@@ -1,0 +1,71 @@
+-- What auditing a log does, where bytes are known.
+use Rattle.std.specs.Prelude.{◌≡◌, ◌⊎◌, ℕ, List, ◌++◌, codes, Option, Result, Ok, Err}
+use Rattle.std.specs.Fmt.{decimal}
+use Rattle.std.specs.Io.KnownBytes.{Appends, Keeps}
+use Rattle.sc_papers.specs.Market.{Market}
+use Rattle.sc_papers.specs.declared.rejection.Rejection.{Rejection}
+use Rattle.sc_audit.specs.Verdict.{IsVerdict}
+use Rattle.sc_audit.specs.declared.verdict.Verdict.{Verdict}
+use Rattle.sc_audit.specs.declared.verdict.Verdict.TheVariants.{BadEntry, Over, Certified}
+use Rattle.sc_intake.specs.Fault.{◌>>=◌}
+use Rattle.sc_intake.specs.Log.{log_in}
+use Rattle.sc_intake.specs.declared.fault.IntakeFault.{IntakeFault}
+use Rattle.sc_intake.specs.declared.fault.Source.TheVariants as input
+use Rattle.sc_report.specs.Whole.{AppendsFront}
+use Rattle.sc_runs.specs.Inputs.{Texts, input_in, inputs_in, AreWhole, IsUnread, IsWhole}
+use Rattle.sc_runs.specs.Opening.{papers_in}
+use Rattle.sc_runs.specs.declared.fault.RunFault.{RunFault}
+use Rattle.sc_runs.specs.declared.fault.RunFault.TheVariants.{Read, Intake, Journal, WriteOut, WriteJournal, OutOfMemory}
+
+-- the line that tells a verdict
+abbrev pub verdict_text : Verdict → List ℕ
+verdict_text Certified = codes "certified\n"
+verdict_text (BadEntry line) = codes "bad entry " ++ decimal line ++ codes "\n"
+verdict_text (Over s) = codes "over " ++ decimal s ++ codes "\n"
+
+-- what an audit has read: the papers of the opening, and the entries of the log
+pub record Claimed : Type 0 where
+  pub papers : Market
+  pub log : List Rejection
+
+-- papers and a log, or the first fault: of the papers, and then of the log
+abbrev pub claimed_in : Result Market IntakeFault → Result (List Rejection) IntakeFault → Result Claimed IntakeFault
+claimed_in reading logged = do
+  papers ← reading
+  log ← logged
+  Ok (record { papers = papers; log = log })
+
+-- what an audit's inputs read as, or their first fault: each is read whole before any is looked into
+abbrev pub audit_in : List ℕ → Texts → List ℕ → Result Claimed IntakeFault
+audit_in seed texts log = do
+  read ← inputs_in texts
+  last ← input_in input.Log log
+  claimed_in (papers_in seed read.schools read.roster read.lists) (log_in last)
+
+-- a verdict's line was written; a front of it where the writer failed, and nothing at want of memory
+abbrev pub TellsVerdict : Verdict → Option (List ℕ) → Option (List ℕ) → Result (Unit {0}) RunFault → Type 0
+TellsVerdict verdict old new (Ok done) = Appends old new (verdict_text verdict)
+TellsVerdict verdict old new (Err WriteOut) = AppendsFront old new (verdict_text verdict)
+TellsVerdict verdict old new (Err OutOfMemory) = Keeps old new
+TellsVerdict verdict old new (Err (Read source)) = ⊥
+TellsVerdict verdict old new (Err (Intake fault)) = ⊥
+TellsVerdict verdict old new (Err (Journal fault)) = ⊥
+TellsVerdict verdict old new (Err WriteJournal) = ⊥
+
+-- an audit answers the verdict of the log that was read, and wrote its line; a front of it where the
+-- writer failed, and nothing where the inputs have a fault
+abbrev pub WritesVerdict : Result Claimed IntakeFault → Option (List ℕ) → Option (List ℕ) → Result Verdict RunFault → Type 0
+WritesVerdict reading old new (Ok verdict) = (claimed : Claimed) × (reading ≡ Ok claimed) × IsVerdict claimed.papers claimed.log verdict × Appends old new (verdict_text verdict)
+WritesVerdict reading old new (Err (Intake fault)) = (reading ≡ Err fault) × Keeps old new
+WritesVerdict reading old new (Err WriteOut) =
+    (claimed : Claimed) × (reading ≡ Ok claimed) × ((verdict : Verdict) × IsVerdict claimed.papers claimed.log verdict × AppendsFront old new (verdict_text verdict))
+WritesVerdict reading old new (Err OutOfMemory) = Keeps old new
+WritesVerdict reading old new (Err (Read source)) = ⊥
+WritesVerdict reading old new (Err (Journal fault)) = ⊥
+WritesVerdict reading old new (Err WriteJournal) = ⊥
+
+-- what auditing files did: an input could not be read, and nothing was written; or the log was audited, each
+-- input whole
+abbrev pub AuditsFiles : List ℕ → Option (List ℕ) → Option (List ℕ) → Option (List ℕ) → Option (List ℕ) → Option (List ℕ) → Option (List ℕ) → Result Verdict RunFault → Type 0
+AuditsFiles seed schools roster lists log old new result = (IsUnread result × Keeps old new)
+    ⊎ ((texts : Texts) × (last : List ℕ) × AreWhole schools roster lists texts × IsWhole log last × WritesVerdict (audit_in seed texts last) old new result)

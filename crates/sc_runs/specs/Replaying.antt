@@ -1,0 +1,59 @@
+-- What replaying a journal does, where bytes are known.
+use Rattle.std.specs.Prelude.{◌≡◌, ◌⊎◌, ℕ, List, Option, Result, Ok, Err}
+use Rattle.std.specs.Io.KnownBytes.{Appends, Keeps}
+use Rattle.sc_papers.specs.Market.{Market}
+use Rattle.sc_intake.specs.Fault.{◌>>=◌}
+use Rattle.sc_intake.specs.declared.fault.IntakeFault.{IntakeFault}
+use Rattle.sc_intake.specs.declared.fault.Source.TheVariants as input
+use Rattle.sc_journal.specs.Journal.{IsFirstFault, IsReplay}
+use Rattle.sc_journal.specs.declared.fault.JournalFault.{JournalFault}
+use Rattle.sc_journal.specs.declared.fault.JournalCause.{JournalCause}
+use Rattle.sc_journal.specs.declared.fault.JournalCause.TheVariants as cause
+use Rattle.sc_journal.specs.declared.journal.Tail.{Tail}
+use Rattle.sc_report.specs.Whole.{AppendsFront}
+use Rattle.sc_runs.specs.Inputs.{Texts, input_in, inputs_in, AreWhole, IsUnread, IsWhole}
+use Rattle.sc_runs.specs.Opening.{papers_in, IsReport}
+use Rattle.sc_runs.specs.declared.fault.RunFault.{RunFault}
+use Rattle.sc_runs.specs.declared.fault.RunFault.TheVariants.{Read, Intake, Journal, WriteOut, WriteJournal, OutOfMemory}
+
+-- the papers that a journal is replayed over, or the first fault of the inputs: each is read whole before
+-- any is looked into
+abbrev pub replay_in : List ℕ → Texts → List ℕ → Result Market IntakeFault
+replay_in seed texts journal = do
+  read ← inputs_in texts
+  last ← input_in input.Journal journal
+  papers_in seed read.schools read.roster read.lists
+
+-- a text is the report after a journal was replayed over papers, which ended so
+abbrev pub IsReplayReport : Market → List ℕ → Tail → List ℕ → Type 0
+IsReplayReport m journal tail text = (now : Market) × IsReplay m now journal tail × IsReport now text
+
+-- a replay answers how the journal ends, and wrote the report of the papers after it; a front of it where
+-- the writer failed, and nothing where the inputs or the journal have a fault
+abbrev pub WritesReplay : Result Market IntakeFault → List ℕ → Option (List ℕ) → Option (List ℕ) → Result Tail RunFault → Type 0
+WritesReplay reading journal old new (Ok tail) =
+    (m : Market) × (reading ≡ Ok m) × ((text : List ℕ) × IsReplayReport m journal tail text × Appends old new text)
+WritesReplay reading journal old new (Err (Intake fault)) = (reading ≡ Err fault) × Keeps old new
+WritesReplay reading journal old new (Err (Journal fault)) = (m : Market) × (reading ≡ Ok m) × IsFirstFault m journal fault × Keeps old new
+WritesReplay reading journal old new (Err WriteOut) =
+    (m : Market) × (reading ≡ Ok m) × ((text : List ℕ) × (tail : Tail) × IsReplayReport m journal tail text × AppendsFront old new text)
+WritesReplay reading journal old new (Err OutOfMemory) = Keeps old new
+WritesReplay reading journal old new (Err (Read source)) = ⊥
+WritesReplay reading journal old new (Err WriteJournal) = ⊥
+
+-- what replaying files did: an input could not be read, and nothing was written; or the journal was
+-- replayed, each input whole
+abbrev pub ReplaysFiles : List ℕ → Option (List ℕ) → Option (List ℕ) → Option (List ℕ) → Option (List ℕ) → Option (List ℕ) → Option (List ℕ) → Result Tail RunFault → Type 0
+ReplaysFiles seed schools roster lists journal old new result = (IsUnread result × Keeps old new)
+    ⊎ ((texts : Texts) × (last : List ℕ) × AreWhole schools roster lists texts × IsWhole journal last × WritesReplay (replay_in seed texts last) last old new result)
+
+abbrev journal_fault_by : JournalCause → JournalFault → RunFault
+journal_fault_by cause.Shape fault = Journal fault
+journal_fault_by cause.Number fault = Journal fault
+journal_fault_by cause.JournalFull fault = Journal fault
+journal_fault_by (cause.Refused refusal) fault = Journal fault
+journal_fault_by cause.OutOfMemory fault = OutOfMemory
+
+-- a fault of a journal as a fault of the run: want of memory is told as such, whatever the layer
+abbrev pub journal_fault : JournalFault → RunFault
+journal_fault fault = journal_fault_by fault.cause fault

@@ -1,0 +1,141 @@
+//! From three files and a log to a verdict.
+
+ghost use Rattle.std.specs.Prelude.{◌≡◌, ◌||◌, ◌++◌, IfErr, IfOk, MatchResult, OnOk, Ok};
+ghost use Rattle.std.specs.Fmt.{decimal};
+ghost use Rattle.sc_audit.specs.Verdict.{IsVerdict};
+ghost use Rattle.sc_intake.specs.Log.{log_in};
+ghost use Rattle.sc_report.specs.Watched.{device_of, has_failed};
+ghost use Rattle.sc_runs.specs.Auditing.{claimed_in, verdict_text, AuditsFiles, TellsVerdict, WritesVerdict};
+ghost use Rattle.sc_runs.specs.Inputs.{LogReadersFailed};
+ghost use Rattle.sc_runs.specs.Opening.{is_output_fault, papers_in, IsOpeningFault};
+
+use crate::fault::RunFault;
+use crate::inputs::{Files, Opening, read_input, read_opening};
+use crate::matching::{read_papers, write_text};
+use itoa::Buffer;
+use sc_audit::{Verdict, audit};
+use sc_intake::{Source, read_log};
+use sc_papers::{Papers, Rejection, Seed};
+use sc_report::Watched;
+use std::alloc::{AllocError, Global};
+use std::io::{Read, Write};
+
+/// Adds a number in decimal digits.
+fn push_number(text: &mut Vec<u8>, number: u64) -> Result<(), AllocError>
+    ensures { OnOk result (text.new.items ≡ text.old.items ++ decimal number) }
+{
+    let mut buffer = Buffer::new();
+    text.extend_from_slice(buffer.format(number).as_bytes())
+}
+
+/// The line that tells a verdict, with its newline. The only error is want of memory.
+fn verdict_line(alloc: Global, verdict: &Verdict) -> Result<Vec<u8>, AllocError>
+    ensures { IfOk result (λ text. text.items ≡ verdict_text verdict.now) }
+{
+    let mut text = Vec::new(alloc);
+    match verdict {
+        Verdict::Certified => text.extend_from_slice(b"certified")?,
+        Verdict::BadEntry { line } => {
+            text.extend_from_slice(b"bad entry ")?;
+            push_number(&mut text, *line)?;
+        }
+        Verdict::Over { school } => {
+            text.extend_from_slice(b"over ")?;
+            push_number(&mut text, u64::from(school.get()))?;
+        }
+    }
+    text.extend_from_slice(b"\n")?;
+    Ok(text)
+}
+
+/// The entries of a log, or its first fault.
+fn read_entries(alloc: Global, log: &[u8]) -> Result<Vec<Rejection>, RunFault>
+    ensures { MatchResult result (λ entries. log_in log.now ≡ Ok entries.items) (IsOpeningFault (log_in log.now)) }
+{
+    let entries = read_log(alloc, log)?;
+    Ok(entries)
+}
+
+/// Writes the line of a verdict.
+fn tell<W: Write>(alloc: Global, verdict: &Verdict, out: &mut Watched<W>) -> Result<(), RunFault>
+    ensures told { TellsVerdict verdict.now (W.contents (device_of out.old)) (W.contents (device_of out.new)) result }
+    ensures failed { has_failed out.new ≡ (has_failed out.old || is_output_fault result) }
+{
+    match verdict_line(alloc, verdict) {
+        Ok(line) => write_text(line.as_slice(), out),
+        Err(_) => Err(RunFault::OutOfMemory),
+    }
+}
+
+/// Audits a log under papers.
+fn audit_papers<W: Write>(
+    alloc: Global,
+    papers: &Papers,
+    log: &[u8],
+    out: &mut Watched<W>,
+) -> Result<Verdict, RunFault>
+    ensures verdict { WritesVerdict (claimed_in (Ok papers.now) (log_in log.now)) (W.contents (device_of out.old)) (W.contents (device_of out.new)) result }
+    ensures failed { has_failed out.new ≡ (has_failed out.old || is_output_fault result) }
+{
+    let entries = match read_entries(alloc, log) {
+        Ok(entries) => entries,
+        Err(fault) => return Err(fault),
+    };
+    let verdict = match audit(alloc, papers, entries.as_slice()) {
+        Ok(verdict) => verdict,
+        Err(_) => return Err(RunFault::OutOfMemory),
+    };
+    match tell(alloc, &verdict, out) {
+        Ok(()) => Ok(verdict),
+        Err(fault) => Err(fault),
+    }
+}
+
+/// Audits a log under the papers that the files hold.
+fn audit_texts<W: Write>(
+    alloc: Global,
+    seed: &Seed,
+    files: Files<'_>,
+    log: &[u8],
+    out: &mut Watched<W>,
+) -> Result<Verdict, RunFault>
+    ensures verdict { WritesVerdict (claimed_in (papers_in seed.now files.entry.schools.now files.entry.roster.now files.entry.lists.now) (log_in log.now))
+        (W.contents (device_of out.old)) (W.contents (device_of out.new)) result }
+    ensures failed { has_failed out.new ≡ (has_failed out.old || is_output_fault result) }
+{
+    match read_papers(alloc, seed, files) {
+        Ok(papers) => audit_papers(alloc, &papers, log, out),
+        Err(fault) => Err(fault),
+    }
+}
+
+/// Reads the three files and a log, in the order schools, roster, lists, log, audits the log under the
+/// papers that the files hold, whoever made it, and writes the verdict: `certified`, `bad entry LINE` or
+/// `over SCHOOL`. A certified log's matching is the student-optimal stable matching of the papers.
+///
+/// Nothing is written before the inputs are known to be good. An error is the first fault of the inputs,
+/// each of which is read whole before any is looked into; that an input or the output failed; or want of
+/// memory, after which nothing was written.
+pub fn audit_files<R: Read, W: Write>(
+    alloc: Global,
+    seed: &Seed,
+    opening: &mut Opening<R>,
+    log: &mut Watched<R>,
+    out: &mut Watched<W>,
+) -> Result<Verdict, RunFault>
+    ensures verdict { AuditsFiles seed.now
+        (R.remaining (device_of opening.old.schools)) (R.remaining (device_of opening.old.roster)) (R.remaining (device_of opening.old.lists))
+        (R.remaining (device_of log.old)) (W.contents (device_of out.old)) (W.contents (device_of out.new)) result }
+    ensures failed { has_failed out.new ≡ (has_failed out.old || is_output_fault result) }
+    ensures read_failed { IfErr result (LogReadersFailed (has_failed opening.new.schools) (has_failed opening.new.roster) (has_failed opening.new.lists) (has_failed log.new)) }
+{
+    let texts = match read_opening(alloc, opening) {
+        Ok(texts) => texts,
+        Err(fault) => return Err(fault),
+    };
+    let log = match read_input(alloc, log, Source::Log) {
+        Ok(log) => log,
+        Err(fault) => return Err(fault),
+    };
+    audit_texts(alloc, seed, texts.files(), log.as_slice(), out)
+}

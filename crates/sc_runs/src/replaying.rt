@@ -1,0 +1,87 @@
+//! From three files and a journal to a report.
+
+ghost use Rattle.std.specs.Prelude.{◌≡◌, ◌||◌, IfErr, Ok};
+ghost use Rattle.sc_report.specs.Watched.{device_of, has_failed};
+ghost use Rattle.sc_runs.specs.Inputs.{JournalReadersFailed};
+ghost use Rattle.sc_runs.specs.Opening.{is_output_fault, papers_in};
+ghost use Rattle.sc_runs.specs.Replaying.{ReplaysFiles, WritesReplay};
+
+use crate::fault::RunFault;
+use crate::inputs::{Files, Opening, read_input, read_opening};
+use crate::matching::{read_papers, write_out};
+use sc_intake::Source;
+use sc_journal::{Tail, replay};
+use sc_papers::{Papers, Seed};
+use sc_report::Watched;
+use std::alloc::Global;
+use std::io::{Read, Write};
+
+/// Replays a journal over papers.
+fn replay_papers<W: Write>(
+    alloc: Global,
+    papers: Papers,
+    journal: &[u8],
+    out: &mut Watched<W>,
+) -> Result<Tail, RunFault>
+    ensures report { WritesReplay (Ok papers) journal.now (W.contents (device_of out.old)) (W.contents (device_of out.new)) result }
+    ensures failed { has_failed out.new ≡ (has_failed out.old || is_output_fault result) }
+{
+    let (clearing, tail) = match replay(alloc, papers, journal) {
+        Ok(replayed) => replayed,
+        Err(fault) => return Err(RunFault::from(fault)),
+    };
+    match write_out(alloc, &clearing, out) {
+        Ok(()) => Ok(tail),
+        Err(fault) => Err(fault),
+    }
+}
+
+/// Replays a journal over the papers that the files hold.
+fn replay_texts<W: Write>(
+    alloc: Global,
+    seed: &Seed,
+    files: Files<'_>,
+    journal: &[u8],
+    out: &mut Watched<W>,
+) -> Result<Tail, RunFault>
+    ensures report { WritesReplay (papers_in seed.now files.entry.schools.now files.entry.roster.now files.entry.lists.now) journal.now
+        (W.contents (device_of out.old)) (W.contents (device_of out.new)) result }
+    ensures failed { has_failed out.new ≡ (has_failed out.old || is_output_fault result) }
+{
+    match read_papers(alloc, seed, files) {
+        Ok(papers) => replay_papers(alloc, papers, journal, out),
+        Err(fault) => Err(fault),
+    }
+}
+
+/// Reads the three files and a journal, in the order schools, roster, lists, journal, makes the amendments
+/// of the journal in turn, and writes the report of the papers as they then stand. It answers whether bytes
+/// follow the journal's last newline, which are left unread.
+///
+/// Nothing is written before the inputs are known to be good. An error is the first fault of the inputs,
+/// each of which is read whole before any is looked into, or else the first faulty line of the journal with
+/// its first cause; that an input or the output failed; or want of memory, after which nothing was
+/// written.
+pub fn replay_files<R: Read, W: Write>(
+    alloc: Global,
+    seed: &Seed,
+    opening: &mut Opening<R>,
+    journal: &mut Watched<R>,
+    out: &mut Watched<W>,
+) -> Result<Tail, RunFault>
+    ensures report { ReplaysFiles seed.now
+        (R.remaining (device_of opening.old.schools)) (R.remaining (device_of opening.old.roster)) (R.remaining (device_of opening.old.lists))
+        (R.remaining (device_of journal.old)) (W.contents (device_of out.old)) (W.contents (device_of out.new)) result }
+    ensures failed { has_failed out.new ≡ (has_failed out.old || is_output_fault result) }
+    ensures read_failed { IfErr result (JournalReadersFailed (has_failed opening.new.schools) (has_failed opening.new.roster) (has_failed opening.new.lists) (has_failed journal.new)) }
+{
+    let texts = match read_opening(alloc, opening) {
+        Ok(texts) => texts,
+        Err(fault) => return Err(fault),
+    };
+    let journal = match read_input(alloc, journal, Source::Journal) {
+        Ok(journal) => journal,
+        Err(fault) => return Err(fault),
+    };
+    replay_texts(alloc, seed, texts.files(), journal.as_slice(), out)
+}
