@@ -45,12 +45,6 @@ abbrev pub aside : Option Key → ℕ → Option Stand → Option Stand
 aside None j stand = stand
 aside (Some out) j stand = cond (nat_eq j out.student) (option_map set_aside stand) stand
 
-school_in : Option Stand → Option ℕ
-school_in o = option_map (λ (stand : Stand). stand.school) o
-
-kept_in : Option Stand → Bool
-kept_in o = option_map_or (λ (stand : Stand). stand.kept) o false
-
 school-aside : (out : Option Key) (j : ℕ) (o : Option Stand) → option_map (λ (stand : Stand). stand.school) (aside out j o) ≡ option_map (λ (stand : Stand). stand.school) o
 school-aside None j o = refl
 school-aside (Some out) j o = go (nat_eq j out.student) o
@@ -121,9 +115,6 @@ pub record Placing (m : Market) (old : Ledger) (i place s at : ℕ) (keys : List
   pub stands : (j : ℕ) → stand_of m new.stands j ≡ aside out j (cond (nat_eq j i) (Some (record { place = place; school = s; kept = true })) (stand_of m old.stands j))
 
 module _ {m : Market} {old : Ledger} {i place s at : ℕ} {keys : List Key} {out : Option Key} {new : Ledger} (p : Placing m old i place s at keys out new) where
-  here : Option Stand
-  here = Some (record { place = place; school = s; kept = true })
-
   own-stand : stand_of m new.stands i ≡ aside out i (Some (record { place = place; school = s; kept = true }))
   own-stand = p.stands i ∙ ap (aside out i) (cond-true (nat_eq i i) (Some (record { place = place; school = s; kept = true })) (stand_of m old.stands i) (eq-eqb i i refl))
 

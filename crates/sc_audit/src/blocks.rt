@@ -8,7 +8,7 @@ ghost use Rattle.sc_papers.specs.WellFormed.{WellFormed};
 ghost use Rattle.sc_audit.specs.Stability.{IsEarliestBlock, IsFirstBlock};
 ghost use Rattle.sc_audit.specs.Tallies.{earlier_of, end_at, AreTallies};
 
-use crate::lookups::{choice_at, choices_len};
+use crate::choices::{choice_at, choices_len};
 use crate::tallies::would_take;
 use crate::tally::Tally;
 use sc_papers::{Assignment, Papers, SchoolNo, StudentNo};

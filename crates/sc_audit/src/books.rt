@@ -8,8 +8,9 @@ ghost use Rattle.sc_papers.specs.declared.rejection.Rejection.{Rejection as Reje
 ghost use Rattle.sc_audit.specs.Offers.{key_cmp};
 ghost use Rattle.sc_audit.specs.Over.{IsFirstOver};
 
+use crate::choices::choice_at;
+use crate::keys::key_at;
 use crate::least::lesser;
-use crate::lookups::{choice_at, key_at};
 use crate::offers::offer;
 use crate::stand::Stand;
 use crate::stands::{no_stands, put, put_aside, stand_of};

@@ -7,8 +7,8 @@ ghost use Rattle.sc_papers.specs.WellFormed.{WellFormed};
 ghost use Rattle.sc_audit.specs.Least.{LeastOf};
 ghost use Rattle.sc_audit.specs.Tallies.{no_tally, or_later, over_at, tally_at, with_key, would_take, AreTallies};
 
+use crate::keys::key_at;
 use crate::least::lesser;
-use crate::lookups::key_at;
 use crate::tally::Tally;
 use sc_papers::{Assignment, Key, Papers, SchoolNo, StudentNo};
 use std::alloc::{AllocError, Global};

@@ -85,7 +85,7 @@ fn market_b(rt: &impl Abort, alloc: Global) -> Papers {
 }
 
 /// The log under these papers has this verdict.
-fn audits(rt: &impl Abort, alloc: Global, papers: &Papers, log: &[(u32, u32)], want: Verdict) {
+fn has_verdict(rt: &impl Abort, alloc: Global, papers: &Papers, log: &[(u32, u32)], want: Verdict) {
     let mut entries = Vec::new(alloc);
     for (number, at) in log {
         let entry = Rejection {
@@ -99,7 +99,13 @@ fn audits(rt: &impl Abort, alloc: Global, papers: &Papers, log: &[(u32, u32)], w
 }
 
 /// The assignment under these papers has this stability verdict.
-fn checks(rt: &impl Abort, alloc: Global, papers: &Papers, pairs: &[(u32, u32)], want: Stability) {
+fn has_stability(
+    rt: &impl Abort,
+    alloc: Global,
+    papers: &Papers,
+    pairs: &[(u32, u32)],
+    want: Stability,
+) {
     let mut assignment = Assignment::new(alloc);
     for (number, at) in pairs {
         assignment
@@ -111,26 +117,26 @@ fn checks(rt: &impl Abort, alloc: Global, papers: &Papers, pairs: &[(u32, u32)],
 }
 
 #[test]
-fn audits_of_market_b(rt: HostRuntime) {
+fn audits(rt: HostRuntime) {
     let alloc = rt.alloc();
     let papers = market_b(&rt, alloc);
     let whole = [(1, 10), (2, 20), (2, 10)];
-    audits(&rt, alloc, &papers, &whole, Verdict::Certified);
+    has_verdict(&rt, alloc, &papers, &whole, Verdict::Certified);
     let early = [(2, 10), (1, 10), (2, 20)];
-    audits(&rt, alloc, &papers, &early, Verdict::BadEntry { line: 1 });
+    has_verdict(&rt, alloc, &papers, &early, Verdict::BadEntry { line: 1 });
     let swapped = [(1, 10), (2, 10), (2, 20)];
-    audits(&rt, alloc, &papers, &swapped, Verdict::BadEntry { line: 2 });
+    has_verdict(&rt, alloc, &papers, &swapped, Verdict::BadEntry { line: 2 });
     let over = Verdict::Over {
         school: school(&rt, 10),
     };
-    audits(&rt, alloc, &papers, &[], over);
+    has_verdict(&rt, alloc, &papers, &[], over);
 }
 
 #[test]
 fn an_unknown_student_or_school_is_a_bad_entry(rt: HostRuntime) {
     let alloc = rt.alloc();
     let papers = market_b(&rt, alloc);
-    audits(
+    has_verdict(
         &rt,
         alloc,
         &papers,
@@ -138,7 +144,7 @@ fn an_unknown_student_or_school_is_a_bad_entry(rt: HostRuntime) {
         Verdict::BadEntry { line: 1 },
     );
     let strange = [(1, 10), (2, 77)];
-    audits(&rt, alloc, &papers, &strange, Verdict::BadEntry { line: 2 });
+    has_verdict(&rt, alloc, &papers, &strange, Verdict::BadEntry { line: 2 });
 }
 
 #[test]
@@ -153,44 +159,44 @@ fn a_correction_rewinds_to_the_start(rt: HostRuntime) {
     ];
     let mut papers = papers(&rt, alloc, &[(10, 1, 1), (20, 0, 2)], &students);
     let old = [(2, 10), (3, 20), (2, 20)];
-    audits(&rt, alloc, &papers, &old, Verdict::Certified);
+    has_verdict(&rt, alloc, &papers, &old, Verdict::Certified);
     let corrected = papers.apply(Amendment::Correct {
         student: student(&rt, 1),
         zone: zone(&rt, 0),
         siblings: list(&rt, alloc, ""),
     });
     assert!(rt; corrected.is_ok());
-    audits(&rt, alloc, &papers, &old, Verdict::BadEntry { line: 1 });
+    has_verdict(&rt, alloc, &papers, &old, Verdict::BadEntry { line: 1 });
     let new = [(1, 10), (1, 20), (3, 20)];
-    audits(&rt, alloc, &papers, &new, Verdict::Certified);
+    has_verdict(&rt, alloc, &papers, &new, Verdict::Certified);
 }
 
 #[test]
 fn stability_verdicts_of_market_a(rt: HostRuntime) {
     let alloc = rt.alloc();
     let papers = market_a(&rt, alloc);
-    checks(&rt, alloc, &papers, &[(1, 10), (2, 20)], Stability::Stable);
-    checks(&rt, alloc, &papers, &[(1, 20), (2, 10)], Stability::Stable);
+    has_stability(&rt, alloc, &papers, &[(1, 10), (2, 20)], Stability::Stable);
+    has_stability(&rt, alloc, &papers, &[(1, 20), (2, 10)], Stability::Stable);
 }
 
 #[test]
-fn stability_verdicts_of_market_b(rt: HostRuntime) {
+fn stability_verdicts(rt: HostRuntime) {
     let alloc = rt.alloc();
     let papers = market_b(&rt, alloc);
     let first = Stability::Blocked {
         student: student(&rt, 1),
         school: school(&rt, 10),
     };
-    checks(&rt, alloc, &papers, &[], first);
+    has_stability(&rt, alloc, &papers, &[], first);
     let newcomer = Stability::Blocked {
         student: student(&rt, 3),
         school: school(&rt, 10),
     };
-    checks(&rt, alloc, &papers, &[(1, 20), (2, 10)], newcomer);
+    has_stability(&rt, alloc, &papers, &[(1, 20), (2, 10)], newcomer);
     let over = Stability::OverSeats {
         school: school(&rt, 10),
     };
-    checks(&rt, alloc, &papers, &[(1, 10), (3, 10)], over);
-    checks(&rt, alloc, &papers, &[(3, 20)], Stability::NotAMatching);
-    checks(&rt, alloc, &papers, &[(9, 10)], Stability::NotAMatching);
+    has_stability(&rt, alloc, &papers, &[(1, 10), (3, 10)], over);
+    has_stability(&rt, alloc, &papers, &[(3, 20)], Stability::NotAMatching);
+    has_stability(&rt, alloc, &papers, &[(9, 10)], Stability::NotAMatching);
 }

@@ -1,7 +1,7 @@
 use Rattle.std.proofs.Common.{sym, ◌∙◌}
 use Rattle.std.proofs.lemmas.Option.{none-some}
 use Rattle.sc_audit.proofs.Tables.{school-position, seats-known}
-use Rattle.sc_audit.proofs.lookups.key_at.Goals as goal
+use Rattle.sc_audit.proofs.keys.key_at.Goals as goal
 
 pub unreachable-requires : goal.unreachable-requires
 unreachable-requires c =

@@ -1,0 +1,26 @@
+//! A student's key at a school.
+ghost use Rattle.std.specs.Prelude.{◌≡◌, true, position, nat_eq, Some};
+ghost use Rattle.sc_papers.specs.Key.{key_of};
+ghost use Rattle.sc_papers.specs.Market.{is_school, is_student, schools_of, seats_of};
+
+use sc_papers::{Key, Papers, SchoolNo, Seats, StudentNo};
+
+/// A school's position, its seats, and the student's key there.
+pub(crate) fn key_at(papers: &Papers, student: StudentNo, school: SchoolNo) -> (usize, Seats, Key)
+    requires student { is_student papers.now student ≡ true }
+    requires school { is_school papers.now school ≡ true }
+    ensures position { position (nat_eq school) (schools_of papers.now) ≡ Some result.0 }
+    ensures seats { result.1 ≡ seats_of papers.now school }
+    ensures key { result.2 ≡ key_of papers.now student school }
+{
+    let Some(position) = papers.school_position(school) else {
+        unreachable!()
+    };
+    let Some(found) = papers.school(school) else {
+        unreachable!()
+    };
+    let Some(key) = papers.key(student, school) else {
+        unreachable!()
+    };
+    (position, found.seats, key)
+}
