@@ -6,8 +6,10 @@ use sc_intake::Source;
 use sc_papers::Seed;
 use sc_report::{Watched, write_whole};
 use sc_runs::{
-    Ending, Inputs, Opening, RunFault, fault_line, match_files, run, run_bundle, status_of,
+    Ending, Inputs, Opening, RunFault, Tail, Verdict, audit_files, fault_line, match_files,
+    replay_files, run, run_bundle, status_of,
 };
+use sc_words::{OpeningWords, Order, Word, order_of};
 use std::alloc::Global;
 use std::fs::File;
 use std::io::{Read, Write};

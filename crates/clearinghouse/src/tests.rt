@@ -15,9 +15,19 @@ fn words(alloc: Global, texts: &[&str]) -> Result<Vec<Word>, AllocError> {
     Ok(words)
 }
 
-/// What the program writes under a subcommand, Market B's files and other options: the whole output, the
-/// errors and the status.
+/// What the program writes under a subcommand, the files of an opening and other options: the whole
+/// output, the errors and the status.
 fn ordered(rt: &HostRuntime, subcommand: &str, options: &[&str]) -> Result<String, AllocError> {
+    ordered_of(rt, subcommand, "schools", options)
+}
+
+/// The same with this file of schools.
+fn ordered_of(
+    rt: &HostRuntime,
+    subcommand: &str,
+    schools: &str,
+    options: &[&str],
+) -> Result<String, AllocError> {
     let alloc = rt.alloc();
     let mut words = words(
         alloc,
@@ -26,7 +36,7 @@ fn ordered(rt: &HostRuntime, subcommand: &str, options: &[&str]) -> Result<Strin
             "--seed",
             ZEROS,
             "--schools",
-            "schools",
+            schools,
             "--roster",
             "roster",
             "--lists",
@@ -161,18 +171,18 @@ fn a_stopped_run_goes_on(rt: HostRuntime) -> Result<(), Fail> {
 
 #[test]
 fn files_that_are_not_there(rt: HostRuntime) -> Result<(), Fail> {
-    let told = ordered(&rt, "match", &[])?;
+    write_files(&rt)?;
+    let told = ordered_of(&rt, "match", "absent", &[])?;
     assert!(rt;
         told.as_str() == "clearinghouse: cannot read schools\n4",
         "{told}"
     );
-    write_files(&rt)?;
-    let told = ordered(&rt, "audit", &["--log", "log"])?;
+    let told = ordered(&rt, "audit", &["--log", "absent"])?;
     assert!(rt;
         told.as_str() == "clearinghouse: cannot read log\n4",
         "{told}"
     );
-    let told = ordered(&rt, "replay", &["--journal", "journal"])?;
+    let told = ordered(&rt, "replay", &["--journal", "absent"])?;
     assert!(rt;
         told.as_str() == "clearinghouse: cannot read journal\n4",
         "{told}"
