@@ -12,14 +12,17 @@ mod perform;
 #[cfg(test)]
 mod tests;
 
-fn main(rt: HostRuntime) -> io::Result<ExitCode> {
-    let words: Vec<Word> = env::args(&rt)?
-        .skip(1)
-        .map(Word::from_text)
-        .collect(rt.alloc())?;
-    let input = rt.stdin();
-    let output = rt.stdout();
+/// The words after the program's name.
+fn words(rt: &HostRuntime) -> io::Result<Vec<Word>> {
+    let words = env::args(rt)?.skip(1).map(Word::from_text);
+    Ok(words.collect(rt.alloc())?)
+}
+
+fn main(rt: HostRuntime) -> ExitCode {
     let errors = rt.stderr();
-    let status = perform::perform(&rt, words.as_slice(), input, output, errors);
-    Ok(ExitCode::from(status))
+    let status = match words(&rt) {
+        Ok(words) => perform::perform(&rt, words.as_slice(), rt.stdin(), rt.stdout(), errors),
+        Err(error) => perform::refuse(rt.alloc(), &error, errors),
+    };
+    ExitCode::from(status)
 }

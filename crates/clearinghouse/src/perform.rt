@@ -12,6 +12,7 @@ use sc_runs::{
 use sc_words::{OpeningWords, Order, Word, order_of};
 use std::alloc::Global;
 use std::fs::File;
+use std::io;
 use std::io::{Read, Write};
 use std::rt::Files;
 
@@ -180,6 +181,17 @@ pub fn perform<R: Files + AllocGlobal, I: Read + Drop, O: Write + Drop, E: Write
             status_of_words(&error)
         }
     }
+}
+
+/// Tells that the words could not be taken, and answers the exit status: 5 for want of memory, and else 2.
+pub fn refuse<E: Write + Drop>(alloc: Global, error: &io::Error, errors: E) -> u8 {
+    let mut errors = Watched::new(errors);
+    if error.kind() == io::ErrorKind::OutOfMemory {
+        let ending = Ending::Fault(RunFault::OutOfMemory);
+        tell(alloc, &ending, &mut errors);
+        return status_of(&ending);
+    }
+    2
 }
 
 /// Writes the ending's line. Where there is no memory for it, or the stream fails, nothing more can be
