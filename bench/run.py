@@ -7,7 +7,8 @@ It lays a workspace out in FOLDER (the repository's crates with `stopwatch/`, wh
 the gate refuses sources that no crate of its own owns), proves and builds the stopwatch there, compiles peer.rs
 with rustc -O, makes the markets by generate.py, and runs each program N times on each. The table has the
 quickest run and, as a measure of the machine's noise, how much slower the slowest was. Where the two
-programs' assignments differ, it says so and ends. Then come the rolls, and a thousand amendments.
+programs' assignments differ, it says so and ends. Then come the rolls, and a thousand amendments. The log that
+certifies each market is audited, and its assignment checked, by code that shares none with what made them.
 """
 import argparse
 import os
@@ -25,6 +26,7 @@ MARKETS = {
     "200,000": ["--students", "200000", "--schools", "5000"],
 }
 PHASES = ["read", "settle", "write"]
+AUDITS = ["audit", "check_stable"]
 
 
 def lay_out(source, target, suffix=""):
@@ -42,14 +44,14 @@ def build_stopwatch(folder):
     """Proves and builds the stopwatch in a workspace of its own, and answers its path."""
     workspace = os.path.join(folder, "workspace")
     with open(os.path.join(ROOT, "crates.txt")) as file:
-        lines = [line for line in file if not line.startswith(("#", "clearinghouse", "sc_plain"))]
+        lines = [line for line in file if not line.startswith(("#", "clearinghouse", "sc_plain", "sc_words", "sc_runs", "sc_journal"))]
     for name in [line.split(":")[0] for line in lines]:
         lay_out(os.path.join(ROOT, "crates", name), os.path.join(workspace, "crates", name))
     crate = os.path.join(workspace, "crates", "stopwatch")
     lay_out(os.path.join(HERE, "stopwatch"), crate, ".txt")
     with open(os.path.join(workspace, "crates.txt"), "w") as file:
         file.writelines(lines)
-        file.write("stopwatch: sc_lottery sc_papers sc_intake sc_seats sc_repair sc_report anyhow\n")
+        file.write("stopwatch: sc_lottery sc_papers sc_audit sc_intake sc_seats sc_repair sc_report anyhow\n")
     subprocess.run(["rt", "run", "--", "nothing"], cwd=crate, stdout=subprocess.DEVNULL, stderr=subprocess.DEVNULL)
     return os.path.join(crate, "out", "stopwatch")
 
@@ -67,7 +69,7 @@ def times_of(program, folder):
     times = {}
     for line in ran.stderr.splitlines():
         words = line.split()
-        if words and words[0] in PHASES:
+        if words and words[0] in PHASES + AUDITS:
             times[words[0]] = float(words[1]) / {"ms": 1, "us": 1000}[words[2]]
     return times, ran.stdout
 
@@ -77,6 +79,7 @@ def row(program, folder, times):
     runs = [times_of(program, folder) for _ in range(times)]
     best = {phase: min(run[0][phase] for run in runs) for phase in PHASES}
     worst = {phase: max(run[0][phase] for run in runs) for phase in PHASES}
+    best.update({audit: min(run[0][audit] for run in runs) for audit in AUDITS if audit in runs[0][0]})
     return best, {phase: worst[phase] / best[phase] for phase in PHASES}, runs[0][1]
 
 
@@ -100,6 +103,7 @@ def main():
         for phase in PHASES:
             ratio = ours[phase] / theirs[phase]
             print(f"| {name} | {phase} | {ours[phase]:.1f} | {theirs[phase]:.1f} | {ratio:.1f} | {noise[phase]:.2f} |")
+        print(f"| {name} | the log audited; the assignment checked | {ours['audit']:.1f}; {ours['check_stable']:.1f} | | | |")
     subprocess.run([stopwatch, "rolls"], check=True)
     folder = os.path.join(given.folder, "market-20000")
     subprocess.run([stopwatch, folder, "amendments"], check=True, stdout=subprocess.DEVNULL)
