@@ -3,6 +3,10 @@
 #![tactic(auto)]
 
 #[cfg(test)]
+mod audits;
+#[cfg(test)]
+mod markets;
+#[cfg(test)]
 mod plain;
 #[cfg(test)]
 mod random;

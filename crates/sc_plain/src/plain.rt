@@ -96,6 +96,72 @@ impl Market<'_> {
                 }))
     }
 
+    /// The first of a student's choices with which the student, who has `has`, blocks a matching.
+    fn earliest_block(
+        &self,
+        matching: &[Option<u32>],
+        student: &Student,
+        has: Option<u32>,
+    ) -> Option<u32> {
+        for choice in student.choices {
+            for school in self.schools {
+                if school.number == *choice && self.blocks(matching, student, has, school) {
+                    return Some(*choice);
+                }
+            }
+        }
+        None
+    }
+
+    /// The student of the least number who blocks a matching, and the first choice with which that
+    /// student does.
+    pub fn first_block(&self, matching: &[Option<u32>]) -> Option<(u32, u32)> {
+        let mut first: Option<(u32, u32)> = None;
+        for (student, has) in self.students.iter().zip(matching) {
+            let is_less = first.is_none_or(|(number, _)| student.number < number);
+            if is_less {
+                if let Some(school) = self.earliest_block(matching, student, *has) {
+                    first = Some((student.number, school));
+                }
+            }
+        }
+        first
+    }
+
+    /// The least number of a school that is over its seats.
+    pub fn first_over(&self, matching: &[Option<u32>]) -> Option<u32> {
+        let mut first: Option<u32> = None;
+        for school in self.schools {
+            let is_less = first.is_none_or(|number| school.number < number);
+            if is_less && held(matching, school.number) > school.seats {
+                first = Some(school.number);
+            }
+        }
+        first
+    }
+
+    /// Whether each pair is of a student of the papers and of a school that the student lists.
+    pub fn is_matching(&self, pairs: &[(u32, u32)]) -> bool {
+        pairs.iter().all(|(number, school)| {
+            self.students.iter().any(|student| student.number == *number
+                && student.place(*school).is_some())
+        })
+    }
+
+    /// What pairs of a student and a school give each student.
+    pub fn matching_of_pairs(
+        &self,
+        alloc: Global,
+        pairs: &[(u32, u32)],
+    ) -> Result<Matching, AllocError> {
+        let mut matching = Vec::new(alloc);
+        for student in self.students {
+            let pair = pairs.iter().find(|pair| pair.0 == student.number);
+            matching.push(pair.map(|pair| pair.1))?;
+        }
+        Ok(matching)
+    }
+
     /// Whether each school is within its seats.
     fn is_within_seats(&self, matching: &[Option<u32>]) -> bool {
         self.schools
@@ -118,7 +184,7 @@ impl Market<'_> {
     }
 
     /// Every matching of the papers, within seats or not.
-    fn matchings(&self, alloc: Global) -> Result<Vec<Matching>, AllocError> {
+    pub fn matchings(&self, alloc: Global) -> Result<Vec<Matching>, AllocError> {
         let mut all = Vec::new(alloc);
         all.push(Vec::new(alloc))?;
         for student in self.students {
