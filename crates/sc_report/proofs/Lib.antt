@@ -1,5 +1,6 @@
 pub mod KnownLemmas
 pub mod RisingLemmas
+pub mod LastKeys
 pub mod Orders
 pub mod TallyLemmas
 pub mod Places

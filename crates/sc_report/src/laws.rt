@@ -6,13 +6,19 @@ ghost use Rattle.sc_papers.specs.Matching.{Matching, IsStable, Prefers};
 ghost use Rattle.sc_papers.specs.Reordering.{IsReordering};
 ghost use Rattle.sc_papers.specs.WellFormed.{WellFormed};
 ghost use Rattle.sc_report.specs.Cutoff.{cutoff};
+ghost use Rattle.sc_report.specs.CutoffText.{cutoff_text};
 ghost use Rattle.sc_report.specs.Reason.{reason, Applies};
-ghost use Rattle.sc_report.specs.Text.{assignment_text};
+ghost use Rattle.sc_report.specs.ReasonText.{reason_text};
+ghost use Rattle.sc_report.specs.Text.{assignment_text, report_text};
 
-/// The order of entry decides nothing about the texts: papers with the same schools and students, up
-/// to their order, have the same texts for the same matching.
+/// The order of entry decides nothing about what people read: papers with the same schools and
+/// students, up to their order, have the same texts, part by part and whole, for matchings that give
+/// every student the same.
 pub fn order_of_entry_decides_no_text()
-    ensures { (m n : Market) (a : Matching) → IsReordering m n → assignment_text n a ≡ assignment_text m a }
+    ensures assignment { (m n : Market) (a b : Matching) → WellFormed m → IsReordering m n → ((i : ℕ) → a i ≡ b i) → assignment_text m a ≡ assignment_text n b }
+    ensures cutoffs { (m n : Market) (a b : Matching) → WellFormed m → IsReordering m n → ((i : ℕ) → a i ≡ b i) → cutoff_text m a ≡ cutoff_text n b }
+    ensures reasons { (m n : Market) (a b : Matching) → WellFormed m → IsReordering m n → ((i : ℕ) → a i ≡ b i) → reason_text m a ≡ reason_text n b }
+    ensures report { (m n : Market) (a b : Matching) → WellFormed m → IsReordering m n → ((i : ℕ) → a i ≡ b i) → report_text m a ≡ report_text n b }
 {}
 
 /// In a stable matching the reason of each choice that a student prefers to what it has is true of
