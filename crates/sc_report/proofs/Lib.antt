@@ -7,3 +7,4 @@ pub mod Places
 pub mod ReasonLemmas
 pub mod LineLemmas
 pub mod ReasonLaws
+pub mod AdmissionLaws

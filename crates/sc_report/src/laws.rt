@@ -1,15 +1,17 @@
 //! The laws of the texts. Each function does nothing: its contract is the law.
-ghost use Rattle.std.specs.Prelude.{◌≡◌, ℕ};
+ghost use Rattle.std.specs.Prelude.{◌≡◌, ◌↔◌, ℕ, true, false, Some};
 ghost use Rattle.sc_papers.specs.Key.{key_of};
 ghost use Rattle.sc_papers.specs.Market.{Market};
 ghost use Rattle.sc_papers.specs.Matching.{Matching, IsStable, Prefers};
 ghost use Rattle.sc_papers.specs.Reordering.{IsReordering};
 ghost use Rattle.sc_papers.specs.WellFormed.{WellFormed};
+ghost use Rattle.sc_report.specs.Admission.{first_admitting, is_admitted};
 ghost use Rattle.sc_report.specs.Cutoff.{cutoff};
 ghost use Rattle.sc_report.specs.CutoffText.{cutoff_text};
 ghost use Rattle.sc_report.specs.Reason.{reason, Applies};
 ghost use Rattle.sc_report.specs.ReasonText.{reason_text};
 ghost use Rattle.sc_report.specs.Text.{assignment_text, report_text};
+ghost use Rattle.sc_report.specs.declared.reason.Reason.{Reason};
 
 /// The order of entry decides nothing about what people read: papers with the same schools and
 /// students, up to their order, have the same texts, part by part and whole, for matchings that give
@@ -25,4 +27,14 @@ pub fn order_of_entry_decides_no_text()
 /// the school's cutoff and the student's key: no case is left over.
 pub fn reason_applies()
     ensures { (m : Market) (a : Matching) → WellFormed m → IsStable m a → (i s : ℕ) → Prefers m i s (a i) → Applies (cutoff m a s) (key_of m i s) (reason m a i s) }
+{}
+
+/// What a student has in a stable matching can be read from the cutoffs alone: the first of its choices
+/// that admits it, or none where no choice does. The school that it has admits it, and each choice that
+/// it prefers does not, for one reason.
+pub fn first_choice_that_admits()
+    ensures first { (m : Market) (a : Matching) → WellFormed m → IsStable m a → (i : ℕ) → a i ≡ first_admitting m a i }
+    ensures has { (m : Market) (a : Matching) → WellFormed m → IsStable m a → (i s : ℕ) → a i ≡ Some s → is_admitted m a i s ≡ true }
+    ensures preferred { (m : Market) (a : Matching) → WellFormed m → IsStable m a → (i s : ℕ) → Prefers m i s (a i) → is_admitted m a i s ≡ false }
+    ensures one_reason { (m : Market) (a : Matching) → WellFormed m → IsStable m a → (i s : ℕ) → Prefers m i s (a i) → (r : Reason) → (Applies (cutoff m a s) (key_of m i s) r ↔ (r ≡ reason m a i s)) }
 {}
