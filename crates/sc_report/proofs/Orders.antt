@@ -12,11 +12,13 @@ use Rattle.std.proofs.lemmas.Map.Views.{Contains-from_lookup, lookup-from_Contai
 use Rattle.std.proofs.lemmas.Option.{none-some}
 use Rattle.sc_papers.specs.Key.{key_of}
 use Rattle.sc_papers.specs.Market.{Market, choices_of, school_of, schools_of, seats_of, student_of, students_of, zone_at}
-use Rattle.sc_papers.specs.Matching.{Matching, has, how_many}
+use Rattle.sc_papers.specs.Matching.{Matching, IsStudentOptimal, has, how_many}
 use Rattle.sc_papers.specs.Reordering.{IsReordering}
 use Rattle.sc_papers.specs.WellFormed.{WellFormed}
 use Rattle.sc_papers.specs.declared.key.Key.{Key}
+use Rattle.sc_papers.proofs.Reordering.{optimal-reordered}
 use Rattle.sc_papers.proofs.Rewinding.{key_by, key-by}
+use Rattle.sc_papers.proofs.Uniqueness.{optimal-unique}
 use Rattle.sc_report.specs.Cutoff.{cutoff, cutoff_by, cutoff_row, keys_among, last_key}
 use Rattle.sc_report.specs.CutoffText.{cutoff_lines, cutoff_text}
 use Rattle.sc_report.specs.Reason.{reason, reason_by, reasons_of}
@@ -129,3 +131,8 @@ module _ (m n : Market) (well : WellFormed m) (moved : IsReordering m n) where
 
     pub report-moved : report_text m a ≡ report_text n b
     report-moved = sym (report-same a) ∙ (λ t. report_text n (λ i. same i t))
+
+-- student-optimal matchings of papers in two orders give every student the same
+pub optimal-moved : (m n : Market) (a b : Matching) → WellFormed m → IsReordering m n → IsStudentOptimal m a → IsStudentOptimal n b → report_text m a ≡ report_text n b
+optimal-moved m n a b well moved optimal other =
+    report-moved m n well moved a b (optimal-unique n a b ((optimal-reordered m n a well moved).0 optimal) other)

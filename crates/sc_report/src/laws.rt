@@ -1,8 +1,9 @@
-//! The laws of the texts. Each function does nothing: its contract is the law.
+//! The laws of the texts: the order of entry decides nothing about them, and what the cutoffs and the
+//! reasons say of a stable matching is so. Each function does nothing: its contract is the law.
 ghost use Rattle.std.specs.Prelude.{◌≡◌, ◌↔◌, ℕ, true, false, Some};
 ghost use Rattle.sc_papers.specs.Key.{key_of};
 ghost use Rattle.sc_papers.specs.Market.{Market};
-ghost use Rattle.sc_papers.specs.Matching.{Matching, IsStable, Prefers};
+ghost use Rattle.sc_papers.specs.Matching.{Matching, IsStable, IsStudentOptimal, Prefers};
 ghost use Rattle.sc_papers.specs.Reordering.{IsReordering};
 ghost use Rattle.sc_papers.specs.WellFormed.{WellFormed};
 ghost use Rattle.sc_report.specs.Admission.{first_admitting, is_admitted};
@@ -15,12 +16,13 @@ ghost use Rattle.sc_report.specs.declared.reason.Reason.{Reason};
 
 /// The order of entry decides nothing about what people read: papers with the same schools and
 /// students, up to their order, have the same texts, part by part and whole, for matchings that give
-/// every student the same.
+/// every student the same, as student-optimal ones do.
 pub fn order_of_entry_decides_no_text()
     ensures assignment { (m n : Market) (a b : Matching) → WellFormed m → IsReordering m n → ((i : ℕ) → a i ≡ b i) → assignment_text m a ≡ assignment_text n b }
     ensures cutoffs { (m n : Market) (a b : Matching) → WellFormed m → IsReordering m n → ((i : ℕ) → a i ≡ b i) → cutoff_text m a ≡ cutoff_text n b }
     ensures reasons { (m n : Market) (a b : Matching) → WellFormed m → IsReordering m n → ((i : ℕ) → a i ≡ b i) → reason_text m a ≡ reason_text n b }
     ensures report { (m n : Market) (a b : Matching) → WellFormed m → IsReordering m n → ((i : ℕ) → a i ≡ b i) → report_text m a ≡ report_text n b }
+    ensures optimal { (m n : Market) (a b : Matching) → WellFormed m → IsReordering m n → IsStudentOptimal m a → IsStudentOptimal n b → report_text m a ≡ report_text n b }
 {}
 
 /// In a stable matching the reason of each choice that a student prefers to what it has is true of
