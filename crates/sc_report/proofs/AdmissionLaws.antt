@@ -2,16 +2,17 @@
 -- seats where that is so is stable.
 use Rattle.std.proofs.Common.{◌≡◌, ◌↔◌, inl, inr, refl, sym, ◌∙◌, ap, subst, ℕ, ◌<◌, ◌==◌, true, false, not, List, length, Option, None, Some, Contains, slice_get, arith}
 use Rattle.std.specs.Prelude.{nat_lt}
-use Rattle.std.proofs.lemmas.Bool.{cases_Bool, cond-true, cond-false}
+use Rattle.std.proofs.lemmas.Bool.{cases_Bool, cond-true, cond-false, false≢true}
 use Rattle.std.proofs.lemmas.Bool.Decides.{nat_tests}
-use Rattle.sc_papers.specs.Key.{is_before, key_of}
+use Rattle.sc_papers.specs.Key.{is_before, is_ahead, key_of}
 use Rattle.sc_papers.specs.Market.{Market, choices_of, seats_of, students_of}
-use Rattle.sc_papers.specs.Matching.{Matching, IsStable, Prefers, has, held}
+use Rattle.sc_papers.specs.Matching.{Matching, IsMatching, IsStable, Prefers, WithinSeats, has, held}
 use Rattle.sc_papers.specs.WellFormed.{WellFormed}
 use Rattle.sc_papers.specs.declared.key.Key.{Key}
-use Rattle.sc_papers.proofs.Choices.{contains-at, found-is, found-none, place-of}
+use Rattle.sc_papers.proofs.Choices.{contains-at, fails-before, found-among, found-is, found-none, none-found, place-of}
+use Rattle.sc_papers.proofs.Priority.{before-trans}
 use Rattle.sc_papers.proofs.Rejections.{has-some}
-use Rattle.sc_papers.proofs.Students.{lister-among}
+use Rattle.sc_papers.proofs.Students.{choices-differ, lister-among}
 use Rattle.sc_report.specs.Admission.{admits, first_admitting, is_admitted}
 use Rattle.sc_report.specs.Cutoff.{cutoff, cutoff_by, keys_among, last_key}
 use Rattle.sc_report.specs.Reason.{reason, reason_by, Applies}
@@ -22,7 +23,7 @@ use Rattle.sc_report.specs.declared.reason.Reason.TheVariants.{Seats, Class, Lot
 use Rattle.sc_report.proofs.LastKeys.{key-among, last-after, last-among}
 use Rattle.sc_report.proofs.ReasonLaws.{keys-count, reason-applies}
 
--- a key that is not after the last is let in where there are seats, and each is where one is free
+-- a key that is not after the last is let in where there are seats, and each key where one is free
 admits-by : (seats count : ℕ) (last key : Key) → 0 < seats → is_before last key ≡ false → admits (cutoff_by seats count (Some last)) key ≡ true
 admits-by seats count last key some not_after =
     ap (λ c. admits c key) (cond-false (seats == 0) Closed _ (grind (arith, nat_tests)))
@@ -54,23 +55,29 @@ one-reason cut key Class (last, is, less) =
 one-reason cut key Lottery (last, is, same, after) =
     sym (ap (λ c. reason_by c key) is ∙ cond-false (nat_lt last.class key.class) Class Lottery (grind (arith, nat_tests)))
 
-module _ (m : Market) (a : Matching) where
-  abbrev keys : ℕ → List Key
-  keys s = keys_among m a (students_of m) s
+-- a key that is ahead of one that is not after the last is not after it either
+not_after : (last key other : Key) → is_before key other ≡ true → is_before last other ≡ false → is_before last key ≡ false
+not_after last key other ahead behind = elim (cases_Bool (is_before last key)) [
+  | inl after ↦ absurd (false≢true (sym behind ∙ before-trans last key other after ahead))
+  | inr before ↦ before
+]
 
-  key-held : (i s : ℕ) → Contains (choices_of m i) s → a i ≡ Some s → Contains (keys s) (key_of m i s)
-  key-held i s listed given = key-among (has a s) (λ j. key_of m j s) (students_of m) i (lister-among m i s listed) (has-some a s i given)
+module _ (m : Market) (a : Matching) (listed : IsMatching m a) (within : WithinSeats m a) where
+  -- a school that j has lets in each key that is not after the last one where that of j is not
+  admits-like : (j s : ℕ) → a j ≡ Some s → (key : Key) → ((last : Key) → is_before last (key_of m j s) ≡ false → is_before last key ≡ false) → admits (cutoff m a s) key ≡ true
+  unfolding cutoff
+  admits-like j s given key like =
+      let keys : List Key = keys_among m a (students_of m) s in
+      let among : Contains keys (key_of m j s) = key-among (has a s) (λ i. key_of m i s) (students_of m) j (lister-among m j s (listed j s given)) (has-some a s j given) in
+      let some : 0 < length keys = omega (arith, among.1) in
+      let found : (last : Key) × (last_key keys ≡ Some last) × Contains keys last = last-among keys some in
+      let seats : 0 < seats_of m s = omega (arith, some, keys-count m a s, within s) in
+      ap (λ o. admits (cutoff_by (seats_of m s) (held m a s) o) key) found.1
+      ∙ admits-by (seats_of m s) (held m a s) found.0 key seats (like found.0 (last-after keys found.0 found.1 (key_of m j s) among))
 
 module _ (m : Market) (a : Matching) (well : WellFormed m) (stable : IsStable m a) where
   pub held-admits : (i s : ℕ) → a i ≡ Some s → is_admitted m a i s ≡ true
-  unfolding cutoff
-  held-admits i s given =
-      let among : Contains (keys m a s) (key_of m i s) = key-held m a i s (stable.matching i s given) given in
-      let some : 0 < length (keys m a s) = omega (arith, among.1) in
-      let found : (last : Key) × (last_key (keys m a s) ≡ Some last) × Contains (keys m a s) last = last-among (keys m a s) some in
-      let seats : 0 < seats_of m s = omega (arith, some, keys-count m a well stable s, stable.within_seats s) in
-      ap (λ o. admits (cutoff_by (seats_of m s) (held m a s) o) (key_of m i s)) found.1
-      ∙ admits-by (seats_of m s) (held m a s) found.0 (key_of m i s) seats (last-after (keys m a s) found.0 found.1 (key_of m i s) among)
+  held-admits i s given = admits-like m a stable.matching stable.within_seats i s given (key_of m i s) (λ last behind. behind)
 
   pub preferred-refuses : (i s : ℕ) → Prefers m i s (a i) → is_admitted m a i s ≡ false
   preferred-refuses i s prefers = refused (cutoff m a s) (key_of m i s) (reason m a i s) (reason-applies m a well stable i s prefers)
@@ -92,3 +99,40 @@ module _ (m : Market) (a : Matching) (well : WellFormed m) (stable : IsStable m 
           let place : (k : ℕ) × (slice_get (choices_of m i) k ≡ Some s) = place-of (choices_of m i) s (stable.matching i s is) in
           is ∙ sym (found-is (is_admitted m a i) (choices_of m i) place.0 s place.1 (held-admits i s is)
           (λ j t below at. preferred-refuses i t (subst (Prefers m i t) (sym is) (j, place.0, below, at, place.1))))
+
+-- and the other way round
+module _ (m : Market) (a : Matching) (well : WellFormed m) (within : WithinSeats m a) (first : (i : ℕ) → a i ≡ first_admitting m a i) where
+  listed : IsMatching m a
+  listed i s given = found-among (is_admitted m a i) (choices_of m i) s (sym (first i) ∙ given)
+
+  refuses : (i s : ℕ) → Prefers m i s (a i) → is_admitted m a i s ≡ false
+  refuses i s prefers = go (a i) refl prefers
+    where
+      go : (given : Option ℕ) → a i ≡ given → Prefers m i s given → is_admitted m a i s ≡ false
+      go None is among =
+          let place : (k : ℕ) × (slice_get (choices_of m i) k ≡ Some s) = place-of (choices_of m i) s among in
+          none-found (is_admitted m a i) (choices_of m i) (sym (first i) ∙ is) place.0 s place.1
+      go (Some t) is before = fails-before (is_admitted m a i) (choices_of m i) s t (choices-differ m well i) (sym (first i) ∙ is) before
+
+  -- a school with a free seat admits everyone, and one that admits j admits whoever is ahead of j
+  free-admits : (i s : ℕ) → held m a s < seats_of m s → is_admitted m a i s ≡ true
+  unfolding cutoff
+  free-admits i s free = admits-free (seats_of m s) (held m a s) (last_key (keys_among m a (students_of m) s)) (key_of m i s) free
+
+  ahead-admits : (i j s : ℕ) → a j ≡ Some s → is_ahead m s i j ≡ true → is_admitted m a i s ≡ true
+  unfolding is_ahead
+  ahead-admits i j s given ahead =
+      admits-like m a listed within j s given (key_of m i s) (λ last behind. not_after last (key_of m i s) (key_of m j s) ahead behind)
+
+  pub first-stable : IsStable m a
+  first-stable = record {
+    matching = listed;
+    within_seats = within;
+    unblocked = λ i s blocks. false≢true (sym (refuses i s blocks.preferred) ∙ elim blocks.better [
+      | inl free ↦ free-admits i s free
+      | inr (j, given, ahead) ↦ ahead-admits i j s given ahead
+    ]);
+  }
+
+pub stable-iff : (m : Market) (a : Matching) → WellFormed m → (IsStable m a ↔ (WithinSeats m a × ((i : ℕ) → a i ≡ first_admitting m a i)))
+stable-iff m a well = (λ stable. (stable.within_seats, first-admits m a well stable), λ both. first-stable m a well both.0 both.1)

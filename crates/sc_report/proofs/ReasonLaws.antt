@@ -72,6 +72,11 @@ applies-by (Full last) key taken behind = elim (cases_Bool (nat_lt last.class ke
 behind : (a b : Key) → is_before a b ≡ false → (a.student ≡ b.student → ⊥) → is_before b a ≡ true
 behind a b not_ahead apart = grind (arith, nat_tests)
 
+-- as many keys are taken as students have the school
+pub keys-count : (m : Market) (a : Matching) (s : ℕ) → length (keys_among m a (students_of m) s) ≡ held m a s
+unfolding how_many
+keys-count m a s = length-map (filter (has a s) (students_of m)) (λ i. key_of m i s) ∙ length-filter (has a s) (students_of m)
+
 module _ (m : Market) (a : Matching) (well : WellFormed m) (stable : IsStable m a) where
   -- nobody prefers what it has
   other-than_held : (i s : ℕ) → Prefers m i s (a i) → a i ≡ Some s → ⊥
@@ -82,10 +87,6 @@ module _ (m : Market) (a : Matching) (well : WellFormed m) (stable : IsStable m 
           false≢true (sym (apart_from_distinct nat_eq (choices_of m i) j k s (choices-differ m well i) below (slice_get_within (choices_of m i) k s at_k))
           ∙ eq-eqb (get_or (choices_of m i) j s) (get_or (choices_of m i) k s)
           (get_or_from_slice_get (choices_of m i) j s s at_j ∙ sym (get_or_from_slice_get (choices_of m i) k s s at_k)))
-
-  pub keys-count : (s : ℕ) → length (keys_among m a (students_of m) s) ≡ held m a s
-  unfolding how_many
-  keys-count s = length-map (filter (has a s) (students_of m)) (λ i. key_of m i s) ∙ length-filter (has a s) (students_of m)
 
   blocked : (i s j : ℕ) → Prefers m i s (a i) → a j ≡ Some s → is_before (key_of m i s) (key_of m j s) ≡ true → ⊥
   unfolding is_ahead
@@ -111,7 +112,7 @@ module _ (m : Market) (a : Matching) (well : WellFormed m) (stable : IsStable m 
         | inl none ↦ false≢true (ap is_free (sym (cond-true (seats_of m s == 0) Closed Free none) ∙ free))
         | inr some ↦ elim (cases_Bool (nat_lt (held m a s) (seats_of m s))) [
           | inl fewer ↦ enough (grind (arith, nat_tests))
-          | inr full ↦ last-found keys (grind (arith, nat_tests, keys-count s)) is
+          | inr full ↦ last-found keys (grind (arith, nat_tests, keys-count m a s)) is
         ]
       ]
 

@@ -3,7 +3,7 @@
 ghost use Rattle.std.specs.Prelude.{◌≡◌, ◌↔◌, ℕ, true, false, Some};
 ghost use Rattle.sc_papers.specs.Key.{key_of};
 ghost use Rattle.sc_papers.specs.Market.{Market};
-ghost use Rattle.sc_papers.specs.Matching.{Matching, IsStable, IsStudentOptimal, Prefers};
+ghost use Rattle.sc_papers.specs.Matching.{Matching, IsStable, IsStudentOptimal, Prefers, WithinSeats};
 ghost use Rattle.sc_papers.specs.Reordering.{IsReordering};
 ghost use Rattle.sc_papers.specs.WellFormed.{WellFormed};
 ghost use Rattle.sc_report.specs.Admission.{first_admitting, is_admitted};
@@ -39,4 +39,10 @@ pub fn first_choice_that_admits()
     ensures has { (m : Market) (a : Matching) → WellFormed m → IsStable m a → (i s : ℕ) → a i ≡ Some s → is_admitted m a i s ≡ true }
     ensures preferred { (m : Market) (a : Matching) → WellFormed m → IsStable m a → (i s : ℕ) → Prefers m i s (a i) → is_admitted m a i s ≡ false }
     ensures one_reason { (m : Market) (a : Matching) → WellFormed m → IsStable m a → (i s : ℕ) → Prefers m i s (a i) → (r : Reason) → (Applies (cutoff m a s) (key_of m i s) r ↔ (r ≡ reason m a i s)) }
+{}
+
+/// Cutoffs certify stability: a matching within seats is stable exactly where each student has the first
+/// of its choices that admits it by the cutoffs of that matching.
+pub fn cutoffs_certify_stability()
+    ensures { (m : Market) (a : Matching) → WellFormed m → (IsStable m a ↔ (WithinSeats m a × ((i : ℕ) → a i ≡ first_admitting m a i))) }
 {}
