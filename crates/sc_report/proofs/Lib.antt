@@ -1,8 +1,10 @@
 pub mod KnownLemmas
 pub mod RisingLemmas
+pub mod LastKeys
 pub mod Orders
 pub mod TallyLemmas
 pub mod Places
 pub mod ReasonLemmas
 pub mod LineLemmas
 pub mod ReasonLaws
+pub mod AdmissionLaws

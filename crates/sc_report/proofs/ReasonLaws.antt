@@ -1,5 +1,5 @@
 -- In a stable matching one reason applies to each choice that a student prefers to what it has.
-use Rattle.std.proofs.Common.{◌≡◌, inl, inr, refl, sym, ◌∙◌, ap, subst, ℕ, ◌<◌, ◌==◌, nat_eq, Bool, true, false, List, [], ◌∷◌, length, get_or, map, filter, fold, Option, None, Some, Contains, arith}
+use Rattle.std.proofs.Common.{◌≡◌, inl, inr, refl, sym, ◌∙◌, ap, subst, ℕ, ◌<◌, ◌==◌, nat_eq, Bool, true, false, List, length, get_or, filter, Option, None, Some, arith}
 use Rattle.std.specs.Prelude.{nat_lt}
 use Rattle.std.proofs.lemmas.Bool.{cases_Bool, cond-true, cond-false, eq-eqb, false≢true}
 use Rattle.std.proofs.lemmas.Bool.Decides.{nat_tests}
@@ -12,58 +12,14 @@ use Rattle.sc_papers.specs.Market.{Market, choices_of, seats_of, students_of}
 use Rattle.sc_papers.specs.Matching.{Matching, how_many, has, held, IsStable, Prefers}
 use Rattle.sc_papers.specs.WellFormed.{WellFormed}
 use Rattle.sc_papers.specs.declared.key.Key.{Key}
-use Rattle.sc_papers.proofs.Counting.{contains-cons, contains-head, contains-tail}
 use Rattle.sc_papers.proofs.Rejections.{has-true}
 use Rattle.sc_papers.proofs.Students.{choices-differ}
-use Rattle.sc_report.specs.Cutoff.{cutoff, cutoff_by, keys_among, last_key, or_later}
+use Rattle.sc_report.specs.Cutoff.{cutoff, cutoff_by, keys_among, last_key}
 use Rattle.sc_report.specs.Reason.{reason, reason_by, Applies}
 use Rattle.sc_report.specs.declared.cutoff.Cutoff.{Cutoff}
 use Rattle.sc_report.specs.declared.cutoff.Cutoff.TheVariants.{Closed, Free, Full}
 use Rattle.sc_report.specs.declared.reason.Reason.TheVariants.{Class, Lottery}
-use Rattle.sc_report.proofs.Places.{some-one}
-
--- of a key and some more the last is one of them
-last-from : (first : Key) (keys : List Key) → (last : Key) × (fold or_later (Some first) keys ≡ Some last) × Contains (first ∷ keys) last
-last-from first [] = (first, refl, contains-head first [])
-last-from first (key ∷ keys) = elim (cases_Bool (is_before key first)) [
-  | inl ahead ↦
-      let (last, is, among) = last-from first keys in (
-        last,
-        ap (λ k. fold or_later (Some k) keys) (cond-true (is_before key first) first key ahead) ∙ is,
-        elim (contains-cons first keys last among) [
-          | inl same ↦ subst (Contains (first ∷ key ∷ keys)) same (contains-head first (key ∷ keys))
-          | inr later ↦ contains-tail first (key ∷ keys) last (contains-tail key keys last later)
-        ],
-      )
-  | inr behind ↦
-      let (last, is, among) = last-from key keys in
-      (last, ap (λ k. fold or_later (Some k) keys) (cond-false (is_before key first) first key behind) ∙ is, contains-tail first (key ∷ keys) last among)
-]
-
--- a last key is one of the keys, and there is one where there are keys
-last-among : (keys : List Key) → 0 < length keys → (last : Key) × (last_key keys ≡ Some last) × Contains keys last
-unfolding last_key
-last-among [] some = absurd (omega (arith, some))
-last-among (key ∷ keys) some = last-from key keys
-
--- and a last key is one of the keys
-last-contained : (keys : List Key) (last : Key) → last_key keys ≡ Some last → Contains keys last
-unfolding last_key
-last-contained [] last is = absurd (none-some last is)
-last-contained (key ∷ keys) last is =
-    let (found, found_is, among) = last-from key keys in
-    subst (Contains (key ∷ keys)) (some-one found last (sym found_is ∙ is)) among
-
--- each key is the key of somebody who passes
-keyed : (p : ℕ → Bool) (f : ℕ → Key) (xs : List ℕ) (key : Key) → Contains (map f (filter p xs)) key → (j : ℕ) × (p j ≡ true) × (f j ≡ key)
-keyed p f [] key (k, low, at) = absurd (omega (arith, low))
-keyed p f (x ∷ xs) key among = elim (cases_Bool (p x)) [
-  | inl passes ↦ elim (contains-cons (f x) (map f (filter p xs)) key (subst (λ ys. Contains (map f ys) key) (cond-true (p x) (x ∷ filter p xs) (filter p xs) passes) among)) [
-    | inl same ↦ (x, passes, same)
-    | inr later ↦ keyed p f xs key later
-  ]
-  | inr fails ↦ keyed p f xs key (subst (λ ys. Contains (map f ys) key) (cond-false (p x) (x ∷ filter p xs) (filter p xs) fails) among)
-]
+use Rattle.sc_report.proofs.LastKeys.{keyed, last-contained, last-found}
 
 abbrev is_free : Cutoff → Bool
 is_free Closed = false
@@ -116,6 +72,11 @@ applies-by (Full last) key taken behind = elim (cases_Bool (nat_lt last.class ke
 behind : (a b : Key) → is_before a b ≡ false → (a.student ≡ b.student → ⊥) → is_before b a ≡ true
 behind a b not_ahead apart = grind (arith, nat_tests)
 
+-- as many keys are taken as students have the school
+pub keys-count : (m : Market) (a : Matching) (s : ℕ) → length (keys_among m a (students_of m) s) ≡ held m a s
+unfolding how_many
+keys-count m a s = length-map (filter (has a s) (students_of m)) (λ i. key_of m i s) ∙ length-filter (has a s) (students_of m)
+
 module _ (m : Market) (a : Matching) (well : WellFormed m) (stable : IsStable m a) where
   -- nobody prefers what it has
   other-than_held : (i s : ℕ) → Prefers m i s (a i) → a i ≡ Some s → ⊥
@@ -126,10 +87,6 @@ module _ (m : Market) (a : Matching) (well : WellFormed m) (stable : IsStable m 
           false≢true (sym (apart_from_distinct nat_eq (choices_of m i) j k s (choices-differ m well i) below (slice_get_within (choices_of m i) k s at_k))
           ∙ eq-eqb (get_or (choices_of m i) j s) (get_or (choices_of m i) k s)
           (get_or_from_slice_get (choices_of m i) j s s at_j ∙ sym (get_or_from_slice_get (choices_of m i) k s s at_k)))
-
-  keys-count : (s : ℕ) → length (keys_among m a (students_of m) s) ≡ held m a s
-  unfolding how_many
-  keys-count s = length-map (filter (has a s) (students_of m)) (λ i. key_of m i s) ∙ length-filter (has a s) (students_of m)
 
   blocked : (i s j : ℕ) → Prefers m i s (a i) → a j ≡ Some s → is_before (key_of m i s) (key_of m j s) ≡ true → ⊥
   unfolding is_ahead
@@ -155,17 +112,14 @@ module _ (m : Market) (a : Matching) (well : WellFormed m) (stable : IsStable m 
         | inl none ↦ false≢true (ap is_free (sym (cond-true (seats_of m s == 0) Closed Free none) ∙ free))
         | inr some ↦ elim (cases_Bool (nat_lt (held m a s) (seats_of m s))) [
           | inl fewer ↦ enough (grind (arith, nat_tests))
-          | inr full ↦
-              let there : 0 < length keys = grind (arith, nat_tests, keys-count s) in
-              let (last, found, among) = last-among keys there in
-              none-some last (sym is ∙ found)
+          | inr full ↦ last-found keys (grind (arith, nat_tests, keys-count m a s)) is
         ]
       ]
 
       after : (last : Key) → last_key keys ≡ Some last → is_before last (key_of m i s) ≡ true
       after last is =
           let among = last-contained keys last is in
-          let (j, holds, key) = keyed (has a s) (λ j. key_of m j s) (students_of m) last among in
+          let (j, here, holds, key) = keyed (has a s) (λ j. key_of m j s) (students_of m) last among in
           let not_ahead : is_before (key_of m i s) last ≡ false = elim (cases_Bool (is_before (key_of m i s) last)) [
             | inr not_before ↦ not_before
             | inl ahead ↦ absurd (blocked i s j prefers (has-true a s j holds) (ap (is_before (key_of m i s)) key ∙ ahead))

@@ -5,6 +5,7 @@ pub mod Rising
 pub mod Cutoff
 pub mod Tally
 pub mod Reason
+pub mod Admission
 pub mod CutoffText
 pub mod ReasonText
 pub mod Text
