@@ -12,7 +12,7 @@ ghost use Rattle.sc_engine.specs.Standing.{Fits, next_of, SettlesFirst};
 
 use crate::round::Round;
 use sc_papers::{Assignment, Papers, Rejection};
-use sc_seats::{Roll, SortedRoll};
+use sc_seats::{HeapRoll, Roll};
 use std::alloc::{AllocError, Global};
 
 /// What the proposals came to.
@@ -30,14 +30,14 @@ pub struct Settled {
 /// which the assignment is, is the student-optimal stable matching (Gale and Shapley 1962).
 ///
 /// The only error is want of memory. The cost is a look-up in each of a few tables and an offer for
-/// each proposal, and memory is taken in proportion to the students, the schools and the rejections.
+/// each proposal, which takes the logarithm of a school's seats, and memory is taken in proportion to the students, the schools and the rejections.
 pub fn settle(alloc: Global, papers: &Papers) -> Result<Settled, AllocError>
     ensures settled { IfOk result (λ settled. IsSettled papers.now settled.log.items) }
     ensures matching { IfOk result (λ settled. (i : ℕ) → assigned settled.assignment i ≡ next_choice papers.now settled.log.items i) }
     ensures optimal { IfOk result (λ settled. IsStudentOptimal papers.now (assigned settled.assignment)) }
     ensures proposals { IfOk result (λ settled. settled.proposals ≡ length settled.log.items + placed papers.now (assigned settled.assignment)) }
 {
-    settle_over::<SortedRoll>(alloc, papers)
+    settle_over::<HeapRoll>(alloc, papers)
 }
 
 /// As `settle`, over a kind of roll.

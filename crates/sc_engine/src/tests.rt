@@ -4,9 +4,9 @@ ghost use Rattle.sc_engine.specs.Round.{standings_of, is_spent};
 ghost use Rattle.sc_engine.specs.Standing.{Fits, has_entered};
 
 use crate::round::Round;
-use crate::settled::{Settled, settle};
+use crate::settled::{Settled, settle, settle_over};
 use sc_papers::{Amendment, Papers, SchoolList, SchoolNo, Seats, Seed, StudentNo, Zone};
-use sc_seats::{Roll, SortedRoll};
+use sc_seats::{HeapRoll, Roll, SortedRoll};
 use std::alloc::{AllocError, Global};
 use std::process::Abort;
 use std::test::Fail;
@@ -154,18 +154,27 @@ fn five_students(rt: &impl Abort, alloc: Global) -> Result<Papers, Fail> {
 #[test]
 fn entry_in_order(rt: HostRuntime) -> Result<(), Fail> {
     let papers = five_students(&rt, rt.alloc())?;
-    let settled = settle(rt.alloc(), &papers)?;
     let log = [(2, 10), (3, 20), (2, 20)];
-    expect_settled(&rt, &settled, &log, &[(1, 10), (4, 20), (5, 20)], 6);
+    for settled in [
+        settle(rt.alloc(), &papers)?,
+        settle_over::<SortedRoll>(rt.alloc(), &papers)?,
+        settle_over::<HeapRoll>(rt.alloc(), &papers)?,
+    ] {
+        expect_settled(&rt, &settled, &log, &[(1, 10), (4, 20), (5, 20)], 6);
+    }
     Ok(())
 }
 
 #[test]
 fn entry_in_reverse(rt: HostRuntime) -> Result<(), Fail> {
     let papers = five_students(&rt, rt.alloc())?;
-    let settled = settle_backwards::<SortedRoll>(rt.alloc(), &papers)?;
     let log = [(3, 20), (2, 10), (2, 20)];
-    expect_settled(&rt, &settled, &log, &[(1, 10), (4, 20), (5, 20)], 6);
+    for settled in [
+        settle_backwards::<SortedRoll>(rt.alloc(), &papers)?,
+        settle_backwards::<HeapRoll>(rt.alloc(), &papers)?,
+    ] {
+        expect_settled(&rt, &settled, &log, &[(1, 10), (4, 20), (5, 20)], 6);
+    }
     Ok(())
 }
 

@@ -164,22 +164,128 @@ fn scripts(rt: HostRuntime) -> Result<(), Fail> {
     Ok(())
 }
 
+/// The rows of schools, roster and lists of a worked opening.
+type Rows = (&'static str, &'static str, &'static str);
+
+const MARKET_A: Rows = ("10,0,1\n20,0,1\n", "1,0,20\n2,0,10\n", "1,10 20\n2,20 10\n");
+
+const MARKET_B: Rows = ("10,1,1\n20,0,1\n", "1,0,20\n2,0,10\n", "1,10 20\n2,20 10\n");
+
+const TWO_STUDENTS: Rows = ("1,0,1\n", "1,0,\n2,0,\n", "1,1\n2,1\n");
+
+const ZONE_FIRST: Rows = ("1,1,1\n", "1,1,\n2,0,\n", "1,1\n2,1\n");
+
+const FREE_SEATS: Rows = ("10,0,2\n", "1,0,\n", "1,10\n");
+
+const FIVE_STUDENTS: Rows = (
+    "10,1,1\n20,0,2\n",
+    "1,1,\n2,0,\n3,0,\n4,0,\n5,0,\n",
+    "1,10 20\n2,10 20\n3,20\n4,20 10\n5,20\n",
+);
+
 #[test]
 fn whole_reports(rt: HostRuntime) -> Result<(), Fail> {
     let alloc = rt.alloc();
-    for (row, script, want) in [
+    for (row, (schools, roster, lists), script, want) in [
+        (
+            "one seat, two students",
+            TWO_STUDENTS,
+            "",
+            "student,school\n1,-\n2,1\nschool,seats,held,class,draw,student\n1,1,1,3,b819d2bd1aed8da0,2\nstudent,school,reason\n1,1,lottery\n",
+        ),
+        (
+            "zone before draw",
+            ZONE_FIRST,
+            "",
+            "student,school\n1,1\n2,-\nschool,seats,held,class,draw,student\n1,1,1,2,e56a5d4028bd8653,1\nstudent,school,reason\n2,1,class\n",
+        ),
+        (
+            "Market A, and a seat closed",
+            MARKET_A,
+            "close,10,1\n",
+            "1,ok\nstudent,school\n1,20\n2,-\nschool,seats,held,class,draw,student\n10,0,0,closed,-,-\n20,1,1,1,e56a5d4028bd8653,1\nstudent,school,reason\n1,10,seats\n2,20,class\n2,10,seats\n",
+        ),
         (
             "Market B, and a newcomer",
+            MARKET_B,
             "enter,3,1,10,10\n",
             "1,ok\nstudent,school\n1,20\n2,-\n3,10\nschool,seats,held,class,draw,student\n10,1,1,0,ccef36a8c70d778b,3\n20,1,1,1,e56a5d4028bd8653,1\nstudent,school,reason\n1,10,class\n2,20,class\n2,10,class\n",
         ),
         (
+            "the newcomer withdraws",
+            MARKET_B,
+            "enter,3,1,10,10\nwithdraw,3\n",
+            "1,ok\n2,ok\nstudent,school\n1,10\n2,20\nschool,seats,held,class,draw,student\n10,1,1,3,e56a5d4028bd8653,1\n20,1,1,3,b819d2bd1aed8da0,2\nstudent,school,reason\n",
+        ),
+        (
+            "a seat added",
+            MARKET_B,
+            "enter,3,1,10,10\nadd,10,1\n",
+            "1,ok\n2,ok\nstudent,school\n1,10\n2,20\n3,10\nschool,seats,held,class,draw,student\n10,2,2,3,e56a5d4028bd8653,1\n20,1,1,3,b819d2bd1aed8da0,2\nstudent,school,reason\n",
+        ),
+        (
+            "rerank to the same",
+            MARKET_B,
+            "enter,3,1,10,10\nrerank,1,10 20\nrerank,1,10 10\n",
+            "1,ok\n2,ok\n3,refused,7,SchoolTwice,10\nstudent,school\n1,20\n2,-\n3,10\nschool,seats,held,class,draw,student\n10,1,1,0,ccef36a8c70d778b,3\n20,1,1,1,e56a5d4028bd8653,1\nstudent,school,reason\n1,10,class\n2,20,class\n2,10,class\n",
+        ),
+        (
+            "free seats",
+            FREE_SEATS,
+            "",
+            "student,school\n1,10\nschool,seats,held,class,draw,student\n10,2,1,free,-,-\nstudent,school,reason\n",
+        ),
+        (
+            "free seats and seat limits: closed",
+            FREE_SEATS,
+            "close,10,2\nclose,10,1\n",
+            "1,ok\n2,refused,10,TooFewSeats\nstudent,school\n1,-\nschool,seats,held,class,draw,student\n10,0,0,closed,-,-\nstudent,school,reason\n1,10,seats\n",
+        ),
+        (
+            "free seats and seat limits: added",
+            FREE_SEATS,
+            "close,10,2\nadd,10,10000\nadd,10,1\n",
+            "1,ok\n2,ok\n3,refused,9,TooManySeats\nstudent,school\n1,10\nschool,seats,held,class,draw,student\n10,10000,1,free,-,-\nstudent,school,reason\n",
+        ),
+        (
+            "a correction rewinds to the start",
+            FIVE_STUDENTS,
+            "correct,1,0,\n",
+            "1,ok\nstudent,school\n1,-\n2,10\n3,-\n4,20\n5,20\nschool,seats,held,class,draw,student\n10,1,1,3,b819d2bd1aed8da0,2\n20,2,2,3,7c5941da8d485751,4\nstudent,school,reason\n1,10,lottery\n1,20,lottery\n3,20,lottery\n",
+        ),
+        (
+            "withdraw and return: the one who holds",
+            TWO_STUDENTS,
+            "withdraw,2\nenter,2,0,,1\n",
+            "1,ok\n2,ok\nstudent,school\n1,-\n2,1\nschool,seats,held,class,draw,student\n1,1,1,3,b819d2bd1aed8da0,2\nstudent,school,reason\n1,1,lottery\n",
+        ),
+        (
+            "withdraw and return: the other one",
+            TWO_STUDENTS,
+            "withdraw,1\nenter,1,0,,1\n",
+            "1,ok\n2,ok\nstudent,school\n1,-\n2,1\nschool,seats,held,class,draw,student\n1,1,1,3,b819d2bd1aed8da0,2\nstudent,school,reason\n1,1,lottery\n",
+        ),
+        (
+            "either order: a newcomer first",
+            MARKET_B,
+            "enter,3,1,10,10\nadd,20,1\n",
+            "1,ok\n2,ok\nstudent,school\n1,20\n2,20\n3,10\nschool,seats,held,class,draw,student\n10,1,1,0,ccef36a8c70d778b,3\n20,2,2,3,b819d2bd1aed8da0,2\nstudent,school,reason\n1,10,class\n",
+        ),
+        (
+            "either order: a seat first",
+            MARKET_B,
+            "add,20,1\nenter,3,1,10,10\n",
+            "1,ok\n2,ok\nstudent,school\n1,20\n2,20\n3,10\nschool,seats,held,class,draw,student\n10,1,1,0,ccef36a8c70d778b,3\n20,2,2,3,b819d2bd1aed8da0,2\nstudent,school,reason\n1,10,class\n",
+        ),
+        (
             "the whole run",
+            MARKET_B,
             "enter,3,1,10,10\nnonsense\nwithdraw,99\nadd,77,1\nwithdraw,3\n",
             "1,ok\n2,refused,1,Shape\n3,refused,2,UnknownStudent\n4,refused,6,UnknownSchool,77\n5,ok\nstudent,school\n1,10\n2,20\nschool,seats,held,class,draw,student\n10,1,1,3,e56a5d4028bd8653,1\n20,1,1,3,b819d2bd1aed8da0,2\nstudent,school,reason\n",
         ),
     ] {
-        let text = scripted(alloc, script)?;
+        let opening = bundle(alloc, schools, roster, lists)?;
+        let text = format!(in alloc; "{opening}%script\n{script}")?;
         let whole = written(alloc, text.as_str())?;
         assert!(rt; whole.as_str() == want, "{row}: {whole}");
     }

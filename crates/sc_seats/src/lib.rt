@@ -1,7 +1,7 @@
 //! Rolls of held seats: who holds the seats of one school.
 //!
-//! Code above knows the trait `Roll` alone. `SortedRoll` is the plain program, and good for small
-//! schools; `HeapRoll` is for large ones.
+//! Code above knows the trait `Roll` alone. `SortedRoll` is the plain program; `HeapRoll` is the quicker
+//! one, and settling uses it.
 #![tactic(auto)]
 
 mod heap;
