@@ -1,4 +1,5 @@
 use crate::perform::perform;
+use sc_report::devices::{Ending, FailingWriter};
 use sc_words::Word;
 use std::alloc::{AllocError, Global};
 use std::fs;
@@ -149,23 +150,60 @@ fn a_run_and_its_replay(rt: HostRuntime) -> Result<(), Fail> {
     Ok(())
 }
 
+/// The status of a run of the script whose output takes so many bytes and then fails.
+fn stopped(rt: &HostRuntime, room: usize) -> Result<u8, AllocError> {
+    let alloc = rt.alloc();
+    let words = words(
+        alloc,
+        &[
+            "run",
+            "--seed",
+            ZEROS,
+            "--schools",
+            "schools",
+            "--roster",
+            "roster",
+            "--lists",
+            "lists",
+            "--script",
+            "script",
+            "--journal",
+            "journal",
+        ],
+    )?;
+    let output = FailingWriter::new(Vec::with_capacity(alloc, room)?, room, 99, Ending::Fails);
+    let mut errors = Vec::new(alloc);
+    Ok(perform(rt, words.as_slice(), b"".as_slice(), output, &mut errors))
+}
+
 #[test]
 fn a_stopped_run_goes_on(rt: HostRuntime) -> Result<(), Fail> {
+    let run = ["--script", "script", "--journal", "journal"];
     write_files(&rt)?;
-    // The run stopped after its first record. Its journal has the line, whose record is the part after the
-    // number.
-    fs::write(&rt, "journal", "1,enter,3,1,10,10\n")?;
-    let stood = ordered(&rt, "replay", &["--journal", "journal"])?;
-    let want = format!(in rt.alloc(); "{NEWCOMER}0")?;
-    assert!(rt; stood.as_str() == want.as_str(), "{stood}");
-    // The accepted records and then the rest of the script give what the whole run gives.
     fs::write(&rt, "script", "enter,3,1,10,10\nwithdraw,3\n")?;
-    let whole = ordered(&rt, "run", &["--script", "script", "--journal", "journal"])?;
-    let want = format!(in rt.alloc(); "1,ok\n2,ok\n{REPORT}0")?;
-    assert!(rt; whole.as_str() == want.as_str(), "{whole}");
-    let replayed = ordered(&rt, "replay", &["--journal", "journal"])?;
-    let want = format!(in rt.alloc(); "{REPORT}0")?;
-    assert!(rt; replayed.as_str() == want.as_str(), "{replayed}");
+    let whole = ordered(&rt, "run", &run)?;
+    for (room, journal, rest) in [
+        // Between the first line and its reply: that record is not taken again.
+        (0, "1,enter,3,1,10,10\n", "enter,3,1,10,10\nwithdraw,3\n"),
+        // Between the second line and its reply.
+        (
+            5,
+            "1,enter,3,1,10,10\n2,withdraw,3\n",
+            "enter,3,1,10,10\nwithdraw,3\n",
+        ),
+    ] {
+        fs::write(&rt, "script", "enter,3,1,10,10\nwithdraw,3\n")?;
+        assert!(rt; stopped(&rt, room)? == 4);
+        let kept = fs::read(&rt, "journal")?;
+        assert!(rt; kept.as_slice() == journal.as_bytes());
+        // The journal's records, and then those of the script that are left, over the same opening.
+        fs::write(&rt, "script", rest)?;
+        let resumed = ordered(&rt, "run", &run)?;
+        assert!(rt; resumed.as_str() == whole.as_str(), "{resumed}");
+        let replayed = ordered(&rt, "replay", &["--journal", "journal"])?;
+        let want = format!(in rt.alloc(); "{REPORT}0")?;
+        assert!(rt; replayed.as_str() == want.as_str(), "{replayed}");
+    }
     Ok(())
 }
 
