@@ -1,4 +1,6 @@
-ghost use Rattle.std.specs.Prelude.{◌≡◌, ◌≤◌, length, All, Contains, OnOk};
+ghost use Rattle.std.specs.Prelude.{◌≡◌, ◌≤◌, ◌∷◌, ◌++◌, length, All, Contains, OnOk, IfOk};
+ghost use Rattle.std.specs.List.Sorted.{IsPermutation};
+ghost use Rattle.std.specs.Option.{option_to_list};
 
 use crate::heap::HeapRoll;
 use crate::roll::Roll;
@@ -20,8 +22,27 @@ fn seats(rt: &impl Abort, number: u32) -> Seats {
     Seats::new(number).expect(rt, "a number of seats")
 }
 
+/// Offers the key. Where a growth is refused the roll is as it was, and the key is offered again.
+fn offer_again<R: Roll>(rt: &impl Abort, roll: &mut R, key: &Key) -> Result<Option<Key>, AllocError>
+    requires within { length (R.keys roll.old) ≤ R.seats roll.old }
+    requires new { ¬ Contains (R.keys roll.old) key.now }
+    ensures within { length (R.keys roll.new) ≤ R.seats roll.new }
+    ensures together { IfOk result (λ out. IsPermutation (key.now ∷ R.keys roll.old) (option_to_list out ++ R.keys roll.new)) }
+{
+    let held = roll.len();
+    let worst = roll.worst();
+    if let Ok(out) = roll.offer(*key) {
+        return Ok(out);
+    }
+    assert_eq!(rt; roll.len(), held);
+    assert_eq!(rt; roll.worst(), worst);
+    let out = roll.offer(*key)?;
+    Ok(out)
+}
+
 /// Offers the key of a student who has not been offered.
 fn offer<R: Roll>(
+    rt: &impl Abort,
     roll: &mut R,
     seen: &mut Vec<StudentNo>,
     key: Key,
@@ -35,7 +56,7 @@ fn offer<R: Roll>(
         return Ok(None);
     }
     seen.push(key.student)?;
-    let out = roll.offer(key)?;
+    let out = offer_again(rt, roll, &key)?;
     Ok(out)
 }
 
@@ -47,11 +68,11 @@ fn two_seats<R: Roll>(rt: &impl Abort, alloc: Global) -> Result<(), AllocError> 
     let four = key(rt, 3, 0x7c5941da8d485751, 4);
     let mut seen = Vec::new(alloc);
     let mut roll = R::with_capacity(alloc, seats(rt, 2));
-    assert_eq!(rt; offer(&mut roll, &mut seen, three)?, None);
-    assert_eq!(rt; offer(&mut roll, &mut seen, two)?, None);
-    assert_eq!(rt; offer(&mut roll, &mut seen, four)?, Some(three));
+    assert_eq!(rt; offer(rt, &mut roll, &mut seen, three)?, None);
+    assert_eq!(rt; offer(rt, &mut roll, &mut seen, two)?, None);
+    assert_eq!(rt; offer(rt, &mut roll, &mut seen, four)?, Some(three));
     assert_eq!(rt; roll.worst(), Some(two));
-    assert_eq!(rt; offer(&mut roll, &mut seen, one)?, Some(one));
+    assert_eq!(rt; offer(rt, &mut roll, &mut seen, one)?, Some(one));
     let copy = roll.copy(alloc)?;
     assert_eq!(rt; copy.len(), 2);
     assert_eq!(rt; copy.worst(), Some(two));
@@ -65,11 +86,11 @@ fn few_seats<R: Roll>(rt: &impl Abort, alloc: Global) -> Result<(), AllocError> 
     let eight = key(rt, 3, 5, 8);
     let mut seen = Vec::new(alloc);
     let mut none = R::with_capacity(alloc, seats(rt, 0));
-    assert_eq!(rt; offer(&mut none, &mut seen, seven)?, Some(seven));
+    assert_eq!(rt; offer(rt, &mut none, &mut seen, seven)?, Some(seven));
     let mut seen = Vec::new(alloc);
     let mut roll = R::with_capacity(alloc, seats(rt, 1));
-    assert_eq!(rt; offer(&mut roll, &mut seen, eight)?, None);
-    assert_eq!(rt; offer(&mut roll, &mut seen, seven)?, Some(eight));
+    assert_eq!(rt; offer(rt, &mut roll, &mut seen, eight)?, None);
+    assert_eq!(rt; offer(rt, &mut roll, &mut seen, seven)?, Some(eight));
     Ok(())
 }
 
@@ -103,8 +124,13 @@ fn agree(rt: &impl Abort, alloc: Global, capacity: u32) -> Result<bool, AllocErr
         let class = (state >> 62) as u8;
         let draw = (state >> 56) % 8;
         let number = ((state >> 33) % 1_000) as u32 + 1;
-        let from_sorted = offer(&mut sorted, &mut in_sorted, key(rt, class, draw, number))?;
-        let from_heap = offer(&mut heap, &mut in_heap, key(rt, class, draw, number))?;
+        let from_sorted = offer(
+            rt,
+            &mut sorted,
+            &mut in_sorted,
+            key(rt, class, draw, number),
+        )?;
+        let from_heap = offer(rt, &mut heap, &mut in_heap, key(rt, class, draw, number))?;
         alike = alike && from_sorted == from_heap && sorted.worst() == heap.worst();
         alike = alike && sorted.len() == heap.len();
     }
@@ -116,5 +142,37 @@ fn both_rolls_agree_on_random_offers(rt: HostRuntime) -> Result<(), Fail> {
     for capacity in [0, 1, 2, 7, 40, 1_000] {
         assert!(rt; agree(&rt, rt.alloc(), capacity)?, "{capacity}");
     }
+    Ok(())
+}
+
+/// Nine offers to a roll of eight seats, and a copy of it.
+fn grow<R: Roll>(rt: &impl Abort, alloc: Global) -> Result<(), AllocError> {
+    // The test's own list, which may be refused too.
+    let mut seen = match Vec::with_capacity(alloc, 9) {
+        Ok(seen) => seen,
+        Err(_refused) => Vec::with_capacity(alloc, 9)?,
+    };
+    let mut roll = R::with_capacity(alloc, seats(rt, 8));
+    for number in 1..=8_u32 {
+        let offered = key(rt, 3, 9, number);
+        assert_eq!(rt; offer(rt, &mut roll, &mut seen, offered)?, None);
+        assert_eq!(rt; roll.worst(), Some(offered));
+    }
+    let last = key(rt, 3, 9, 9);
+    assert_eq!(rt; offer(rt, &mut roll, &mut seen, last)?, Some(last));
+    let copy = match roll.copy(alloc) {
+        Ok(copy) => copy,
+        Err(_refused) => roll.copy(alloc)?,
+    };
+    assert_eq!(rt; copy.len(), 8);
+    assert_eq!(rt; copy.worst(), roll.worst());
+    Ok(())
+}
+
+// Run with each allocation refused in turn, this one sees that a refused growth leaves a roll as it was.
+#[test]
+fn each_growth_refused(rt: HostRuntime) -> Result<(), Fail> {
+    grow::<SortedRoll>(&rt, rt.alloc())?;
+    grow::<HeapRoll>(&rt, rt.alloc())?;
     Ok(())
 }

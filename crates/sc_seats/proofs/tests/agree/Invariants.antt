@@ -1,4 +1,4 @@
-use Rattle.std.proofs.Common.{◌≡◌, ◌≤◌, length, All}
+use Rattle.std.proofs.Common.{◌≤◌, length, All}
 use Rattle.std.specs.Prelude.{Contains}
 use Rattle.sc_seats.proofs.tests.agree.Given as goal
 
