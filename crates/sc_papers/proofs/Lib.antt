@@ -26,3 +26,4 @@ pub mod Standings
 pub mod Cutting
 pub mod Reordering
 pub mod Locality
+pub mod Amending

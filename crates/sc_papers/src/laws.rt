@@ -1,5 +1,5 @@
 //! The laws of the mechanism. Each function does nothing: its contract is the law.
-ghost use Rattle.std.specs.Prelude.{◌≡◌, ◌↔◌, ℕ, ◌+◌, ◌≤◌, Bool, List, [], ◌∷◌, ◌++◌, length, take, slice_get, Some, false, Contains};
+ghost use Rattle.std.specs.Prelude.{◌≡◌, ◌↔◌, ℕ, ◌+◌, ◌≤◌, Bool, List, [], ◌∷◌, ◌++◌, length, take, slice_get, Some, None, false, Contains};
 ghost use Rattle.sc_papers.specs.Chain.{and_one, InChain, PutsOut, Ends, IsChain};
 ghost use Rattle.sc_papers.specs.Log.{is_rejected, next_choice, matching_of, IsValidEntry, IsValidLog, IsSettled};
 ghost use Rattle.sc_papers.specs.Market.{Market, students_of, choices_of, seats_of, zone_at};
@@ -7,7 +7,9 @@ ghost use Rattle.sc_papers.specs.Matching.{IsStudentOptimal, Matching};
 ghost use Rattle.sc_papers.specs.Progress.{all_choices, placed};
 ghost use Rattle.sc_papers.specs.Reordering.{IsReordering};
 ghost use Rattle.sc_papers.specs.Restriction.{restricted, cut, joined, entries_of, outside, AreApart, AlikeUpTo, AlikeOutside, is_among_first, IsSegmented};
+ghost use Rattle.sc_papers.specs.Verdict.{after, verdict};
 ghost use Rattle.sc_papers.specs.WellFormed.{WellFormed};
+ghost use Rattle.sc_papers.specs.declared.amendment.Amendment.{Amendment};
 ghost use Rattle.sc_papers.specs.declared.rejection.Rejection.{Rejection};
 
 /// The matching of every settled log is student-optimal, whoever made the log (Gale and Shapley,
@@ -61,6 +63,11 @@ pub fn cut_is_a_restriction()
 pub fn part_of_papers_is_well_formed()
     ensures restricted { (m : Market) (test : ℕ → Bool) → WellFormed m → WellFormed (restricted m test) }
     ensures cut { (m : Market) (k : ℕ) → WellFormed m → WellFormed (cut m k) }
+{}
+
+/// Papers that are well-formed stay so after an amendment that is not refused.
+pub fn accepted_amendment_keeps_papers_well_formed()
+    ensures { (m : Market) (a : Amendment) → WellFormed m → verdict m a ≡ None → WellFormed (after m a) }
 {}
 
 /// A student who enters has a chain in hand: a log that is settled for those who entered is in the
