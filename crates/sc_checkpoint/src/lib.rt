@@ -1,0 +1,7 @@
+//! Checkpoints: the log of rejections in segments, one for each student in order of entry, so that a
+//! settling can go on from any position of the order.
+#![tactic(auto)]
+
+mod standing;
+
+pub use standing::Standing;
