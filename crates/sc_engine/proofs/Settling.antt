@@ -41,7 +41,7 @@ take-all [] = refl
 take-all (x ∷ xs) = ap (λ ys. x ∷ ys) (take-all xs)
 
 -- among one more
-first-more : (xs : List ℕ) (k i : ℕ) → slice_get xs k ≡ Some i → (j : ℕ) → among_first xs (k + 1) j ≡ (among_first xs k j || j == i)
+pub first-more : (xs : List ℕ) (k i : ℕ) → slice_get xs k ≡ Some i → (j : ℕ) → among_first xs (k + 1) j ≡ (among_first xs k j || j == i)
 first-more xs k i here j =
     ap (λ n. among_first xs n j) (add-one k)
     ∙ ap (list_any (nat_eq j)) (take-suc xs k i (slice_get_within xs k i here) ∙ ap (λ x. take k xs ++ x ∷ []) (get_or_from_slice_get xs k i i here))
@@ -58,7 +58,7 @@ first-apart xs k i distinct here =
     false≢true (sym apart ∙ eq-eqb (get_or xs j i) (get_or xs k i) (get_or_default xs j i d (omega (arith, below, slice_get_within xs k i here)) ∙ sym is ∙ sym (get_or_from_slice_get xs k i i here)))))
 
 -- all are among all
-first-all : (xs : List ℕ) (j : ℕ) → Contains xs j → among_first xs (length xs) j ≡ true
+pub first-all : (xs : List ℕ) (j : ℕ) → Contains xs j → among_first xs (length xs) j ≡ true
 first-all xs j among = ap (list_any (nat_eq j)) (take-all xs) ∙ any-among xs j among
 
 -- one more student has entered

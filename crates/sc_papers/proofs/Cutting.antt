@@ -65,11 +65,11 @@ next-student m k i log chain well here settled steps =
     (subst (λ n. IsChain n log i chain) (cut-more m k i well here) steps))
 
 -- papers cut no shorter than they are
-cut-all : (m : Market) (k : ℕ) → length (students_of m) ≤ k → cut m k ≡ m
+pub cut-all : (m : Market) (k : ℕ) → length (students_of m) ≤ k → cut m k ≡ m
 unfolding cut
 cut-all m k low = λ t. record m { students = take_all k m.students (omega (arith, low, length-map m.students (λ e. e.0))) t }
 
-cut-cut : (m : Market) (j k : ℕ) → j ≤ k → cut (cut m k) j ≡ cut m j
+pub cut-cut : (m : Market) (j k : ℕ) → j ≤ k → cut (cut m k) j ≡ cut m j
 unfolding cut
 cut-cut m j k low = λ t. record m { students = take-take j k m.students low t }
 
@@ -84,15 +84,14 @@ unfolding cut
 length-students_cut m k low =
     length-map (take k m.students) (λ e. e.0) ∙ length-take-le k m.students (omega (arith, low, length-map m.students (λ e. e.0)))
 
-joined-push : (segments : List (List Rejection)) (chain : List Rejection) → joined (segments ++ chain ∷ []) ≡ joined segments ++ chain
+pub joined-push : (segments : List (List Rejection)) (chain : List Rejection) → joined (segments ++ chain ∷ []) ≡ joined segments ++ chain
 joined-push segments chain = flat_map-append (λ s. s) segments (chain ∷ []) ∙ ap (λ l. joined segments ++ l) (append-nil chain)
 
--- segments of the first k students, and the next student's chain
-pub segments-push : (m : Market) (k i : ℕ) (segments : List (List Rejection)) (chain : List Rejection) → WellFormed m → slice_get (students_of m) k ≡ Some i → IsSegmented (cut m k) segments → IsChain (cut m (k + 1)) (joined segments) i chain → IsSegmented (cut m (k + 1)) (segments ++ chain ∷ [])
-segments-push m k i segments chain well here segmented steps =
+-- segments of the first k students, and rejections that settle one more
+pub segments-more : (m : Market) (k i : ℕ) (segments : List (List Rejection)) (chain : List Rejection) → slice_get (students_of m) k ≡ Some i → IsSegmented (cut m k) segments → IsSettled (cut m (k + 1)) (joined segments ++ chain) → IsSegmented (cut m (k + 1)) (segments ++ chain ∷ [])
+segments-more m k i segments chain here segmented whole =
     let within : k < length (students_of m) = slice_get_within (students_of m) k i here in
     let count : length segments ≡ k = segmented.one_each ∙ length-students_cut m k (omega (arith, within)) in
-    let whole : IsSettled (cut m (k + 1)) (joined segments ++ chain) = next-student m k i (joined segments) chain well here (segments-settled (cut m k) segments segmented) steps in
     let pushed : IsSettled (cut m (k + 1)) (joined (segments ++ chain ∷ [])) = subst (IsSettled (cut m (k + 1))) (sym (joined-push segments chain)) whole in
     record {
       one_each = omega (arith, length_push segments chain, count, length-students_cut m (k + 1) (omega (arith, within)));
@@ -104,3 +103,8 @@ segments-push m k i segments chain well here segmented steps =
             (subst (λ l. IsSettled (cut m (k + 1)) (joined l)) (sym (take_all j (segments ++ chain ∷ []) (omega (arith, above, count, length_push segments chain)))) pushed)
       ];
     }
+
+-- segments of the first k students, and the next student's chain
+pub segments-push : (m : Market) (k i : ℕ) (segments : List (List Rejection)) (chain : List Rejection) → WellFormed m → slice_get (students_of m) k ≡ Some i → IsSegmented (cut m k) segments → IsChain (cut m (k + 1)) (joined segments) i chain → IsSegmented (cut m (k + 1)) (segments ++ chain ∷ [])
+segments-push m k i segments chain well here segmented steps =
+    segments-more m k i segments chain here segmented (next-student m k i (joined segments) chain well here (segments-settled (cut m k) segments segmented) steps)
