@@ -1,17 +1,16 @@
 -- The papers after an amendment are alike up to the rewind point, so the segments before it still stand.
-use Rattle.std.proofs.Common.{◌≡◌, inl, inr, refl, ap, sym, subst, ◌∙◌, ℕ, zero, suc, ◌+◌, ◌<◌, ◌≤◌, ◌==◌, nat_eq, Bool, true, false, cond, List, [], ◌∷◌, ◌++◌, length, Option, Some, None, Contains, take, not, is_some, ◌-◌, arith}
+use Rattle.std.proofs.Common.{◌≡◌, inl, inr, refl, ap, sym, subst, ◌∙◌, ℕ, zero, suc, ◌+◌, ◌<◌, ◌≤◌, ◌==◌, nat_eq, true, false, List, [], ◌∷◌, length, Option, Some, None, Contains, take, is_some, ◌-◌, arith}
 use Rattle.std.specs.Prelude.{get_or}
-use Rattle.std.specs.List.{list_any, position_or_len}
-use Rattle.std.specs.Map.{keys_of, lookup, remove_entry, set_value}
+use Rattle.std.specs.Map.{lookup, set_value}
 use Rattle.std.specs.Option.{option_map_or}
 use Rattle.std.proofs.lemmas.Bool.{cases_Bool, cond-true, cond-false, eqb-true, eq-eqb, false≢true}
 use Rattle.std.proofs.lemmas.Cmp.{nat_eq_equiv}
 use Rattle.std.proofs.lemmas.List.{get_or-take, length-map, length-append, length-take, length-take-le, take-append-le, take-map, take-take}
 use Rattle.std.proofs.lemmas.List.Folds.{list_any_at}
-use Rattle.std.proofs.lemmas.List.Sums.{fails_before_first, prefix_len-le-length}
+use Rattle.std.proofs.lemmas.List.Sums.{fails_before_first}
 use Rattle.std.proofs.lemmas.Map.{lookup-set_value, length-set_value}
 use Rattle.std.proofs.lemmas.Option.{none-some}
-use Rattle.sc_papers.specs.Market.{Market, student_of, school_of, students_of, choices_of, seats_of, zone_at}
+use Rattle.sc_papers.specs.Market.{Market, student_of, school_of, students_of, choices_of, seats_of}
 use Rattle.sc_papers.specs.Log.{IsSettled}
 use Rattle.sc_papers.specs.Restriction.{cut, joined, AlikeUpTo, IsSegmented}
 use Rattle.sc_papers.specs.Verdict.{after, with_student, without_student, changed_student, with_seats}

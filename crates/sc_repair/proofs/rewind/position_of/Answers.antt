@@ -1,4 +1,4 @@
-use Rattle.std.proofs.Common.{ap, ◌∙◌, nat_eq}
+use Rattle.std.proofs.Common.{◌∙◌, nat_eq}
 use Rattle.std.specs.Option.{unwrap_or}
 use Rattle.sc_repair.proofs.Positions.{position-or_length}
 use Rattle.sc_repair.proofs.rewind.position_of.Goals as goal
