@@ -69,7 +69,7 @@ cut-all : (m : Market) (k : ℕ) → length (students_of m) ≤ k → cut m k �
 unfolding cut
 cut-all m k low = λ t. record m { students = take_all k m.students (omega (arith, low, length-map m.students (λ e. e.0))) t }
 
-cut-cut : (m : Market) (j k : ℕ) → j ≤ k → cut (cut m k) j ≡ cut m j
+pub cut-cut : (m : Market) (j k : ℕ) → j ≤ k → cut (cut m k) j ≡ cut m j
 unfolding cut
 cut-cut m j k low = λ t. record m { students = take-take j k m.students low t }
 
@@ -79,7 +79,7 @@ segments-settled m segments segmented =
     subst (λ n. IsSettled n (joined segments)) (cut-all m (length segments) (omega (arith, segmented.one_each)))
     (subst (λ l. IsSettled (cut m (length segments)) (joined l)) (take_all (length segments) segments (omega arith)) (segmented.settled (length segments) (omega arith)))
 
-length-students_cut : (m : Market) (k : ℕ) → k ≤ length (students_of m) → length (students_of (cut m k)) ≡ k
+pub length-students_cut : (m : Market) (k : ℕ) → k ≤ length (students_of m) → length (students_of (cut m k)) ≡ k
 unfolding cut
 length-students_cut m k low =
     length-map (take k m.students) (λ e. e.0) ∙ length-take-le k m.students (omega (arith, low, length-map m.students (λ e. e.0)))

@@ -20,19 +20,11 @@ use Rattle.sc_papers.specs.declared.records.School.{School}
 use Rattle.sc_papers.specs.declared.records.Student.{Student}
 use Rattle.sc_papers.specs.declared.rejection.Rejection.{Rejection}
 use Rattle.sc_papers.proofs.Changing.{put_school, put_student}
+use Rattle.sc_papers.proofs.Cutting.{cut-cut, length-students_cut}
 use Rattle.sc_papers.proofs.Rewinding.{alike-seats, alike-students, settled-rewound}
 use Rattle.sc_papers.proofs.Students.{lister-among}
 use Rattle.sc_repair.proofs.Positions.{position-removed, position-within, take-put, take-removed}
 use Rattle.sc_repair.specs.Rewinding.{first_to_list, lists, position_of, rewind_point}
-
--- papers cut twice
-cut-cut : (m : Market) (j k : ℕ) → j ≤ k → cut (cut m k) j ≡ cut m j
-unfolding cut
-cut-cut m j k low = λ t. record m { students = take-take j k m.students low t }
-
-length-students_cut : (m : Market) (k : ℕ) → k ≤ length m.students → length (students_of (cut m k)) ≡ k
-unfolding cut
-length-students_cut m k low = length-map (take k m.students) (λ e. e.0) ∙ length-take-le k m.students low
 
 -- what a look-up finds among the first entries it finds among all
 lookup-take : {X : Type 0} (k i : ℕ) (es : List (ℕ × X)) (x : X) → lookup (nat_eq i) (take k es) ≡ Some x → lookup (nat_eq i) es ≡ Some x
@@ -66,7 +58,7 @@ alike-less m n j k low alike = record {
 -- rewinding: the segments of the first k students still stand for papers that are alike up to k
 pub segments-rewound : (m n : Market) (k : ℕ) → AlikeUpTo k m n → k ≤ length m.students → k ≤ length n.students → (segments : List (List Rejection)) → IsSegmented m segments → IsSegmented (cut n k) (take k segments)
 segments-rewound m n k alike low_m low_n segments segmented = record {
-  one_each = count ∙ sym (length-students_cut n k low_n);
+  one_each = count ∙ sym (length-students_cut n k (omega (arith, low_n, length-map n.students (λ e. e.0))));
   settled = λ j low. settled_first j (omega (arith, low, count));
 }
   where

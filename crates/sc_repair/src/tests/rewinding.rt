@@ -1,7 +1,7 @@
 use super::*;
 use crate::rewind_point;
 
-/// Each student as in the correction that rewinds to the start, and school 30, which nobody lists.
+/// The papers of the correction that rewinds to the start, with a school 30 that nobody lists.
 fn papers(rt: &impl Abort, alloc: Global) -> Papers {
     let students = [
         (1, 1, "", "10 20"),
