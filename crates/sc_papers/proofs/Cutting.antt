@@ -79,7 +79,7 @@ segments-settled m segments segmented =
     subst (λ n. IsSettled n (joined segments)) (cut-all m (length segments) (omega (arith, segmented.one_each)))
     (subst (λ l. IsSettled (cut m (length segments)) (joined l)) (take_all (length segments) segments (omega arith)) (segmented.settled (length segments) (omega arith)))
 
-length-students_cut : (m : Market) (k : ℕ) → k ≤ length (students_of m) → length (students_of (cut m k)) ≡ k
+pub length-students_cut : (m : Market) (k : ℕ) → k ≤ length (students_of m) → length (students_of (cut m k)) ≡ k
 unfolding cut
 length-students_cut m k low =
     length-map (take k m.students) (λ e. e.0) ∙ length-take-le k m.students (omega (arith, low, length-map m.students (λ e. e.0)))

@@ -1,3 +1,4 @@
 pub mod Standing
 pub mod Inside
+pub mod Rewinding
 pub mod GoingOn

@@ -3,8 +3,10 @@
 #![tactic(auto)]
 
 mod clearing;
+mod rewind;
 
 pub use clearing::{Clearing, OpenRefused};
+pub use rewind::rewind_point;
 
 #[cfg(test)]
 mod tests;

@@ -3,6 +3,7 @@
 
 mod amendments;
 mod refusals;
+mod rewinding;
 mod standings;
 
 use crate::Clearing;
@@ -90,14 +91,14 @@ fn add_school(rt: &impl Abort, papers: &mut Papers, (number, at, seats): (u32, u
     assert!(rt; added.is_ok());
 }
 
-/// The clearing of these schools, by number, zone and seats, and these students, by number, zone,
+/// The papers of these schools, by number, zone and seats, and these students, by number, zone,
 /// siblings and choices.
-fn opening(
+fn papers_of(
     rt: &impl Abort,
     alloc: Global,
     schools: &[(u32, u32, u32)],
     students: &[(u32, u32, &str, &str)],
-) -> Clearing {
+) -> Papers {
     let seed = Seed::from_hex(&[b'0'; 64]).expect(rt, "a seed");
     let mut papers = Papers::new(alloc, seed);
     for entry in schools {
@@ -107,6 +108,17 @@ fn opening(
         let entered = papers.apply(enter(rt, alloc, *entry));
         assert!(rt; entered.is_ok());
     }
+    papers
+}
+
+/// The clearing of these schools and students.
+fn opening(
+    rt: &impl Abort,
+    alloc: Global,
+    schools: &[(u32, u32, u32)],
+    students: &[(u32, u32, &str, &str)],
+) -> Clearing {
+    let papers = papers_of(rt, alloc, schools, students);
     Clearing::open(alloc, papers).ok().expect(rt, "memory")
 }
 

@@ -1,0 +1,81 @@
+//! From where on an amendment may change anything.
+
+ghost use Rattle.std.specs.Prelude.{◌≡◌, ◌≤◌, ◌<◌, List, None, Some, length, slice_index, take, IfErr, IfOk, OnOk};
+ghost use Rattle.sc_papers.specs.Market.{students_of};
+ghost use Rattle.sc_papers.specs.Restriction.{cut, IsSegmented};
+ghost use Rattle.sc_papers.specs.Verdict.{after, verdict};
+ghost use Rattle.sc_papers.specs.declared.rejection.Rejection.{Rejection};
+ghost use Rattle.sc_repair.specs.Rewinding.{first_to_list, lists, position_of, rewind_point};
+
+use sc_papers::{Amendment, Papers, Refusal, SchoolNo, StudentNo};
+
+/// Whether the student at the position lists the school.
+#[tactic(auto, unfolding(sc_papers::specs::Market::choices_of))]
+fn lists(papers: &Papers, school: SchoolNo, position: usize) -> bool
+    requires { position < length papers.now.students }
+    ensures { result ≡ lists papers.now school (slice_index (students_of papers.now) position) }
+{
+    let Some(student) = papers.student_at(position) else {
+        unreachable!()
+    };
+    match papers.student(student) {
+        Some(record) => record.choices.as_slice().contains(&school),
+        None => false,
+    }
+}
+
+/// The position of the first student who lists the school, or the number of students where none
+/// does.
+fn first_to_list(papers: &Papers, school: SchoolNo) -> usize
+    ensures { result ≡ first_to_list papers.now school }
+{
+    for position in 0..papers.students_len() {
+        if lists(papers, school, position) {
+            return position;
+        }
+    }
+    papers.students_len()
+}
+
+/// The position of the student, or the number of students for one who is not in the papers.
+fn position_of(papers: &Papers, student: StudentNo) -> usize
+    ensures { result ≡ position_of papers.now student }
+{
+    papers
+        .student_position(student)
+        .unwrap_or(papers.students_len())
+}
+
+/// The position from which on the amendment may change anything, whether or not it is refused.
+fn first_changed(papers: &Papers, amendment: &Amendment) -> usize
+    ensures { result ≡ rewind_point papers.now amendment.now }
+{
+    match amendment {
+        Amendment::Enter { .. } => papers.students_len(),
+        Amendment::Withdraw { student }
+        | Amendment::Rerank { student, .. }
+        | Amendment::Correct { student, .. } => position_of(papers, *student),
+        Amendment::Add { school, .. } | Amendment::Close { school, .. } => {
+            first_to_list(papers, *school)
+        }
+    }
+}
+
+/// The position in the order of entry, from 0, from which on the amendment may change anything, so
+/// that the log of the students before it still stands: for an `Enter` the number of students; for
+/// a `Withdraw`, a `Rerank` or a `Correct` the position of that student; for an `Add` or a `Close`
+/// the position of the first student who lists the school, or the number of students where none
+/// does. An amendment that the papers don't allow is refused as by `Papers::check`.
+///
+/// It takes no memory. Beside the cost of `Papers::check` it takes constant time, and for an `Add` or
+/// a `Close` one pass over the choices of the students up to that position.
+pub fn rewind_point(papers: &Papers, amendment: &Amendment) -> Result<usize, Refusal>
+    ensures point { IfOk result (λ k. k ≡ rewind_point papers.now amendment.now) }
+    ensures within { IfOk result (λ k. k ≤ length papers.now.students) }
+    ensures allowed { OnOk result (verdict papers.now amendment.now ≡ None) }
+    ensures refused { IfErr result (λ refusal. verdict papers.now amendment.now ≡ Some refusal) }
+    ensures kept { IfOk result (λ k. (segments : List (List Rejection)) → IsSegmented papers.now segments → IsSegmented (cut (after papers.now amendment.now) k) (take k segments)) }
+{
+    papers.check(amendment)?;
+    Ok(first_changed(papers, amendment))
+}
