@@ -1,1 +1,4 @@
 pub mod Standings
+pub mod Chains
+pub mod Cutting
+pub mod Inside

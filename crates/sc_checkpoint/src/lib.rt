@@ -2,6 +2,9 @@
 //! settling can go on from any position of the order.
 #![tactic(auto)]
 
+mod segment;
+mod segments;
 mod standing;
 
+pub use segments::Segments;
 pub use standing::Standing;
