@@ -2,3 +2,4 @@ pub mod Standings
 pub mod Chains
 pub mod Cutting
 pub mod Inside
+pub mod Places

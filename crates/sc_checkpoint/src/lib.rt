@@ -2,6 +2,8 @@
 //! settling can go on from any position of the order.
 #![tactic(auto)]
 
+mod next_choices;
+mod place_set;
 mod segment;
 mod segments;
 mod standing;

@@ -1,5 +1,7 @@
+use crate::next_choices::standings;
 use crate::segment::{Segment, end_of_first};
-use sc_papers::{Rejection, StudentNo};
+use crate::standing::Standing;
+use sc_papers::{Papers, Rejection, StudentNo};
 use std::alloc::{AllocError, Global};
 use std::marker::Model;
 
@@ -30,6 +32,8 @@ impl Segments {
     ghost use Rattle.std.specs.Prelude.{◌≡◌, ◌<◌, ◌≤◌, [], length, take, slice_get, Some, IfOk, OnOk, OnErr};
     ghost use Rattle.sc_papers.specs.Restriction.{joined};
     ghost use Rattle.sc_checkpoint.specs.Chains.{students_in, logs_in, with_chain};
+    ghost use Rattle.sc_checkpoint.specs.Standings.{standings_after};
+    ghost use Rattle.sc_papers.specs.Market.{students_of};
 
     /// No segments. It takes no memory.
     pub fn new(alloc: Global) -> Self
@@ -125,5 +129,19 @@ impl Segments {
             log: self.prefix(k)?,
             segments: Vec::from_slice(self.alloc, &self.segments[..k])?,
         })
+    }
+
+    /// Where the first `k` students of the papers stand after the log of their segments: each one's
+    /// next choice, the first that has not rejected it, whatever the log says. The only error is a
+    /// refused growth.
+    ///
+    /// The cost is two look-ups and a pass over one list of choices for each entry of that log, and as
+    /// much for each of the `k` students. Memory is taken for the `k` alone.
+    pub fn next_choices_at(&self, papers: &Papers, k: usize) -> Result<Vec<Standing>, AllocError>
+        requires within { k ≤ length self.now }
+        requires students { take k (students_in self.now) ≡ take k (students_of papers.now) }
+        ensures { IfOk result (λ standings. standings.items ≡ standings_after papers.now (joined (take k (logs_in self.now))) (take k (students_of papers.now))) }
+    {
+        standings(self.alloc, papers, self.first(k), k)
     }
 }
