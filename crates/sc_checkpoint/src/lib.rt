@@ -10,3 +10,6 @@ mod standing;
 
 pub use segments::Segments;
 pub use standing::Standing;
+
+#[cfg(test)]
+mod tests;
