@@ -2,6 +2,14 @@
 //! settling can go on from any position of the order.
 #![tactic(auto)]
 
+mod next_choices;
+mod place_set;
+mod segment;
+mod segments;
 mod standing;
 
+pub use segments::Segments;
 pub use standing::Standing;
+
+#[cfg(test)]
+mod tests;

@@ -1,0 +1,36 @@
+-- The first choice whose place is not in a set, and where students stand.
+use Rattle.std.proofs.Common.{◌≡◌, ap, sym, ◌∙◌, ℕ, ◌<◌, ◌≤◌, Bool, true, false, not, List, [], ◌∷◌, ◌++◌, ◌+◌, length, take, Some, None, find, slice_get, arith}
+use Rattle.std.proofs.lemmas.List.{take_more, map_push}
+use Rattle.std.proofs.lemmas.Option.{slice_get_within, get_or_from_slice_get}
+use Rattle.sc_papers.specs.Log.{next_choice}
+use Rattle.sc_papers.specs.Market.{Market}
+use Rattle.sc_papers.specs.declared.rejection.Rejection.{Rejection}
+use Rattle.sc_papers.proofs.Choices.{found-is, found-none}
+use Rattle.sc_checkpoint.specs.Places.{has_place}
+use Rattle.sc_checkpoint.specs.Standings.{standings_after}
+use Rattle.sc_checkpoint.specs.declared.standing.Standing.{Standing}
+use Rattle.sc_checkpoint.specs.declared.place_set.PlaceSet.{PlaceSet}
+
+-- up to this place, each place is in the set
+pub record AllBelow (set : PlaceSet) (end : ℕ) : Type 0 where
+  pub within : (place : ℕ) → place < end → has_place set place ≡ true
+
+pub outside-found : (set : PlaceSet) (choices : List ℕ) (place s : ℕ) (test : ℕ → Bool) → ((k t : ℕ) → slice_get choices k ≡ Some t → has_place set k ≡ test t) → AllBelow set place → slice_get choices place ≡ Some s → has_place set place ≡ false → find (λ t. not (test t)) choices ≡ Some s
+outside-found set choices place s test agree below here outside =
+    found-is (λ t. not (test t)) choices place s here (ap not (sym (agree place s here) ∙ outside))
+    (λ k t low at. ap not (sym (agree k t at) ∙ below.within k low))
+
+pub outside-none : (set : PlaceSet) (choices : List ℕ) (end : ℕ) (test : ℕ → Bool) → ((k t : ℕ) → slice_get choices k ≡ Some t → has_place set k ≡ test t) → AllBelow set end → length choices ≤ end → find (λ t. not (test t)) choices ≡ None
+outside-none set choices end test agree below past =
+    found-none (λ t. not (test t)) choices
+    (λ k t at. ap not (sym (agree k t at) ∙ below.within k (omega (arith, past, slice_get_within choices k t at))))
+
+-- one more student who stands
+pub standings-more : (m : Market) (log : List Rejection) (students : List ℕ) (at i : ℕ) (standing : Standing) → slice_get students at ≡ Some i → standing ≡ record { student = i; next = next_choice m log i } → standings_after m log (take at students) ++ standing ∷ [] ≡ standings_after m log (take (at + 1) students)
+standings-more m log students at i standing here stands =
+    let more : take (at + 1) students ≡ take at students ++ i ∷ [] =
+    take_more students at i (slice_get_within students at i here)
+    ∙ ap (λ j. take at students ++ j ∷ []) (get_or_from_slice_get students at i i here) in
+    ap (λ last. standings_after m log (take at students) ++ last ∷ []) stands
+    ∙ sym (map_push (λ (j : ℕ). let s : Standing = record { student = j; next = next_choice m log j } in s) (take at students) i)
+    ∙ ap (standings_after m log) (sym more)

@@ -1,0 +1,4 @@
+mod Cutting
+mod Bits
+mod Marking
+mod Finding

@@ -1,0 +1,163 @@
+-- One more entry of a log, put into a table of places.
+use Rattle.std.proofs.Common.{◌≡◌, inl, inr, refl, ap, sym, subst, ◌∙◌, ℕ, ◌<◌, ◌≤◌, ◌==◌, nat_eq, nat_lt, Bool, true, false, ◌&&◌, ◌||◌, List, [], ◌∷◌, ◌++◌, length, get_or, set, replicate, Option, Some, None, IfSome, slice_get, position, arith, length-set}
+use Rattle.std.specs.List.{IsDistinct, position_or_len}
+use Rattle.std.specs.Option.{option_map_or}
+use Rattle.std.proofs.lemmas.Bool.{cases_eq, cases_lt, cond-true, lt-ltb, eqb-true, eq-eqb, ne_eqb, false≢true, false_from_ne_true, and_parts}
+use Rattle.std.proofs.lemmas.List.{get_or-set_same, get_or-set_other, get_or-replicate, length-replicate}
+use Rattle.std.proofs.lemmas.List.Quantifiers.{position-Some}
+use Rattle.std.proofs.lemmas.List.Sums.{fails_before_first}
+use Rattle.std.proofs.lemmas.Option.{none-some, same_Some, slice_get_within, slice_get-get_or, get_or_from_slice_get}
+use Rattle.std.proofs.lemmas.Map.Entries.{All-lookup}
+use Rattle.sc_papers.specs.Market.{Market, student_of, students_of, choices_of}
+use Rattle.sc_papers.specs.WellFormed.{WellFormed, WithinLimits, IsShort}
+use Rattle.sc_papers.specs.Log.{is_rejected}
+use Rattle.sc_papers.specs.declared.records.Student.{Student}
+use Rattle.sc_papers.specs.declared.rejection.Rejection.{Rejection}
+use Rattle.sc_papers.proofs.Choices.{one-place}
+use Rattle.sc_papers.proofs.Rejections.{is_of, rejected-push}
+use Rattle.sc_papers.proofs.Students.{choices-differ}
+use Rattle.sc_checkpoint.specs.Places.{has_place, AreRejectedPlaces, AreTabled}
+use Rattle.sc_checkpoint.specs.declared.place_set.PlaceSet.{PlaceSet}
+
+or-false : (b : Bool) → (b || false) ≡ b
+or-false true = refl
+or-false false = refl
+
+-- a position is that of a member that passes
+pub position-here : (test : ℕ → Bool) (xs : List ℕ) (k : ℕ) → position test xs ≡ Some k → (x : ℕ) × (slice_get xs k ≡ Some x) × (test x ≡ true)
+position-here test xs k found =
+    let parts = position-Some test xs k 0 found in
+    (get_or xs k 0, slice_get-get_or xs k 0 parts.0, parts.1)
+
+-- where there is no position, no member passes
+pub position-none : (test : ℕ → Bool) (xs : List ℕ) (k x : ℕ) → position test xs ≡ None → slice_get xs k ≡ Some x → test x ≡ false
+position-none test xs k x none here =
+    elim (cases_lt (position_or_len test xs) (length xs)) [
+      | inl low ↦ absurd (none-some (position_or_len test xs) (sym none ∙ cond-true (nat_lt (position_or_len test xs) (length xs)) (Some (position_or_len test xs)) None (lt-ltb (position_or_len test xs) (length xs) low)))
+      | inr over ↦
+          ap test (sym (get_or_from_slice_get xs k x x here))
+          ∙ fails_before_first test xs k x (omega (arith, over, slice_get_within xs k x here))
+    ]
+
+-- no student lists more than 20 choices
+pub student-short : (m : Market) → WithinLimits m → (i : ℕ) (student : Student) → student_of m i ≡ Some student → length student.choices ≤ 20
+student-short m limits i student is =
+    let short : IsShort student = subst (λ found. IfSome found IsShort) is (All-lookup IsShort (nat_eq i) m.students limits.lists) in
+    short.choices
+
+-- an entry of another student or school
+other-entry : (e : Rejection) (i s : ℕ) → (e.student ≡ i → e.school ≡ s → ⊥) → is_of e i s ≡ false
+other-entry e i s apart =
+    false_from_ne_true (is_of e i s) (λ same.
+    let parts = and_parts (e.student == i) (e.school == s) same in
+    apart (eqb-true e.student i parts.0) (eqb-true e.school s parts.1))
+
+-- it changes nothing for this student and school
+other-kept : (log : List Rejection) (e : Rejection) (i s : ℕ) → (e.student ≡ i → e.school ≡ s → ⊥) → is_rejected (log ++ e ∷ []) i s ≡ is_rejected log i s
+other-kept log e i s apart =
+    rejected-push log e i s ∙ ap (λ b. is_rejected log i s || b) (other-entry e i s apart) ∙ or-false (is_rejected log i s)
+
+-- an entry of no student of the table, or of a school that its student doesn't list
+pub table-kept : (m : Market) (log : List Rejection) (e : Rejection) (table : List PlaceSet) → ((at place : ℕ) → at < length table → slice_get (students_of m) at ≡ Some e.student → slice_get (choices_of m e.student) place ≡ Some e.school → ⊥) → AreTabled m log table → AreTabled m (log ++ e ∷ []) table
+table-kept m log e table apart before = record {
+  at = λ at i places at_student at_table place s at_school.
+      before.at at i places at_student at_table place s at_school
+      ∙ sym (other-kept log e i s (λ same_student same_school.
+      apart at place (slice_get_within table at places at_table)
+      (at_student ∙ ap Some (sym same_student))
+      (ap (λ j. slice_get (choices_of m j) place) same_student ∙ at_school ∙ ap Some (sym same_school))));
+}
+
+pub table-unknown : (m : Market) (log : List Rejection) (e : Rejection) (table : List PlaceSet) → position (nat_eq e.student) (students_of m) ≡ None → AreTabled m log table → AreTabled m (log ++ e ∷ []) table
+table-unknown m log e table none =
+    table-kept m log e table (λ at place low at_student at_school.
+    absurd (false≢true (sym (position-none (nat_eq e.student) (students_of m) at e.student none at_student) ∙ eq-eqb e.student e.student refl)))
+
+pub table-unlisted : (m : Market) (log : List Rejection) (e : Rejection) (table : List PlaceSet) → position (λ s. s == e.school) (choices_of m e.student) ≡ None → AreTabled m log table → AreTabled m (log ++ e ∷ []) table
+table-unlisted m log e table none =
+    table-kept m log e table (λ at place low at_student at_school.
+    absurd (false≢true (sym (position-none (λ s. s == e.school) (choices_of m e.student) place e.school none at_school) ∙ eq-eqb e.school e.school refl)))
+
+-- the entry's student stands at its position
+student-here : (m : Market) (i at : ℕ) → position (nat_eq i) (students_of m) ≡ Some at → slice_get (students_of m) at ≡ Some i
+student-here m i at found =
+    let here = position-here (nat_eq i) (students_of m) at found in
+    here.1 ∙ ap Some (sym (eqb-true i here.0 here.2))
+
+school-here : (m : Market) (i s place : ℕ) → position (λ t. t == s) (choices_of m i) ≡ Some place → slice_get (choices_of m i) place ≡ Some s
+school-here m i s place found =
+    let here = position-here (λ t. t == s) (choices_of m i) place found in
+    here.1 ∙ ap Some (eqb-true here.0 s here.2)
+
+-- an entry of a student past the table
+pub table-past : (m : Market) (log : List Rejection) (e : Rejection) (table : List PlaceSet) (position_of : ℕ) → WellFormed m → position (nat_eq e.student) (students_of m) ≡ Some position_of → length table ≤ position_of → AreTabled m log table → AreTabled m (log ++ e ∷ []) table
+table-past m log e table position_of well found past =
+    table-kept m log e table (λ at place low at_student at_school.
+    absurd (omega (arith, past, low, one-place (students_of m) at position_of e.student well.students_differ at_student (student-here m e.student position_of found))))
+
+-- of the choices of the entry's student, the one at the entry's place is the entry's school
+place-of-entry : (m : Market) (e : Rejection) (i s place place_of : ℕ) → WellFormed m → e.student ≡ i → slice_get (choices_of m i) place ≡ Some s → slice_get (choices_of m i) place_of ≡ Some e.school → (place == place_of) ≡ is_of e i s
+place-of-entry m e i s place place_of well is_student at_school listed =
+    elim (cases_eq place place_of) [
+      | inl same ↦
+          let is_school : e.school ≡ s = same_Some e.school s (sym listed ∙ ap (slice_get (choices_of m i)) (sym same) ∙ at_school) in
+          eq-eqb place place_of same
+          ∙ sym (ap (λ b. b && e.school == s) (eq-eqb e.student i is_student) ∙ eq-eqb e.school s is_school)
+      | inr apart ↦
+          ne_eqb place place_of apart
+          ∙ sym (other-entry e i s (λ same_student same_school.
+          apart (one-place (choices_of m i) place place_of s (choices-differ m well i) at_school (listed ∙ ap Some same_school))))
+    ]
+
+-- an entry put into the table
+pub table-marked : (m : Market) (log : List Rejection) (e : Rejection) (table : List PlaceSet) (position_of place_of : ℕ) (old new : PlaceSet)
+    → WellFormed m
+    → position (nat_eq e.student) (students_of m) ≡ Some position_of
+    → position (λ s. s == e.school) (choices_of m e.student) ≡ Some place_of
+    → slice_get table position_of ≡ Some old
+    → ((other : ℕ) → has_place new other ≡ (has_place old other || other == place_of))
+    → AreTabled m log table → AreTabled m (log ++ e ∷ []) (set table position_of new)
+table-marked m log e table position_of place_of old new well student school old_at added before = record {
+  at = λ at i places at_student at_table place s at_school.
+      elim (cases_eq at position_of) [
+        | inl same ↦ marked_row at i places at_student at_table place s at_school same
+        | inr apart ↦ other_row at i places at_student at_table place s at_school apart
+      ];
+}
+  where
+    marked_row : (at i : ℕ) (places : PlaceSet) → slice_get (students_of m) at ≡ Some i → slice_get (set table position_of new) at ≡ Some places → (place s : ℕ) → slice_get (choices_of m i) place ≡ Some s → at ≡ position_of → has_place places place ≡ is_rejected (log ++ e ∷ []) i s
+    marked_row at i places at_student at_table place s at_school same =
+        let low : position_of < length table = slice_get_within table position_of old old_at in
+        let long : position_of < length (set table position_of new) = omega (arith, low, length-set table position_of new) in
+        let written : slice_get (set table position_of new) position_of ≡ Some new =
+        slice_get-get_or (set table position_of new) position_of new long ∙ ap Some (get_or-set_same table position_of new new low) in
+        let is_new : places ≡ new = same_Some places new (sym at_table ∙ ap (slice_get (set table position_of new)) same ∙ written) in
+        let at_position : slice_get (students_of m) position_of ≡ Some i = ap (slice_get (students_of m)) (sym same) ∙ at_student in
+        let is_student : e.student ≡ i = same_Some e.student i (sym (student-here m e.student position_of student) ∙ at_position) in
+        let listed : slice_get (choices_of m i) place_of ≡ Some e.school =
+        ap (λ j. slice_get (choices_of m j) place_of) (sym is_student) ∙ school-here m e.student e.school place_of school in
+        ap (λ set_of. has_place set_of place) is_new
+        ∙ added place
+        ∙ ap (λ b. b || place == place_of) (before.at position_of i old at_position old_at place s at_school)
+        ∙ ap (λ b. is_rejected log i s || b) (place-of-entry m e i s place place_of well is_student at_school listed)
+        ∙ sym (rejected-push log e i s)
+
+    other_row : (at i : ℕ) (places : PlaceSet) → slice_get (students_of m) at ≡ Some i → slice_get (set table position_of new) at ≡ Some places → (place s : ℕ) → slice_get (choices_of m i) place ≡ Some s → (at ≡ position_of → ⊥) → has_place places place ≡ is_rejected (log ++ e ∷ []) i s
+    other_row at i places at_student at_table place s at_school apart =
+        let low : at < length table = omega (arith, slice_get_within (set table position_of new) at places at_table, length-set table position_of new) in
+        let here : slice_get table at ≡ Some places =
+        slice_get-get_or table at places low
+        ∙ ap Some (sym (get_or-set_other table position_of at new places apart) ∙ get_or_from_slice_get (set table position_of new) at places places at_table) in
+        before.at at i places at_student here place s at_school
+        ∙ sym (other-kept log e i s (λ same_student same_school.
+        apart (one-place (students_of m) at position_of i well.students_differ at_student (student-here m e.student position_of student ∙ ap Some same_student))))
+
+-- before the first entry
+pub table-new : (m : Market) (k : ℕ) (places : PlaceSet) (table : List PlaceSet) → ((place : ℕ) → has_place places place ≡ false) → table ≡ replicate k places → AreTabled m [] table
+table-new m k places table none made = record {
+  at = λ at i row at_student at_table place s at_school.
+      let low : at < k = omega (arith, slice_get_within table at row at_table, ap length made, length-replicate k places) in
+      let is_row : row ≡ places =
+      same_Some row places (sym at_table ∙ ap (λ rows. slice_get rows at) made ∙ slice_get-get_or (replicate k places) at places (omega (arith, low, length-replicate k places)) ∙ ap Some (get_or-replicate k at places places low)) in
+      ap (λ set_of. has_place set_of place) is_row ∙ none place;
+}

@@ -1,0 +1,14 @@
+use Rattle.std.proofs.Common.{refl, sym, ◌∙◌, length}
+use Rattle.std.proofs.lemmas.Option.{slice_get_read}
+use Rattle.sc_checkpoint.proofs.Finding.{outside-found, outside-none}
+use Rattle.sc_checkpoint.proofs.next_choices.first_outside.Goals as goal
+
+pub returns-then-not-contains : goal.returns-then-not-contains
+returns-then-not-contains c = λ test agree.
+    sym (outside-found c.args.places c.args.choices.now c.loop-place.place c.index-choices-place.result test agree c.loop-place.invariant
+    (slice_get_read c.args.choices.now (length c.args.choices.now) c.loop-place.place c.index-choices-place.result refl c.loop-place-test.true c.index-choices-place.is)
+    (sym c.contains.ensures ∙ c.if-not-contains.true))
+
+pub returns : goal.returns
+returns c = λ test agree.
+    sym (outside-none c.args.places c.args.choices.now c.loop-place.place test agree c.loop-place.invariant c.loop-place-test.false)

@@ -1,0 +1,20 @@
+-- A log in segments, one for each student in order of entry.
+use Rattle.std.specs.Prelude.{ℕ, List, [], ◌∷◌, ◌++◌, map}
+use Rattle.sc_papers.specs.declared.rejection.Rejection.{Rejection}
+
+-- a student, and the rejections of the chain with which the student entered
+pub record Chain : Type 0 where
+  pub student : ℕ
+  pub rejections : List Rejection
+
+-- whose chains they are
+abbrev pub students_in : List Chain → List ℕ
+students_in chains = map (λ chain. chain.student) chains
+
+-- the segments of the log
+abbrev pub logs_in : List Chain → List (List Rejection)
+logs_in chains = map (λ chain. chain.rejections) chains
+
+-- the chains, and one more student's at their end
+abbrev pub with_chain : List Chain → ℕ → List Rejection → List Chain
+with_chain chains i log = chains ++ record { student = i; rejections = log } ∷ []

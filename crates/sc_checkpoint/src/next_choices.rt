@@ -1,0 +1,122 @@
+//! The next choices of the first students of the papers after any log.
+
+ghost use Rattle.std.specs.Prelude.{◌≡◌, ℕ, ◌<◌, ◌≤◌, ◌==◌, ◌++◌, ◌∷◌, [], List, Bool, length, take, find, not, position, slice_get, vec_len, Some, IfOk, IfSome};
+ghost use Rattle.sc_papers.specs.Log.{next_choice};
+ghost use Rattle.sc_papers.specs.Market.{students_of, choices_of};
+ghost use Rattle.sc_papers.specs.declared.rejection.Rejection.{Rejection};
+ghost use Rattle.sc_checkpoint.specs.Places.{has_place, AreRejectedPlaces, AreTabled};
+ghost use Rattle.sc_checkpoint.specs.Standings.{standings_after};
+
+use crate::place_set::PlaceSet;
+use crate::standing::Standing;
+use sc_papers::{Papers, Rejection, SchoolNo, StudentNo};
+use std::alloc::{AllocError, Global};
+
+/// How many students there may be.
+const MOST_STUDENTS: usize = 200_000;
+
+/// Where the first `k` students of the papers stand after the log. The only error is a refused
+/// growth.
+///
+/// One pass over the log marks, for each student, which of its choices rejected it, and one over the
+/// students finds the first that did not. An entry costs two look-ups and its student's choices.
+pub(crate) fn standings(
+    alloc: Global,
+    papers: &Papers,
+    log: &[Rejection],
+    k: usize,
+) -> Result<Vec<Standing>, AllocError>
+    requires { k ≤ length (students_of papers.now) }
+    ensures { IfOk result (λ standings. standings.items ≡ standings_after papers.now log.now (take k (students_of papers.now))) }
+{
+    let rejected = rejected_places(alloc, papers, log, k)?;
+    let mut standings = Vec::with_capacity(alloc, k)?;
+    for position in 0..k {
+        let Some(student) = papers.student_at(position) else {
+            unreachable!()
+        };
+        standings.push_reserved(standing_of(papers, student, rejected[position]));
+    }
+    Ok(standings)
+}
+
+/// For each of the first `k` students, the places of the choices that rejected it.
+fn rejected_places(
+    alloc: Global,
+    papers: &Papers,
+    log: &[Rejection],
+    k: usize,
+) -> Result<Vec<PlaceSet>, AllocError>
+    ensures count { IfOk result (λ table. length table.items ≡ k) }
+    ensures tabled { IfOk result (λ table. AreTabled papers.now log.now table.items) }
+{
+    let mut table = vec![in alloc; PlaceSet::new(); k]?;
+    for entry in log {
+        mark(papers, &mut table, *entry);
+    }
+    Ok(table)
+}
+
+/// Puts the entry's school among the places of the entry's student, where the student is in the table
+/// and lists the school.
+fn mark(papers: &Papers, table: &mut [PlaceSet], entry: Rejection)
+    ensures { (log : List Rejection) → AreTabled papers.now log table.old → AreTabled papers.now (log ++ entry ∷ []) table.new }
+{
+    let Some(position) = papers.student_position(entry.student) else {
+        return;
+    };
+    let Some(place) = place_of(papers, entry.student, entry.school) else {
+        return;
+    };
+    prove!(position < papers.students_len());
+    if position < table.len() {
+        table[position] = table[position].with(place);
+    }
+}
+
+/// The school's place in the student's choices.
+fn place_of(papers: &Papers, student: StudentNo, school: SchoolNo) -> Option<usize>
+    ensures place { result ≡ position (λ s. s == school) (choices_of papers.now student) }
+    ensures small { IfSome result (λ place. place < 20) }
+{
+    choices(papers, student)
+        .iter()
+        .position(|choice| *choice == school)
+}
+
+/// The student's choices, best first: none where it is not in the papers.
+#[tactic(auto, unfolding(sc_papers::specs::Market::choices_of))]
+fn choices(papers: &Papers, student: StudentNo) -> &[SchoolNo]
+    ensures value { result.now ≡ choices_of papers.now student }
+    ensures short { length result.now ≤ 20 }
+{
+    prove!(papers.students_len() <= MOST_STUDENTS);
+    match papers.student(student) {
+        Some(record) => record.choices.as_slice(),
+        None => &[],
+    }
+}
+
+/// Where the student stands, by the places of the choices that rejected it.
+#[tactic(auto, unfolding(sc_papers::specs::Log::next_choice))]
+fn standing_of(papers: &Papers, student: StudentNo, rejected: PlaceSet) -> Standing
+    ensures { (log : List Rejection) → AreRejectedPlaces papers.now log student rejected → result ≡ record { student = student; next = next_choice papers.now log student } }
+{
+    Standing {
+        student,
+        next: first_outside(choices(papers, student), rejected),
+    }
+}
+
+/// The first of the choices whose place is not in the set.
+fn first_outside(choices: &[SchoolNo], places: PlaceSet) -> Option<SchoolNo>
+    requires { length choices.now ≤ 20 }
+    ensures { (test : ℕ → Bool) → ((place s : ℕ) → slice_get choices.now place ≡ Some s → has_place places place ≡ test s) → result ≡ find (λ s. not (test s)) choices.now }
+{
+    for (place, school) in choices.iter().enumerate() {
+        if !places.contains(place) {
+            return Some(*school);
+        }
+    }
+    None
+}

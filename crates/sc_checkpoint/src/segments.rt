@@ -1,0 +1,147 @@
+use crate::next_choices::standings;
+use crate::segment::{Segment, end_of_first};
+use crate::standing::Standing;
+use sc_papers::{Papers, Rejection, StudentNo};
+use std::alloc::{AllocError, Global};
+use std::marker::Model;
+
+/// The log of rejections cut into segments, one for each student in order of entry: the rejections of
+/// the student's chain. A checkpoint is a position from 0 to their number, and nothing is stored for
+/// it: the log after the first k students entered is the first k segments, joined.
+#[derive(Drop)]
+pub struct Segments {
+    alloc: Global,
+    log: Vec<Rejection>,
+    segments: Vec<Segment>,
+}
+
+impl Model for Segments {
+    ghost use Rattle.std.specs.Prelude.{List};
+    ghost use Rattle.sc_checkpoint.specs.Chains.{Chain};
+
+    ghost Value = { List Chain };
+
+    ghost use Rattle.sc_checkpoint.specs.Inside.{chains_of, IsSound};
+
+    ghost view = { chains_of };
+
+    ghost invariant = { IsSound };
+}
+
+impl Segments {
+    ghost use Rattle.std.specs.Prelude.{◌≡◌, ◌<◌, ◌≤◌, [], length, take, slice_get, Some, IfOk, OnOk, OnErr};
+    ghost use Rattle.sc_papers.specs.Restriction.{joined};
+    ghost use Rattle.sc_checkpoint.specs.Chains.{students_in, logs_in, with_chain};
+    ghost use Rattle.sc_checkpoint.specs.Standings.{standings_after};
+    ghost use Rattle.sc_papers.specs.Market.{students_of};
+
+    /// No segments. It takes no memory.
+    pub fn new(alloc: Global) -> Self
+        ensures { result ≡ [] }
+    {
+        Segments {
+            alloc,
+            log: Vec::new(alloc),
+            segments: Vec::new(alloc),
+        }
+    }
+
+    /// Puts the student's segment at the end. A refused growth changes nothing. The cost is the
+    /// segment's length.
+    pub fn push(&mut self, student: StudentNo, rejections: &[Rejection]) -> Result<(), AllocError>
+        ensures pushed { OnOk result (self.new ≡ with_chain self.old student rejections.now) }
+        ensures unchanged { OnErr result (self.new ≡ self.old) }
+    {
+        self.segments.reserve(1)?;
+        self.log.extend_from_slice(rejections)?;
+        self.segments.push_reserved(Segment {
+            student,
+            end: self.log.len(),
+        });
+        Ok(())
+    }
+
+    /// How many segments there are.
+    pub fn len(&self) -> usize
+        ensures { result ≡ length self.now }
+    {
+        self.segments.len()
+    }
+
+    /// The whole log, lent: the segments joined.
+    pub fn rejections(&self) -> &[Rejection]
+        ensures { result.now ≡ joined (logs_in self.now) }
+    {
+        self.log.as_slice()
+    }
+
+    /// The log of the first `k` students, lent: the first `k` segments joined. In constant time.
+    pub fn first(&self, k: usize) -> &[Rejection]
+        requires { k ≤ length self.now }
+        ensures { result.now ≡ joined (take k (logs_in self.now)) }
+    {
+        &self.log[..end_of_first(self.segments.as_slice(), k)]
+    }
+
+    /// The segment at a position, from 0, lent: the rejections of one student's chain. In constant
+    /// time.
+    pub fn segment(&self, k: usize) -> &[Rejection]
+        requires { k < length self.now }
+        ensures { slice_get (logs_in self.now) k ≡ Some result.now }
+    {
+        prove!(k < self.len());
+        let (_, segment) = self.first(k + 1).split_at(self.first(k).len());
+        segment
+    }
+
+    /// The student whose segment stands at a position, from 0. In constant time.
+    pub fn student(&self, k: usize) -> StudentNo
+        requires { k < length self.now }
+        ensures { slice_get (students_in self.now) k ≡ Some result }
+    {
+        self.segments[k].student
+    }
+
+    /// The whole log as a value of its own, or the error of a refused growth. The cost is its length.
+    pub fn flat(&self) -> Result<Vec<Rejection>, AllocError>
+        ensures { IfOk result (λ log. log.items ≡ joined (logs_in self.now)) }
+    {
+        Vec::from_slice(self.alloc, self.rejections())
+    }
+
+    /// The log of the first `k` students as a value of its own, or the error of a refused growth. The
+    /// cost is its length.
+    pub fn prefix(&self, k: usize) -> Result<Vec<Rejection>, AllocError>
+        requires { k ≤ length self.now }
+        ensures { IfOk result (λ log. log.items ≡ joined (take k (logs_in self.now))) }
+    {
+        Vec::from_slice(self.alloc, self.first(k))
+    }
+
+    /// The first `k` segments, or the error of a refused growth. The cost is `k` and the length of
+    /// their log, which are copied as they stand.
+    pub fn copy_prefix(&self, k: usize) -> Result<Self, AllocError>
+        requires { k ≤ length self.now }
+        ensures { IfOk result (λ segments. segments ≡ take k self.now) }
+    {
+        Ok(Segments {
+            alloc: self.alloc,
+            log: self.prefix(k)?,
+            segments: Vec::from_slice(self.alloc, &self.segments[..k])?,
+        })
+    }
+
+    /// Where the first `k` students of the papers stand after the log of their segments: each one's
+    /// next choice, the first that has not rejected it, whatever the log says. The only error is a
+    /// refused growth.
+    ///
+    /// The cost is two look-ups and a pass over one list of choices for each entry of that log, and as
+    /// much for each of the `k` students. Memory is taken for the `k` alone.
+    pub fn next_choices_at(&self, papers: &Papers, k: usize) -> Result<Vec<Standing>, AllocError>
+        requires within { k ≤ length self.now }
+        requires students { take k (students_in self.now) ≡ take k (students_of papers.now) }
+        ensures { IfOk result (λ standings. standings.items ≡ standings_after papers.now (joined (take k (logs_in self.now))) (take k (students_of papers.now))) }
+    {
+        standings(self.alloc, papers, self.first(k), k)
+    }
+}
