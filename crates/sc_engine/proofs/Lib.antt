@@ -10,3 +10,5 @@ pub mod Beginning
 pub mod Starting
 pub mod Settling
 pub mod Backwards
+pub mod Putting
+pub mod Resuming

@@ -41,7 +41,7 @@ take-all [] = refl
 take-all (x ∷ xs) = ap (λ ys. x ∷ ys) (take-all xs)
 
 -- among one more
-first-more : (xs : List ℕ) (k i : ℕ) → slice_get xs k ≡ Some i → (j : ℕ) → among_first xs (k + 1) j ≡ (among_first xs k j || j == i)
+pub first-more : (xs : List ℕ) (k i : ℕ) → slice_get xs k ≡ Some i → (j : ℕ) → among_first xs (k + 1) j ≡ (among_first xs k j || j == i)
 first-more xs k i here j =
     ap (λ n. among_first xs n j) (add-one k)
     ∙ ap (list_any (nat_eq j)) (take-suc xs k i (slice_get_within xs k i here) ∙ ap (λ x. take k xs ++ x ∷ []) (get_or_from_slice_get xs k i i here))
