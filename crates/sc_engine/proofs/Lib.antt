@@ -12,3 +12,4 @@ pub mod Settling
 pub mod Backwards
 pub mod Putting
 pub mod Resuming
+pub mod FirstTwo
