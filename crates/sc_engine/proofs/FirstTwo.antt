@@ -1,5 +1,5 @@
 -- Where the first two students stand once they alone have entered.
-use Rattle.std.proofs.Common.{◌≡◌, refl, ap, sym, subst, ◌∙◌, ℕ, nat_eq, Bool, true, false, ◌||◌, List, [], ◌∷◌, length, get_or, map, take, slice_get, Option, Some, arith}
+use Rattle.std.proofs.Common.{◌≡◌, refl, ap, sym, subst, ◌∙◌, ℕ, nat_eq, true, false, ◌||◌, List, [], ◌∷◌, map, take, slice_get, Option, Some, arith}
 use Rattle.std.specs.List.{IsDistinct, list_any}
 use Rattle.std.proofs.lemmas.Bool.{eq-eqb, or_left, or_right}
 use Rattle.std.proofs.lemmas.Cmp.{nat_eq_equiv}
@@ -16,7 +16,7 @@ use Rattle.sc_checkpoint.specs.Standings.{stands, StandAfter}
 use Rattle.sc_checkpoint.specs.declared.standing.Standing.{Standing}
 use Rattle.sc_engine.specs.Standing.{Standings, has_entered, next_of, SettlesFirst}
 use Rattle.sc_engine.proofs.Papers.{among-student}
-use Rattle.sc_engine.proofs.Settling.{among_first, first-apart}
+use Rattle.sc_engine.proofs.Settling.{first-apart}
 
 -- a student at a position of the order of entry is in the papers
 pub student-at : (m : Market) (at i : ℕ) → slice_get (students_of m) at ≡ Some i → is_student m i ≡ true

@@ -1,5 +1,5 @@
 -- One student who comes back to where it stood.
-use Rattle.std.proofs.Common.{◌≡◌, refl, ap, sym, subst, ◌∙◌, ℕ, ◌+◌, ◌<◌, nat_eq, true, false, not, ◌&&◌, length, Some, None, Option, position, slice_get, is_some, arith}
+use Rattle.std.proofs.Common.{◌≡◌, refl, ap, subst, ◌∙◌, ℕ, ◌+◌, ◌<◌, nat_eq, true, false, not, ◌&&◌, length, Some, None, Option, position, slice_get, is_some, arith}
 use Rattle.sc_papers.specs.Market.{Market, choices_of, schools_of, seats_of, is_school}
 use Rattle.sc_papers.specs.Matching.{Matching, has, held}
 use Rattle.sc_papers.proofs.Choices.{contains-at}

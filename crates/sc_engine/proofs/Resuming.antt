@@ -1,14 +1,14 @@
 -- Students who come back to where they stood after an earlier log.
-use Rattle.std.proofs.Common.{◌≡◌, inl, inr, refl, ap, sym, subst, ◌∙◌, ℕ, zero, suc, ◌+◌, ◌≤◌, ◌<◌, ◌==◌, nat_eq, Bool, true, false, ◌&&◌, ◌||◌, List, [], ◌∷◌, ◌++◌, length, map, take, slice_get, Option, Some, None, Contains, IfSome, append-nil, add-one, arith}
+use Rattle.std.proofs.Common.{◌≡◌, inl, inr, refl, ap, sym, subst, ◌∙◌, ℕ, zero, suc, ◌+◌, ◌<◌, ◌==◌, nat_eq, Bool, true, false, ◌&&◌, ◌||◌, List, [], ◌∷◌, ◌++◌, length, map, take, slice_get, Option, Some, None, Contains, IfSome, append-nil, arith}
 use Rattle.std.specs.List.{IsDistinct}
-use Rattle.std.proofs.lemmas.Bool.{cases_Bool, cases_lt, cases_eq, or_left, or_right, or_cases, eqb-true, eq-eqb, and_from, false≢true}
+use Rattle.std.proofs.lemmas.Bool.{cases_Bool, cases_lt, or_left, or_right, or_cases, eqb-true, eq-eqb, and_from, false≢true}
 use Rattle.std.proofs.lemmas.Cmp.{nat_eq_equiv}
 use Rattle.std.proofs.lemmas.Option.{none-some, same_Some, slice_get_within, get_or_from_slice_get}
 use Rattle.std.proofs.lemmas.List.{take_all}
 use Rattle.std.proofs.lemmas.List.Elements.{All-contains}
 use Rattle.sc_papers.specs.Chain.{and_one}
 use Rattle.sc_papers.specs.Log.{next_choice, matching_of, IsSettled}
-use Rattle.sc_papers.specs.Market.{Market, choices_of, seats_of, students_of}
+use Rattle.sc_papers.specs.Market.{Market, choices_of, seats_of}
 use Rattle.sc_papers.specs.Matching.{Matching, has, held, how_many}
 use Rattle.sc_papers.specs.Restriction.{restricted}
 use Rattle.sc_papers.specs.declared.rejection.Rejection.{Rejection}

@@ -1,4 +1,4 @@
-use Rattle.std.proofs.Common.{◌∙◌, sym}
+use Rattle.std.proofs.Common.{◌∙◌}
 use Rattle.sc_papers.specs.Market.{students_of}
 use Rattle.sc_engine.specs.Round.{standings_of}
 use Rattle.sc_engine.specs.Standing.{SettlesFirst}

@@ -1,4 +1,4 @@
-use Rattle.std.proofs.Common.{◌≡◌, refl, sym, subst, ◌∙◌, ℕ, ◌<◌, Option, None, IfSome, arith}
+use Rattle.std.proofs.Common.{refl, sym, subst, ◌∙◌, ℕ, ◌<◌, Option, None, IfSome, arith}
 use Rattle.sc_papers.specs.Market.{seats_of}
 use Rattle.sc_papers.specs.Matching.{held}
 use Rattle.sc_engine.specs.Standing.{next_of, OffersAt}

@@ -1,4 +1,4 @@
-use Rattle.std.proofs.Common.{◌≡◌, sym, ap, ◌∙◌, Some, slice_get, length, arith}
+use Rattle.std.proofs.Common.{◌≡◌, Some, slice_get, length, arith}
 use Rattle.std.proofs.lemmas.Option.{slice_get_read}
 use Rattle.std.proofs.Common.{refl}
 use Rattle.sc_engine.specs.Round.{standings_of, is_spent}
