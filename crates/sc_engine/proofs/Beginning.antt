@@ -19,27 +19,27 @@ use Rattle.sc_engine.proofs.Tables as tables
 use Rattle.sc_engine.proofs.Rolls.{roll-fits_still}
 use Rattle.sc_engine.proofs.Proposals.{has-none, not-there, stays, standing-without, standing-others, counted-within}
 
--- the student goes to its first choice, with nothing else changed
-pub record Begun (m : Market) (r r' : Standings) (i at : ℕ) : Type 0 where
+-- the student goes to a place of its choices, with nothing else changed
+pub record Begun (m : Market) (r r' : Standings) (i at place : ℕ) : Type 0 where
   pub fits : Fits m r
   pub student : position (nat_eq i) (students_of m) ≡ Some at
   pub low : at < length r.places
   pub absent : has_entered m r.places i ≡ false
-  pub places : r'.places ≡ set r.places at (Some 0)
+  pub places : r'.places ≡ set r.places at (Some place)
   pub rolls : r'.rolls ≡ r.rolls
   pub log : r'.log ≡ r.log
   pub proposals : r'.proposals ≡ r.proposals
 
-is_some-none : {A : Type 0} (o : Option A) → is_some o ≡ false → o ≡ None
+pub is_some-none : {A : Type 0} (o : Option A) → is_some o ≡ false → o ≡ None
 is_some-none None e = refl
 is_some-none (Some x) e = absurd (true≢false e)
 
-module _ {m : Market} {r r' : Standings} {i at : ℕ} (begun : Begun m r r' i at) where
-  pub place-first : place_of m r'.places i ≡ Some 0
-  place-first = ap (λ ps. place_of m ps i) begun.places ∙ place-written m r.places i at (Some 0) begun.student begun.low
+module _ {m : Market} {r r' : Standings} {i at place : ℕ} (begun : Begun m r r' i at place) where
+  pub place-begun : place_of m r'.places i ≡ Some place
+  place-begun = ap (λ ps. place_of m ps i) begun.places ∙ place-written m r.places i at (Some place) begun.student begun.low
 
   pub place-others : (j : ℕ) → (j ≡ i → ⊥) → place_of m r'.places j ≡ place_of m r.places j
-  place-others j apart = ap (λ ps. place_of m ps j) begun.places ∙ place-kept m r.places i at (Some 0) begun.student j apart
+  place-others j apart = ap (λ ps. place_of m ps j) begun.places ∙ place-kept m r.places i at (Some place) begun.student j apart
 
   pub next-others : (j : ℕ) → (j ≡ i → ⊥) → next_of m r'.places j ≡ next_of m r.places j
   next-others j apart = tables.next-kept m r.places r'.places j (place-others j apart)
@@ -52,14 +52,14 @@ or-same true b off = refl
 or-same false b off = sym off
 
 -- one more has entered
-pub entered-begun : {m : Market} {r r' : Standings} {i at : ℕ} → Begun m r r' i at → (j : ℕ) → has_entered m r'.places j ≡ and_one (has_entered m r.places) i j
+pub entered-begun : {m : Market} {r r' : Standings} {i at place : ℕ} → Begun m r r' i at place → (j : ℕ) → has_entered m r'.places j ≡ and_one (has_entered m r.places) i j
 entered-begun {m} {r} {r'} {i} begun j = elim (cases_eq j i) [
-  | inl same ↦ ap (has_entered m r'.places) same ∙ ap is_some (place-first begun) ∙ sym (or_right (has_entered m r.places j) (j == i) (eq-eqb j i same))
+  | inl same ↦ ap (has_entered m r'.places) same ∙ ap is_some (place-begun begun) ∙ sym (or_right (has_entered m r.places j) (j == i) (eq-eqb j i same))
   | inr apart ↦ ap is_some (place-others begun j apart) ∙ or-same (has_entered m r.places j) (j == i) (ne_eqb j i apart)
 ]
 
 -- nothing is counted
-pub counted-begun : {m : Market} {r r' : Standings} {i at : ℕ} → Begun m r r' i at → CountsProposals m r nobody r' (only i)
+pub counted-begun : {m : Market} {r r' : Standings} {i at place : ℕ} → Begun m r r' i at place → CountsProposals m r nobody r' (only i)
 counted-begun {m} {r} {r'} {i} begun =
     omega (
       arith,
@@ -69,7 +69,7 @@ counted-begun {m} {r} {r'} {i} begun =
       standing-others m r.places r'.places i (next-others begun),
     )
 
-stand-alike : {m : Market} {r r' : Standings} {i at : ℕ} → Begun m r r' i at → (t j : ℕ) → (has (next_of m r.places) t j && not false) ≡ (has (next_of m r'.places) t j && not (j == i))
+stand-alike : {m : Market} {r r' : Standings} {i at place : ℕ} → Begun m r r' i at place → (t j : ℕ) → (has (next_of m r.places) t j && not false) ≡ (has (next_of m r'.places) t j && not (j == i))
 stand-alike {m} {r} {r'} {i} begun t j = elim (cases_eq j i) [
   | inl same ↦
       stays (has (next_of m r.places) t j) ∙ has-none (next_of m r.places) t j (ap (next_of m r.places) same ∙ next-absent begun)
@@ -80,11 +80,11 @@ stand-alike {m} {r} {r'} {i} begun t j = elim (cases_eq j i) [
 ]
 
 -- the rolls still fit, with the student away
-pub fits-begun : {m : Market} {r r' : Standings} {i at : ℕ} → Begun m r r' i at → FitsBut m r' (only i)
-fits-begun {m} {r} {r'} {i} {at} begun = record {
+pub fits-begun : {m : Market} {r r' : Standings} {i at place : ℕ} → Begun m r r' i at place → FitsBut m r' (only i)
+fits-begun {m} {r} {r'} {i} {at} {place} begun = record {
   well_formed = begun.fits.well_formed;
   within_limits = begun.fits.within_limits;
-  places = ap length begun.places ∙ length-set r.places at (Some 0) ∙ begun.fits.places;
+  places = ap length begun.places ∙ length-set r.places at (Some place) ∙ begun.fits.places;
   rolls = ap length begun.rolls ∙ begun.fits.rolls;
   each = λ t. subst (λ rolls. RollFits m (next_of m r'.places) (only i) t (roll_of m rolls t)) (sym begun.rolls)
       (roll-fits_still m (next_of m r.places) (next_of m r'.places) nobody (only i) t (roll_of m r.rolls t) (stand-alike begun t) (begun.fits.each t));
@@ -114,7 +114,7 @@ unfolding next_choice
 first-choice m log i none = find-agree (λ s. not (is_rejected log i s)) (λ s. true) (λ s. ap not (none s)) (choices_of m i) ∙ find-all (choices_of m i)
 
 -- the chain is in course after each earlier log that the round continued
-pub midway-begun : {m : Market} {r r' : Standings} {i at : ℕ} → Begun m r r' i at → (earlier : List Rejection) → Continues m earlier r → Midway m earlier r' i
+pub midway-begun : {m : Market} {r r' : Standings} {i at : ℕ} → Begun m r r' i at 0 → (earlier : List Rejection) → Continues m earlier r → Midway m earlier r' i
 midway-begun {m} {r} {r'} {i} begun earlier continues =
     let entered : ℕ → Bool = has_entered m r.places in
     let log : List Rejection = earlier ++ r.log in
@@ -125,7 +125,7 @@ midway-begun {m} {r} {r'} {i} begun earlier continues =
     let own : next_choice n' log i ≡ next_of m r'.places i =
     next-kept (restricted-restricts m (and_one entered i)) log i (or_right (entered i) (i == i) (eq-eqb i i refl))
     ∙ first-choice m log i (absent-unrejected m entered i log begun.absent continues.settled)
-    ∙ sym (next-by m r'.places i 0 (place-first begun)) in
+    ∙ sym (next-by m r'.places i 0 (place-begun begun)) in
     let others : (j : ℕ) → (j ≡ i → ⊥) → next_choice n' log j ≡ next_of m r'.places j = λ j apart.
     let same : and_one entered i j ≡ entered j = sym (or-same (entered j) (j == i) (ne_eqb j i apart)) in
     (elim (cases_Bool (entered j)) [
@@ -141,7 +141,7 @@ midway-begun {m} {r} {r'} {i} begun earlier continues =
     }
 
 -- a whole chain
-pub enters : {m : Market} {r r' r'' : Standings} {i at : ℕ} → Begun m r r' i at → ChainEnds m r' r'' i → Enters m r r'' i
+pub enters : {m : Market} {r r' r'' : Standings} {i at : ℕ} → Begun m r r' i at 0 → ChainEnds m r' r'' i → Enters m r r'' i
 enters {m} {r} {r'} {r''} {i} begun ends = record {
   fits = ends.fits;
   entered = λ j. ends.entered j ∙ entered-begun begun j;
@@ -150,9 +150,12 @@ enters {m} {r} {r'} {r''} {i} begun ends = record {
   counted = omega (arith, counted-begun begun, ends.counted);
 }
 
--- the standings with the student at its first choice
-pub begins : (m : Market) (r : Standings) (i at : ℕ) → Fits m r → position (nat_eq i) (students_of m) ≡ Some at → has_entered m r.places i ≡ false → Begun m r (record r { places = set r.places at (Some 0) }) i at
-begins m r i at fits found absent = record {
+-- the standings with the student at a place of its choices
+abbrev pub moved : Standings → ℕ → ℕ → Standings
+moved r at place = record r { places = set r.places at (Some place) }
+
+pub begins : (m : Market) (r : Standings) (i at place : ℕ) → Fits m r → position (nat_eq i) (students_of m) ≡ Some at → has_entered m r.places i ≡ false → Begun m r (moved r at place) i at place
+begins m r i at place fits found absent = record {
   fits = fits;
   student = found;
   low = omega (arith, (tables.position-at (students_of m) i at found).0, tables.length-mapped (λ (e : ℕ × Student). e.0) m.students, fits.places);

@@ -10,3 +10,6 @@ pub mod Beginning
 pub mod Starting
 pub mod Settling
 pub mod Backwards
+pub mod Putting
+pub mod Resuming
+pub mod FirstTwo

@@ -168,3 +168,12 @@ pub record SettlesFirst (m : Market) (r : Standings) (k : ℕ) : Type 0 where
   pub entered : (i : ℕ) → has_entered m r.places i ≡ list_any (nat_eq i) (take k (students_of m))
   pub settled : Continues m [] r
   pub counted : r.proposals ≡ length r.log + standing_but m r.places nobody
+
+-- one more student has entered and stands at this choice, which is no proposal
+pub record StandsToo (m : Market) (old new : Standings) (i : ℕ) (choice : Option ℕ) : Type 0 where
+  pub fits : Fits m new
+  pub entered : (j : ℕ) → has_entered m new.places j ≡ and_one (has_entered m old.places) i j
+  pub own : next_of m new.places i ≡ choice
+  pub others : (j : ℕ) → (j ≡ i → ⊥) → next_of m new.places j ≡ next_of m old.places j
+  pub log : new.log ≡ old.log
+  pub proposals : new.proposals ≡ old.proposals

@@ -8,6 +8,8 @@ ghost use Rattle.sc_papers.specs.Market.{is_school, is_student, schools_of, seat
 ghost use Rattle.sc_engine.specs.Standing.{OffersAt, roll_at, next_of, place_of, Fits, FitsBut, only, Proposes, ChainEnds, Enters, Continues, has_entered, AreEmpty};
 ghost use Rattle.sc_engine.specs.Rolls.{rolls_of};
 
+mod resume;
+
 use crate::settled::Settled;
 use sc_papers::{Assignment, Key, Papers, Rejection, SchoolNo, Seats, StudentNo};
 use sc_seats::Roll;
@@ -132,6 +134,18 @@ fn key_at(papers: &Papers, student: StudentNo, school: SchoolNo) -> (usize, Key)
     (position, key)
 }
 
+/// Offers a seat of the school at the position to the key.
+fn offer_to<R: Roll>(rolls: &mut Vec<R>, at: usize, key: Key) -> Result<Option<Key>, AllocError>
+    requires within { at < length rolls.old.items }
+    requires room { let roll = roll_at (rolls_of R.keys R.seats rolls.old.items) at in length roll.keys ≤ roll.seats }
+    requires new { ¬ Contains (roll_at (rolls_of R.keys R.seats rolls.old.items) at).keys key }
+    ensures { IfOk result (λ out. OffersAt (rolls_of R.keys R.seats rolls.old.items) (rolls_of R.keys R.seats rolls.new.items) at key out) }
+{
+    let roll = &mut rolls[at];
+    let out = roll.offer(key)?;
+    Ok(out)
+}
+
 /// The student moves on to the next place of its choices.
 fn move_on(places: &mut Vec<Option<usize>>, papers: &Papers, student: StudentNo)
     requires places { length places.old.items ≡ length papers.now.students }
@@ -160,8 +174,7 @@ impl<R: Roll> Round<R> {
         ensures log { self.new.log.items ≡ self.old.log.items }
         ensures proposals { OnOk result (self.new.proposals ≡ self.old.proposals + 1) }
     {
-        let roll = &mut self.rolls[at];
-        let out = roll.offer(key)?;
+        let out = offer_to(&mut self.rolls, at, key)?;
         self.proposals += 1;
         Ok(out)
     }

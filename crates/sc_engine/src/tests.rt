@@ -1,10 +1,13 @@
-ghost use Rattle.std.specs.Prelude.{◌≡◌, true, false};
-ghost use Rattle.sc_papers.specs.Market.{is_student};
+ghost use Rattle.std.specs.Prelude.{◌≡◌, true, false, List, ◌∷◌, [], Some, IfOk, slice_get, map};
+ghost use Rattle.sc_papers.specs.Market.{is_student, students_of};
+ghost use Rattle.sc_papers.specs.declared.rejection.Rejection.{Rejection};
+ghost use Rattle.sc_checkpoint.specs.Standings.{StandAfter};
 ghost use Rattle.sc_engine.specs.Round.{standings_of, is_spent};
 ghost use Rattle.sc_engine.specs.Standing.{Fits, has_entered};
 
 use crate::round::Round;
 use crate::settled::{Settled, settle, settle_over};
+use sc_checkpoint::Standing;
 use sc_papers::{Amendment, Papers, SchoolList, SchoolNo, Seats, Seed, StudentNo, Zone};
 use sc_seats::{HeapRoll, Roll, SortedRoll};
 use std::alloc::{AllocError, Global};
@@ -109,18 +112,78 @@ fn one_seat_two_students(rt: HostRuntime) -> Result<(), Fail> {
     Ok(())
 }
 
-#[test]
-fn a_newcomer(rt: HostRuntime) -> Result<(), Fail> {
+/// The papers in which the third student puts the first one out, who puts out the second.
+fn newcomers(rt: &impl Abort, alloc: Global) -> Result<Papers, Fail> {
     let schools = [(10, 1, 1), (20, 0, 1)];
     let students: [Entry<'_>; 3] = [
         (1, 0, &[20], &[10, 20]),
         (2, 0, &[10], &[20, 10]),
         (3, 1, &[10], &[10]),
     ];
-    let papers = market(&rt, rt.alloc(), &schools, &students)?;
+    market(rt, alloc, &schools, &students)
+}
+
+#[test]
+fn a_newcomer(rt: HostRuntime) -> Result<(), Fail> {
+    let papers = newcomers(&rt, rt.alloc())?;
     let settled = settle(rt.alloc(), &papers)?;
     let log = [(1, 10), (2, 20), (2, 10)];
     expect_settled(&rt, &settled, &log, &[(1, 20), (3, 10)], 5);
+    Ok(())
+}
+
+/// Where the first two students stand once they alone have entered.
+fn first_two_stand<R: Roll>(
+    alloc: Global,
+    papers: &Papers,
+    one: StudentNo,
+    two: StudentNo,
+) -> Result<[Standing; 2], AllocError>
+    requires one { slice_get (students_of papers.now) 0 ≡ Some one }
+    requires two { slice_get (students_of papers.now) 1 ≡ Some two }
+    ensures after { IfOk result (λ standings. (earlier : List Rejection) × StandAfter papers.now earlier standings) }
+    ensures students { IfOk result (λ standings. map (λ standing. standing.student) standings ≡ one ∷ two ∷ []) }
+{
+    let mut round: Round<R> = Round::start(alloc, papers)?;
+    round.enter_one(papers, one)?;
+    round.enter_one(papers, two)?;
+    Ok([
+        Standing {
+            student: one,
+            next: round.next_choice(papers, one),
+        },
+        Standing {
+            student: two,
+            next: round.next_choice(papers, two),
+        },
+    ])
+}
+
+/// Enters the third student into a round that goes on from where the first two stand.
+fn resume_with_the_third<R: Roll>(alloc: Global, papers: &Papers) -> Result<Settled, AllocError> {
+    let (Some(one), Some(two), Some(three)) = (
+        papers.student_at(0),
+        papers.student_at(1),
+        papers.student_at(2),
+    ) else {
+        return Err(AllocError);
+    };
+    let standings = first_two_stand::<R>(alloc, papers, one, two)?;
+    let mut round: Round<R> = Round::resume(alloc, papers, &standings)?;
+    round.enter_one(papers, three)?;
+    round.into_settled(papers)
+}
+
+#[test]
+fn a_newcomer_to_a_resumed_round(rt: HostRuntime) -> Result<(), Fail> {
+    let papers = newcomers(&rt, rt.alloc())?;
+    let log = [(1, 10), (2, 20), (2, 10)];
+    for settled in [
+        resume_with_the_third::<SortedRoll>(rt.alloc(), &papers)?,
+        resume_with_the_third::<HeapRoll>(rt.alloc(), &papers)?,
+    ] {
+        expect_settled(&rt, &settled, &log, &[(1, 20), (3, 10)], 3);
+    }
     Ok(())
 }
 

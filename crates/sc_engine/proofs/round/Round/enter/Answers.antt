@@ -9,9 +9,9 @@ unreachable-requires g c = student-position c.args.papers.now c.args.student c.r
 
 pub chain-requires : goal.chain-requires
 chain-requires g c =
-    fits-begun (begins c.args.papers.now (standings_of g.R.Roll.keys g.R.Roll.seats c.args.self.now) c.args.student c.in-Some.at c.requires.fits (sym c.in-Some.ensures) c.requires.absent)
+    fits-begun (begins c.args.papers.now (standings_of g.R.Roll.keys g.R.Roll.seats c.args.self.now) c.args.student c.in-Some.at 0 c.requires.fits (sym c.in-Some.ensures) c.requires.absent)
 
 pub returns : goal.returns
 returns g c =
-    enters (begins c.args.papers.now (standings_of g.R.Roll.keys g.R.Roll.seats c.args.self.now) c.args.student c.in-Some.at c.requires.fits (sym c.in-Some.ensures) c.requires.absent)
+    enters (begins c.args.papers.now (standings_of g.R.Roll.keys g.R.Roll.seats c.args.self.now) c.args.student c.in-Some.at 0 c.requires.fits (sym c.in-Some.ensures) c.requires.absent)
     c.in_ok-chain.ensures

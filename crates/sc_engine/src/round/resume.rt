@@ -1,0 +1,95 @@
+//! Rounds that go on from where students stand.
+
+ghost use Rattle.std.specs.Prelude.{◌≡◌, ℕ, ◌<◌, true, false, List, [], Contains, Option, slice_get, IfOk, OnOk, IfSome};
+ghost use Rattle.sc_papers.specs.Market.{choices_of, is_student, seats_of};
+ghost use Rattle.sc_papers.specs.Matching.{held};
+ghost use Rattle.sc_papers.specs.declared.rejection.Rejection.{Rejection};
+ghost use Rattle.sc_checkpoint.specs.Standings.{stands, StandAfter};
+ghost use Rattle.sc_engine.specs.Standing.{Fits, Continues, StandsToo, has_entered, next_of};
+
+use super::{Round, key_at, offer_to};
+use sc_checkpoint::Standing;
+use sc_papers::{Papers, SchoolNo, StudentNo};
+use sc_seats::Roll;
+use std::alloc::{AllocError, Global};
+
+/// The place of the school among the student's choices, or the place after the last where there is no
+/// school.
+#[tactic(auto, unfolding(sc_papers::specs::Market::choices_of))]
+fn place_of_choice(papers: &Papers, student: StudentNo, school: Option<SchoolNo>) -> usize
+    requires student { is_student papers.now student ≡ true }
+    requires listed { IfSome school (λ s. Contains (choices_of papers.now student) s) }
+    ensures { slice_get (choices_of papers.now student) result ≡ school }
+{
+    let Some(record) = papers.student(student) else {
+        unreachable!()
+    };
+    let choices = record.choices.as_slice();
+    let Some(school) = school else {
+        return choices.len();
+    };
+    let Some(place) = choices.iter().position(|choice| *choice == school) else {
+        unreachable!()
+    };
+    place
+}
+
+impl<R: Roll> Round<R> {
+    ghost use Rattle.sc_engine.specs.Round.{standings_of, is_spent};
+
+    /// Puts the student at its next choice, and on the roll of that school, which has room. That is no
+    /// proposal: it was made before.
+    fn put(&mut self, papers: &Papers, standing: Standing) -> Result<(), AllocError>
+        requires fits { Fits papers.now (standings_of R.keys R.seats self.old) }
+        requires student { is_student papers.now standing.student ≡ true }
+        requires absent { has_entered papers.now self.old.places.items standing.student ≡ false }
+        requires listed { IfSome standing.next (λ s. Contains (choices_of papers.now standing.student) s) }
+        requires room { IfSome standing.next (λ s. held papers.now (next_of papers.now self.old.places.items) s < seats_of papers.now s) }
+        ensures stands { OnOk result (StandsToo papers.now (standings_of R.keys R.seats self.old) (standings_of R.keys R.seats self.new) standing.student standing.next) }
+        ensures spent { is_spent self.new ≡ is_spent self.old }
+    {
+        let place = place_of_choice(papers, standing.student, standing.next);
+        let Some(at) = papers.student_position(standing.student) else {
+            unreachable!()
+        };
+        self.places[at] = Some(place);
+        let Some(school) = standing.next else {
+            return Ok(());
+        };
+        let (position, key) = key_at(papers, standing.student, school);
+        let out = offer_to(&mut self.rolls, position, key)?;
+        if out.is_some() {
+            unreachable!()
+        }
+        Ok(())
+    }
+
+    /// A round in which the students of the standings have entered and stand at these next choices,
+    /// with an empty log and no proposals counted, or the error of a refused growth. After each earlier
+    /// log that leaves them there the round goes on as if it had made that log itself.
+    ///
+    /// It takes memory for each student and each school of the papers and for the seats held. The cost
+    /// is a look-up in each of a few tables, a search among the student's choices and an offer for each
+    /// standing.
+    pub fn resume(
+        alloc: Global,
+        papers: &Papers,
+        standings: &[Standing],
+    ) -> Result<Self, AllocError>
+        // Some earlier log is settled for the papers of these students alone, who are different
+        // students of the papers, and leaves them these next choices.
+        requires { (earlier : List Rejection) × StandAfter papers.now earlier standings.now }
+        ensures fits { IfOk result (λ round. Fits papers.now (standings_of R.keys R.seats round)) }
+        ensures entered { IfOk result (λ round. (i : ℕ) → has_entered papers.now (standings_of R.keys R.seats round).places i ≡ stands standings.now i) }
+        ensures continues { IfOk result (λ round. (earlier : List Rejection) → StandAfter papers.now earlier standings.now → Continues papers.now earlier (standings_of R.keys R.seats round)) }
+        ensures log { IfOk result (λ round. (standings_of R.keys R.seats round).log ≡ []) }
+        ensures proposals { IfOk result (λ round. (standings_of R.keys R.seats round).proposals ≡ 0) }
+        ensures ready { IfOk result (λ round. is_spent round ≡ false) }
+    {
+        let mut round: Self = Round::start(alloc, papers)?;
+        for standing in standings {
+            round.put(papers, *standing)?;
+        }
+        Ok(round)
+    }
+}
