@@ -3,7 +3,7 @@ use Rattle.std.proofs.Common.{◌≡◌, refl, ap, sym, subst, ◌∙◌, ℕ, �
 use Rattle.std.specs.List.{list_any, IsDistinct}
 use Rattle.std.proofs.lemmas.Cmp.{nat_eq_equiv}
 use Rattle.std.proofs.lemmas.Option.{slice_get_within, get_or_from_slice_get}
-use Rattle.std.proofs.lemmas.List.{take_more, take_all, take-append-le, take-map, length-map, length-append, length-take}
+use Rattle.std.proofs.lemmas.List.{take_more, take_all, take-append-le, take-map, length-map, length-append, length-take, map-append}
 use Rattle.std.proofs.lemmas.List.Elements.{All-contains_itself, All-map, All-take, All-weaker}
 use Rattle.sc_papers.specs.Assignment.{assigned}
 use Rattle.sc_papers.specs.Log.{matching_of, next_choice, IsSettled}
@@ -17,6 +17,7 @@ use Rattle.sc_papers.specs.declared.rejection.Rejection.{Rejection}
 use Rattle.sc_papers.proofs.Cutting.{cut-all, cut-restricted, joined-push, segments-more, segments-settled}
 use Rattle.sc_papers.proofs.Students.{how_many-agree}
 use Rattle.sc_papers.proofs.Subsets.{well-cut}
+use Rattle.sc_checkpoint.specs.Chains.{logs_in, students_in, with_chain, Chain}
 use Rattle.sc_checkpoint.specs.Standings.{standings_after, stands, StandAfter}
 use Rattle.sc_checkpoint.specs.declared.standing.Standing.{Standing}
 use Rattle.sc_engine.specs.Standing.{Standings, entered_papers, has_entered, next_of, nobody, standing_but, Continues, Enters, Fits}
@@ -140,3 +141,38 @@ proposals-all m kept r students segments given on is =
     let same : how_many m (λ i. is_some (next_of m r.places i) && not false) ≡ placed m given =
     how_many-agree m (λ i. is_some (next_of m r.places i) && not false) (λ i. is_some (given i)) (λ i. stays (is_some (next_of m r.places i)) ∙ ap is_some (sym (is i))) in
     omega (arith, on.counted, same, ap (λ (l : List Rejection). length l) on.log, length-append (joined kept) r.log)
+
+-- the segments that are kept
+pub stand-segments : (m : Market) (k : ℕ) (kept : List (List Rejection)) (standings : List Standing) → WellFormed m → length kept ≡ k → IsSegmented (cut m k) kept
+    → standings ≡ standings_after m (joined (take k kept)) (take k (students_of m)) → StandAfter m (joined kept) standings
+stand-segments m k kept standings well count segmented is =
+    subst (StandAfter m (joined kept)) (ap (λ l. standings_after m (joined l) (take k (students_of m))) (sym (take_all k kept (omega (arith, count)))) ∙ sym is)
+    (stand-after m k (joined kept) well (segments-settled (cut m k) kept segmented))
+
+-- a student enters, and its chain is put at the end
+pub goes-on-next : (m : Market) (kept : List (List Rejection)) (r r' : Standings) (chains new : List Chain) (k i : ℕ)
+    → slice_get (students_of m) k ≡ Some i → GoesOn m kept r (students_in chains) (logs_in chains) k → Enters m r r' i
+    → (chain : List Rejection) × (r'.log ≡ r.log ++ chain) × (new ≡ with_chain chains i chain)
+    → GoesOn m kept r' (students_in new) (logs_in new) (k + 1)
+goes-on-next m kept r r' chains new k i here on enters (chain, more, pushed) =
+    subst (λ cs. GoesOn m kept r' (students_in cs) (logs_in cs) (k + 1)) (sym pushed)
+    (subst (λ xs. GoesOn m kept r' xs (logs_in (with_chain chains i chain)) (k + 1)) (sym (map-append (λ (c : Chain). c.student) chains (record { student = i; rejections = chain } ∷ [])))
+    (subst (λ ls. GoesOn m kept r' (students_in chains ++ i ∷ []) ls (k + 1)) (sym (map-append (λ (c : Chain). c.rejections) chains (record { student = i; rejections = chain } ∷ [])))
+    (goes-on-more m kept chain r r' (students_in chains) (logs_in chains) k i here on enters more)))
+
+-- past the last student
+pub goes-on-past : (m : Market) (kept : List (List Rejection)) (r : Standings) (students : List ℕ) (segments : List (List Rejection)) (k : ℕ)
+    → length m.students ≤ k → GoesOn m kept r students segments k → GoesOn m kept r students segments (length m.students)
+goes-on-past m kept r students segments k past on =
+    let same : take k (students_of m) ≡ take (length m.students) (students_of m) =
+    take_all k (students_of m) (omega (arith, past, length-students m)) ∙ sym (take_all (length m.students) (students_of m) (omega (arith, length-students m))) in
+    record {
+      fits = on.fits;
+      entered = λ i. on.entered i ∙ ap (list_any (nat_eq i)) same;
+      continues = on.continues;
+      theirs = on.theirs ∙ same;
+      segmented = subst (λ n. IsSegmented n segments) (cut-all m k (omega (arith, past, length-students m)) ∙ sym (whole-cut m)) on.segmented;
+      stays = on.stays;
+      log = on.log;
+      counted = on.counted;
+    }

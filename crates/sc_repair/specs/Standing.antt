@@ -1,22 +1,29 @@
 -- What a contract sees of a `Clearing`.
-use Rattle.std.specs.Prelude.{◌≡◌, ℕ, ◌+◌, List, length, Option, None, Some, Result, Ok, Err, if◌then◌else◌}
+use Rattle.std.specs.Prelude.{◌≡◌, ℕ, ◌+◌, List, length, take, Option, None, Some, Result, Ok, Err, if◌then◌else◌}
 use Rattle.sc_papers.specs.Assignment.{assigned}
 use Rattle.sc_papers.specs.Log.{next_choice, IsSettled}
 use Rattle.sc_papers.specs.Market.{Market, is_student, is_school}
 use Rattle.sc_papers.specs.Matching.{Matching, held, IsStudentOptimal}
 use Rattle.sc_papers.specs.Progress.{placed}
+use Rattle.sc_papers.specs.Restriction.{joined, IsSegmented}
 use Rattle.sc_papers.specs.Verdict.{after}
+use Rattle.sc_papers.specs.WellFormed.{WellFormed}
 use Rattle.sc_papers.specs.declared.amendment.Amendment.{Amendment}
 use Rattle.sc_papers.specs.declared.amendment.Refusal.{Refusal}
 use Rattle.sc_papers.specs.declared.rejection.Rejection.{Rejection}
+use Rattle.sc_repair.specs.GoingOn.{proposals_of_first}
 
--- the papers as they stand, who has which school, the rejections that led there, and how many
--- proposals the last settling made
+-- the papers as they stand, who has which school, the rejections that led there in segments, one for
+-- each student in order of entry, and how many proposals the last settling made
 pub record Standing : Type 0 where
   pub papers : Market
   pub places : List (ℕ × ℕ)
-  pub log : List Rejection
+  pub segments : List (List Rejection)
   pub proposals : ℕ
+
+-- the rejections that led to the standing assignment, in the order in which they happened
+abbrev pub log_of : Standing → List Rejection
+log_of standing = joined standing.segments
 
 -- the standing assignment as a matching
 abbrev pub matching_of : Standing → Matching
@@ -26,16 +33,26 @@ matching_of standing = assigned standing.places
 abbrev pub IsOptimal : Standing → Type 0
 IsOptimal standing = IsStudentOptimal standing.papers (matching_of standing)
 
--- what every clearing keeps: the log is settled for the papers, and so certifies its matching, which
--- is the standing assignment
+-- what every clearing keeps: the papers are well-formed, the segments are a segmented log for them, so
+-- that the log is settled, and certifies its matching, which is the standing assignment
 pub record IsCertified (standing : Standing) : Type 0 where
-  pub settled : IsSettled standing.papers standing.log
-  pub matching : (i : ℕ) → matching_of standing i ≡ next_choice standing.papers standing.log i
+  pub well_formed : WellFormed standing.papers
+  pub segmented : IsSegmented standing.papers standing.segments
+  pub settled : IsSettled standing.papers (log_of standing)
+  pub matching : (i : ℕ) → matching_of standing i ≡ next_choice standing.papers (log_of standing) i
   pub optimal : IsOptimal standing
 
 -- the proposals of a settling from scratch: each came to a rejection or to a place that is held
 abbrev pub proposals_from_scratch : Standing → ℕ
-proposals_from_scratch standing = length standing.log + placed standing.papers (matching_of standing)
+proposals_from_scratch standing = length (log_of standing) + placed standing.papers (matching_of standing)
+
+-- the log of the first k students
+abbrev pub log_of_first : Standing → ℕ → List Rejection
+log_of_first standing k = joined (take k standing.segments)
+
+-- the last settling made the proposals of one from scratch, but for those of the first k students
+abbrev pub CountsFrom : ℕ → Standing → Type 0
+CountsFrom k standing = standing.proposals + proposals_of_first standing.papers k (log_of_first standing k) ≡ proposals_from_scratch standing
 
 -- the papers as they stand after an amendment was answered: a refused one changes nothing
 abbrev pub papers_after : Market → Amendment → Result (Unit {0}) Refusal → Market

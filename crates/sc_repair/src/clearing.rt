@@ -5,19 +5,22 @@ ghost use Rattle.sc_papers.specs.Matching.{has, held};
 
 mod amend;
 
-use sc_engine::settle;
+use crate::settling::settle_on;
+use sc_checkpoint::Segments;
 use sc_papers::{Assignment, Papers, Rejection, SchoolNo, StudentNo};
+use sc_seats::HeapRoll;
 use std::alloc::{AllocError, Global};
 use std::marker::Model;
 
-/// The papers and the standing assignment under them, with the log of rejections that certifies it:
-/// of every clearing, the standing assignment is the student-optimal stable matching of its papers.
+/// The papers and the standing assignment under them, with the log of rejections that certifies it, in
+/// segments, one for each student in order of entry: of every clearing, the standing assignment is the
+/// student-optimal stable matching of its papers.
 #[derive(Drop)]
 pub struct Clearing {
     alloc: Global,
     papers: Papers,
     places: Assignment,
-    log: Vec<Rejection>,
+    segments: Segments,
     proposals: u64,
 }
 
@@ -64,9 +67,38 @@ fn has(papers: &Papers, places: &Assignment, school: SchoolNo, position: usize) 
 }
 
 impl Clearing {
-    ghost use Rattle.std.specs.Prelude.{◌≡◌, IfOk, IfErr};
+    ghost use Rattle.std.specs.Prelude.{◌≡◌, ℕ, List, length, take, IfOk, IfErr};
+    ghost use Rattle.sc_papers.specs.Market.{students_of};
     ghost use Rattle.sc_papers.specs.Matching.{IsStudentOptimal};
-    ghost use Rattle.sc_repair.specs.Standing.{Standing, IsCertified, IsOptimal, matching_of, place_of, held_at, proposals_from_scratch};
+    ghost use Rattle.sc_papers.specs.Restriction.{cut, IsSegmented};
+    ghost use Rattle.sc_papers.specs.WellFormed.{WellFormed};
+    ghost use Rattle.sc_checkpoint.specs.Chains.{logs_in, students_in};
+    ghost use Rattle.sc_repair.specs.Standing.{Standing, CountsFrom, IsCertified, IsOptimal, log_of, matching_of, place_of, held_at, proposals_from_scratch};
+
+    /// The papers settled on from the segments of their first students. The only error is want of
+    /// memory, which gives the papers back unchanged.
+    fn settled(alloc: Global, papers: Papers, segments: Segments) -> Result<Self, OpenRefused>
+        requires well_formed { WellFormed papers }
+        requires theirs { students_in segments ≡ take (length segments) (students_of papers) }
+        requires segmented { IsSegmented (cut papers (length segments)) (logs_in segments) }
+        ensures papers { IfOk result (λ clearing. clearing.papers ≡ papers) }
+        ensures certified { IfOk result IsCertified }
+        ensures stays { IfOk result (λ clearing. take (length segments) clearing.segments ≡ logs_in segments) }
+        ensures proposals { IfOk result (CountsFrom (length segments)) }
+        ensures refused { IfErr result (λ refused. refused.papers ≡ papers) }
+    {
+        let mut segments = segments;
+        match settle_on::<HeapRoll>(alloc, &papers, &mut segments) {
+            Ok(settled) => Ok(Clearing {
+                alloc,
+                papers,
+                places: settled.assignment,
+                segments,
+                proposals: settled.proposals,
+            }),
+            Err(_) => Err(OpenRefused { papers }),
+        }
+    }
 
     /// Settles the papers: the standing assignment is their student-optimal stable matching, and the
     /// log certifies it. The only error is want of memory, which gives the papers back unchanged.
@@ -80,16 +112,7 @@ impl Clearing {
         ensures proposals { IfOk result (λ clearing. clearing.proposals ≡ proposals_from_scratch clearing) }
         ensures refused { IfErr result (λ refused. refused.papers ≡ papers) }
     {
-        match settle(alloc, &papers) {
-            Ok(settled) => Ok(Clearing {
-                alloc,
-                papers,
-                places: settled.assignment,
-                log: settled.log,
-                proposals: settled.proposals,
-            }),
-            Err(_) => Err(OpenRefused { papers }),
-        }
+        Clearing::settled(alloc, papers, Segments::new(alloc))
     }
 
     /// The papers as they stand. Whichever clearing this is, the standing assignment is their
@@ -142,18 +165,18 @@ impl Clearing {
 
     /// The rejections that led to the standing assignment, in the order in which they happened, lent.
     pub fn rejections(&self) -> &[Rejection]
-        ensures { result.now ≡ self.now.log }
+        ensures { result.now ≡ log_of self.now }
     {
-        self.log.as_slice()
+        self.segments.rejections()
     }
 
     /// The rejections that led to the standing assignment, as a value of its own. They are settled for
     /// the papers as they stand, so whoever doubts the assignment can check them. The only error is
     /// want of memory; the cost is their number.
     pub fn log(&self) -> Result<Vec<Rejection>, AllocError>
-        ensures { IfOk result (λ log. log.items ≡ self.now.log) }
+        ensures { IfOk result (λ log. log.items ≡ log_of self.now) }
     {
-        Vec::from_slice(self.alloc, self.log.as_slice())
+        self.segments.flat()
     }
 
     /// How many proposals the last settling made: that of the last accepted amendment, or of the

@@ -4,6 +4,7 @@
 
 mod clearing;
 mod rewind;
+mod settling;
 
 pub use clearing::{Clearing, OpenRefused};
 pub use rewind::rewind_point;
