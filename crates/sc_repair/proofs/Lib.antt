@@ -1,3 +1,4 @@
 pub mod Positions
 pub mod Rewinding
 pub mod GoingOn
+pub mod Kept

@@ -1,11 +1,12 @@
-use Rattle.std.proofs.Common.{◌+◌, ap, sym, subst, ◌∙◌, take, length, arith, refl}
-use Rattle.std.proofs.lemmas.List.{length-map}
+use Rattle.std.proofs.Common.{◌≡◌, ◌+◌, ap, sym, subst, ◌∙◌, take, length, arith, refl}
+use Rattle.std.proofs.lemmas.List.{length-map, take_all}
 use Rattle.sc_papers.specs.Assignment.{assigned}
 use Rattle.sc_papers.specs.Market.{students_of}
 use Rattle.sc_papers.specs.Restriction.{joined}
 use Rattle.sc_checkpoint.specs.Chains.{logs_in, students_in, Chain}
 use Rattle.sc_checkpoint.specs.Standings.{standings_after, stands, StandAfter}
 use Rattle.sc_engine.specs.Round.{standings_of}
+use Rattle.sc_repair.specs.GoingOn.{proposals_of_first}
 use Rattle.sc_repair.proofs.GoingOn.{goes-on-begins, next-all, proposals-all, segments-all, stand-segments, students-all}
 use Rattle.sc_repair.proofs.settling.settle_on.Goals as goal
 
@@ -14,3 +15,30 @@ resume-requires g c =
     let kept = logs_in c.args.segments.now in
     let count = length-map c.args.segments.now (λ (chain : Chain). chain.rejections) in
     (joined kept, stand-segments c.args.papers.now (length c.args.segments.now) kept c.as_slice.result.now c.requires.well_formed count c.requires.segmented (c.as_slice.ensures.value ∙ c.in_ok-standings.ensures ∙ ap (λ n. standings_after c.args.papers.now (joined (take n kept)) (take n (students_of c.args.papers.now))) c.len.ensures))
+
+pub enter_rest-requires-clause-on : goal.enter_rest-requires-clause-on
+enter_rest-requires-clause-on g c =
+    let m = c.args.papers.now in
+    let chains = c.args.segments.now in
+    let kept = logs_in chains in
+    let count = length-map chains (λ (chain : Chain). chain.rejections) in
+    let standing = c.as_slice.ensures.value ∙ c.in_ok-standings.ensures ∙ ap (λ n. standings_after m (joined (take n kept)) (take n (students_of m))) c.len.ensures in
+    let whole : standings_after m (joined (take (length chains) kept)) (take (length chains) (students_of m)) ≡ standings_after m (joined kept) (take (length chains) (students_of m)) =
+    ap (λ l. standings_after m (joined l) (take (length chains) (students_of m))) (take_all (length chains) kept (omega (arith, count))) in
+    goes-on-begins m (standings_of g.R.Roll.keys g.R.Roll.seats c.in_ok-round.round) (students_in chains) kept (length chains) count c.requires.theirs c.requires.segmented
+    c.in_ok-round.ensures.fits (λ i. c.in_ok-round.ensures.entered i ∙ ap (λ ss. stands ss i) (standing ∙ whole))
+    (c.in_ok-round.ensures.continues (joined kept) (stand-segments m (length chains) kept c.as_slice.result.now c.requires.well_formed count c.requires.segmented standing))
+    c.in_ok-round.ensures.log c.in_ok-round.ensures.proposals
+
+pub returns-clause-segmented : goal.returns-clause-segmented
+returns-clause-segmented g c = segments-all c.args.papers.now _ _ _ _ c.in_ok-enter_rest.ensures.on
+
+pub returns-clause-matching : goal.returns-clause-matching
+returns-clause-matching g c i = c.in_ok-settled.ensures.given i ∙ next-all c.args.papers.now _ _ _ _ c.in_ok-enter_rest.ensures.on i
+
+pub returns-clause-proposals : goal.returns-clause-proposals
+returns-clause-proposals g c =
+    let count = length-map c.args.segments.now (λ (chain : Chain). chain.rejections) in
+    ap (λ n. n + proposals_of_first c.args.papers.now (length c.args.segments.now) (joined (logs_in c.args.segments.now))) c.in_ok-settled.ensures.proposals
+    ∙ ap (λ k. (standings_of g.R.Roll.keys g.R.Roll.seats c.enter_rest.new.round).proposals + proposals_of_first c.args.papers.now k (joined (logs_in c.args.segments.now))) (sym count)
+    ∙ proposals-all c.args.papers.now _ (standings_of g.R.Roll.keys g.R.Roll.seats c.enter_rest.new.round) _ _ (assigned c.in_ok-settled.settled.assignment) c.in_ok-enter_rest.ensures.on c.in_ok-settled.ensures.given
