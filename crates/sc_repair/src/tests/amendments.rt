@@ -15,8 +15,9 @@ fn market_b_and_a_newcomer_who_withdraws(rt: HostRuntime) {
     let mut clearing = market(&rt, alloc, 1);
     let left = "1:20 2:0 3:10 |(1,10)(2,20)(2,10)";
     amend(&rt, alloc, &mut clearing, newcomer(&rt, alloc), left);
-    assert_eq!(rt; clearing.proposals_last(), 5);
+    assert_eq!(rt; clearing.proposals_last(), 3);
     amend(&rt, alloc, &mut clearing, withdraw(&rt, 3), "1:10 2:20 |");
+    assert_eq!(rt; clearing.proposals_last(), 0);
 }
 
 #[test]
@@ -32,6 +33,7 @@ fn a_seat_added(rt: HostRuntime) {
         add(&rt, 10, 1),
         "1:10 2:20 3:10 |",
     );
+    assert_eq!(rt; clearing.proposals_last(), 3);
 }
 
 #[test]
