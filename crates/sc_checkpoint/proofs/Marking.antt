@@ -1,7 +1,6 @@
 -- One more entry of a log, put into a table of places.
-use Rattle.std.proofs.Common.{◌≡◌, inl, inr, refl, ap, sym, subst, ◌∙◌, ℕ, ◌<◌, ◌≤◌, ◌==◌, nat_eq, nat_lt, Bool, true, false, ◌&&◌, ◌||◌, List, [], ◌∷◌, ◌++◌, length, get_or, set, replicate, Option, Some, None, IfSome, slice_get, position, arith, length-set}
-use Rattle.std.specs.List.{IsDistinct, position_or_len}
-use Rattle.std.specs.Option.{option_map_or}
+use Rattle.std.proofs.Common.{◌≡◌, inl, inr, refl, ap, sym, subst, ◌∙◌, ℕ, ◌<◌, ◌≤◌, ◌==◌, nat_eq, nat_lt, Bool, true, false, ◌&&◌, ◌||◌, List, [], ◌∷◌, ◌++◌, length, get_or, set, replicate, Some, None, IfSome, slice_get, position, arith, length-set}
+use Rattle.std.specs.List.{position_or_len}
 use Rattle.std.proofs.lemmas.Bool.{cases_eq, cases_lt, cond-true, lt-ltb, eqb-true, eq-eqb, ne_eqb, false≢true, false_from_ne_true, and_parts}
 use Rattle.std.proofs.lemmas.List.{get_or-set_same, get_or-set_other, get_or-replicate, length-replicate}
 use Rattle.std.proofs.lemmas.List.Quantifiers.{position-Some}
@@ -16,7 +15,7 @@ use Rattle.sc_papers.specs.declared.rejection.Rejection.{Rejection}
 use Rattle.sc_papers.proofs.Choices.{one-place}
 use Rattle.sc_papers.proofs.Rejections.{is_of, rejected-push}
 use Rattle.sc_papers.proofs.Students.{choices-differ}
-use Rattle.sc_checkpoint.specs.Places.{has_place, AreRejectedPlaces, AreTabled}
+use Rattle.sc_checkpoint.specs.Places.{has_place, AreTabled}
 use Rattle.sc_checkpoint.specs.declared.place_set.PlaceSet.{PlaceSet}
 
 or-false : (b : Bool) → (b || false) ≡ b

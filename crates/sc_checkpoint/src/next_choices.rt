@@ -1,6 +1,6 @@
 //! The next choices of the first students of the papers after any log.
 
-ghost use Rattle.std.specs.Prelude.{◌≡◌, ℕ, ◌<◌, ◌≤◌, ◌==◌, ◌++◌, ◌∷◌, [], List, Bool, length, take, find, not, position, slice_get, vec_len, Some, IfOk, IfSome};
+ghost use Rattle.std.specs.Prelude.{◌≡◌, ℕ, ◌<◌, ◌≤◌, ◌==◌, ◌++◌, ◌∷◌, [], List, Bool, length, take, find, not, position, slice_get, Some, IfOk, IfSome};
 ghost use Rattle.sc_papers.specs.Log.{next_choice};
 ghost use Rattle.sc_papers.specs.Market.{students_of, choices_of};
 ghost use Rattle.sc_papers.specs.declared.rejection.Rejection.{Rejection};
@@ -68,6 +68,7 @@ fn mark(papers: &Papers, table: &mut [PlaceSet], entry: Rejection)
     let Some(place) = place_of(papers, entry.student, entry.school) else {
         return;
     };
+    // This call tells that the papers are well-formed: no number and no choice stands twice.
     prove!(position < papers.students_len());
     if position < table.len() {
         table[position] = table[position].with(place);
@@ -90,6 +91,7 @@ fn choices(papers: &Papers, student: StudentNo) -> &[SchoolNo]
     ensures value { result.now ≡ choices_of papers.now student }
     ensures short { length result.now ≤ 20 }
 {
+    // This call tells that the papers are within their limits, and so are their lists.
     prove!(papers.students_len() <= MOST_STUDENTS);
     match papers.student(student) {
         Some(record) => record.choices.as_slice(),

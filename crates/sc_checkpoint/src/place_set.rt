@@ -1,6 +1,3 @@
-ghost use Rattle.std.specs.Prelude.{◌≡◌, ℕ, ◌<◌, ◌==◌, ◌||◌, false};
-ghost use Rattle.sc_checkpoint.specs.Places.{has_place};
-
 /// A set of places of a list, each below 32.
 #[derive(Clone, Copy)]
 pub(crate) struct PlaceSet {

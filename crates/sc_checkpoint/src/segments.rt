@@ -89,6 +89,7 @@ impl Segments {
         requires { k < length self.now }
         ensures { slice_get (logs_in self.now) k ≡ Some result.now }
     {
+        // This call tells that the next position is in range too.
         prove!(k < self.len());
         let (_, segment) = self.first(k + 1).split_at(self.first(k).len());
         segment

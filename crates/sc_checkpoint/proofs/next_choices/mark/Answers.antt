@@ -1,4 +1,4 @@
-use Rattle.std.proofs.Common.{refl, sym, ◌∙◌, length}
+use Rattle.std.proofs.Common.{sym, ◌∙◌}
 use Rattle.std.proofs.lemmas.Option.{slice_get-get_or}
 use Rattle.sc_checkpoint.proofs.Marking.{table-unknown, table-unlisted, table-past, table-marked}
 use Rattle.sc_checkpoint.proofs.next_choices.mark.Goals as goal

@@ -1,9 +1,7 @@
-use Rattle.std.proofs.Common.{◌≡◌, ℕ, sym, subst, ◌∙◌, ap, List, Some, slice_get, find, not}
+use Rattle.std.proofs.Common.{◌≡◌, ℕ, sym, ◌∙◌, ap, Some, slice_get, find, not}
 use Rattle.sc_papers.specs.Log.{is_rejected, next_choice}
 use Rattle.sc_papers.specs.Market.{choices_of}
-use Rattle.sc_papers.specs.declared.rejection.Rejection.{Rejection}
-use Rattle.sc_checkpoint.specs.Places.{has_place, AreRejectedPlaces}
-use Rattle.sc_checkpoint.specs.declared.standing.Standing.{Standing}
+use Rattle.sc_checkpoint.specs.Places.{has_place}
 use Rattle.sc_checkpoint.proofs.next_choices.standing_of.Goals as goal
 
 pub returns : goal.returns

@@ -1,8 +1,7 @@
-use Rattle.std.proofs.Common.{◌≡◌, ◌<◌, ◌+◌, ◌++◌, ◌∷◌, [], refl, sym, ◌∙◌, ap, length, Some, slice_get, arith}
+use Rattle.std.proofs.Common.{◌≡◌, ◌<◌, ◌++◌, ◌∷◌, [], refl, sym, ◌∙◌, ap, length, Some, slice_get, arith}
 use Rattle.std.proofs.lemmas.Option.{slice_get_read}
 use Rattle.sc_papers.specs.Log.{next_choice}
 use Rattle.sc_papers.specs.Market.{students_of}
-use Rattle.sc_checkpoint.specs.declared.standing.Standing.{Standing}
 use Rattle.sc_checkpoint.proofs.Finding.{standings-more}
 use Rattle.sc_checkpoint.proofs.next_choices.standings.Goals as goal
 

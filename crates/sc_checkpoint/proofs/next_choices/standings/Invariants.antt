@@ -1,4 +1,4 @@
-use Rattle.std.proofs.Common.{◌≡◌, length, take, vec_len, vec_capacity}
+use Rattle.std.proofs.Common.{◌≡◌, take, vec_len, vec_capacity}
 use Rattle.sc_papers.specs.Market.{students_of}
 use Rattle.sc_checkpoint.specs.Standings.{standings_after}
 use Rattle.sc_checkpoint.proofs.next_choices.standings.Given as goal

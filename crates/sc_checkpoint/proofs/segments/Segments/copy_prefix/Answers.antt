@@ -1,4 +1,4 @@
-use Rattle.std.proofs.Common.{◌≡◌, ◌≤◌, ap, sym, length, take, ◌∙◌, arith}
+use Rattle.std.proofs.Common.{◌≤◌, ap, sym, length, take, ◌∙◌, arith}
 use Rattle.std.proofs.lemmas.List.{length-take-le}
 use Rattle.sc_checkpoint.proofs.Cutting.{length-chains, copied-cover, copied-chains}
 use Rattle.sc_checkpoint.proofs.segments.Segments.copy_prefix.Goals as goal

@@ -1,4 +1,4 @@
-use Rattle.std.proofs.Common.{◌≡◌, ◌∷◌, [], ◌++◌, ap, sym, length, ◌∙◌, arith}
+use Rattle.std.proofs.Common.{◌≡◌, ◌∷◌, [], ◌++◌, ap, length, ◌∙◌, arith}
 use Rattle.sc_checkpoint.specs.Chains.{with_chain}
 use Rattle.sc_checkpoint.proofs.Cutting.{pushed-cover, pushed-chains}
 use Rattle.sc_checkpoint.proofs.segments.Segments.push.Goals as goal

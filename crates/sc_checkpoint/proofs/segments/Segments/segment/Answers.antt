@@ -1,4 +1,4 @@
-use Rattle.std.proofs.Common.{◌≡◌, ◌<◌, Some, ap, sym, length, ◌∙◌, arith}
+use Rattle.std.proofs.Common.{◌<◌, Some, ap, sym, length, ◌∙◌, arith}
 use Rattle.std.proofs.lemmas.List.{length-map}
 use Rattle.sc_checkpoint.specs.Chains.{Chain, logs_in}
 use Rattle.sc_checkpoint.proofs.Cutting.{segment-at, segment-room}

@@ -1,4 +1,4 @@
-use Rattle.std.proofs.Common.{◌≡◌, ◌<◌, Some, refl, ap, length, slice_get, slice_index_or, sym, ◌∙◌, arith}
+use Rattle.std.proofs.Common.{◌<◌, refl, ap, length, slice_get, sym, ◌∙◌, arith}
 use Rattle.std.proofs.lemmas.Option.{slice_get_read}
 use Rattle.sc_checkpoint.specs.Chains.{students_in}
 use Rattle.sc_checkpoint.proofs.Cutting.{length-chains, student-at}
