@@ -116,8 +116,8 @@ pub fn replay(alloc: Global, papers: Papers, bytes: &[u8]) -> Result<(Clearing, 
     let mut papers = papers;
     let end = apply_lines(alloc, &mut papers, bytes)?;
     let tail = tail_after(bytes, end);
-    // A clearing settles its papers from scratch at each amendment, so one that is opened at the end
-    // stands as one that was amended line by line.
+    // One settling at the end is enough: the standing assignment of the papers is the same however they
+    // came to be as they are.
     match Clearing::open(alloc, papers) {
         Ok(clearing) => Ok((clearing, tail)),
         Err(_) => Err(JournalFault::no_memory()),
