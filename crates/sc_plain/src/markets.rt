@@ -44,7 +44,7 @@ fn draw_of(number: u32) -> u64 {
 }
 
 /// Some of the schools numbered from 1, each once, in an order of their own.
-fn some_schools(
+pub fn some_schools(
     dice: &mut Dice,
     alloc: Global,
     schools: u32,
@@ -108,11 +108,11 @@ pub fn school_no(rt: &impl Abort, number: u32) -> SchoolNo {
     SchoolNo::new(number).expect(rt, "a school")
 }
 
-fn zone(rt: &impl Abort, number: u32) -> Zone {
+pub fn zone(rt: &impl Abort, number: u32) -> Zone {
     Zone::new(number).expect(rt, "a zone")
 }
 
-fn list_of(rt: &impl Abort, alloc: Global, numbers: &[u32]) -> Result<SchoolList, AllocError> {
+pub fn list_of(rt: &impl Abort, alloc: Global, numbers: &[u32]) -> Result<SchoolList, AllocError> {
     let mut schools = Vec::new(alloc);
     for number in numbers {
         schools.push(school_no(rt, *number))?;

@@ -1,0 +1,188 @@
+//! Clearings after random lists of amendments: each stands, entry for entry of its log, as its papers do
+//! when they are settled from scratch.
+use crate::markets::{
+    Dice, list_of, papers_of, random_families, random_schools, school_no, some_schools, student_no,
+    zone,
+};
+use sc_engine::{Settled, settle};
+use sc_papers::{Amendment, Count, SchoolList, SchoolNo, StudentNo};
+use sc_repair::Clearing;
+use std::alloc::{AllocError, Global};
+use std::process::Abort;
+use std::test::Fail;
+
+/// An amendment names a student numbered from 1 up to this, in the papers or not.
+const STUDENTS: u32 = 8;
+
+/// A student in the papers or not.
+fn random_student(rt: &impl Abort, dice: &mut Dice) -> StudentNo {
+    student_no(rt, dice.roll(STUDENTS).saturating_add(1))
+}
+
+/// The number of the last school, now and then that of a missing one after it.
+fn last_school(dice: &mut Dice, schools: u32) -> u32 {
+    if dice.roll(10) == 0 {
+        schools.saturating_add(1)
+    } else {
+        schools
+    }
+}
+
+/// A school, seldom a missing one.
+fn random_school(rt: &impl Abort, dice: &mut Dice, schools: u32) -> SchoolNo {
+    let last = last_school(dice, schools);
+    school_no(rt, dice.roll(last).saturating_add(1))
+}
+
+/// One seat or two, now and then as many as a school may have.
+fn random_count(rt: &impl Abort, dice: &mut Dice) -> Count {
+    let seats = if dice.roll(20) == 0 {
+        Count::GREATEST
+    } else {
+        dice.roll(2).saturating_add(1)
+    };
+    Count::new(seats).expect(rt, "a count")
+}
+
+/// Some schools or none, seldom a missing one among them.
+fn random_list(
+    rt: &impl Abort,
+    alloc: Global,
+    dice: &mut Dice,
+    schools: u32,
+) -> Result<SchoolList, AllocError> {
+    let last = last_school(dice, schools);
+    let tries = dice.roll(6);
+    let list = some_schools(dice, alloc, last, tries)?;
+    list_of(rt, alloc, list.as_slice())
+}
+
+fn random_entry(
+    rt: &impl Abort,
+    alloc: Global,
+    dice: &mut Dice,
+    schools: u32,
+) -> Result<Amendment, AllocError> {
+    Ok(Amendment::Enter {
+        student: random_student(rt, dice),
+        zone: zone(rt, dice.roll(3)),
+        siblings: random_list(rt, alloc, dice, schools)?,
+        choices: random_list(rt, alloc, dice, schools)?,
+    })
+}
+
+fn random_reranking(
+    rt: &impl Abort,
+    alloc: Global,
+    dice: &mut Dice,
+    schools: u32,
+) -> Result<Amendment, AllocError> {
+    Ok(Amendment::Rerank {
+        student: random_student(rt, dice),
+        choices: random_list(rt, alloc, dice, schools)?,
+    })
+}
+
+fn random_correction(
+    rt: &impl Abort,
+    alloc: Global,
+    dice: &mut Dice,
+    schools: u32,
+) -> Result<Amendment, AllocError> {
+    Ok(Amendment::Correct {
+        student: random_student(rt, dice),
+        zone: zone(rt, dice.roll(3)),
+        siblings: random_list(rt, alloc, dice, schools)?,
+    })
+}
+
+/// An amendment of any kind, which the papers may allow or not, where schools are numbered from 1 up to
+/// `schools`.
+fn random_amendment(
+    rt: &impl Abort,
+    alloc: Global,
+    dice: &mut Dice,
+    schools: u32,
+) -> Result<Amendment, AllocError> {
+    match dice.roll(7) {
+        0 => random_correction(rt, alloc, dice, schools),
+        1 => random_reranking(rt, alloc, dice, schools),
+        2 => Ok(Amendment::Withdraw {
+            student: random_student(rt, dice),
+        }),
+        3 => Ok(Amendment::Add {
+            school: random_school(rt, dice, schools),
+            count: random_count(rt, dice),
+        }),
+        4 => Ok(Amendment::Close {
+            school: random_school(rt, dice, schools),
+            count: random_count(rt, dice),
+        }),
+        _ => random_entry(rt, alloc, dice, schools),
+    }
+}
+
+/// Whether the student at the position has in the clearing what the settling gives.
+fn has_the_same(clearing: &Clearing, settled: &Settled, position: usize) -> bool {
+    match clearing.papers().student_at(position) {
+        Some(student) => clearing.place_of(student) == Some(settled.assignment.get(student)),
+        None => false,
+    }
+}
+
+/// The clearing has the log and the places that its papers settle to from scratch.
+fn stands_as_settled(rt: &impl Abort, alloc: Global, clearing: &Clearing) -> Result<(), Fail> {
+    let settled = settle(alloc, clearing.papers())?;
+    assert_eq!(rt; clearing.rejections(), settled.log.as_slice());
+    for position in 0..clearing.papers().students_len() {
+        assert!(rt; has_the_same(clearing, &settled, position));
+    }
+    Ok(())
+}
+
+/// Amends a clearing, which then stands as settled from scratch; a refusal leaves the count of its
+/// proposals.
+fn amend(
+    rt: &impl Abort,
+    alloc: Global,
+    clearing: &mut Clearing,
+    amendment: Amendment,
+) -> Result<(), Fail> {
+    let before = clearing.proposals_last();
+    let is_accepted = clearing.amend(amendment).is_ok();
+    assert!(rt; is_accepted || clearing.proposals_last() == before);
+    stands_as_settled(rt, alloc, clearing)
+}
+
+/// The clearing of a random market, and how many schools it has.
+fn random_clearing(
+    rt: &impl Abort,
+    alloc: Global,
+    dice: &mut Dice,
+) -> Result<(Clearing, u32), Fail> {
+    let schools = random_schools(dice, alloc)?;
+    let count = (schools.len() % 1_000) as u32;
+    let families = random_families(dice, alloc, count)?;
+    let papers = papers_of(rt, alloc, schools.as_slice(), families.as_slice())?;
+    let clearing = Clearing::open(alloc, papers).ok().expect(rt, "memory");
+    Ok((clearing, count))
+}
+
+/// Amends the clearing of a random market many times.
+fn one_market(rt: &impl Abort, alloc: Global, dice: &mut Dice) -> Result<(), Fail> {
+    let (mut clearing, schools) = random_clearing(rt, alloc, dice)?;
+    for _amendment in 0..20 {
+        let amendment = random_amendment(rt, alloc, dice, schools)?;
+        amend(rt, alloc, &mut clearing, amendment)?;
+    }
+    Ok(())
+}
+
+#[test]
+fn amended_markets_stand_as_settled_from_scratch(rt: HostRuntime) -> Result<(), Fail> {
+    let mut dice = Dice { state: 1962 };
+    for _market in 0..750 {
+        one_market(&rt, rt.alloc(), &mut dice)?;
+    }
+    Ok(())
+}
