@@ -1,12 +1,11 @@
 -- What the lines, the reply lines and the report come to together.
 use Rattle.std.proofs.Common.{append_assoc, append-nil, ◌≡◌, ◌≢◌, Bool, true, false, ◌||◌, ℕ, ◌+◌, ◌≤◌, inl, inr, arith, List, [], ◌∷◌, ◌++◌, Option, None, Some, Result, Ok, Err, length, refl, sym, ◌∙◌, subst, ap, codes}
-use Rattle.std.specs.Io.KnownBytes.{Appends, Keeps}
-use Rattle.std.proofs.KnownBytes.{Appends-trans}
+use Rattle.std.specs.Io.KnownBytes.{Appends}
 use Rattle.std.proofs.lemmas.Bool.{true≢false}
 use Rattle.std.specs.Result.{is_err, result_err}
 use Rattle.sc_papers.specs.Market.{Market}
 use Rattle.sc_papers.specs.Matching.{Matching, IsStudentOptimal}
-use Rattle.sc_papers.specs.Verdict.{after, unless_refused, verdict, IsRefusal}
+use Rattle.sc_papers.specs.Verdict.{unless_refused, verdict, IsRefusal}
 use Rattle.sc_papers.specs.WellFormed.{WellFormed}
 use Rattle.sc_papers.specs.declared.amendment.Amendment.{Amendment}
 use Rattle.sc_papers.specs.declared.amendment.Refusal.{Refusal}
@@ -19,13 +18,13 @@ use Rattle.sc_report.specs.Text.{report_text}
 use Rattle.sc_intake.specs.declared.fault.Source.TheVariants as input
 use Rattle.sc_runs.specs.Inputs.{Texts, input_in, inputs_in, AreInputsFault, AreWhole, IsInputFault, IsWhole}
 use Rattle.sc_runs.specs.Opening.{IsOpeningFault}
-use Rattle.sc_runs.specs.Pieces.{Held, Piece, journal_of, output_of, to_journal, to_output, GrowsByAll, GrowsByFront}
+use Rattle.sc_runs.specs.Pieces.{Held, Piece, journal_of, output_of, to_output, GrowsByAll, GrowsByFront}
 use Rattle.sc_runs.specs.Run.{accepted, accepted_in, after_record, after_script, answer_to, answers, lines_for, made, made_by, opened_in, replies, reply_to, unless_verdict, IsFull, KeepsBoth, RunsFiles, Writes, WritesFront, WritesRun}
 use Rattle.sc_runs.specs.declared.fault.RunFault.{RunFault}
 use Rattle.sc_runs.specs.declared.fault.RunFault.TheVariants.{Read, Intake, Journal, WriteOut, WriteJournal, OutOfMemory}
 use Rattle.sc_runs.proofs.LastReport.{IsLastReport-some}
 use Rattle.sc_runs.proofs.Openings.{Keeps-refl, whole-some}
-use Rattle.sc_runs.proofs.Pieces.{GrowsByAll-none, GrowsByAll-trans, GrowsByFront-after, GrowsByFront-all, GrowsByFront-longer, GrowsByFront-nothing, journal_of-append, output_of-append}
+use Rattle.sc_runs.proofs.Pieces.{GrowsByAll-none, GrowsByAll-trans, GrowsByFront-after, GrowsByFront-longer, journal_of-append, output_of-append}
 
 -- a refusal that is not want of memory is the verdict
 pub refused-by_rules : (found : Option Refusal) (refusal same : Refusal) → IsRefusal found refusal → same ≡ refusal → same ≢ refused_for_memory → found ≡ Some same

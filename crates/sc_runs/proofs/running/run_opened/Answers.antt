@@ -1,4 +1,3 @@
-use Rattle.std.proofs.Common.{refl}
 use Rattle.sc_report.specs.Watched.{device_of}
 use Rattle.sc_runs.proofs.Replies.{WritesRun-after, WritesRun-answered}
 use Rattle.sc_runs.proofs.running.run_opened.Goals as goal
