@@ -3,3 +3,4 @@ pub mod Openings
 pub mod Replies
 pub mod Pieces
 pub mod Lasts
+pub mod LastReport

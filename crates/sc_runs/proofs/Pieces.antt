@@ -1,6 +1,5 @@
 -- What writes come to one after another.
-use Rattle.std.proofs.Common.{append_assoc, append-nil, ◌≡◌, ℕ, inl, inr, List, [], ◌∷◌, ◌++◌, Option, None, Some, Result, Ok, Err, length, take, refl, sym, ◌∙◌, subst, ap, arith}
-use Rattle.std.proofs.lemmas.List.{take_all}
+use Rattle.std.proofs.Common.{append_assoc, append-nil, ◌≡◌, ℕ, inl, inr, List, [], ◌∷◌, ◌++◌, Option, None, Some, Result, Ok, Err, take, refl, sym, ◌∙◌, subst, ap}
 use Rattle.std.proofs.KnownBytes.{Appends-trans}
 use Rattle.std.specs.Io.KnownBytes.{Appends, Keeps}
 use Rattle.sc_report.specs.Whole.{AppendsFront}
@@ -8,7 +7,7 @@ use Rattle.sc_runs.proofs.Openings.{Appends-kept}
 use Rattle.sc_runs.specs.Run.{Writes}
 use Rattle.sc_runs.specs.declared.fault.RunFault.{RunFault}
 use Rattle.sc_runs.specs.declared.fault.RunFault.TheVariants.{Read, Intake, Journal, WriteOut, WriteJournal, OutOfMemory}
-use Rattle.sc_runs.specs.Pieces.{Held, Piece, journal_of, output_of, to_journal, to_output, Grows, GrowsByAll, GrowsByFront, IsFront}
+use Rattle.sc_runs.specs.Pieces.{Held, Piece, journal_of, output_of, to_journal, to_output, GrowsByAll, GrowsByFront, IsFront}
 
 -- where nothing was written, nothing was added
 pub Appends-nothing : (a : Option (List ℕ)) → Appends a a []

@@ -1,12 +1,12 @@
 -- What the lines, the reply lines and the report come to together.
 use Rattle.std.proofs.Common.{append_assoc, append-nil, ◌≡◌, ◌≢◌, Bool, true, false, ◌||◌, ℕ, ◌+◌, ◌≤◌, inl, inr, arith, List, [], ◌∷◌, ◌++◌, Option, None, Some, Result, Ok, Err, length, refl, sym, ◌∙◌, subst, ap, codes}
-use Rattle.std.specs.Io.KnownBytes.{Appends, Keeps}
-use Rattle.std.proofs.KnownBytes.{Appends-trans}
+use Rattle.std.specs.Io.KnownBytes.{Appends}
 use Rattle.std.proofs.lemmas.Bool.{true≢false}
 use Rattle.std.specs.Result.{is_err, result_err}
 use Rattle.sc_papers.specs.Market.{Market}
 use Rattle.sc_papers.specs.Matching.{Matching, IsStudentOptimal}
-use Rattle.sc_papers.specs.Verdict.{after, unless_refused, verdict, IsRefusal}
+use Rattle.sc_papers.specs.Verdict.{unless_refused, verdict, IsRefusal}
+use Rattle.sc_papers.specs.WellFormed.{WellFormed}
 use Rattle.sc_papers.specs.declared.amendment.Amendment.{Amendment}
 use Rattle.sc_papers.specs.declared.amendment.Refusal.{Refusal}
 use Rattle.sc_papers.specs.declared.amendment.Refusal.TheVariants.{OutOfMemory as refused_for_memory}
@@ -18,12 +18,13 @@ use Rattle.sc_report.specs.Text.{report_text}
 use Rattle.sc_intake.specs.declared.fault.Source.TheVariants as input
 use Rattle.sc_runs.specs.Inputs.{Texts, input_in, inputs_in, AreInputsFault, AreWhole, IsInputFault, IsWhole}
 use Rattle.sc_runs.specs.Opening.{IsOpeningFault}
-use Rattle.sc_runs.specs.Pieces.{Held, Piece, journal_of, output_of, to_journal, to_output, GrowsByAll, GrowsByFront}
+use Rattle.sc_runs.specs.Pieces.{Held, Piece, journal_of, output_of, to_output, GrowsByAll, GrowsByFront}
 use Rattle.sc_runs.specs.Run.{accepted, accepted_in, after_record, after_script, answer_to, answers, lines_for, made, made_by, opened_in, replies, reply_to, unless_verdict, IsFull, KeepsBoth, RunsFiles, Writes, WritesFront, WritesRun}
 use Rattle.sc_runs.specs.declared.fault.RunFault.{RunFault}
 use Rattle.sc_runs.specs.declared.fault.RunFault.TheVariants.{Read, Intake, Journal, WriteOut, WriteJournal, OutOfMemory}
+use Rattle.sc_runs.proofs.LastReport.{IsLastReport-some}
 use Rattle.sc_runs.proofs.Openings.{Keeps-refl, whole-some}
-use Rattle.sc_runs.proofs.Pieces.{GrowsByAll-none, GrowsByAll-trans, GrowsByFront-after, GrowsByFront-all, GrowsByFront-longer, GrowsByFront-nothing, journal_of-append, output_of-append}
+use Rattle.sc_runs.proofs.Pieces.{GrowsByAll-none, GrowsByAll-trans, GrowsByFront-after, GrowsByFront-longer, journal_of-append, output_of-append}
 
 -- a refusal that is not want of memory is the verdict
 pub refused-by_rules : (found : Option Refusal) (refusal same : Refusal) → IsRefusal found refusal → same ≡ refusal → same ≢ refused_for_memory → found ≡ Some same
@@ -199,22 +200,33 @@ WritesRun-unscripted scripted m old WriteOut is = absurd is
 WritesRun-unscripted scripted m old WriteJournal is = absurd is
 WritesRun-unscripted scripted m old OutOfMemory is = inl (KeepsBoth-refl old)
 
+-- the answers were written in part
+WritesFront-answered : (m : Market) (script : List (Result Amendment Refusal)) (old new : Held)
+    → WellFormed m → GrowsByFront (answers 1 0 m script) old new → WritesFront (record { papers = m; script = script }) old new
+WritesFront-answered m script old new well wrote =
+    let (report, is) = IsLastReport-some (record { papers = m; script = script }) well in
+    (report, is, GrowsByFront-longer (answers 1 0 m script) (to_output report ∷ []) old new wrote)
+
 -- the run ended amid the answers
 pub WritesRun-answered : (scripted : Result (List (Result Amendment Refusal)) IntakeFault) (m : Market) (script : List (Result Amendment Refusal)) (old new : Held) (fault : RunFault)
-    → scripted ≡ Ok script → Writes {A = Unit {0}} (answers 1 0 m script) old new (Err fault) → IsFull {A = Unit {0}} (length script) (Err fault) → WritesRun (opened_in (Ok m) scripted) old new (Err fault)
-WritesRun-answered scripted m script old new (Read source) read wrote full = absurd wrote
-WritesRun-answered scripted m script old new (Intake fault) read wrote full = absurd wrote
-WritesRun-answered scripted m script old new (Journal fault) read wrote full = (record { papers = m; script = script }, ap (opened_in (Ok m)) read, full, inl wrote)
-WritesRun-answered scripted m script old new WriteJournal read wrote full = (record { papers = m; script = script }, ap (opened_in (Ok m)) read, inl wrote)
-WritesRun-answered scripted m script old new WriteOut read wrote full = (record { papers = m; script = script }, ap (opened_in (Ok m)) read, inl wrote)
-WritesRun-answered scripted m script old new OutOfMemory read wrote full = inr (record { papers = m; script = script }, ap (opened_in (Ok m)) read, inl wrote)
+    → WellFormed m → scripted ≡ Ok script → Writes {A = Unit {0}} (answers 1 0 m script) old new (Err fault) → IsFull {A = Unit {0}} (length script) (Err fault) → WritesRun (opened_in (Ok m) scripted) old new (Err fault)
+WritesRun-answered scripted m script old new (Read source) well read wrote full = absurd wrote
+WritesRun-answered scripted m script old new (Intake fault) well read wrote full = absurd wrote
+WritesRun-answered scripted m script old new (Journal fault) well read wrote full =
+    (record { papers = m; script = script }, ap (opened_in (Ok m)) read, full, WritesFront-answered m script old new well wrote)
+WritesRun-answered scripted m script old new WriteJournal well read wrote full =
+    (record { papers = m; script = script }, ap (opened_in (Ok m)) read, WritesFront-answered m script old new well wrote)
+WritesRun-answered scripted m script old new WriteOut well read wrote full =
+    (record { papers = m; script = script }, ap (opened_in (Ok m)) read, WritesFront-answered m script old new well wrote)
+WritesRun-answered scripted m script old new OutOfMemory well read wrote full =
+    inr (record { papers = m; script = script }, ap (opened_in (Ok m)) read, WritesFront-answered m script old new well wrote)
 
 -- all answers were written, and then the report in part
 WritesFront-finished : (m : Market) (script : List (Result Amendment Refusal)) (a : Matching) (old mid new : Held)
     → IsStudentOptimal (after_script m script) a → GrowsByAll (answers 1 0 m script) old mid
     → GrowsByFront (to_output (report_text (after_script m script) a) ∷ []) mid new
     → WritesFront (record { papers = m; script = script }) old new
-WritesFront-finished m script a old mid new optimal answered wrote = inr (
+WritesFront-finished m script a old mid new optimal answered wrote = (
   report_text (after_script m script) a,
   (a, optimal, refl),
   GrowsByFront-after (answers 1 0 m script) (to_output (report_text (after_script m script) a) ∷ []) old mid new answered wrote,

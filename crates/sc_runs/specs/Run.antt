@@ -145,10 +145,10 @@ abbrev pub WritesAll : Opened → Held → Held → Type 0
 WritesAll opened old new = (report : List ℕ) × IsLastReport opened report
     × Grows old new (journal_text 1 (accepted opened.papers opened.script)) (replies 1 opened.papers opened.script ++ report)
 
--- a run ended amid its writes: amid the answers to the records, or amid these and the report
+-- a run ended amid its writes: the answers to the records, and then the report
 abbrev pub WritesFront : Opened → Held → Held → Type 0
-WritesFront opened old new = GrowsByFront (answers 1 0 opened.papers opened.script) old new
-    ⊎ ((report : List ℕ) × IsLastReport opened report × GrowsByFront (answers 1 0 opened.papers opened.script ++ to_output report ∷ []) old new)
+WritesFront opened old new =
+    (report : List ℕ) × IsLastReport opened report × GrowsByFront (answers 1 0 opened.papers opened.script ++ to_output report ∷ []) old new
 
 -- nothing was written
 abbrev pub KeepsBoth : Held → Held → Type 0

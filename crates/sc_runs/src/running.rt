@@ -2,7 +2,7 @@
 
 ghost use Rattle.std.specs.Prelude.{◌≡◌, ◌||◌, ℕ, List, ◌∷◌, [], Option, false, IfErr, MatchResult, Ok};
 ghost use Rattle.sc_intake.specs.Script.{script_in};
-ghost use Rattle.sc_repair.specs.Standing.{matching_of, IsOptimal};
+ghost use Rattle.sc_repair.specs.Standing.{matching_of, IsCertified};
 ghost use Rattle.sc_report.specs.Text.{report_text};
 ghost use Rattle.sc_report.specs.Watched.{device_of, has_failed};
 ghost use Rattle.sc_runs.specs.Opening.{is_output_fault, papers_in, IsOpeningFault};
@@ -90,7 +90,7 @@ fn run_opened<W: Write, J: Write>(
     out: &mut Watched<W>,
     journal: &mut Watched<J>,
 ) -> Result<(), RunFault>
-    requires optimal { IsOptimal clearing.old }
+    requires certified { IsCertified clearing.old }
     ensures writes { WritesRun (opened_in (Ok clearing.old.papers) (script_in script.now))
         (record { journal = J.contents (device_of journal.old); output = W.contents (device_of out.old) })
         (record { journal = J.contents (device_of journal.new); output = W.contents (device_of out.new) }) result }

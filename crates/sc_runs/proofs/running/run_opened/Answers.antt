@@ -1,4 +1,3 @@
-use Rattle.std.proofs.Common.{refl}
 use Rattle.sc_report.specs.Watched.{device_of}
 use Rattle.sc_runs.proofs.Replies.{WritesRun-after, WritesRun-answered}
 use Rattle.sc_runs.proofs.running.run_opened.Goals as goal
@@ -13,4 +12,4 @@ returns-in-Err-answer_all-clause-writes g c =
     WritesRun-answered _ c.args.clearing.now.papers c.in-Ok.records.items
     (record { journal = g.J.Write.contents (device_of c.args.journal.now); output = g.W.Write.contents (device_of c.args.out.now) })
     (record { journal = g.J.Write.contents (device_of c.answer_all.new.journal); output = g.W.Write.contents (device_of c.answer_all.new.out) })
-    c.in-Err-answer_all.fault c.in-Ok.ensures c.in-Err-answer_all.ensures.writes c.in-Err-answer_all.ensures.full
+    c.in-Err-answer_all.fault c.requires.certified.well_formed c.in-Ok.ensures c.in-Err-answer_all.ensures.writes c.in-Err-answer_all.ensures.full

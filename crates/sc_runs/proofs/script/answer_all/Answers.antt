@@ -1,7 +1,7 @@
-use Rattle.std.proofs.Common.{false, refl, sym, ◌∙◌, ap, arith, rules, ◌≡◌, ◌∷◌, [], ◌+◌, length, subst, ◌||◌, Err}
+use Rattle.std.proofs.Common.{refl, sym, ◌∙◌, ap, arith, rules, ◌≡◌, ◌∷◌, length}
 use Rattle.std.specs.Vec.Iter.{into_iter_items}
 use Rattle.sc_runs.specs.Run.{after_script}
-use Rattle.sc_runs.proofs.Replies.{accepted_in-one, IsFull-more, nothing-left, or-nothing, or-same, said-all, said-failed, said-first, said-next}
+use Rattle.sc_runs.proofs.Replies.{accepted_in-one, or-nothing, said-failed, said-first, said-next}
 use Rattle.sc_runs.proofs.script.answer_all.Goals as goal
 
 pub loop-entry-init : goal.loop-entry-init
