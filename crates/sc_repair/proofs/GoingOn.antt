@@ -57,8 +57,10 @@ stand-after m k log well settled = record {
   where
     stand : ℕ → Standing
     stand i = record { student = i; next = next_choice m log i }
+
     all-refl : (xs : List ℕ) → All (λ i. next_choice m log i ≡ next_choice m log i) xs
     all-refl xs = All-weaker (Contains xs) (λ i. next_choice m log i ≡ next_choice m log i) (λ i among. refl) xs (All-contains_itself xs)
+
     first_differ : IsDistinct nat_eq (take k (students_of m))
     first_differ = subst (IsDistinct nat_eq) (sym (take-map (λ (e : ℕ × Student). e.0) k m.students)) (well-cut m k well).students_differ
 
