@@ -17,7 +17,8 @@ use Rattle.std.proofs.lemmas.List.Elements.{All-contains}
 use Rattle.sc_audit.specs.Offers.{key_cmp, Offers}
 use Rattle.sc_audit.specs.Ledger.{Ledger, stand_of, next_of, is_kept, set_aside, keys_at, KeepsBest, Fits, Comes}
 use Rattle.sc_audit.specs.declared.stand.Stand.{Stand}
-use Rattle.sc_audit.proofs.Tables.{position-at, read-mapped, student-among, among-student, stander-among, keys-read, keys-put}
+use Rattle.sc_audit.proofs.Tables.{read-mapped, stander-among, keys-read, keys-put}
+use Rattle.sc_papers.proofs.Positions.{among-student, position-at, student-among}
 use Rattle.sc_audit.proofs.Keeping.{is_out, Came, keeps-more, keeps-others, keys-own, key-student}
 use Rattle.std.proofs.lemmas.List.Sorted.{Contains-permutation, IsPermutation-sym}
 use Rattle.sc_papers.proofs.Counting.{contains-cons, contains-head}

@@ -4,18 +4,19 @@ use Rattle.std.specs.BinaryHeap.{IsHeap}
 use Rattle.std.specs.Option.{option_map, option_map_or}
 use Rattle.std.proofs.lemmas.Bool.{cases_eq, cases_lt, and_left, and_right}
 use Rattle.std.proofs.lemmas.Map.Entries.{length-keys_of}
-use Rattle.std.proofs.lemmas.Option.{none-some, same_Some, slice_get-get_or}
+use Rattle.std.proofs.lemmas.Option.{none-some, same_Some}
 use Rattle.sc_papers.specs.Log.{next_choice, is_rejected}
 use Rattle.sc_papers.specs.Market.{Market, students_of, schools_of, choices_of}
 use Rattle.sc_papers.specs.Matching.{has}
 use Rattle.sc_papers.specs.WellFormed.{WellFormed, WithinLimits}
 use Rattle.sc_papers.specs.declared.key.Key.{Key}
-use Rattle.sc_papers.proofs.Choices.{contains-at, one-place}
+use Rattle.sc_papers.proofs.Choices.{contains-at}
 use Rattle.sc_papers.proofs.Students.{how_many-none, lister-among}
 use Rattle.sc_audit.specs.Offers.{key_cmp}
 use Rattle.sc_audit.specs.Ledger.{Ledger, stand_of, next_of, is_kept, keys_at, keeps, KeepsBest, Fits, Comes, Follows}
 use Rattle.sc_audit.specs.declared.stand.Stand.{Stand}
-use Rattle.sc_audit.proofs.Tables.{position-at, position-one, among-student, student-position, stand-away}
+use Rattle.sc_audit.proofs.Tables.{stand-away}
+use Rattle.sc_papers.proofs.Positions.{among-student, place-position, position-at, position-one, student-position}
 
 -- nobody stands anywhere
 pub nobody-stands : (m : Market) (stands : List (Option Stand)) → length stands ≡ length m.students → All (λ stand. stand ≡ None) stands → (i : ℕ) → stand_of m stands i ≡ None
@@ -75,13 +76,6 @@ opened-none m l fits nobody = record {
   came = λ i at found low. absurd (omega (arith, low));
   later = λ i at found past. nobody i;
 }
-
--- a student's position is the place in the order of entry
-place-position : (m : Market) → WellFormed m → (k i : ℕ) → slice_get (students_of m) k ≡ Some i → position (nat_eq i) (students_of m) ≡ Some k
-place-position m well k i here =
-    let (at, found) = student-position m i (among-student m i (contains-at (students_of m) k i here)) in
-    let place = position-at (students_of m) i at found in
-    found ∙ ap Some (one-place (students_of m) at k i well.students_differ (slice_get-get_or (students_of m) at i place.0 ∙ ap Some place.1) here)
 
 pub opened-nowhere : (m : Market) (l : Ledger) (k i : ℕ) → Opened m l k → slice_get (students_of m) k ≡ Some i → stand_of m l.stands i ≡ None
 opened-nowhere m l k i opened here = opened.later i k (place-position m opened.fits.well_formed k i here) (omega arith)

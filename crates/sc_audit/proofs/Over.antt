@@ -11,7 +11,8 @@ use Rattle.sc_audit.specs.Ledger.{Ledger, stand_of, next_of, is_kept, keys_at, w
 use Rattle.sc_audit.specs.Least.{LeastOf}
 use Rattle.sc_audit.specs.Over.{IsFirstOver}
 use Rattle.sc_audit.specs.declared.stand.Stand.{Stand}
-use Rattle.sc_audit.proofs.Tables.{position-at, student-position, stander-among, among-student}
+use Rattle.sc_audit.proofs.Tables.{stander-among}
+use Rattle.sc_papers.proofs.Positions.{among-student, position-at, student-position}
 use Rattle.sc_audit.proofs.Entries.{waiting-over, kept-within}
 
 -- who waits at a school stands there and isn't kept

@@ -1,71 +1,16 @@
 -- Look-ups by position, and what one write changes.
-use Rattle.std.proofs.Common.{◌≡◌, refl, ap, sym, subst, ◌∙◌, inl, inr, ℕ, zero, suc, ◌+◌, ◌<◌, nat_eq, Bool, true, not, ◌||◌, cond, List, [], ◌∷◌, length, get_or, set, map, Option, Some, None, Contains, position, arith, get_or-set_other, get_or-set_same}
-use Rattle.std.specs.Prelude.{nat_lt}
-use Rattle.std.specs.List.{list_any, position_or_len}
+use Rattle.std.proofs.Common.{◌≡◌, refl, ap, sym, ◌∙◌, inl, inr, ℕ, zero, suc, ◌<◌, nat_eq, cond, List, [], ◌∷◌, length, get_or, set, map, Option, Some, None, Contains, position, arith, get_or-set_other, get_or-set_same}
 use Rattle.std.specs.Option.{option_map_or}
-use Rattle.std.proofs.lemmas.Bool.{cases_Bool, cases_eq, eqb-true, eq-eqb, ne_eqb, cond-true, cond-false, false≢true, lt-ltb, or_left, or_right}
+use Rattle.std.proofs.lemmas.Bool.{cases_eq, eq-eqb, ne_eqb, cond-true, cond-false}
 use Rattle.std.proofs.lemmas.Option.{none-some}
 use Rattle.std.proofs.lemmas.List.{get_or_read, length-map}
-use Rattle.std.proofs.lemmas.List.Quantifiers.{position-Some}
 use Rattle.std.proofs.lemmas.Map.Entries.{length-keys_of}
-use Rattle.std.proofs.lemmas.Map.Made.{is_some-lookup}
-use Rattle.sc_papers.specs.Market.{Market, is_school, is_student, schools_of, seats_of, school_of, students_of}
+use Rattle.sc_papers.specs.Market.{Market, schools_of, seats_of, school_of, students_of}
 use Rattle.sc_papers.specs.declared.records.School.{School}
-use Rattle.sc_papers.proofs.Counting.{contains-cons}
+use Rattle.sc_papers.proofs.Positions.{position-among, position-at, position-one}
 use Rattle.sc_audit.specs.Ledger.{looked_up, stand_of, keys_at}
 use Rattle.sc_audit.specs.declared.stand.Stand.{Stand}
 use Rattle.sc_papers.specs.declared.key.Key.{Key}
-
-any-among : (xs : List ℕ) (i : ℕ) → Contains xs i → list_any (nat_eq i) xs ≡ true
-any-among [] i (k, low, at) = absurd (omega (arith, low))
-any-among (x ∷ xs) i among = elim (contains-cons x xs i among) [
-  | inl same ↦ or_left (nat_eq i x) (list_any (nat_eq i) xs) (eq-eqb i x (sym same))
-  | inr later ↦ or_right (nat_eq i x) (list_any (nat_eq i) xs) (any-among xs i later)
-]
-
--- a number among the students is a student of the papers, and one among the schools a school
-pub among-student : (m : Market) (i : ℕ) → Contains (students_of m) i → is_student m i ≡ true
-among-student m i among = is_some-lookup (nat_eq i) m.students ∙ any-among (students_of m) i among
-
-pub among-school : (m : Market) (s : ℕ) → Contains (schools_of m) s → is_school m s ≡ true
-among-school m s among = is_some-lookup (nat_eq s) m.schools ∙ any-among (schools_of m) s among
-
--- a number stands at its position
-pub position-at : (xs : List ℕ) (i at : ℕ) → position (nat_eq i) xs ≡ Some at → (at < length xs) × (get_or xs at i ≡ i)
-position-at xs i at found =
-    let parts = position-Some (nat_eq i) xs at i found in
-    (parts.0, sym (eqb-true i (get_or xs at i) parts.1))
-
-pub position-among : (xs : List ℕ) (i at : ℕ) → position (nat_eq i) xs ≡ Some at → Contains xs i
-position-among xs i at found = let here = position-at xs i at found in (at, here.0, here.1)
-
--- numbers at one position are one number
-pub position-one : (xs : List ℕ) (i j at : ℕ) → position (nat_eq i) xs ≡ Some at → position (nat_eq j) xs ≡ Some at → j ≡ i
-position-one xs i j at first second =
-    let here = position-Some (nat_eq i) xs at i first in
-    let there = position-Some (nat_eq j) xs at i second in
-    eqb-true j (get_or xs at i) there.1 ∙ sym (eqb-true i (get_or xs at i) here.1)
-
-prefix-below : (p : ℕ → Bool) (xs : List ℕ) → list_any p xs ≡ true → position_or_len p xs < length xs
-prefix-below p [] none = absurd (false≢true none)
-prefix-below p (x ∷ xs) some = elim (cases_Bool (p x)) [
-  | inl passes ↦ subst (λ n. n < suc (length xs)) (sym (cond-false (not (p x)) (1 + position_or_len p xs) 0 (ap not passes))) (omega arith)
-  | inr fails ↦ subst (λ n. n < suc (length xs)) (sym (cond-true (not (p x)) (1 + position_or_len p xs) 0 (ap not fails)))
-      (omega (arith, prefix-below p xs (sym (ap (λ b. b || list_any p xs) fails) ∙ some)))
-]
-
-position-found : (xs : List ℕ) (i : ℕ) → list_any (nat_eq i) xs ≡ true → position (nat_eq i) xs ≡ Some (position_or_len (nat_eq i) xs)
-position-found xs i some = cond-true (nat_lt (position_or_len (nat_eq i) xs) (length xs)) (Some (position_or_len (nat_eq i) xs)) None (lt-ltb (position_or_len (nat_eq i) xs) (length xs) (prefix-below (nat_eq i) xs some))
-
--- students and schools of the papers have positions
-pub student-position : (m : Market) (i : ℕ) → is_student m i ≡ true → (at : ℕ) × (position (nat_eq i) (students_of m) ≡ Some at)
-student-position m i known = (position_or_len (nat_eq i) (students_of m), position-found (students_of m) i (sym (is_some-lookup (nat_eq i) m.students) ∙ known))
-
-pub school-position : (m : Market) (s : ℕ) → is_school m s ≡ true → (at : ℕ) × (position (nat_eq s) (schools_of m) ≡ Some at)
-school-position m s known = (position_or_len (nat_eq s) (schools_of m), position-found (schools_of m) s (sym (is_some-lookup (nat_eq s) m.schools) ∙ known))
-
-pub student-among : (m : Market) (i : ℕ) → is_student m i ≡ true → Contains (students_of m) i
-student-among m i known = let (at, found) = student-position m i known in position-among (students_of m) i at found
 
 -- the seats of a school of the papers
 pub seats-known : (m : Market) (s : ℕ) (school : School) → school_of m s ≡ Some school → seats_of m s ≡ school.seats

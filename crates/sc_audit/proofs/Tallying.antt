@@ -21,7 +21,8 @@ use Rattle.sc_audit.specs.Least.{LeastOf}
 use Rattle.sc_audit.specs.Over.{IsFirstOver}
 use Rattle.sc_audit.specs.Tallies.{no_tally, or_later, with_key, tally_at, over_at, IsTally, AreTallies}
 use Rattle.sc_audit.specs.declared.tally.Tally.{Tally}
-use Rattle.sc_audit.proofs.Tables.{position-at, position-among, among-school, looked-at, looked-set, school-position}
+use Rattle.sc_audit.proofs.Tables.{looked-at, looked-set}
+use Rattle.sc_papers.proofs.Positions.{among-school, position-among, position-at, school-position}
 
 -- the tally read at a school's position
 pub tally-read : (m : Market) (tallies : List Tally) (s at : ℕ) (now : Tally) → length tallies ≡ length m.schools → position (nat_eq s) (schools_of m) ≡ Some at → now ≡ get_or tallies at now → now ≡ tally_at m tallies s

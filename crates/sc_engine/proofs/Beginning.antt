@@ -9,6 +9,7 @@ use Rattle.sc_papers.specs.Restriction.{restricted}
 use Rattle.sc_papers.specs.declared.rejection.Rejection.{Rejection}
 use Rattle.sc_papers.specs.declared.records.Student.{Student}
 use Rattle.sc_papers.proofs.Chain.{chain-begins}
+use Rattle.sc_papers.proofs.Positions.{position-at}
 use Rattle.sc_papers.proofs.Rejections.{is_of, rejected-push, find-agree, has-agree}
 use Rattle.sc_papers.proofs.Restriction.{restricted-restricts, next-kept, next-dropped}
 use Rattle.sc_papers.proofs.Subsets.{next-passes}
@@ -158,7 +159,7 @@ pub begins : (m : Market) (r : Standings) (i at place : ℕ) → Fits m r → po
 begins m r i at place fits found absent = record {
   fits = fits;
   student = found;
-  low = omega (arith, (tables.position-at (students_of m) i at found).0, tables.length-mapped (λ (e : ℕ × Student). e.0) m.students, fits.places);
+  low = omega (arith, (position-at (students_of m) i at found).0, tables.length-mapped (λ (e : ℕ × Student). e.0) m.students, fits.places);
   absent = absent;
   places = refl;
   rolls = refl;

@@ -15,7 +15,7 @@ use Rattle.sc_papers.proofs.Restriction.{restricted-restricts, next-kept}
 use Rattle.sc_checkpoint.specs.Standings.{stands, StandAfter}
 use Rattle.sc_checkpoint.specs.declared.standing.Standing.{Standing}
 use Rattle.sc_engine.specs.Standing.{Standings, has_entered, next_of, SettlesFirst}
-use Rattle.sc_engine.proofs.Papers.{among-student}
+use Rattle.sc_papers.proofs.Positions.{among-student}
 use Rattle.sc_engine.proofs.Settling.{first-apart}
 
 -- a student at a position of the order of entry is in the papers

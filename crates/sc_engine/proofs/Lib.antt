@@ -3,6 +3,7 @@ pub mod Offers
 pub mod Rolls
 pub mod Proposals
 pub mod Steps
+pub mod Hands
 pub mod Papers
 pub mod Moves
 pub mod Places

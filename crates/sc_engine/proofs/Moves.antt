@@ -21,6 +21,11 @@ proposed-from m r hand s at key rolls out fits stands school is offered = record
   offered = subst (λ k. OffersAt r.rolls rolls at k out) is offered;
 }
 
+-- the same of what the roll answered
+pub proposed-told : (m : Market) (r : Standings) (hand s at : ℕ) (key : Key) (rolls : List Held) (told out : Option Key) → FitsBut m r (only hand) → next_of m r.places hand ≡ Some s → position (nat_eq s) (schools_of m) ≡ Some at → key ≡ key_of m hand s → OffersAt r.rolls rolls at key told → told ≡ out → Proposed m r hand s at rolls out
+proposed-told m r hand s at key rolls told out fits stands school is offered answer =
+    proposed-from m r hand s at key rolls out fits stands school is (subst (OffersAt r.rolls rolls at key) answer offered)
+
 pub extends-same : (old new : List Rejection) → new ≡ old → Extends old new
 extends-same old new same = ([], same ∙ sym (append-nil old))
 

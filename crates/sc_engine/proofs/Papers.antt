@@ -1,31 +1,17 @@
 -- What well-formed papers say of those who stand at a choice.
-use Rattle.std.proofs.Common.{◌≡◌, ap, sym, subst, ◌∙◌, ℕ, suc, ◌+◌, ◌<◌, ◌≤◌, nat_eq, Bool, true, ◌||◌, List, [], ◌∷◌, length, Option, Some, None, Contains, IfSome, slice_get, position, not, arith, inl, inr}
-use Rattle.std.specs.List.{list_any, position_or_len}
-use Rattle.std.specs.Prelude.{nat_lt}
+use Rattle.std.proofs.Common.{◌≡◌, sym, ◌∙◌, ℕ, ◌<◌, ◌≤◌, nat_eq, true, List, [], length, Option, Some, None, Contains, IfSome, slice_get, arith}
 use Rattle.std.specs.Option.{option_map_or}
-use Rattle.std.proofs.lemmas.Bool.{cases_Bool, eq-eqb, or_left, or_right, false≢true, cond-true, cond-false, lt-ltb}
 use Rattle.std.proofs.lemmas.List.Elements.{All-contains}
 use Rattle.std.proofs.lemmas.Map.Entries.{All-lookup}
 use Rattle.std.proofs.lemmas.Map.Made.{is_some-lookup}
-use Rattle.std.proofs.lemmas.Option.{slice_get_within, none-some}
-use Rattle.sc_papers.specs.Market.{Market, is_school, is_student, students_of, schools_of, choices_of, student_of}
+use Rattle.std.proofs.lemmas.Option.{slice_get_within}
+use Rattle.sc_papers.specs.Market.{Market, is_school, is_student, schools_of, choices_of, student_of}
 use Rattle.sc_papers.specs.WellFormed.{WellFormed, WithinLimits, IsProper, IsShort}
 use Rattle.sc_papers.specs.declared.records.Student.{Student}
 use Rattle.sc_papers.proofs.Choices.{contains-at}
-use Rattle.sc_papers.proofs.Counting.{contains-cons}
+use Rattle.sc_papers.proofs.Positions.{any-among, among-student}
 use Rattle.sc_engine.specs.Standing.{next_of, place_of}
 use Rattle.sc_engine.proofs.Tables.{stands-at, next-among, next-by}
-
-pub any-among : (xs : List ℕ) (i : ℕ) → Contains xs i → list_any (nat_eq i) xs ≡ true
-any-among [] i (k, low, at) = absurd (omega (arith, low))
-any-among (x ∷ xs) i among = elim (contains-cons x xs i among) [
-  | inl same ↦ or_left (nat_eq i x) (list_any (nat_eq i) xs) (eq-eqb i x (sym same))
-  | inr later ↦ or_right (nat_eq i x) (list_any (nat_eq i) xs) (any-among xs i later)
-]
-
--- a number among the students is a student of the papers
-pub among-student : (m : Market) (i : ℕ) → Contains (students_of m) i → is_student m i ≡ true
-among-student m i among = is_some-lookup (nat_eq i) m.students ∙ any-among (students_of m) i among
 
 -- whom a school stands among the choices of, lists a school of the papers
 pub choice-known : (m : Market) → WellFormed m → (i s : ℕ) → Contains (choices_of m i) s → is_school m s ≡ true
@@ -57,32 +43,6 @@ stander-school m places i s well next =
 pub stander-short : (m : Market) (places : List (Option ℕ)) (i s place : ℕ) → WithinLimits m → next_of m places i ≡ Some s → place_of m places i ≡ Some place → place < 20
 stander-short m places i s place within next is =
     omega (arith, slice_get_within (choices_of m i) place s (sym (next-by m places i place is) ∙ next), choices-short m within i)
-
--- a list with a member that passes has a first one
-prefix-below : (p : ℕ → Bool) (xs : List ℕ) → list_any p xs ≡ true → position_or_len p xs < length xs
-prefix-below p [] none = absurd (false≢true none)
-prefix-below p (x ∷ xs) some = elim (cases_Bool (p x)) [
-  | inl passes ↦ subst (λ n. n < suc (length xs)) (sym (cond-false (not (p x)) (1 + position_or_len p xs) 0 (ap not passes))) (omega arith)
-  | inr fails ↦ subst (λ n. n < suc (length xs)) (sym (cond-true (not (p x)) (1 + position_or_len p xs) 0 (ap not fails)))
-      (omega (arith, prefix-below p xs (sym (ap (λ b. b || list_any p xs) fails) ∙ some)))
-]
-
-pub position-found : (xs : List ℕ) (i : ℕ) → list_any (nat_eq i) xs ≡ true → position (nat_eq i) xs ≡ Some (position_or_len (nat_eq i) xs)
-position-found xs i some = cond-true (nat_lt (position_or_len (nat_eq i) xs) (length xs)) (Some (position_or_len (nat_eq i) xs)) None (lt-ltb (position_or_len (nat_eq i) xs) (length xs) (prefix-below (nat_eq i) xs some))
-
--- a school of the papers has a position
-pub school-position : (m : Market) (s : ℕ) → is_school m s ≡ true → position (nat_eq s) (schools_of m) ≡ None → ⊥
-school-position m s known none =
-    none-some (position_or_len (nat_eq s) (schools_of m)) (sym none ∙ position-found (schools_of m) s (sym (is_some-lookup (nat_eq s) m.schools) ∙ known))
-
--- a student of the papers has a position
-pub student-position : (m : Market) (i : ℕ) → is_student m i ≡ true → position (nat_eq i) (students_of m) ≡ None → ⊥
-student-position m i known none =
-    none-some (position_or_len (nat_eq i) (students_of m)) (sym none ∙ position-found (students_of m) i (sym (is_some-lookup (nat_eq i) m.students) ∙ known))
-
--- the position of a school of the papers
-pub known-position : (m : Market) (s : ℕ) → is_school m s ≡ true → (at : ℕ) × (position (nat_eq s) (schools_of m) ≡ Some at)
-known-position m s known = (position_or_len (nat_eq s) (schools_of m), position-found (schools_of m) s (sym (is_some-lookup (nat_eq s) m.schools) ∙ known))
 
 -- a school at a position is a school of the papers
 pub school-at : (m : Market) (at s : ℕ) → slice_get (schools_of m) at ≡ Some s → is_school m s ≡ true

@@ -23,7 +23,7 @@ use Rattle.sc_papers.proofs.Rejections.{any-push}
 use Rattle.sc_papers.proofs.Students.{how_many-agree, how_many-none}
 use Rattle.sc_engine.specs.Standing.{Standings, place_of, next_of, has_entered, Fits, standing_but, entered_papers, Continues, Enters, SettlesFirst}
 use Rattle.sc_engine.proofs.Tables.{next-none, next-among, length-mapped}
-use Rattle.sc_engine.proofs.Papers.{any-among}
+use Rattle.sc_papers.proofs.Positions.{any-among}
 use Rattle.sc_engine.proofs.Proposals.{stays}
 use Rattle.sc_engine.proofs.Places.{assigned-with_place}
 

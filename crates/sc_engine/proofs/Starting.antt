@@ -15,8 +15,9 @@ use Rattle.sc_papers.proofs.Restriction.{restricted-restricts, next-dropped}
 use Rattle.sc_papers.proofs.Students.{how_many-none}
 use Rattle.sc_seats.specs.Roll.{Held}
 use Rattle.sc_engine.specs.Standing.{Standings, place_of, next_of, has_entered, roll_of, roll_at, no_roll, RollFits, Fits, nobody, Continues, AreEmpty, standing_but, entered_papers}
-use Rattle.sc_engine.proofs.Tables.{next-none, roll-at, position-at, length-mapped, get_or-mapped}
-use Rattle.sc_engine.proofs.Papers.{known-position, school-at}
+use Rattle.sc_engine.proofs.Tables.{next-none, roll-at, length-mapped, get_or-mapped}
+use Rattle.sc_papers.proofs.Positions.{position-at, school-position}
+use Rattle.sc_engine.proofs.Papers.{school-at}
 use Rattle.sc_engine.proofs.Proposals.{has-none}
 
 -- standings before anybody has entered
@@ -62,7 +63,7 @@ roll-unknown m rolls s unknown = go (position (nat_eq s) (schools_of m)) refl
 roll-empty : (m : Market) (rolls : List Held) → AreEmpty m rolls (length m.schools) → (s : ℕ) → roll_of m rolls s ≡ record { keys = []; seats = seats_of m s }
 roll-empty m rolls empty s = elim (cases_Bool (is_school m s)) [
   | inl known ↦
-      let (at, found) = known-position m s known in
+      let (at, found) = school-position m s known in
       let here = position-at (schools_of m) s at found in
       roll-at m rolls s at found
       ∙ empty at s (omega (arith, here.0, length-mapped (λ (e : ℕ × School). e.0) m.schools)) (slice_get-get_or (schools_of m) at s here.0 ∙ ap Some here.1)

@@ -1,30 +1,13 @@
 -- Look-ups by position, and what one write changes.
 use Rattle.std.proofs.Common.{◌≡◌, refl, ap, sym, ◌∙◌, ℕ, zero, suc, ◌<◌, nat_eq, true, List, [], ◌∷◌, length, get_or, set, map, Option, Some, None, Contains, is_some, position, slice_get, arith, get_or-set_other, get_or-set_same}
 use Rattle.std.specs.Option.{option_map_or, option_and_then}
-use Rattle.std.proofs.lemmas.Bool.{eqb-true}
 use Rattle.std.proofs.lemmas.Option.{none-some}
 use Rattle.std.proofs.lemmas.List.{get_or_read}
-use Rattle.std.proofs.lemmas.List.Quantifiers.{position-Some}
 use Rattle.sc_papers.specs.Market.{Market, students_of, schools_of, choices_of}
 use Rattle.sc_papers.specs.declared.records.Student.{Student}
+use Rattle.sc_papers.proofs.Positions.{position-among, position-at, position-one}
 use Rattle.sc_seats.specs.Roll.{Held}
 use Rattle.sc_engine.specs.Standing.{place_of, next_of, roll_of, roll_at, no_roll, has_entered}
-
--- a number stands at its position
-pub position-at : (xs : List ℕ) (i at : ℕ) → position (nat_eq i) xs ≡ Some at → (at < length xs) × (get_or xs at i ≡ i)
-position-at xs i at found =
-    let parts = position-Some (nat_eq i) xs at i found in
-    (parts.0, sym (eqb-true i (get_or xs at i) parts.1))
-
-pub position-among : (xs : List ℕ) (i at : ℕ) → position (nat_eq i) xs ≡ Some at → Contains xs i
-position-among xs i at found = let here = position-at xs i at found in (at, here.0, here.1)
-
--- numbers at one position are one number
-pub position-one : (xs : List ℕ) (i j at : ℕ) → position (nat_eq i) xs ≡ Some at → position (nat_eq j) xs ≡ Some at → j ≡ i
-position-one xs i j at first second =
-    let here = position-Some (nat_eq i) xs at i first in
-    let there = position-Some (nat_eq j) xs at i second in
-    eqb-true j (get_or xs at i) there.1 ∙ sym (eqb-true i (get_or xs at i) here.1)
 
 -- what a mapped list has at a place
 pub get_or-mapped : {X Y : Type 0} (f : X → Y) (xs : List X) (k : ℕ) (x : X) (d : Y) → k < length xs → get_or (map f xs) k d ≡ f (get_or xs k x)

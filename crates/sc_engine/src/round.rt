@@ -1,11 +1,11 @@
 //! Rounds of proposals.
 
-ghost use Rattle.std.specs.Prelude.{◌≡◌, ℕ, ◌+◌, ◌^◌, ◌<◌, ◌≤◌, true, false, All, List, [], ◌∷◌, ◌++◌, Contains, Option, None, Some, length, position, nat_eq, slice_get, slice_set, if◌then◌else◌, IfOk, OnOk, OnErr};
+ghost use Rattle.std.specs.Prelude.{◌≡◌, ℕ, ◌+◌, ◌^◌, ◌<◌, ◌≤◌, true, false, All, List, [], ◌∷◌, ◌++◌, Contains, Option, None, Some, length, position, nat_eq, slice_get, slice_index_or, slice_set, if◌then◌else◌, IfOk, IfSome, OnOk, OnErr};
 ghost use Rattle.std.specs.Option.{option_map};
 ghost use Rattle.sc_papers.specs.Assignment.{assigned};
 ghost use Rattle.sc_papers.specs.Key.{key_of};
-ghost use Rattle.sc_papers.specs.Market.{is_school, is_student, schools_of, seats_of, students_of};
-ghost use Rattle.sc_engine.specs.Standing.{OffersAt, roll_at, next_of, place_of, Fits, FitsBut, only, Proposes, ChainEnds, Enters, Continues, has_entered, AreEmpty};
+ghost use Rattle.sc_papers.specs.Market.{choices_of, is_school, is_student, schools_of, seats_of, students_of};
+ghost use Rattle.sc_engine.specs.Standing.{OffersAt, roll_at, next_of, student_at, Fits, FitsBut, only, Proposes, ChainEnds, Enters, Continues, has_entered, AreEmpty};
 ghost use Rattle.sc_engine.specs.Rolls.{rolls_of};
 
 mod resume;
@@ -83,7 +83,11 @@ fn choices_stood_at(
         let Some(student) = papers.student_at(position) else {
             unreachable!()
         };
-        give(&mut assignment, student, next_in(places, papers, student))?;
+        give(
+            &mut assignment,
+            student,
+            choice_at(places, papers, position),
+        )?;
     }
     Ok(assignment)
 }
@@ -103,35 +107,60 @@ fn give(
     Ok(())
 }
 
+/// The choices of the student at the position.
+fn choices_at(papers: &Papers, at: usize) -> &[SchoolNo]
+    requires { at < length papers.now.students }
+    ensures { result.now ≡ choices_of papers.now (student_at papers.now at) }
+{
+    let Some(student) = papers.record_at(at) else {
+        unreachable!()
+    };
+    student.choices.as_slice()
+}
+
+/// The choice at which the student at the position stands.
+fn choice_at(places: &[Option<usize>], papers: &Papers, at: usize) -> Option<SchoolNo>
+    requires places { length places.now ≡ length papers.now.students }
+    requires within { at < length papers.now.students }
+    ensures { (i : ℕ) → position (nat_eq i) (students_of papers.now) ≡ Some at → result ≡ next_of papers.now places.now i }
+{
+    let place = places[at]?;
+    choices_at(papers, at).get(place).copied()
+}
+
 /// The choice at which the student stands.
-#[tactic(auto, unfolding(crate::specs::Standing::next_of, crate::specs::Standing::place_of, sc_papers::specs::Market::choices_of))]
 fn next_in(places: &[Option<usize>], papers: &Papers, student: StudentNo) -> Option<SchoolNo>
     requires { length places.now ≡ length papers.now.students }
     ensures { result ≡ next_of papers.now places.now student }
 {
-    let place = places[papers.student_position(student)?]?;
-    papers
-        .student(student)?
-        .choices
-        .as_slice()
-        .get(place)
-        .copied()
+    choice_at(places, papers, papers.student_position(student)?)
 }
 
-/// The student's key at the school, and the school's position.
-fn key_at(papers: &Papers, student: StudentNo, school: SchoolNo) -> (usize, Key)
-    requires student { is_student papers.now student ≡ true }
+/// The position of a student of the papers.
+fn position_of(papers: &Papers, student: StudentNo) -> usize
+    requires { is_student papers.now student ≡ true }
+    ensures { position (nat_eq student) (students_of papers.now) ≡ Some result }
+{
+    let Some(at) = papers.student_position(student) else {
+        unreachable!()
+    };
+    at
+}
+
+/// The school's position, and the key at it of the student at a position.
+fn key_at(papers: &Papers, student: usize, school: SchoolNo) -> (usize, Key)
+    requires student { student < length papers.now.students }
     requires school { is_school papers.now school ≡ true }
     ensures position { position (nat_eq school) (schools_of papers.now) ≡ Some result.0 }
-    ensures key { result.1 ≡ key_of papers.now student school }
+    ensures key { result.1 ≡ key_of papers.now (student_at papers.now student) school }
 {
-    let Some(position) = papers.school_position(school) else {
+    let Some(at) = papers.school_position(school) else {
         unreachable!()
     };
-    let Some(key) = papers.key(student, school) else {
+    let Some(key) = papers.key_at(student, at) else {
         unreachable!()
     };
-    (position, key)
+    (at, key)
 }
 
 /// Offers a seat of the school at the position to the key.
@@ -146,15 +175,12 @@ fn offer_to<R: Roll>(rolls: &mut Vec<R>, at: usize, key: Key) -> Result<Option<K
     Ok(out)
 }
 
-/// The student moves on to the next place of its choices.
-fn move_on(places: &mut Vec<Option<usize>>, papers: &Papers, student: StudentNo)
-    requires places { length places.old.items ≡ length papers.now.students }
-    requires short { (place : ℕ) → place_of papers.now places.old.items student ≡ Some place → place < 20 }
-    ensures { (at place : ℕ) → position (nat_eq student) (students_of papers.now) ≡ Some at → place_of papers.now places.old.items student ≡ Some place → places.new.items ≡ slice_set places.old.items at (Some (place + 1)) }
+/// The student at the position moves on to the next place of its choices.
+fn move_on(places: &mut Vec<Option<usize>>, at: usize)
+    requires within { at < length places.old.items }
+    requires short { (place : ℕ) → slice_index_or places.old.items at None ≡ Some place → place < 20 }
+    ensures { (place : ℕ) → slice_index_or places.old.items at None ≡ Some place → places.new.items ≡ slice_set places.old.items at (Some (place + 1)) }
 {
-    let Some(at) = papers.student_position(student) else {
-        return;
-    };
     if let Some(place) = places[at] {
         places[at] = Some(place + 1);
     }
@@ -179,48 +205,49 @@ impl<R: Roll> Round<R> {
         Ok(out)
     }
 
-    /// Notes that the school rejects the student, who moves on to the next choice.
-    fn reject(
-        &mut self,
-        papers: &Papers,
-        student: StudentNo,
-        school: SchoolNo,
-    ) -> Result<(), AllocError>
-        requires places { length self.old.places.items ≡ length papers.now.students }
-        requires short { (place : ℕ) → place_of papers.now self.old.places.items student ≡ Some place → place < 20 }
-        ensures log { OnOk result (self.new.log.items ≡ self.old.log.items ++ record { student = student; school = school } ∷ []) }
-        ensures moved { OnOk result ((at place : ℕ) → position (nat_eq student) (students_of papers.now) ≡ Some at → place_of papers.now self.old.places.items student ≡ Some place → self.new.places.items ≡ slice_set self.old.places.items at (Some (place + 1))) }
+    /// Notes that the school rejects the student at the position, who moves on to the next choice.
+    fn reject(&mut self, at: usize, entry: Rejection) -> Result<(), AllocError>
+        requires within { at < length self.old.places.items }
+        requires short { (place : ℕ) → slice_index_or self.old.places.items at None ≡ Some place → place < 20 }
+        ensures log { OnOk result (self.new.log.items ≡ self.old.log.items ++ entry ∷ []) }
+        ensures moved { OnOk result ((place : ℕ) → slice_index_or self.old.places.items at None ≡ Some place → self.new.places.items ≡ slice_set self.old.places.items at (Some (place + 1))) }
         ensures rolls { self.new.rolls.items ≡ self.old.rolls.items }
         ensures proposals { self.new.proposals ≡ self.old.proposals }
     {
-        self.log.push(Rejection { student, school })?;
-        move_on(&mut self.places, papers, student);
+        self.log.push(entry)?;
+        move_on(&mut self.places, at);
         Ok(())
     }
 
-    /// The student in hand proposes to its next choice, if it has one: who is put out, if anybody.
-    fn propose(&mut self, papers: &Papers, hand: StudentNo) -> Result<Option<StudentNo>, AllocError>
-        requires { FitsBut papers.now (standings_of R.keys R.seats self.old) (only hand) }
-        ensures { IfOk result (λ out. Proposes papers.now (standings_of R.keys R.seats self.old) (standings_of R.keys R.seats self.new) hand out) }
+    /// The student in hand, by its position, proposes to its next choice, if it has one: the position
+    /// of whoever is put out, if anybody.
+    fn propose(&mut self, papers: &Papers, hand: usize) -> Result<Option<usize>, AllocError>
+        requires within { hand < length papers.now.students }
+        requires fits { FitsBut papers.now (standings_of R.keys R.seats self.old) (only (student_at papers.now hand)) }
+        ensures within { IfOk result (λ out. IfSome out (λ next. next < length papers.now.students)) }
+        ensures proposes { IfOk result (λ out. Proposes papers.now (standings_of R.keys R.seats self.old) (standings_of R.keys R.seats self.new) (student_at papers.now hand) (option_map (student_at papers.now) out)) }
     {
-        let Some(school) = next_in(self.places.as_slice(), papers, hand) else {
+        let Some(school) = choice_at(self.places.as_slice(), papers, hand) else {
             return Ok(None);
         };
         let (at, key) = key_at(papers, hand, school);
         let Some(out) = self.offer(at, key)? else {
             return Ok(None);
         };
-        self.reject(papers, out.student, school)?;
-        Ok(Some(out.student))
+        let student = out.student;
+        let next = position_of(papers, student);
+        self.reject(next, Rejection { student, school })?;
+        Ok(Some(next))
     }
 
-    /// The chain of the student: whoever is put out proposes to the next choice, until nobody is put
-    /// out or the one put out has no choice left.
-    fn chain(&mut self, papers: &Papers, student: StudentNo) -> Result<(), AllocError>
-        requires { FitsBut papers.now (standings_of R.keys R.seats self.old) (only student) }
-        ensures { OnOk result (ChainEnds papers.now (standings_of R.keys R.seats self.old) (standings_of R.keys R.seats self.new) student) }
+    /// The chain of the student at the position: whoever is put out proposes to the next choice, until
+    /// nobody is put out or the one put out has no choice left.
+    fn chain(&mut self, papers: &Papers, first: usize) -> Result<(), AllocError>
+        requires within { first < length papers.now.students }
+        requires fits { FitsBut papers.now (standings_of R.keys R.seats self.old) (only (student_at papers.now first)) }
+        ensures { OnOk result (ChainEnds papers.now (standings_of R.keys R.seats self.old) (standings_of R.keys R.seats self.new) (student_at papers.now first)) }
     {
-        let mut hand = student;
+        let mut hand = first;
         while let Some(out) = self.propose(papers, hand)? {
             hand = out;
         }
@@ -234,11 +261,9 @@ impl<R: Roll> Round<R> {
         requires absent { has_entered papers.now self.old.places.items student ≡ false }
         ensures { OnOk result (Enters papers.now (standings_of R.keys R.seats self.old) (standings_of R.keys R.seats self.new) student) }
     {
-        let Some(at) = papers.student_position(student) else {
-            unreachable!()
-        };
+        let at = position_of(papers, student);
         self.places[at] = Some(0);
-        self.chain(papers, student)?;
+        self.chain(papers, at)?;
         Ok(())
     }
 

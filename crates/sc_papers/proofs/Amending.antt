@@ -1,6 +1,5 @@
 -- An accepted amendment leaves the papers well-formed.
-use Rattle.std.proofs.Common.{◌≡◌, ℕ, nat_eq, List, Option, Some, None, refl, sym}
-use Rattle.std.specs.Map.{lookup}
+use Rattle.std.proofs.Common.{◌≡◌, ℕ, Option, Some, None, refl, sym}
 use Rattle.sc_papers.specs.Market.{Market, school_of, student_of}
 use Rattle.sc_papers.specs.Verdict.{after, changed_school, changed_student, verdict}
 use Rattle.sc_papers.specs.WellFormed.{WellFormed, IsProper}
@@ -8,7 +7,7 @@ use Rattle.sc_papers.specs.declared.amendment.Amendment.{Amendment}
 use Rattle.sc_papers.specs.declared.amendment.Amendment.TheVariants.{Enter, Withdraw, Rerank, Add, Close, Correct}
 use Rattle.sc_papers.specs.declared.records.School.{School}
 use Rattle.sc_papers.specs.declared.records.Student.{Student}
-use Rattle.sc_papers.proofs.Changing.{All-found, IsProper-corrected, IsProper-reranked, put_school, put_student, WellFormed-put_school, WellFormed-put_student, WellFormed-without_student}
+use Rattle.sc_papers.proofs.Changing.{All-found, IsProper-corrected, IsProper-reranked, WellFormed-put_school, WellFormed-put_student, WellFormed-without_student}
 use Rattle.sc_papers.proofs.Entering.{MayEnter-allowed, WellFormed-with_student}
 
 -- what the papers hold of a student changes, if they hold the student

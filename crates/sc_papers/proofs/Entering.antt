@@ -1,8 +1,8 @@
 -- A student who may enter leaves the papers well-formed and within their limits.
-use Rattle.std.proofs.Common.{◌≡◌, ℕ, suc, ◌+◌, ◌<◌, ◌≤◌, ◌==◌, nat_eq, Bool, true, false, not, cond, List, [], ◌∷◌, ◌++◌, length, map, Option, Some, None, refl, sym, ap, ◌∙◌, arith, length-append}
-use Rattle.std.specs.Prelude.{nat_lt, nat_le, is_some}
+use Rattle.std.proofs.Common.{◌≡◌, ℕ, ◌<◌, ◌==◌, nat_eq, true, false, List, [], ◌∷◌, ◌++◌, length, Option, Some, None, refl, ap, arith, length-append}
+use Rattle.std.specs.Prelude.{nat_le, is_some}
 use Rattle.std.specs.Map.{keys_of, lookup}
-use Rattle.std.specs.List.{list_any, IsDistinct, All}
+use Rattle.std.specs.List.{list_any}
 use Rattle.std.proofs.Common.{inl, inr}
 use Rattle.std.proofs.lemmas.Bool.{cases_Bool}
 use Rattle.std.proofs.lemmas.Bool.Decides.{nat_tests}
@@ -10,10 +10,9 @@ use Rattle.std.proofs.lemmas.Cmp.{nat_eq_equiv}
 use Rattle.std.proofs.lemmas.List.Elements.{All-push}
 use Rattle.std.proofs.lemmas.Map.Keys.{IsDistinct-push}
 use Rattle.sc_papers.specs.Market.{Market, is_school, is_student}
-use Rattle.sc_papers.specs.Verdict.{first_of, objections_to_enter, too_long, twice_in, unknown_in, refuse_if, with_student}
+use Rattle.sc_papers.specs.Verdict.{first_of, objections_to_enter, with_student}
 use Rattle.sc_papers.specs.WellFormed.{WellFormed, WithinLimits, IsProper, IsShort}
 use Rattle.sc_papers.specs.declared.records.Student.{Student}
-use Rattle.sc_papers.specs.declared.amendment.Refusal.{Refusal}
 use Rattle.sc_papers.specs.declared.amendment.Refusal.TheVariants.{StudentExists, EmptyList, RosterFull}
 use Rattle.sc_papers.proofs.Objections.{first_of-none, refuse_if-none, too_long-none, twice_in-none, unknown_in-none}
 

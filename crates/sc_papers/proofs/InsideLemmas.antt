@@ -1,13 +1,11 @@
 -- What the tables of the type `Papers` hold after a change.
-use Rattle.std.proofs.Common.{◌≡◌, ℕ, nat_eq, List, [], ◌∷◌, ◌++◌, map, None, refl, sym, ap, ◌∙◌, subst}
-use Rattle.std.specs.Map.{keys_of}
+use Rattle.std.proofs.Common.{◌≡◌, ℕ, nat_eq, List, [], ◌∷◌, ◌++◌, map, refl, sym, ap, ◌∙◌}
 use Rattle.indexmap.specs.IndexMap.{insert_entry}
 use Rattle.indexmap.proofs.CallerLemmas.{insert_entry-new}
 use Rattle.sc_lottery.specs.Draw.{draw}
 use Rattle.sc_papers.specs.Inside.{IsSound, market_of}
-use Rattle.sc_papers.specs.Market.{Market, students_of}
+use Rattle.sc_papers.specs.Market.{students_of}
 use Rattle.sc_papers.specs.Verdict.{with_student}
-use Rattle.sc_papers.specs.WellFormed.{WellFormed, WithinLimits}
 use Rattle.sc_papers.specs.declared.papers.Papers.TheInside.{Inside}
 use Rattle.sc_papers.specs.declared.records.Student.{Student}
 use Rattle.sc_papers.proofs.Entering.{MayEnter, keys_of-push, WellFormed-with_student, WithinLimits-with_student}

@@ -1,36 +1,60 @@
 -- What look-ups in the papers' tables give.
-use Rattle.std.proofs.Common.{◌≡◌, ℕ, ◌<◌, nat_eq, List, [], ◌∷◌, length, get_or, map, Option, Some, None, refl, sym, ap, ◌∙◌, cond, Bool, true, false}
+use Rattle.std.proofs.Common.{◌≡◌, ℕ, nat_eq, List, get_or, map, Option, Some, None, refl, sym, ap, ◌∙◌, cond, false, is_some, position}
 use Rattle.std.specs.Prelude.{◌==◌, ◌&&◌}
 use Rattle.std.specs.List.{slice_get, list_any}
 use Rattle.sc_lottery.specs.Draw.{draw}
-use Rattle.sc_papers.specs.Key.{class_by, same_zone, key_of}
-use Rattle.sc_papers.specs.Market.{Market, student_of, school_of, is_student, is_school}
-use Rattle.sc_papers.specs.declared.key.Key.{Key}
+use Rattle.sc_papers.specs.Key.{class_by, same_zone, key_of, key_at}
+use Rattle.sc_papers.specs.Market.{Market, student_of, students_of, school_of, schools_of, is_student, is_school}
 use Rattle.sc_papers.specs.declared.records.School.{School}
 use Rattle.sc_papers.specs.declared.records.Student.{Student}
-use Rattle.std.specs.Map.{keys_of, lookup, lookup_key}
-use Rattle.std.specs.Option.{option_map}
-use Rattle.std.proofs.lemmas.Bool.{eqb-true}
-use Rattle.std.proofs.lemmas.Map.Made.{lookup_key_passes}
+use Rattle.std.specs.Map.{keys_of, lookup}
+use Rattle.std.specs.Option.{option_map, option_and_then}
+use Rattle.std.proofs.lemmas.Bool.{and_right}
+use Rattle.indexmap.proofs.MapLemmas.{some_index}
 use Rattle.std.proofs.lemmas.Option.{slice_get-map, get_or_from_slice_get}
+use Rattle.sc_papers.proofs.Positions.{position-there}
 
--- the draw that stands at the place of the entry of i is the draw of i
-pub draw-at : {X : Type 0} (f : ℕ → ℕ) (es : List (ℕ × X)) (draws : List ℕ) (place i k d : ℕ) (x : X)
-    → draws ≡ map f (keys_of es) → slice_get es place ≡ Some (k, x)
-    → Some k ≡ lookup_key (nat_eq i) es → d ≡ get_or draws place d → d ≡ f i
-draw-at f es draws place i k d x are entry found at =
-    let same : i ≡ k = eqb-true i k (lookup_key_passes (nat_eq i) es k (sym found)) in
-    let key : slice_get (keys_of es) place ≡ Some k = slice_get-map (λ e. e.0) es place ∙ ap (option_map (λ e. e.0)) entry in
-    let drawn : slice_get (map f (keys_of es)) place ≡ Some (f k) = slice_get-map f (keys_of es) place ∙ ap (option_map f) key in
+-- the number of the entry at a place
+key-there : {X : Type 0} (es : List (ℕ × X)) (place k : ℕ) (x : X) → slice_get es place ≡ Some (k, x) → slice_get (keys_of es) place ≡ Some k
+key-there es place k x entry = slice_get-map (λ e. e.0) es place ∙ ap (option_map (λ e. e.0)) entry
+
+-- the draw that stands at the place of an entry is its student's draw
+pub draw-there : {X : Type 0} (f : ℕ → ℕ) (es : List (ℕ × X)) (draws : List ℕ) (place k d : ℕ) (x : X)
+    → draws ≡ map f (keys_of es) → slice_get es place ≡ Some (k, x) → d ≡ get_or draws place d → d ≡ f k
+draw-there f es draws place k d x are entry at =
+    let drawn : slice_get (map f (keys_of es)) place ≡ Some (f k) = slice_get-map f (keys_of es) place ∙ ap (option_map f) (key-there es place k x entry) in
     let there : get_or (map f (keys_of es)) place d ≡ f k = get_or_from_slice_get (map f (keys_of es)) place (f k) d drawn in
-    rw same (at ∙ rw are there)
+    at ∙ rw are there
 
--- the key that is put together from what was looked up
-pub key-found : (m : Market) (i s class d : ℕ) (student : Student) (school : School)
-    → Some student ≡ student_of m i → Some school ≡ school_of m s
+-- what the papers hold of the student at a place
+pub record-there : (m : Market) (place i : ℕ) (student : Student) → slice_get m.students place ≡ Some (i, student) → student_of m i ≡ Some student
+    → Some student ≡ option_and_then (student_of m) (slice_get (students_of m) place)
+record-there m place i student entry known = sym (ap (option_and_then (student_of m)) (key-there m.students place i student entry) ∙ known)
+
+-- the key that is put together from what stands at two places
+pub key-of_places : (m : Market) (place at i s class d : ℕ) (student : Student) (school : School)
+    → slice_get m.students place ≡ Some (i, student) → slice_get m.schools at ≡ Some (s, school)
+    → student_of m i ≡ Some student → school_of m s ≡ Some school
     → class ≡ class_by (list_any (λ t. t == s) student.siblings) (same_zone student.zone school.zone)
     → d ≡ draw m.seed i
-    → Some (record { class = class; draw = d; student = i }) ≡ cond (is_student m i && is_school m s) (Some (key_of m i s)) None
+    → Some (record { class = class; draw = d; student = i }) ≡ key_at m place at
 unfolding key_of
-key-found m i s class d student school known_student known_school class_is draw_is =
-    rw (← known_student, ← known_school, class_is, draw_is) refl
+key-of_places m place at i s class d student school entry entry' known known' class_is draw_is =
+    rw (key-there m.students place i student entry, key-there m.schools at s school entry', known, known', class_is, draw_is) refl
+
+-- a number with a position is found, and one without is not
+found-by_position : {X : Type 0} (es : List (ℕ × X)) (i : ℕ) (place : Option ℕ) → position (nat_eq i) (keys_of es) ≡ place → is_some (lookup (nat_eq i) es) ≡ is_some place
+found-by_position es i place found = sym (some_index (nat_eq i) es) ∙ ap is_some found
+
+-- the key by numbers that are in the papers is the key at their positions
+pub key-by_positions : (m : Market) (i s p q : ℕ) → position (nat_eq i) (students_of m) ≡ Some p → position (nat_eq s) (schools_of m) ≡ Some q
+    → key_at m p q ≡ cond (is_student m i && is_school m s) (Some (key_of m i s)) None
+key-by_positions m i s p q student school =
+    rw (position-there (students_of m) i p student, position-there (schools_of m) s q school, found-by_position m.students i (Some p) student, found-by_position m.schools s (Some q) school) refl
+
+-- and else there is none
+pub no-key_of_student : (m : Market) (i s : ℕ) → position (nat_eq i) (students_of m) ≡ None → None ≡ cond (is_student m i && is_school m s) (Some (key_of m i s)) None
+no-key_of_student m i s none = rw (found-by_position m.students i None none) refl
+
+pub no-key_at_school : (m : Market) (i s : ℕ) → position (nat_eq s) (schools_of m) ≡ None → None ≡ cond (is_student m i && is_school m s) (Some (key_of m i s)) None
+no-key_at_school m i s none = rw (found-by_position m.schools s None none, and_right (is_student m i) false refl) refl

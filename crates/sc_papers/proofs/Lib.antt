@@ -1,5 +1,6 @@
 pub mod Repeats
 pub mod Keys
+pub mod Positions
 pub mod Objections
 pub mod Entering
 pub mod InsideLemmas

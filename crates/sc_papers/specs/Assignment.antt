@@ -1,5 +1,5 @@
 -- An assignment as contracts see it: pairs of a student and a school, in order of first entry.
-use Rattle.std.specs.Prelude.{ℕ, nat_eq, Bool, List, Option}
+use Rattle.std.specs.Prelude.{ℕ, nat_eq, List, Option}
 use Rattle.std.specs.Map.{lookup}
 use Rattle.indexmap.specs.IndexMap.{insert_entry}
 

@@ -1,5 +1,5 @@
 -- How the type `Papers` keeps its papers. Contracts see the market alone.
-use Rattle.std.specs.Prelude.{◌≡◌, ℕ, ◌≤◌, length, map}
+use Rattle.std.specs.Prelude.{◌≡◌, map}
 use Rattle.sc_lottery.specs.Draw.{draw}
 use Rattle.sc_papers.specs.Market.{Market, students_of}
 use Rattle.sc_papers.specs.WellFormed.{WellFormed, WithinLimits}

@@ -1,8 +1,9 @@
 -- Priority at a school: classes, keys, and who is ahead of whom.
-use Rattle.std.specs.Prelude.{ℕ, ◌==◌, Bool, ◌&&◌, ◌||◌, not, nat_lt, List, if◌then◌else◌}
+use Rattle.std.specs.Prelude.{ℕ, ◌==◌, Bool, ◌&&◌, not, nat_lt, Option, slice_get, if◌then◌else◌}
 use Rattle.std.specs.List.{list_any}
+use Rattle.std.specs.Option.{option_and_then, option_map}
 use Rattle.sc_lottery.specs.Draw.{draw}
-use Rattle.sc_papers.specs.Market.{Market, siblings_of, zone_of, zone_at}
+use Rattle.sc_papers.specs.Market.{Market, schools_of, siblings_of, students_of, zone_of, zone_at}
 use Rattle.sc_papers.specs.declared.key.Key.{Key}
 
 -- whether two zones are the same zone; zone 0 is none and equals no zone
@@ -21,6 +22,10 @@ class_at m i s = class_by (list_any (λ t. t == s) (siblings_of m i)) (same_zone
 -- the key of a student at a school: class, draw, number
 unfoldable pub key_of : Market → ℕ → ℕ → Key
 key_of m i s = record { class = class_at m i s; draw = draw m.seed i; student = i }
+
+-- the key of the student at a position at the school at a position, if both are there
+abbrev pub key_at : Market → ℕ → ℕ → Option Key
+key_at m student school = option_and_then (λ i. option_map (key_of m i) (slice_get (schools_of m) school)) (slice_get (students_of m) student)
 
 -- the smaller key is ahead: by class, then by draw, then by number
 abbrev pub is_before : Key → Key → Bool

@@ -1,5 +1,5 @@
 -- The papers as contracts see them, and the words that look into them.
-use Rattle.std.specs.Prelude.{◌≡◌, ℕ, ◌≤◌, nat_eq, Bool, List, [], Option, length, is_some}
+use Rattle.std.specs.Prelude.{ℕ, nat_eq, Bool, List, [], Option, is_some}
 use Rattle.std.specs.Option.{option_map_or}
 use Rattle.std.specs.Map.{lookup, keys_of}
 use Rattle.sc_papers.specs.declared.records.School.{School}

@@ -1,5 +1,5 @@
 -- Papers that are well-formed, and the limits of their size.
-use Rattle.std.specs.Prelude.{ℕ, ◌≤◌, ◌<◌, nat_eq, length, All}
+use Rattle.std.specs.Prelude.{◌≤◌, ◌<◌, nat_eq, length, All}
 use Rattle.std.specs.List.{IsDistinct, AllPass}
 use Rattle.sc_papers.specs.Market.{Market, schools_of, students_of, is_school}
 use Rattle.sc_papers.specs.declared.records.Student.{Student}

@@ -59,9 +59,9 @@ fn class_at(student: &Student, number: SchoolNo, school: School) -> u8
 
 impl Papers {
     ghost use Rattle.std.specs.Prelude.{◌≡◌, ℕ, ◌+◌, ◌-◌, ◌<◌, ◌≤◌, ◌↔◌, [], ◌∷◌, ◌++◌, length, slice_get, position, nat_eq, ◌&&◌, if◌then◌else◌};
-    ghost use Rattle.std.specs.Option.{option_copied};
+    ghost use Rattle.std.specs.Option.{option_and_then, option_copied};
     ghost use Rattle.sc_papers.specs.Market.{Market, school_of, student_of, schools_of, students_of, seats_of, is_school, is_student};
-    ghost use Rattle.sc_papers.specs.Key.{key_of};
+    ghost use Rattle.sc_papers.specs.Key.{key_at, key_of};
     ghost use Rattle.sc_papers.specs.WellFormed.{WellFormed, WithinLimits};
     ghost use Rattle.sc_papers.specs.Verdict.{first_of, objections_to_add, objections_to_close, objections_to_correct, objections_to_enter, objections_to_rerank, objections_to_withdraw, with_choices, with_home, with_seats, with_student, without_student, school_verdict, with_school, IsSchoolRefusal};
     ghost use Rattle.std.specs.Prelude.{OnOk, OnErr, IfErr, IfOk};
@@ -187,6 +187,15 @@ impl Papers {
             .map(|(student, _)| *student)
     }
 
+    /// What the papers hold of the student at a position of the order of entry, from 0, or `None` past
+    /// the last one. In constant time, without a look-up by number.
+    pub fn record_at(&self, position: usize) -> Option<&Student>
+        ensures { option_copied result ≡ option_and_then (student_of self.now) (slice_get (students_of self.now) position) }
+    {
+        let (_, record) = self.students.get_index(position)?;
+        Some(record)
+    }
+
     /// A school's position in the order of entry. In constant time.
     pub fn school_position(&self, school: SchoolNo) -> Option<usize>
         ensures { result ≡ position (nat_eq school) (schools_of self.now) }
@@ -206,13 +215,26 @@ impl Papers {
     pub fn key(&self, student: StudentNumber, school: SchoolNo) -> Option<Key>
         ensures { result ≡ (if is_student self.now student && is_school self.now school then Some (key_of self.now student school) else None) }
     {
-        let (position, _, record) = self.students.get_full(&student)?;
-        let class = class_at(record, school, self.school(school)?);
-        let draw = self.draws[position];
+        self.key_at(
+            self.student_position(student)?,
+            self.school_position(school)?,
+        )
+    }
+
+    /// The key of the student at a position at the school at a position, both of the orders of entry
+    /// and from 0, or `None` where either is past the last one. The student need not list the school.
+    /// In constant time, without a look-up by number; no draw is made.
+    pub fn key_at(&self, student: usize, school: usize) -> Option<Key>
+        ensures { result ≡ key_at self.now student school }
+    {
+        let (number, record) = self.students.get_index(student)?;
+        let (name, entry) = self.schools.get_index(school)?;
+        let class = class_at(record, *name, *entry);
+        let draw = self.draws[student];
         Some(Key {
             class,
             draw,
-            student,
+            student: *number,
         })
     }
 

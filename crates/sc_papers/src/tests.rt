@@ -114,6 +114,9 @@ fn students_are_read_back(rt: HostRuntime) -> Result<(), Fail> {
     let two = papers.student(student(&rt, 2)).expect(&rt, "student 2");
     let again = two.copy(rt.alloc())?;
     assert!(rt; again.choices.as_slice() == [school(&rt, 20), school(&rt, 10)].as_slice());
+    let second = papers.record_at(1).expect(&rt, "the second student");
+    assert!(rt; second.choices.as_slice() == two.choices.as_slice());
+    assert!(rt; papers.record_at(2).is_none());
     Ok(())
 }
 
@@ -130,6 +133,7 @@ fn keys_by_class_draw_and_number(rt: HostRuntime) -> Result<(), Fail> {
         (3, 1, "", 2, 0xccef36a8c70d778b),
         (4, 2, "", 3, 0x7c5941da8d485751),
     ] {
+        let last = papers.students_len();
         papers.apply(enter(&rt, alloc, number, zone, siblings, "10")?)?;
         let who = student(&rt, number);
         let want = Key {
@@ -138,6 +142,8 @@ fn keys_by_class_draw_and_number(rt: HostRuntime) -> Result<(), Fail> {
             student: who,
         };
         assert!(rt; papers.key(who, school(&rt, 10)) == Some(want), "{number}");
+        assert!(rt; papers.key_at(last, 0) == Some(want), "{number}");
+        assert!(rt; papers.key_at(last, 1).is_none(), "{number}");
     }
     Ok(())
 }

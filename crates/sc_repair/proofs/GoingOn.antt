@@ -1,16 +1,15 @@
 -- A settling that goes on from a checkpoint: it begins, one more student enters, and all have entered.
-use Rattle.std.proofs.Common.{◌≡◌, refl, ap, sym, subst, ◌∙◌, ℕ, ◌+◌, ◌≤◌, ◌==◌, nat_eq, Bool, true, false, not, ◌&&◌, ◌||◌, List, [], ◌∷◌, ◌++◌, length, map, take, Option, Some, All, Contains, is_some, slice_get, append_assoc, append-nil, arith}
+use Rattle.std.proofs.Common.{◌≡◌, refl, ap, sym, subst, ◌∙◌, ℕ, ◌+◌, ◌≤◌, ◌==◌, nat_eq, true, false, not, ◌&&◌, ◌||◌, List, [], ◌∷◌, ◌++◌, length, map, take, Option, Some, All, Contains, is_some, slice_get, append_assoc, append-nil, arith}
 use Rattle.std.specs.List.{list_any, IsDistinct}
 use Rattle.std.proofs.lemmas.Cmp.{nat_eq_equiv}
 use Rattle.std.proofs.lemmas.Option.{slice_get_within, get_or_from_slice_get}
 use Rattle.std.proofs.lemmas.List.{take_more, take_all, take-append-le, take-map, length-map, length-append, length-take, map-append}
 use Rattle.std.proofs.lemmas.List.Elements.{All-contains_itself, All-map, All-take, All-weaker}
-use Rattle.sc_papers.specs.Assignment.{assigned}
-use Rattle.sc_papers.specs.Log.{matching_of, next_choice, IsSettled}
+use Rattle.sc_papers.specs.Log.{next_choice, IsSettled}
 use Rattle.sc_papers.specs.Market.{Market, is_student, students_of}
 use Rattle.sc_papers.specs.Matching.{how_many, Matching}
 use Rattle.sc_papers.specs.Progress.{placed}
-use Rattle.sc_papers.specs.Restriction.{cut, joined, is_among_first, restricted, IsSegmented}
+use Rattle.sc_papers.specs.Restriction.{cut, joined, restricted, IsSegmented}
 use Rattle.sc_papers.specs.WellFormed.{WellFormed}
 use Rattle.sc_papers.specs.declared.records.Student.{Student}
 use Rattle.sc_papers.specs.declared.rejection.Rejection.{Rejection}
@@ -21,7 +20,7 @@ use Rattle.sc_checkpoint.specs.Chains.{logs_in, students_in, with_chain, Chain}
 use Rattle.sc_checkpoint.specs.Standings.{standings_after, stands, StandAfter}
 use Rattle.sc_checkpoint.specs.declared.standing.Standing.{Standing}
 use Rattle.sc_engine.specs.Standing.{Standings, entered_papers, has_entered, next_of, nobody, standing_but, Continues, Enters, Fits}
-use Rattle.sc_engine.proofs.Papers.{among-student}
+use Rattle.sc_papers.proofs.Positions.{among-student}
 use Rattle.sc_engine.proofs.Proposals.{stays}
 use Rattle.sc_engine.proofs.Settling.{first-more}
 use Rattle.sc_repair.specs.GoingOn.{placed_first, proposals_of_first, GoesOn}

@@ -1,10 +1,10 @@
 -- The segments that an amendment keeps, and what a clearing of settled segments is.
-use Rattle.std.proofs.Common.{◌≡◌, refl, ap, sym, subst, ◌∙◌, ℕ, ◌+◌, ◌≤◌, false, List, [], length, map, take, Option, None, is_some, arith}
+use Rattle.std.proofs.Common.{◌≡◌, refl, ap, sym, subst, ◌∙◌, ℕ, ◌≤◌, List, [], length, map, take, None, is_some, arith}
 use Rattle.std.proofs.lemmas.List.{take-map, length-map, length-take-le}
 use Rattle.sc_papers.specs.Assignment.{assigned}
 use Rattle.sc_papers.specs.Log.{matching_of, next_choice, IsSettled}
 use Rattle.sc_papers.specs.Market.{Market, choices_of, students_of}
-use Rattle.sc_papers.specs.Matching.{has, how_many, IsStudentOptimal}
+use Rattle.sc_papers.specs.Matching.{how_many, IsStudentOptimal}
 use Rattle.sc_papers.specs.Progress.{placed}
 use Rattle.sc_papers.specs.Restriction.{cut, joined, AlikeUpTo, IsSegmented}
 use Rattle.sc_papers.specs.WellFormed.{WellFormed}
@@ -14,7 +14,6 @@ use Rattle.sc_papers.proofs.Cutting.{segments-settled}
 use Rattle.sc_papers.proofs.Optimality.{settled-optimal}
 use Rattle.sc_papers.proofs.Students.{how_many-none}
 use Rattle.sc_checkpoint.specs.Chains.{logs_in, students_in, Chain}
-use Rattle.sc_repair.specs.GoingOn.{proposals_of_first}
 use Rattle.sc_repair.specs.Standing.{Standing, CountsFrom, IsCertified, proposals_from_scratch}
 
 -- a standing whose segments are segmented, and whose places are their log's matching, is certified

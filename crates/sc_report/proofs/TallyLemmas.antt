@@ -16,7 +16,8 @@ use Rattle.sc_papers.specs.Matching.{Matching, has, held, how_many}
 use Rattle.sc_papers.specs.declared.key.Key.{Key}
 use Rattle.sc_papers.proofs.Counting.{contains-head, contains-tail, count-cons_fails, count-cons_passes}
 use Rattle.sc_papers.proofs.Rejections.{has-some, has-true}
-use Rattle.sc_report.proofs.Places.{among-school, known-position, position-among, position-at, some-one}
+use Rattle.sc_report.proofs.Places.{some-one}
+use Rattle.sc_papers.proofs.Positions.{among-school, position-among, position-at, school-position}
 use Rattle.sc_report.specs.Cutoff.{cutoff, cutoff_by, cutoff_row, keys_among, last_key, or_later}
 use Rattle.sc_report.specs.Tally.{held_at, no_tally, tally, with_key}
 use Rattle.sc_report.specs.declared.cutoff.Cutoff.{Cutoff}
@@ -145,7 +146,7 @@ tallies-same m a students i away = map-agree (tally m a students) (tally m a (st
     fails s among = elim (cases_Bool (has a s i)) [
       | inr apart ↦ apart
       | inl holds ↦
-          let (at, found) = known-position m s (among-school m s among) in
+          let (at, found) = school-position m s (among-school m s among) in
           absurd (none-some (at, key_of m i s) (sym away ∙ held-there m a i s at (has-true a s i holds) found))
     ]
 

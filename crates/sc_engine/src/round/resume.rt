@@ -7,24 +7,17 @@ ghost use Rattle.sc_papers.specs.declared.rejection.Rejection.{Rejection};
 ghost use Rattle.sc_checkpoint.specs.Standings.{stands, StandAfter};
 ghost use Rattle.sc_engine.specs.Standing.{Fits, Continues, StandsToo, has_entered, next_of};
 
-use super::{Round, key_at, offer_to};
+use super::{Round, choices_at, key_at, offer_to, position_of};
 use sc_checkpoint::Standing;
-use sc_papers::{Papers, SchoolNo, StudentNo};
+use sc_papers::{Papers, SchoolNo};
 use sc_seats::Roll;
 use std::alloc::{AllocError, Global};
 
-/// The place of the school among the student's choices, or the place after the last where there is no
-/// school.
-#[tactic(auto, unfolding(sc_papers::specs::Market::choices_of))]
-fn place_of_choice(papers: &Papers, student: StudentNo, school: Option<SchoolNo>) -> usize
-    requires student { is_student papers.now student ≡ true }
-    requires listed { IfSome school (λ s. Contains (choices_of papers.now student) s) }
-    ensures { slice_get (choices_of papers.now student) result ≡ school }
+/// The place of the school among the choices, or the place after the last where there is no school.
+fn place_in(choices: &[SchoolNo], school: Option<SchoolNo>) -> usize
+    requires { IfSome school (λ s. Contains choices.now s) }
+    ensures { slice_get choices.now result ≡ school }
 {
-    let Some(record) = papers.student(student) else {
-        unreachable!()
-    };
-    let choices = record.choices.as_slice();
     let Some(school) = school else {
         return choices.len();
     };
@@ -48,15 +41,12 @@ impl<R: Roll> Round<R> {
         ensures stands { OnOk result (StandsToo papers.now (standings_of R.keys R.seats self.old) (standings_of R.keys R.seats self.new) standing.student standing.next) }
         ensures spent { is_spent self.new ≡ is_spent self.old }
     {
-        let place = place_of_choice(papers, standing.student, standing.next);
-        let Some(at) = papers.student_position(standing.student) else {
-            unreachable!()
-        };
-        self.places[at] = Some(place);
+        let at = position_of(papers, standing.student);
+        self.places[at] = Some(place_in(choices_at(papers, at), standing.next));
         let Some(school) = standing.next else {
             return Ok(());
         };
-        let (position, key) = key_at(papers, standing.student, school);
+        let (position, key) = key_at(papers, at, school);
         let out = offer_to(&mut self.rolls, position, key)?;
         if out.is_some() {
             unreachable!()

@@ -2,7 +2,7 @@ use Rattle.std.proofs.Common.{◌≤◌, sym, length, arith}
 use Rattle.sc_papers.specs.Assignment.{assigned}
 use Rattle.sc_papers.specs.Market.{students_of}
 use Rattle.sc_papers.proofs.Choices.{contains-at}
-use Rattle.sc_audit.proofs.Tables.{among-student}
+use Rattle.sc_papers.proofs.Positions.{among-student}
 use Rattle.sc_audit.proofs.Blocking.{first-none, first-more, first-is_block, first-is_none}
 use Rattle.sc_audit.proofs.blocks.first_block.Goals as goal
 

@@ -1,6 +1,7 @@
 use Rattle.std.proofs.Common.{sym, ◌∙◌}
 use Rattle.std.proofs.lemmas.Option.{none-some}
-use Rattle.sc_audit.proofs.Tables.{school-position, seats-known}
+use Rattle.sc_audit.proofs.Tables.{seats-known}
+use Rattle.sc_papers.proofs.Positions.{school-position}
 use Rattle.sc_audit.proofs.keys.key_at.Goals as goal
 
 pub unreachable-requires : goal.unreachable-requires

@@ -1,6 +1,7 @@
 use Rattle.std.proofs.Common.{sym, ◌∙◌}
 use Rattle.std.proofs.lemmas.Option.{none-some}
-use Rattle.sc_audit.proofs.Tables.{student-position, stand-put}
+use Rattle.sc_audit.proofs.Tables.{stand-put}
+use Rattle.sc_papers.proofs.Positions.{student-position}
 use Rattle.sc_audit.proofs.stands.put.Goals as goal
 
 pub unreachable-requires : goal.unreachable-requires

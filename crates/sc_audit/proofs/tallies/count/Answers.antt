@@ -2,7 +2,7 @@ use Rattle.std.proofs.Common.{◌≡◌, ◌+◌, ap, sym, ◌∙◌, cond, nat_
 use Rattle.std.proofs.lemmas.Option.{none-some}
 use Rattle.sc_audit.specs.Tallies.{tally_at, with_key, or_later}
 use Rattle.sc_audit.specs.declared.tally.Tally.{Tally}
-use Rattle.sc_audit.proofs.Tables.{school-position}
+use Rattle.sc_papers.proofs.Positions.{school-position}
 use Rattle.sc_audit.proofs.Tallying.{tally-read, tally-put}
 use Rattle.sc_audit.proofs.tallies.count.Goals as goal
 

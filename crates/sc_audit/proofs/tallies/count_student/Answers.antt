@@ -2,7 +2,7 @@ use Rattle.std.proofs.Common.{sym, arith}
 use Rattle.sc_papers.specs.Assignment.{assigned}
 use Rattle.sc_papers.specs.Market.{students_of}
 use Rattle.sc_papers.proofs.Choices.{contains-at}
-use Rattle.sc_audit.proofs.Tables.{among-student}
+use Rattle.sc_papers.proofs.Positions.{among-student}
 use Rattle.sc_audit.proofs.Ledgers.{listed-known}
 use Rattle.sc_audit.proofs.Tallying.{tallies-same, tallies-more, tally-few}
 use Rattle.sc_audit.proofs.tallies.count_student.Goals as goal

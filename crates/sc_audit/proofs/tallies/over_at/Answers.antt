@@ -6,7 +6,8 @@ use Rattle.sc_papers.specs.Market.{schools_of}
 use Rattle.sc_papers.proofs.Choices.{contains-at}
 use Rattle.sc_audit.specs.Tallies.{over_at}
 use Rattle.sc_audit.specs.declared.tally.Tally.{Tally}
-use Rattle.sc_audit.proofs.Tables.{among-school, seats-known}
+use Rattle.sc_audit.proofs.Tables.{seats-known}
+use Rattle.sc_papers.proofs.Positions.{among-school}
 use Rattle.sc_audit.proofs.Tallying.{over-some, over-none}
 use Rattle.sc_audit.proofs.tallies.over_at.Goals as goal
 

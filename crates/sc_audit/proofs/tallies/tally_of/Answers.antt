@@ -1,6 +1,6 @@
 use Rattle.std.proofs.Common.{sym, ◌∙◌}
 use Rattle.std.proofs.lemmas.Option.{none-some}
-use Rattle.sc_audit.proofs.Tables.{school-position}
+use Rattle.sc_papers.proofs.Positions.{school-position}
 use Rattle.sc_audit.proofs.Tallying.{tally-read}
 use Rattle.sc_audit.proofs.tallies.tally_of.Goals as goal
 

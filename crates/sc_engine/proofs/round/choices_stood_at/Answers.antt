@@ -1,12 +1,16 @@
 use Rattle.std.proofs.Common.{◌≡◌, cond, nat_eq, sym, ap, subst, ◌∙◌, length, arith}
 use Rattle.sc_papers.specs.Assignment.{assigned}
+use Rattle.sc_papers.proofs.Positions.{place-position}
 use Rattle.sc_engine.proofs.Settling.{GivesFirst, gives-more, gives-none, gives-all}
 use Rattle.sc_engine.proofs.round.choices_stood_at.Goals as goal
 
 pub loop-position-preserved : goal.loop-position-preserved
 loop-position-preserved c =
     gives-more c.args.papers.now c.args.places.now c.loop-position.assignment c.give.new.assignment c.loop-position.position c.in-Some.student (sym c.in-Some.ensures) c.loop-position.invariant
-    (λ j. c.in_ok-give.ensures j ∙ ap (λ o. cond (nat_eq j c.in-Some.student) o (assigned c.loop-position.assignment j)) c.next_in.ensures)
+    (λ j.
+    c.in_ok-give.ensures j
+    ∙ ap (λ o. cond (nat_eq j c.in-Some.student) o (assigned c.loop-position.assignment j))
+    (c.choice_at.ensures c.in-Some.student (place-position c.args.papers.now c.students_len-position-end.ensures.well_formed c.loop-position.position c.in-Some.student (sym c.in-Some.ensures))))
 
 pub give-requires : goal.give-requires
 give-requires c =

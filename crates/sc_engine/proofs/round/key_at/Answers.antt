@@ -1,6 +1,19 @@
-use Rattle.sc_engine.proofs.Papers.{school-position}
 use Rattle.std.proofs.Common.{sym, ◌∙◌}
+use Rattle.std.proofs.lemmas.Option.{same_Some, none-some}
+use Rattle.sc_papers.specs.Key.{key_of}
+use Rattle.sc_engine.specs.Standing.{student_at}
+use Rattle.sc_engine.proofs.Hands.{hand-key, school-has_position}
 use Rattle.sc_engine.proofs.round.key_at.Goals as goal
 
 pub unreachable-requires : goal.unreachable-requires
-unreachable-requires c = school-position c.args.papers.now c.args.school c.requires.school (sym c.school_position.ensures ∙ c.in_default.is)
+unreachable-requires c = school-has_position c.args.papers.now c.args.school c.requires.school c.in_default.ensures
+
+pub unreachable-requires-in_default-key_at : goal.unreachable-requires-in_default-key_at
+unreachable-requires-in_default-key_at c =
+    none-some (key_of c.args.papers.now (student_at c.args.papers.now c.args.student) c.args.school)
+    (c.in_default-key_at.ensures ∙ hand-key c.args.papers.now c.args.student c.args.school c.in-Some.at c.requires.student (sym c.in-Some.ensures))
+
+pub returns-clause-key : goal.returns-clause-key
+returns-clause-key c =
+    same_Some c.in-Some-key_at.key (key_of c.args.papers.now (student_at c.args.papers.now c.args.student) c.args.school)
+    (c.in-Some-key_at.ensures ∙ hand-key c.args.papers.now c.args.student c.args.school c.in-Some.at c.requires.student (sym c.in-Some.ensures))

@@ -2,7 +2,7 @@ use Rattle.std.proofs.Common.{◌≡◌, ◌+◌, ◌-◌, sym, subst, arith}
 use Rattle.sc_papers.specs.Market.{students_of}
 use Rattle.sc_papers.proofs.Choices.{contains-at}
 use Rattle.sc_engine.specs.Round.{standings_of, is_spent}
-use Rattle.sc_engine.proofs.Papers.{among-student}
+use Rattle.sc_papers.proofs.Positions.{among-student}
 use Rattle.sc_engine.proofs.Backwards.{EnteredFrom, absent-before, entered-before}
 use Rattle.sc_engine.proofs.tests.settle_backwards.Goals as goal
 

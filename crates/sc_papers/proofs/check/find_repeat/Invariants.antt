@@ -1,4 +1,4 @@
-use Rattle.std.proofs.Common.{◌≡◌, ℕ, [], take, drop}
+use Rattle.std.proofs.Common.{◌≡◌, [], take, drop}
 use Rattle.sc_papers.specs.Verdict.{first_repeat}
 use Rattle.sc_papers.proofs.check.find_repeat.Given as goal
 

@@ -1,13 +1,13 @@
-use Rattle.std.proofs.Common.{◌≡◌, ◌+◌, ap, sym, subst, ◌∙◌, take, length, arith, refl}
+use Rattle.std.proofs.Common.{◌≡◌, ◌+◌, ap, sym, ◌∙◌, take, length, arith}
 use Rattle.std.proofs.lemmas.List.{length-map, take_all}
 use Rattle.sc_papers.specs.Assignment.{assigned}
 use Rattle.sc_papers.specs.Market.{students_of}
 use Rattle.sc_papers.specs.Restriction.{joined}
 use Rattle.sc_checkpoint.specs.Chains.{logs_in, students_in, Chain}
-use Rattle.sc_checkpoint.specs.Standings.{standings_after, stands, StandAfter}
+use Rattle.sc_checkpoint.specs.Standings.{standings_after, stands}
 use Rattle.sc_engine.specs.Round.{standings_of}
 use Rattle.sc_repair.specs.GoingOn.{proposals_of_first}
-use Rattle.sc_repair.proofs.GoingOn.{goes-on-begins, next-all, proposals-all, segments-all, stand-segments, students-all}
+use Rattle.sc_repair.proofs.GoingOn.{goes-on-begins, next-all, proposals-all, segments-all, stand-segments}
 use Rattle.sc_repair.proofs.settling.settle_on.Goals as goal
 
 pub resume-requires : goal.resume-requires

@@ -2,7 +2,7 @@ use Rattle.std.proofs.Common.{◌∙◌, ◌++◌, ◌∷◌, [], sym}
 use Rattle.sc_papers.specs.Assignment.{assigned}
 use Rattle.sc_papers.specs.Market.{schools_of}
 use Rattle.sc_report.specs.Cutoff.{cutoff_row}
-use Rattle.sc_report.proofs.Places.{among-school}
+use Rattle.sc_papers.proofs.Positions.{among-school}
 use Rattle.sc_report.proofs.RisingLemmas.{rising-among}
 use Rattle.sc_report.proofs.TallyLemmas.{map-take_one, row-tally}
 use Rattle.sc_report.proofs.cutoff.rising_rows.Goals as goal

@@ -5,7 +5,7 @@ use Rattle.sc_papers.specs.Assignment.{assigned}
 use Rattle.sc_papers.specs.Market.{schools_of, students_of}
 use Rattle.sc_papers.proofs.Choices.{contains-at}
 use Rattle.sc_report.specs.Tally.{tally}
-use Rattle.sc_report.proofs.Places.{among-student}
+use Rattle.sc_papers.proofs.Positions.{among-student}
 use Rattle.sc_report.proofs.TallyLemmas.{at-within, held-few, tallies-same, tallies-set, take-one}
 use Rattle.sc_report.proofs.tally.count_student.Goals as goal
 

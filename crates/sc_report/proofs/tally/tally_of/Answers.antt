@@ -4,12 +4,12 @@ use Rattle.std.proofs.lemmas.Option.{none-some}
 use Rattle.sc_papers.specs.Assignment.{assigned}
 use Rattle.sc_papers.specs.Market.{schools_of, students_of}
 use Rattle.sc_report.specs.Tally.{tally}
-use Rattle.sc_report.proofs.Places.{known-position, position-at}
+use Rattle.sc_papers.proofs.Positions.{position-at, school-position}
 use Rattle.sc_report.proofs.tally.tally_of.Goals as goal
 
 pub unreachable-requires : goal.unreachable-requires
 unreachable-requires c =
-    let (at, found) = known-position c.args.papers.now c.args.school c.requires.known in
+    let (at, found) = school-position c.args.papers.now c.args.school c.requires.known in
     none-some at (c.in_default.ensures ∙ found)
 
 pub returns : goal.returns

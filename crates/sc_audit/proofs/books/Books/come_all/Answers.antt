@@ -2,7 +2,7 @@ use Rattle.std.proofs.Common.{◌≤◌, sym, length, arith}
 use Rattle.sc_papers.specs.Market.{students_of}
 use Rattle.sc_papers.proofs.Choices.{contains-at}
 use Rattle.sc_audit.specs.Books.{ledger_of}
-use Rattle.sc_audit.proofs.Tables.{among-student}
+use Rattle.sc_papers.proofs.Positions.{among-student}
 use Rattle.sc_audit.proofs.Openings.{opened-none, opened-nowhere, opened-more, opened-all}
 use Rattle.sc_audit.proofs.books.Books.come_all.Goals as goal
 

@@ -1,6 +1,6 @@
 use Rattle.std.proofs.Common.{◌<◌, sym, arith, refl}
 use Rattle.sc_audit.specs.Books.{ledger_of}
-use Rattle.sc_audit.proofs.Tables.{among-student}
+use Rattle.sc_papers.proofs.Positions.{among-student}
 use Rattle.sc_audit.proofs.Ledgers.{place-short}
 use Rattle.sc_audit.proofs.Takings.{waits-from, waits-among, waits-placed, left-fits, left-next, taken-valid, taken-follows, not-taken}
 use Rattle.sc_audit.proofs.books.Books.take.Goals as goal

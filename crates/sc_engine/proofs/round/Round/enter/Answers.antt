@@ -1,17 +1,19 @@
-use Rattle.std.proofs.Common.{sym, ◌∙◌}
+use Rattle.std.proofs.Common.{ℕ, sym, subst}
 use Rattle.sc_engine.specs.Round.{standings_of}
-use Rattle.sc_engine.proofs.Papers.{student-position}
-use Rattle.sc_engine.proofs.Beginning.{begins, fits-begun, enters}
+use Rattle.sc_engine.specs.Standing.{ChainEnds, FitsBut, only}
+use Rattle.sc_engine.proofs.Beginning.{begins, fits-begun, enters, moved}
+use Rattle.sc_engine.proofs.Hands.{student-there}
 use Rattle.sc_engine.proofs.round.Round.enter.Goals as goal
 
-pub unreachable-requires : goal.unreachable-requires
-unreachable-requires g c = student-position c.args.papers.now c.args.student c.requires.student (sym c.student_position.ensures ∙ c.in_default.is)
-
-pub chain-requires : goal.chain-requires
-chain-requires g c =
-    fits-begun (begins c.args.papers.now (standings_of g.R.Roll.keys g.R.Roll.seats c.args.self.now) c.args.student c.in-Some.at 0 c.requires.fits (sym c.in-Some.ensures) c.requires.absent)
+pub chain-requires-clause-fits : goal.chain-requires-clause-fits
+chain-requires-clause-fits g c =
+    let old = standings_of g.R.Roll.keys g.R.Roll.seats c.args.self.now in
+    subst (λ (i : ℕ). FitsBut c.args.papers.now (moved old c.position_of-at.result 0) (only i)) (sym (student-there c.args.papers.now c.args.student c.position_of-at.result c.position_of-at.ensures))
+    (fits-begun (begins c.args.papers.now old c.args.student c.position_of-at.result 0 c.requires.fits c.position_of-at.ensures c.requires.absent))
 
 pub returns : goal.returns
 returns g c =
-    enters (begins c.args.papers.now (standings_of g.R.Roll.keys g.R.Roll.seats c.args.self.now) c.args.student c.in-Some.at 0 c.requires.fits (sym c.in-Some.ensures) c.requires.absent)
-    c.in_ok-chain.ensures
+    let old = standings_of g.R.Roll.keys g.R.Roll.seats c.args.self.now in
+    enters (begins c.args.papers.now old c.args.student c.position_of-at.result 0 c.requires.fits c.position_of-at.ensures c.requires.absent)
+    (subst (λ (i : ℕ). ChainEnds c.args.papers.now (moved old c.position_of-at.result 0) (standings_of g.R.Roll.keys g.R.Roll.seats c.chain.new.self) i)
+    (student-there c.args.papers.now c.args.student c.position_of-at.result c.position_of-at.ensures) c.in_ok-chain.ensures)

@@ -1,62 +1,102 @@
-use Rattle.std.proofs.Common.{refl, sym, subst, ◌∙◌, ℕ, ◌<◌, Option, None, IfSome, arith}
-use Rattle.sc_papers.specs.Market.{seats_of}
+use Rattle.std.proofs.Common.{◌≡◌, refl, ap, sym, subst, ◌∙◌, ℕ, List, ◌<◌, Option, None, Contains, IfSome, slice_get, arith}
+use Rattle.sc_papers.specs.Key.{key_of}
+use Rattle.sc_papers.specs.Market.{choices_of, seats_of}
 use Rattle.sc_papers.specs.Matching.{held}
-use Rattle.sc_engine.specs.Standing.{next_of, OffersAt}
+use Rattle.sc_engine.specs.Standing.{next_of, student_at}
 use Rattle.sc_engine.specs.Round.{standings_of}
 use Rattle.sc_engine.specs.Rolls.{rolls_of}
-use Rattle.sc_engine.proofs.Papers.{student-position}
-use Rattle.sc_engine.proofs.Beginning.{moved, begins, fits-begun, is_some-none}
-use Rattle.sc_engine.proofs.Moves.{roll-room, roll-new, proposed-from}
+use Rattle.sc_engine.proofs.Beginning.{Begun, moved, begins, fits-begun, is_some-none}
+use Rattle.sc_engine.proofs.Hands.{student-there}
+use Rattle.sc_engine.proofs.Moves.{roll-room, roll-new, proposed-told}
 use Rattle.sc_engine.proofs.Putting.{next-begun, put-nowhere, put-school, roll-open, put-on_roll}
 use Rattle.sc_engine.proofs.round.Round.put.Goals as goal
 
-pub unreachable-requires : goal.unreachable-requires
-unreachable-requires g c = student-position c.args.papers.now c.args.standing.student c.requires.student (sym c.student_position.ensures ∙ c.in_default.is)
+pub place_in-requires : goal.place_in-requires
+place_in-requires g c =
+    let papers = c.args.papers.now in
+    subst (λ (choices : List ℕ). IfSome c.args.standing.next (λ s. Contains choices s))
+    (sym (c.choices_at.ensures ∙ ap (choices_of papers) (student-there papers c.args.standing.student c.position_of-at.result c.position_of-at.ensures))) c.requires.listed
 
-pub returns-in_default-next-clause-stands : goal.returns-in_default-next-clause-stands
-returns-in_default-next-clause-stands g c =
-    put-nowhere (begins c.args.papers.now (standings_of g.R.Roll.keys g.R.Roll.seats c.args.self.now) c.args.standing.student c.in-Some.at c.place_of_choice-place.result c.requires.fits (sym c.in-Some.ensures) c.requires.absent)
-    c.args.standing.next c.place_of_choice-place.ensures c.in_default-next.is
+pub returns-in_default-clause-stands : goal.returns-in_default-clause-stands
+returns-in_default-clause-stands g c =
+    let papers = c.args.papers.now in
+    let student = c.args.standing.student in
+    let at = c.position_of-at.result in
+    let place = c.place_in.result in
+    let old = standings_of g.R.Roll.keys g.R.Roll.seats c.args.self.now in
+    let there : student_at papers at ≡ student = student-there papers student at c.position_of-at.ensures in
+    let here : slice_get (choices_of papers student) place ≡ c.args.standing.next =
+    ap (λ choices. slice_get choices place) (sym (c.choices_at.ensures ∙ ap (choices_of papers) there)) ∙ c.place_in.ensures in
+    let begun : Begun papers old (moved old at place) student at place = begins papers old student at place c.requires.fits c.position_of-at.ensures c.requires.absent in
+    put-nowhere begun c.args.standing.next here c.in_default.is
 
 pub key_at-position-requires-clause-school : goal.key_at-position-requires-clause-school
 key_at-position-requires-clause-school g c =
-    put-school c.args.papers.now (standings_of g.R.Roll.keys g.R.Roll.seats c.args.self.now) c.args.standing.student c.place_of_choice-place.result c.in-Some-next.school c.requires.fits (c.place_of_choice-place.ensures ∙ c.in-Some-next.is)
+    let papers = c.args.papers.now in
+    let student = c.args.standing.student in
+    let at = c.position_of-at.result in
+    let place = c.place_in.result in
+    let old = standings_of g.R.Roll.keys g.R.Roll.seats c.args.self.now in
+    let there : student_at papers at ≡ student = student-there papers student at c.position_of-at.ensures in
+    let here : slice_get (choices_of papers student) place ≡ c.args.standing.next =
+    ap (λ choices. slice_get choices place) (sym (c.choices_at.ensures ∙ ap (choices_of papers) there)) ∙ c.place_in.ensures in
+    let begun : Begun papers old (moved old at place) student at place = begins papers old student at place c.requires.fits c.position_of-at.ensures c.requires.absent in
+    put-school papers old student place c.in-Some.school c.requires.fits (here ∙ c.in-Some.is)
 
 pub offer_to-requires-clause-room : goal.offer_to-requires-clause-room
 offer_to-requires-clause-room g c =
-    roll-room c.args.papers.now (moved (standings_of g.R.Roll.keys g.R.Roll.seats c.args.self.now) c.in-Some.at c.place_of_choice-place.result) c.args.standing.student c.in-Some-next.school c.key_at-position.result.0
-    (fits-begun (begins c.args.papers.now (standings_of g.R.Roll.keys g.R.Roll.seats c.args.self.now) c.args.standing.student c.in-Some.at c.place_of_choice-place.result c.requires.fits (sym c.in-Some.ensures) c.requires.absent))
-    c.key_at-position.ensures.position
+    let papers = c.args.papers.now in
+    let student = c.args.standing.student in
+    let at = c.position_of-at.result in
+    let place = c.place_in.result in
+    let old = standings_of g.R.Roll.keys g.R.Roll.seats c.args.self.now in
+    let there : student_at papers at ≡ student = student-there papers student at c.position_of-at.ensures in
+    let here : slice_get (choices_of papers student) place ≡ c.args.standing.next =
+    ap (λ choices. slice_get choices place) (sym (c.choices_at.ensures ∙ ap (choices_of papers) there)) ∙ c.place_in.ensures in
+    let begun : Begun papers old (moved old at place) student at place = begins papers old student at place c.requires.fits c.position_of-at.ensures c.requires.absent in
+    roll-room papers (moved old at place) student c.in-Some.school c.key_at-position.result.0 (fits-begun begun) c.key_at-position.ensures.position
 
 pub offer_to-requires-clause-new : goal.offer_to-requires-clause-new
 offer_to-requires-clause-new g c =
-    roll-new c.args.papers.now (moved (standings_of g.R.Roll.keys g.R.Roll.seats c.args.self.now) c.in-Some.at c.place_of_choice-place.result) c.args.standing.student c.in-Some-next.school c.key_at-position.result.0 c.key_at-position.result.1
-    (fits-begun (begins c.args.papers.now (standings_of g.R.Roll.keys g.R.Roll.seats c.args.self.now) c.args.standing.student c.in-Some.at c.place_of_choice-place.result c.requires.fits (sym c.in-Some.ensures) c.requires.absent))
-    c.key_at-position.ensures.position c.key_at-position.ensures.key
+    let papers = c.args.papers.now in
+    let student = c.args.standing.student in
+    let at = c.position_of-at.result in
+    let place = c.place_in.result in
+    let old = standings_of g.R.Roll.keys g.R.Roll.seats c.args.self.now in
+    let there : student_at papers at ≡ student = student-there papers student at c.position_of-at.ensures in
+    let here : slice_get (choices_of papers student) place ≡ c.args.standing.next =
+    ap (λ choices. slice_get choices place) (sym (c.choices_at.ensures ∙ ap (choices_of papers) there)) ∙ c.place_in.ensures in
+    let begun : Begun papers old (moved old at place) student at place = begins papers old student at place c.requires.fits c.position_of-at.ensures c.requires.absent in
+    let key = c.key_at-position.ensures.key ∙ ap (λ i. key_of papers i c.in-Some.school) there in
+    roll-new papers (moved old at place) student c.in-Some.school c.key_at-position.result.0 c.key_at-position.result.1 (fits-begun begun) c.key_at-position.ensures.position key
 
-pub unreachable-requires-then-is_some : goal.unreachable-requires-then-is_some
-unreachable-requires-then-is_some g c =
+pub unreachable-requires : goal.unreachable-requires
+unreachable-requires g c =
     let papers = c.args.papers.now in
     let old = standings_of g.R.Roll.keys g.R.Roll.seats c.args.self.now in
-    let room : held papers (next_of papers old.places) c.in-Some-next.school < seats_of papers c.in-Some-next.school =
-    subst (λ (o : Option ℕ). IfSome o (λ s. held papers (next_of papers old.places) s < seats_of papers s)) c.in-Some-next.is c.requires.room in
+    let room : held papers (next_of papers old.places) c.in-Some.school < seats_of papers c.in-Some.school =
+    subst (λ (o : Option ℕ). IfSome o (λ s. held papers (next_of papers old.places) s < seats_of papers s)) c.in-Some.is c.requires.room in
     omega (
       arith,
-      roll-open papers old c.in-Some-next.school c.key_at-position.result.0 c.requires.fits c.key_at-position.ensures.position room,
+      roll-open papers old c.in-Some.school c.key_at-position.result.0 c.requires.fits c.key_at-position.ensures.position room,
       c.in_ok-out.ensures.full (sym c.is_some.ensures ∙ c.if-is_some.true),
     )
 
 pub returns-clause-stands : goal.returns-clause-stands
 returns-clause-stands g c =
     let papers = c.args.papers.now in
+    let student = c.args.standing.student in
+    let at = c.position_of-at.result in
+    let place = c.place_in.result in
     let old = standings_of g.R.Roll.keys g.R.Roll.seats c.args.self.now in
-    let begun = begins papers old c.args.standing.student c.in-Some.at c.place_of_choice-place.result c.requires.fits (sym c.in-Some.ensures) c.requires.absent in
-    let offered : OffersAt (rolls_of g.R.Roll.keys g.R.Roll.seats c.args.self.now.rolls.items) (rolls_of g.R.Roll.keys g.R.Roll.seats c.offer_to.new.rolls.items) c.key_at-position.result.0 c.key_at-position.result.1 None =
-    subst (OffersAt (rolls_of g.R.Roll.keys g.R.Roll.seats c.args.self.now.rolls.items) (rolls_of g.R.Roll.keys g.R.Roll.seats c.offer_to.new.rolls.items) c.key_at-position.result.0 c.key_at-position.result.1)
-    (is_some-none c.in_ok-out.out (sym c.is_some.ensures ∙ c.if-is_some.false)) c.in_ok-out.ensures in
-    put-on_roll begun
-    (record (moved old c.in-Some.at c.place_of_choice-place.result) { rolls = rolls_of g.R.Roll.keys g.R.Roll.seats c.offer_to.new.rolls.items })
-    c.args.standing.next c.in-Some-next.school c.key_at-position.result.0 c.place_of_choice-place.ensures c.in-Some-next.is
-    (proposed-from papers (moved old c.in-Some.at c.place_of_choice-place.result) c.args.standing.student c.in-Some-next.school c.key_at-position.result.0 c.key_at-position.result.1 (rolls_of g.R.Roll.keys g.R.Roll.seats c.offer_to.new.rolls.items) None
-    (fits-begun begun) (next-begun begun c.args.standing.next c.place_of_choice-place.ensures ∙ c.in-Some-next.is) c.key_at-position.ensures.position c.key_at-position.ensures.key offered)
+    let there : student_at papers at ≡ student = student-there papers student at c.position_of-at.ensures in
+    let here : slice_get (choices_of papers student) place ≡ c.args.standing.next =
+    ap (λ choices. slice_get choices place) (sym (c.choices_at.ensures ∙ ap (choices_of papers) there)) ∙ c.place_in.ensures in
+    let begun : Begun papers old (moved old at place) student at place = begins papers old student at place c.requires.fits c.position_of-at.ensures c.requires.absent in
+    let key = c.key_at-position.ensures.key ∙ ap (λ i. key_of papers i c.in-Some.school) there in
+    let rolls = rolls_of g.R.Roll.keys g.R.Roll.seats c.offer_to.new.rolls.items in
+    put-on_roll begun (record (moved old at place) { rolls = rolls }) c.args.standing.next c.in-Some.school c.key_at-position.result.0 here c.in-Some.is
+    (proposed-told papers (moved old at place) student c.in-Some.school c.key_at-position.result.0 c.key_at-position.result.1 rolls c.in_ok-out.out None
+    (fits-begun begun) (next-begun begun c.args.standing.next here ∙ c.in-Some.is) c.key_at-position.ensures.position key c.in_ok-out.ensures
+    (is_some-none c.in_ok-out.out (sym c.is_some.ensures ∙ c.if-is_some.false)))
     refl refl refl

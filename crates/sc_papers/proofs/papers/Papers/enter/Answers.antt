@@ -1,8 +1,8 @@
-use Rattle.std.proofs.Common.{◌≡◌, ℕ, Option, None, List, ◌++◌, ◌∷◌, [], refl, sym, ◌∙◌, ap}
+use Rattle.std.proofs.Common.{◌≡◌, ℕ, None, List, ◌++◌, ◌∷◌, [], refl, ◌∙◌, ap}
 use Rattle.sc_papers.specs.Inside.{market_of}
 use Rattle.sc_papers.specs.Market.{Market}
 use Rattle.sc_papers.specs.Verdict.{first_of, objections_to_enter, with_student}
-use Rattle.sc_papers.proofs.Entering.{MayEnter, MayEnter-allowed}
+use Rattle.sc_papers.proofs.Entering.{MayEnter-allowed}
 use Rattle.sc_papers.proofs.InsideLemmas.{IsSound-entered, market_of-entered}
 use Rattle.sc_papers.proofs.papers.Papers.enter.Goals as goal
 

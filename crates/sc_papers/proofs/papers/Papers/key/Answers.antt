@@ -1,13 +1,17 @@
-use Rattle.std.proofs.Common.{◌≡◌, sym, ◌∙◌, ap, subst, Some}
-use Rattle.sc_lottery.specs.Draw.{draw}
-use Rattle.sc_papers.specs.Market.{Market, student_of}
-use Rattle.sc_papers.proofs.Keys.{draw-at, key-found}
+use Rattle.std.proofs.Common.{sym, ◌∙◌}
+use Rattle.sc_papers.proofs.Keys.{key-by_positions, no-key_of_student, no-key_at_school}
 use Rattle.sc_papers.proofs.papers.Papers.key.Goals as goal
+
+pub returns-in_err-student_position : goal.returns-in_err-student_position
+returns-in_err-student_position c =
+    c.from_residual.ensures ∙ no-key_of_student c.args.self.now c.args.student c.args.school (sym c.in_err-student_position.ensures)
+
+pub returns-in_err-school_position : goal.returns-in_err-school_position
+returns-in_err-school_position c =
+    c.from_residual-in_err-school_position.ensures ∙ no-key_at_school c.args.self.now c.args.student c.args.school (sym c.in_err-school_position.ensures)
 
 pub returns : goal.returns
 returns c =
-    let found = c.in_ok-position.ensures in
-    let drawn = draw-at (draw c.self.inside.seed) c.self.inside.students.entries c.self.inside.draws.items c.in_ok-position.position c.args.student _ _ _ c.self.invariant.draws found.entry found.key c.index-draw.ensures in
-    let student : Some c.in_ok-position.record.now ≡ student_of c.args.self.now c.args.student = found.value ∙ ap (λ (m : Market). student_of m c.args.student) c.self.view_is in
-    let seeded : c.index-draw.result.now ≡ draw c.args.self.now.seed c.args.student = drawn ∙ ap (λ (m : Market). draw m.seed c.args.student) c.self.view_is in
-    key-found c.args.self.now c.args.student c.args.school _ _ c.in_ok-position.record.now c.in_ok-school.field-0 student c.in_ok-school.ensures c.class_at-class.ensures seeded
+    c.key_at.ensures
+    ∙ key-by_positions c.args.self.now c.args.student c.args.school c.in_ok-student_position.field-0 c.in_ok-school_position.field-0
+    (sym c.in_ok-student_position.ensures) (sym c.in_ok-school_position.ensures)

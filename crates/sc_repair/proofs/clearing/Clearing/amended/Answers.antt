@@ -1,4 +1,4 @@
-use Rattle.std.proofs.Common.{◌≡◌, refl, ap, sym, subst, ◌∙◌, ℕ, None, length, take}
+use Rattle.std.proofs.Common.{◌≡◌, refl, ap, sym, subst, ◌∙◌, length, take}
 use Rattle.sc_papers.specs.Restriction.{cut, AlikeUpTo, IsSegmented}
 use Rattle.sc_papers.specs.Verdict.{after, verdict, IsRefusal}
 use Rattle.sc_papers.specs.declared.amendment.Refusal.TheVariants.{OutOfMemory}

@@ -1,4 +1,4 @@
-use Rattle.std.proofs.Common.{ap, sym, subst, List, [], length, Ok, Err, Result}
+use Rattle.std.proofs.Common.{sym, subst, List, length, Ok, Err, Result}
 use Rattle.std.specs.Prelude.{IfOk, ◌≡◌}
 use Rattle.sc_papers.specs.Restriction.{cut, IsSegmented}
 use Rattle.sc_checkpoint.specs.Chains.{logs_in, Chain}
