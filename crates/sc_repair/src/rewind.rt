@@ -15,10 +15,7 @@ fn lists(papers: &Papers, school: SchoolNo, position: usize) -> bool
     requires { position < length papers.now.students }
     ensures { result ≡ lists papers.now school (slice_index (students_of papers.now) position) }
 {
-    let Some(student) = papers.student_at(position) else {
-        unreachable!()
-    };
-    match papers.student(student) {
+    match papers.record_at(position) {
         Some(record) => record.choices.as_slice().contains(&school),
         None => false,
     }

@@ -1,6 +1,5 @@
 -- What one more student changes in the schools' tallies.
-use Rattle.std.proofs.Common.{◌≡◌, refl, sym, ◌∙◌, ap, inl, inr, ℕ, zero, suc, ◌+◌, ◌<◌, ◌≤◌, ◌==◌, ◌&&◌, nat_eq, true, false, cond, List, [], ◌∷◌, ◌++◌, length, get_or, set, map, filter, replicate, take, Option, None, Some, Contains, count_by, position, slice_get, add-one, arith}
-use Rattle.std.specs.Bool.{if◌then◌else◌}
+use Rattle.std.proofs.Common.{◌≡◌, refl, sym, ◌∙◌, ap, inl, inr, ℕ, zero, suc, ◌+◌, ◌<◌, ◌≤◌, ◌==◌, nat_eq, true, false, cond, List, [], ◌∷◌, ◌++◌, length, get_or, set, map, filter, replicate, take, Option, None, Some, Contains, count_by, position, slice_get, add-one, arith}
 use Rattle.std.specs.List.{IsDistinct}
 use Rattle.std.specs.Option.{option_and_then, option_map, option_map_or}
 use Rattle.std.proofs.lemmas.Bool.{cases_Bool, cond-true, cond-false, eq-eqb, ne_eqb, false≢true}
@@ -11,13 +10,13 @@ use Rattle.std.proofs.lemmas.List.Elements.{All-from_recursion, All-contains, fi
 use Rattle.std.proofs.lemmas.List.Sums.{count_by-le-length, fold-append, sum_by-append}
 use Rattle.std.proofs.lemmas.Map.Keys.{IsDistinct-head, IsDistinct-tail}
 use Rattle.sc_papers.specs.Key.{key_of}
-use Rattle.sc_papers.specs.Market.{Market, is_school, is_student, schools_of, seats_of, students_of}
+use Rattle.sc_papers.specs.Market.{Market, schools_of, seats_of, students_of}
 use Rattle.sc_papers.specs.Matching.{Matching, has, held, how_many}
 use Rattle.sc_papers.specs.declared.key.Key.{Key}
 use Rattle.sc_papers.proofs.Counting.{contains-head, contains-tail, count-cons_fails, count-cons_passes}
 use Rattle.sc_papers.proofs.Rejections.{has-some, has-true}
 use Rattle.sc_report.proofs.Places.{some-one}
-use Rattle.sc_papers.proofs.Positions.{among-school, position-among, position-at, school-position}
+use Rattle.sc_papers.proofs.Positions.{among-school, position-at, school-position}
 use Rattle.sc_report.specs.Cutoff.{cutoff, cutoff_by, cutoff_row, keys_among, last_key, or_later}
 use Rattle.sc_report.specs.Tally.{held_at, no_tally, tally, with_key}
 use Rattle.sc_report.specs.declared.cutoff.Cutoff.{Cutoff}
@@ -129,13 +128,6 @@ module _ (m : Market) (a : Matching) (i : ℕ) where
       go : (o : Option ℕ) → a i ≡ o → option_and_then (λ (s : ℕ). option_map {U = ℕ × Key} (λ (k : ℕ). (k, key_of m i s)) (position (nat_eq s) (schools_of m))) o ≡ Some (at, key) → HasAt m a i at key
       go None is e = absurd (none-some (at, key) e)
       go (Some s) is e = at_school s (position (nat_eq s) (schools_of m)) is refl e
-
-  -- the key that the papers give for a school at a position
-  pub key-there : (s at : ℕ) (o : Option Key) → is_student m i ≡ true → position (nat_eq s) (schools_of m) ≡ Some at
-      → o ≡ (if is_student m i && is_school m s then Some (key_of m i s) else None) → o ≡ Some (key_of m i s)
-  key-there s at o student found is =
-      let school : is_school m s ≡ true = among-school m s (position-among (schools_of m) s at found) in
-      is ∙ cond-true (is_student m i && is_school m s) (Some (key_of m i s)) None (λ t. student t && school t)
 
 -- one more student who has no school of the papers changes no tally
 pub tallies-same : (m : Market) (a : Matching) (students : List ℕ) (i : ℕ) → held_at m a i ≡ None

@@ -3,7 +3,7 @@ ghost use Rattle.std.specs.Prelude.{◌≡◌, true, map, IfOk};
 ghost use Rattle.sc_papers.specs.Assignment.{assigned};
 ghost use Rattle.sc_papers.specs.Market.{is_school, schools_of, seats_of, students_of};
 ghost use Rattle.sc_repair.specs.Standing.{matching_of};
-ghost use Rattle.sc_report.specs.Cutoff.{cutoff, cutoff_by, cutoff_rows};
+ghost use Rattle.sc_report.specs.Cutoff.{cutoff_by, cutoff_rows};
 ghost use Rattle.sc_report.specs.Tally.{tally};
 
 use crate::order::rising_schools;
@@ -34,7 +34,7 @@ pub struct CutoffRow {
 }
 
 /// The cutoff of a school with these seats, where so many have it and this is the last key of theirs.
-fn cutoff_by(seats: u32, held: u32, last: Option<Key>) -> Cutoff
+pub(crate) fn cutoff_by(seats: u32, held: u32, last: Option<Key>) -> Cutoff
     ensures { result ≡ cutoff_by seats held last }
 {
     match last {
@@ -45,7 +45,7 @@ fn cutoff_by(seats: u32, held: u32, last: Option<Key>) -> Cutoff
 }
 
 /// The seats of a school of the papers.
-fn seats_of(papers: &Papers, school: SchoolNo) -> Seats
+pub(crate) fn seats_of(papers: &Papers, school: SchoolNo) -> Seats
     requires { is_school papers.now school ≡ true }
     ensures { result ≡ seats_of papers.now school }
 {
@@ -53,21 +53,6 @@ fn seats_of(papers: &Papers, school: SchoolNo) -> Seats
         unreachable!()
     };
     found.seats
-}
-
-/// The cutoff of a school, by the tallies of all schools.
-pub(crate) fn cutoff_of(
-    tallies: &[Tally],
-    papers: &Papers,
-    places: &Assignment,
-    school: SchoolNo,
-) -> Cutoff
-    requires tallies { tallies.now ≡ map (tally papers.now (assigned places.now) (students_of papers.now)) (schools_of papers.now) }
-    requires known { is_school papers.now school ≡ true }
-    ensures { result ≡ cutoff papers.now (assigned places.now) school }
-{
-    let tally = tally_of(tallies, papers, places, school);
-    cutoff_by(seats_of(papers, school).get(), tally.held, tally.last)
 }
 
 /// The rows of all schools by rising number, by their tallies.

@@ -1,15 +1,15 @@
 //! Reasons: why a student does not have a choice that it prefers to what it has.
-ghost use Rattle.std.specs.Prelude.{◌≡◌, ◌++◌, ◌==◌, true, false, map, IfOk, OnOk};
+ghost use Rattle.std.specs.Prelude.{◌≡◌, ℕ, ◌<◌, ◌++◌, ◌==◌, true, false, flat_map, length, map, nat_eq, position, Some, IfOk, OnOk};
 ghost use Rattle.std.specs.Option.{option_map_or};
 ghost use Rattle.sc_papers.specs.Assignment.{assigned};
-ghost use Rattle.sc_papers.specs.Key.{key_of};
-ghost use Rattle.sc_papers.specs.Market.{is_school, is_student, schools_of, students_of};
+ghost use Rattle.sc_papers.specs.Market.{is_school, schools_of, students_of};
+ghost use Rattle.sc_papers.specs.Matching.{Matching};
 ghost use Rattle.sc_papers.specs.WellFormed.{WellFormed};
 ghost use Rattle.sc_repair.specs.Standing.{matching_of};
 ghost use Rattle.sc_report.specs.Reason.{reason, reason_by, reason_rows, reasons_of};
 ghost use Rattle.sc_report.specs.Tally.{tally};
 
-use crate::cutoff::{Cutoff, cutoff_of};
+use crate::cutoff::{Cutoff, cutoff_by, seats_of};
 use crate::order::rising_students;
 use crate::tally::{Tally, tallies};
 use sc_papers::{Assignment, Key, Papers, SchoolNo, StudentNo};
@@ -46,23 +46,22 @@ fn reason_by(cutoff: Cutoff, key: Key) -> Reason
     }
 }
 
-/// Why a student does not have a school, by the tallies of all schools.
-fn reason_of(
-    tallies: &[Tally],
-    papers: &Papers,
-    places: &Assignment,
-    student: StudentNo,
-    school: SchoolNo,
-) -> Reason
-    requires tallies { tallies.now ≡ map (tally papers.now (assigned places.now) (students_of papers.now)) (schools_of papers.now) }
-    requires student { is_student papers.now student ≡ true }
+/// Why the student at a position does not have a school, by the tallies of all schools.
+fn reason_of(tallies: &[Tally], papers: &Papers, student: usize, school: SchoolNo) -> Reason
+    requires tallies { length tallies.now ≡ length papers.now.schools }
+    requires student { student < length papers.now.students }
     requires school { is_school papers.now school ≡ true }
-    ensures { result ≡ reason papers.now (assigned places.now) student school }
+    ensures { (a : Matching) (i : ℕ) → tallies.now ≡ map (tally papers.now a (students_of papers.now)) (schools_of papers.now) → position (nat_eq i) (students_of papers.now) ≡ Some student → result ≡ reason papers.now a i school }
 {
-    let Some(key) = papers.key(student, school) else {
+    let Some(at) = papers.school_position(school) else {
         unreachable!()
     };
-    reason_by(cutoff_of(tallies, papers, places, school), key)
+    let Some(key) = papers.key_at(student, at) else {
+        unreachable!()
+    };
+    let tally = tallies[at];
+    let cutoff = cutoff_by(seats_of(papers, school).get(), tally.held, tally.last);
+    reason_by(cutoff, key)
 }
 
 /// Whether what a student has is this school.
@@ -84,15 +83,18 @@ fn push_reasons(
     requires well_formed { WellFormed papers.now }
     ensures { OnOk result (rows.new.items ≡ rows.old.items ++ reasons_of papers.now (assigned places.now) student) }
 {
-    let Some(record) = papers.student(student) else {
+    let Some(at) = papers.student_position(student) else {
         return Ok(());
+    };
+    let Some(record) = papers.record_at(at) else {
+        unreachable!()
     };
     let held = places.get(student);
     for choice in record.choices.as_slice() {
         if is_held(&held, *choice) {
             return Ok(());
         }
-        let reason = reason_of(tallies, papers, places, student, *choice);
+        let reason = reason_of(tallies, papers, at, *choice);
         rows.push(ReasonRow {
             student,
             school: *choice,
@@ -102,20 +104,20 @@ fn push_reasons(
     Ok(())
 }
 
-/// The rows of all students by rising number, by the tallies of all schools.
-pub(crate) fn rising_reasons(
+/// The rows of the students, in their order, by the tallies of all schools.
+pub(crate) fn reasons_among(
     alloc: Global,
+    students: &[StudentNo],
     tallies: &[Tally],
     papers: &Papers,
     places: &Assignment,
 ) -> Result<Vec<ReasonRow>, AllocError>
     requires tallies { tallies.now ≡ map (tally papers.now (assigned places.now) (students_of papers.now)) (schools_of papers.now) }
     requires well_formed { WellFormed papers.now }
-    ensures { IfOk result (λ rows. rows.items ≡ reason_rows papers.now (assigned places.now)) }
+    ensures { IfOk result (λ rows. rows.items ≡ flat_map (reasons_of papers.now (assigned places.now)) students.now) }
 {
-    let students = rising_students(alloc, papers)?;
     let mut rows = Vec::new(alloc);
-    for student in students.as_slice() {
+    for student in students {
         push_reasons(&mut rows, tallies, papers, places, *student)?;
     }
     Ok(rows)
@@ -123,13 +125,20 @@ pub(crate) fn rising_reasons(
 
 /// Why no student has a choice that it prefers to what it has: one row for each such choice, the
 /// students by rising number, and a student's rows in order of choice. The only error is want of
-/// memory. The cost is one pass over the students, a sort of their numbers, and one look-up for each
+/// memory. The cost is one pass over the students, a sort of their numbers, and two look-ups for each
 /// row.
 pub fn reasons(alloc: Global, clearing: &Clearing) -> Result<Vec<ReasonRow>, AllocError>
     ensures { IfOk result (λ rows. rows.items ≡ reason_rows clearing.now.papers (matching_of clearing.now)) }
 {
     let papers = clearing.papers();
     let places = clearing.places();
+    let students = rising_students(alloc, papers)?;
     let tallies = tallies(alloc, papers, places)?;
-    rising_reasons(alloc, tallies.as_slice(), papers, places)
+    reasons_among(
+        alloc,
+        students.as_slice(),
+        tallies.as_slice(),
+        papers,
+        places,
+    )
 }

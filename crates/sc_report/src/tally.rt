@@ -1,7 +1,7 @@
 //! One pass over the students: how many have each school, and the last key among them.
-ghost use Rattle.std.specs.Prelude.{◌≡◌, ◌+◌, ◌<◌, ◌≤◌, true, length, map, replicate, take, IfOk, OnOk};
+ghost use Rattle.std.specs.Prelude.{◌≡◌, ◌+◌, ◌<◌, ◌≤◌, true, length, map, replicate, slice_get, take, Some, IfOk, OnOk};
 ghost use Rattle.sc_papers.specs.Assignment.{assigned};
-ghost use Rattle.sc_papers.specs.Market.{is_school, is_student, schools_of, students_of};
+ghost use Rattle.sc_papers.specs.Market.{is_school, schools_of, students_of};
 ghost use Rattle.sc_papers.specs.WellFormed.{WellFormed, WithinLimits};
 ghost use Rattle.sc_report.specs.Cutoff.{or_later};
 ghost use Rattle.sc_report.specs.Tally.{held_at, no_tally, tally, with_key};
@@ -37,16 +37,21 @@ fn with_student(tally: Tally, key: Key) -> Tally
     }
 }
 
-/// The position of the school that the student has, if it is one of the papers, and the student's
-/// key there.
-fn held_at(papers: &Papers, places: &Assignment, student: StudentNo) -> Option<(usize, Key)>
-    requires { is_student papers.now student ≡ true }
+/// The position of the school that the student at a position has, if it is one of the papers, and the
+/// student's key there.
+fn held_at(
+    papers: &Papers,
+    places: &Assignment,
+    student: StudentNo,
+    position: usize,
+) -> Option<(usize, Key)>
+    requires { slice_get (students_of papers.now) position ≡ Some student }
     ensures { result ≡ held_at papers.now (assigned places.now) student }
 {
     let school = places.get(student)?;
-    let position = papers.school_position(school)?;
-    let key = papers.key(student, school)?;
-    Some((position, key))
+    let at = papers.school_position(school)?;
+    let key = papers.key_at(position, at)?;
+    Some((at, key))
 }
 
 /// Counts the student at the position of the order of entry.
@@ -60,7 +65,7 @@ fn count_student(tallies: &mut [Tally], papers: &Papers, places: &Assignment, po
     let Some(student) = papers.student_at(position) else {
         unreachable!()
     };
-    if let Some((at, key)) = held_at(papers, places, student) {
+    if let Some((at, key)) = held_at(papers, places, student, position) {
         tallies[at] = with_student(tallies[at], key);
     }
 }

@@ -10,7 +10,7 @@ use crate::cutoff::rising_rows;
 use crate::cutoff_lines::push_cutoffs;
 use crate::lines::push_number;
 use crate::order::rising_students;
-use crate::reason::rising_reasons;
+use crate::reason::reasons_among;
 use crate::reason_lines::push_reasons;
 use crate::tally::{Tally, tallies};
 use sc_papers::{Assignment, Papers, StudentNo};
@@ -83,7 +83,7 @@ fn push_report(
     push_assignments(text, students.as_slice(), places)?;
     let cutoffs = rising_rows(alloc, tallies, papers, places)?;
     push_cutoffs(text, cutoffs.as_slice())?;
-    let reasons = rising_reasons(alloc, tallies, papers, places)?;
+    let reasons = reasons_among(alloc, students.as_slice(), tallies, papers, places)?;
     push_reasons(text, reasons.as_slice())?;
     Ok(())
 }

@@ -3,12 +3,19 @@ use Rattle.sc_papers.specs.Assignment.{assigned}
 use Rattle.sc_papers.specs.Matching.{has}
 use Rattle.sc_report.specs.Reason.{reason_row}
 use Rattle.sc_report.proofs.ReasonLemmas.{choice-known, choices-read, held-test, passed-more, passed-stop, passed-end, reasons-are, reasons-none, row-reason}
+use Rattle.sc_report.proofs.Places.{no-record, position-low, record-placed, record-somewhere}
 use Rattle.sc_report.proofs.TallyLemmas.{map-take_one}
 use Rattle.sc_report.proofs.reason.push_reasons.Goals as goal
 
 pub returns-in_default : goal.returns-in_default
 returns-in_default c =
-    sym (ap (λ more. c.args.rows.now.items ++ more) (reasons-none c.args.papers.now (assigned c.args.places.now) c.args.student c.in_default.ensures) ∙ append-nil c.args.rows.now.items)
+    sym (ap (λ more. c.args.rows.now.items ++ more) (reasons-none c.args.papers.now (assigned c.args.places.now) c.args.student (no-record c.args.papers.now c.args.student c.in_default.ensures)) ∙ append-nil c.args.rows.now.items)
+
+pub unreachable-requires : goal.unreachable-requires
+unreachable-requires c = record-somewhere c.args.papers.now c.args.student c.in-Some.at (sym c.in-Some.ensures) c.in_default-record_at.ensures
+
+pub reason_of-reason-requires-clause-student : goal.reason_of-reason-requires-clause-student
+reason_of-reason-requires-clause-student c = position-low c.args.papers.now c.args.student c.in-Some.at (sym c.in-Some.ensures)
 
 pub returns-then-is_held : goal.returns-then-is_held
 returns-then-is_held c =
@@ -21,14 +28,14 @@ returns-then-is_held c =
     let holds = held-test a i s c.get-held.result c.is_held.result true c.get-held.ensures c.is_held.ensures c.if-is_held.true in
     c.loop-choice.invariant.rows
     ∙ ap (λ more. c.args.rows.now.items ++ more)
-    (reasons-are m a i choices k (c.as_slice-choice-items.ensures ∙ choices-read m i c.in-Some.record.now c.in-Some.ensures)
+    (reasons-are m a i choices k (c.as_slice-choice-items.ensures ∙ choices-read m i c.in-Some-record_at.record.now (c.in-Some-record_at.ensures ∙ record-placed m i c.in-Some.at (sym c.in-Some.ensures)))
     (passed-stop (λ t. has a t i) choices k s c.loop-choice.invariant.none c.loop-choice-test.true c.choice-item.is holds))
 
 pub reason_of-reason-requires-clause-school : goal.reason_of-reason-requires-clause-school
 reason_of-reason-requires-clause-school c =
     let m = c.args.papers.now in
     let i = c.args.student in
-    let same = c.as_slice-choice-items.ensures ∙ choices-read m i c.in-Some.record.now c.in-Some.ensures in
+    let same = c.as_slice-choice-items.ensures ∙ choices-read m i c.in-Some-record_at.record.now (c.in-Some-record_at.ensures ∙ record-placed m i c.in-Some.at (sym c.in-Some.ensures)) in
     choice-known m c.requires.well_formed i c.choice-item.result
     (subst (λ xs. Contains xs c.choice-item.result) same (c.loop-choice.choice-index, c.loop-choice-test.true, sym c.choice-item.is))
 
@@ -41,7 +48,7 @@ loop-choice-preserved c =
     let k = c.loop-choice.choice-index in
     let s = c.choice-item.result in
     let fails = held-test a i s c.get-held.result c.is_held.result false c.get-held.ensures c.is_held.ensures c.if-is_held.false in
-    let row = row-reason m a i s c.reason_of-reason.result c.reason_of-reason.ensures in
+    let row = row-reason m a i s c.reason_of-reason.result (c.reason_of-reason.ensures a i c.requires.tallies (sym c.in-Some.ensures)) in
     record {
       none = passed-more (λ t. has a t i) choices k s c.loop-choice.invariant.none c.loop-choice-test.true c.choice-item.is fails;
       rows = c.in_ok-push.ensures.items ∙ (λ t. c.loop-choice.invariant.rows t ++ row t ∷ [])
@@ -58,5 +65,5 @@ returns c =
     let k = c.loop-choice.choice-index in
     c.loop-choice.invariant.rows
     ∙ ap (λ more. c.args.rows.now.items ++ more)
-    (reasons-are m a i choices k (c.as_slice-choice-items.ensures ∙ choices-read m i c.in-Some.record.now c.in-Some.ensures)
+    (reasons-are m a i choices k (c.as_slice-choice-items.ensures ∙ choices-read m i c.in-Some-record_at.record.now (c.in-Some-record_at.ensures ∙ record-placed m i c.in-Some.at (sym c.in-Some.ensures)))
     (passed-end (λ t. has a t i) choices k c.loop-choice.invariant.none c.loop-choice-test.false))

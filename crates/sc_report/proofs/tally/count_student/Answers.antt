@@ -3,14 +3,12 @@ use Rattle.std.proofs.lemmas.List.{length-map}
 use Rattle.std.proofs.lemmas.Map.Entries.{length-keys_of}
 use Rattle.sc_papers.specs.Assignment.{assigned}
 use Rattle.sc_papers.specs.Market.{schools_of, students_of}
-use Rattle.sc_papers.proofs.Choices.{contains-at}
 use Rattle.sc_report.specs.Tally.{tally}
-use Rattle.sc_papers.proofs.Positions.{among-student}
 use Rattle.sc_report.proofs.TallyLemmas.{at-within, held-few, tallies-same, tallies-set, take-one}
 use Rattle.sc_report.proofs.tally.count_student.Goals as goal
 
 pub held_at-requires : goal.held_at-requires
-held_at-requires c = among-student c.args.papers.now c.in-Some.student (contains-at (students_of c.args.papers.now) c.args.position c.in-Some.student (sym c.in-Some.ensures))
+held_at-requires c = sym c.in-Some.ensures
 
 pub bounds-tallies-at : goal.bounds-tallies-at
 bounds-tallies-at c =

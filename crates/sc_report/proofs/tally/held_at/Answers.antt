@@ -2,30 +2,29 @@ use Rattle.std.proofs.Common.{sym, ◌∙◌, ap, Some}
 use Rattle.std.proofs.lemmas.Option.{none-some}
 use Rattle.sc_papers.specs.Assignment.{assigned}
 use Rattle.sc_papers.specs.Key.{key_of}
-use Rattle.sc_report.proofs.Places.{some-one}
-use Rattle.sc_report.proofs.TallyLemmas.{held-none, held-away, held-there, key-there}
+use Rattle.sc_report.proofs.Places.{key-here, some-one}
+use Rattle.sc_report.proofs.TallyLemmas.{held-none, held-away, held-there}
 use Rattle.sc_report.proofs.tally.held_at.Goals as goal
 
 pub returns-in_err-school : goal.returns-in_err-school
 returns-in_err-school c =
     c.from_residual.ensures ∙ sym (held-none c.args.papers.now (assigned c.args.places.now) c.args.student (sym c.in_err-school.ensures))
 
-pub returns-in_err-position : goal.returns-in_err-position
-returns-in_err-position c =
-    c.from_residual-in_err-position.ensures
-    ∙ sym (held-away c.args.papers.now (assigned c.args.places.now) c.args.student c.in_ok-school.school (sym c.in_ok-school.ensures) (sym c.in_err-position.ensures))
+pub returns-in_err-at : goal.returns-in_err-at
+returns-in_err-at c =
+    c.from_residual-in_err-at.ensures
+    ∙ sym (held-away c.args.papers.now (assigned c.args.places.now) c.args.student c.in_ok-school.school (sym c.in_ok-school.ensures) (sym c.in_err-at.ensures))
 
 pub returns-in_err-key : goal.returns-in_err-key
 returns-in_err-key c =
-    absurd (none-some _ (sym c.in_err-key.was
-    ∙ key-there c.args.papers.now (assigned c.args.places.now) c.args.student c.in_ok-school.school c.in_ok-position.position c.key.result c.requires (sym c.in_ok-position.ensures) c.key.ensures))
+    absurd (none-some (key_of c.args.papers.now c.args.student c.in_ok-school.school)
+    (c.in_err-key.ensures ∙ key-here c.args.papers.now c.args.student c.in_ok-school.school c.args.position c.in_ok-at.at c.requires (sym c.in_ok-at.ensures)))
 
 pub returns : goal.returns
 returns c =
     let m = c.args.papers.now in
     let a = assigned c.args.places.now in
     let i = c.args.student in
-    let key = sym c.in_ok-key.was
-    ∙ key-there m a i c.in_ok-school.school c.in_ok-position.position c.key.result c.requires (sym c.in_ok-position.ensures) c.key.ensures in
-    sym (held-there m a i c.in_ok-school.school c.in_ok-position.position (sym c.in_ok-school.ensures) (sym c.in_ok-position.ensures)
-    ∙ ap (λ k. Some (c.in_ok-position.position, k)) (sym (some-one c.in_ok-key.key (key_of m i c.in_ok-school.school) key)))
+    let key = c.in_ok-key.ensures ∙ key-here m i c.in_ok-school.school c.args.position c.in_ok-at.at c.requires (sym c.in_ok-at.ensures) in
+    sym (held-there m a i c.in_ok-school.school c.in_ok-at.at (sym c.in_ok-school.ensures) (sym c.in_ok-at.ensures)
+    ∙ ap (λ k. Some (c.in_ok-at.at, k)) (sym (some-one c.in_ok-key.key (key_of m i c.in_ok-school.school) key)))

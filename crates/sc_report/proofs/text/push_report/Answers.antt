@@ -1,11 +1,16 @@
-use Rattle.std.proofs.Common.{◌∙◌}
+use Rattle.std.proofs.Common.{ap, ◌∙◌}
+use Rattle.std.specs.Prelude.{flat_map}
 use Rattle.sc_papers.specs.Assignment.{assigned}
+use Rattle.sc_report.specs.Reason.{reasons_of}
 use Rattle.sc_report.proofs.LineLemmas.{report-joined}
 use Rattle.sc_report.proofs.text.push_report.Goals as goal
 
 pub returns : goal.returns
 returns c =
-    report-joined c.args.papers.now (assigned c.args.places.now) c.as_slice.result.now c.as_slice-2.result.now c.as_slice-3.result.now
+    let m = c.args.papers.now in
+    let a = assigned c.args.places.now in
+    report-joined m a c.as_slice.result.now c.as_slice-2.result.now c.as_slice-4.result.now
     c.args.text.now.items c.push_assignments.new.text.items c.push_cutoffs.new.text.items c.push_reasons.new.text.items
-    (c.as_slice.ensures.value ∙ c.in_ok-students.ensures) (c.as_slice-2.ensures.value ∙ c.in_ok-cutoffs.ensures) (c.as_slice-3.ensures.value ∙ c.in_ok-reasons.ensures)
+    (c.as_slice.ensures.value ∙ c.in_ok-students.ensures) (c.as_slice-2.ensures.value ∙ c.in_ok-cutoffs.ensures)
+    (c.as_slice-4.ensures.value ∙ c.in_ok-reasons.ensures ∙ ap (flat_map (reasons_of m a)) (c.as_slice-3.ensures.value ∙ c.in_ok-students.ensures))
     c.in_ok-push_assignments.ensures c.in_ok-push_cutoffs.ensures c.in_ok-push_reasons.ensures

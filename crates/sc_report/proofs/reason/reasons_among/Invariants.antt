@@ -2,7 +2,7 @@ use Rattle.std.proofs.Common.{◌≡◌, take}
 use Rattle.std.specs.Prelude.{flat_map}
 use Rattle.sc_papers.specs.Assignment.{assigned}
 use Rattle.sc_report.specs.Reason.{reasons_of}
-use Rattle.sc_report.proofs.reason.rising_reasons.Given as goal
+use Rattle.sc_report.proofs.reason.reasons_among.Given as goal
 
 abbrev pub invariant-loop-student : goal.invariant-loop-student
-invariant-loop-student l = l.rows.items ≡ flat_map (reasons_of l.papers (assigned l.places)) (take l.student-index l.student-items)
+invariant-loop-student l = l.rows.items ≡ flat_map (reasons_of l.papers (assigned l.places)) (take l.student-index l.students)
