@@ -1,6 +1,7 @@
 -- One more entry of a log, put into a table of places.
-use Rattle.std.proofs.Common.{◌≡◌, inl, inr, refl, ap, sym, subst, ◌∙◌, ℕ, ◌<◌, ◌≤◌, ◌==◌, nat_eq, nat_lt, Bool, true, false, ◌&&◌, ◌||◌, List, [], ◌∷◌, ◌++◌, length, get_or, set, replicate, Some, None, IfSome, slice_get, position, arith, length-set}
+use Rattle.std.proofs.Common.{◌≡◌, inl, inr, refl, ap, sym, subst, ◌∙◌, ℕ, ◌<◌, ◌≤◌, ◌==◌, nat_eq, nat_lt, Bool, true, false, ◌&&◌, ◌||◌, List, [], ◌∷◌, ◌++◌, length, get_or, set, replicate, Option, Some, None, IfSome, slice_get, position, arith, length-set}
 use Rattle.std.specs.List.{position_or_len}
+use Rattle.std.specs.Option.{option_and_then, option_map_or}
 use Rattle.std.proofs.lemmas.Bool.{cases_eq, cases_lt, cond-true, lt-ltb, eqb-true, eq-eqb, ne_eqb, false≢true, false_from_ne_true, and_parts}
 use Rattle.std.proofs.lemmas.List.{get_or-set_same, get_or-set_other, get_or-replicate, length-replicate}
 use Rattle.std.proofs.lemmas.List.Quantifiers.{position-Some}
@@ -39,10 +40,20 @@ position-none test xs k x none here =
     ]
 
 -- no student lists more than 20 choices
-pub student-short : (m : Market) → WithinLimits m → (i : ℕ) (student : Student) → student_of m i ≡ Some student → length student.choices ≤ 20
-student-short m limits i student is =
-    let short : IsShort student = subst (λ found. IfSome found IsShort) is (All-lookup IsShort (nat_eq i) m.students limits.lists) in
-    short.choices
+pub record-short : (m : Market) → WithinLimits m → (at : ℕ) (held : Student) → Some held ≡ option_and_then (student_of m) (slice_get (students_of m) at) → length held.choices ≤ 20
+record-short m limits at held is = go (slice_get (students_of m) at) is
+  where
+    go : (found : Option ℕ) → Some held ≡ option_and_then (student_of m) found → length held.choices ≤ 20
+    go None none = absurd (none-some held (sym none))
+    go (Some i) known =
+        let short : IsShort held = subst (λ found. IfSome found IsShort) (sym known) (All-lookup IsShort (nat_eq i) m.students limits.lists) in
+        short.choices
+
+-- what the papers hold at a student's position has its choices
+pub choices-here : (m : Market) (i at : ℕ) (held : Option Student) → slice_get (students_of m) at ≡ Some i → held ≡ option_and_then (student_of m) (slice_get (students_of m) at)
+    → option_map_or (λ student. student.choices) held [] ≡ choices_of m i
+unfolding choices_of
+choices-here m i at held here is = ap (λ found. option_map_or (λ student. student.choices) found []) (is ∙ ap (option_and_then (student_of m)) here)
 
 -- an entry of another student or school
 other-entry : (e : Rejection) (i s : ℕ) → (e.student ≡ i → e.school ≡ s → ⊥) → is_of e i s ≡ false

@@ -19,7 +19,7 @@ const MOST_STUDENTS: usize = 200_000;
 /// growth.
 ///
 /// One pass over the log marks, for each student, which of its choices rejected it, and one over the
-/// students finds the first that did not. An entry costs two look-ups and its student's choices.
+/// students finds the first that did not. An entry costs a look-up and its student's choices.
 pub(crate) fn standings(
     alloc: Global,
     papers: &Papers,
@@ -35,7 +35,7 @@ pub(crate) fn standings(
         let Some(student) = papers.student_at(position) else {
             unreachable!()
         };
-        standings.push_reserved(standing_of(papers, student, rejected[position]));
+        standings.push_reserved(standing_of(papers, student, position, rejected[position]));
     }
     Ok(standings)
 }
@@ -65,7 +65,7 @@ fn mark(papers: &Papers, table: &mut [PlaceSet], entry: Rejection)
     let Some(position) = papers.student_position(entry.student) else {
         return;
     };
-    let Some(place) = place_of(papers, entry.student, entry.school) else {
+    let Some(place) = place_in(choices_at(papers, position), entry.school) else {
         return;
     };
     // This call tells that the papers are well-formed: no number and no choice stands twice.
@@ -75,38 +75,35 @@ fn mark(papers: &Papers, table: &mut [PlaceSet], entry: Rejection)
     }
 }
 
-/// The school's place in the student's choices.
-fn place_of(papers: &Papers, student: StudentNo, school: SchoolNo) -> Option<usize>
-    ensures place { result ≡ position (λ s. s == school) (choices_of papers.now student) }
-    ensures small { IfSome result (λ place. place < 20) }
+/// The school's place among the choices.
+fn place_in(choices: &[SchoolNo], school: SchoolNo) -> Option<usize>
+    ensures { result ≡ position (λ s. s == school) choices.now }
 {
-    choices(papers, student)
-        .iter()
-        .position(|choice| *choice == school)
+    choices.iter().position(|choice| *choice == school)
 }
 
-/// The student's choices, best first: none where it is not in the papers.
-#[tactic(auto, unfolding(sc_papers::specs::Market::choices_of))]
-fn choices(papers: &Papers, student: StudentNo) -> &[SchoolNo]
-    ensures value { result.now ≡ choices_of papers.now student }
+/// The choices of the student at the position, best first: none where nobody is there.
+fn choices_at(papers: &Papers, at: usize) -> &[SchoolNo]
+    ensures value { (i : ℕ) → slice_get (students_of papers.now) at ≡ Some i → result.now ≡ choices_of papers.now i }
     ensures short { length result.now ≤ 20 }
 {
     // This call tells that the papers are within their limits, and so are their lists.
     prove!(papers.students_len() <= MOST_STUDENTS);
-    match papers.student(student) {
+    match papers.record_at(at) {
         Some(record) => record.choices.as_slice(),
         None => &[],
     }
 }
 
-/// Where the student stands, by the places of the choices that rejected it.
+/// Where the student at the position stands, by the places of the choices that rejected it.
 #[tactic(auto, unfolding(sc_papers::specs::Log::next_choice))]
-fn standing_of(papers: &Papers, student: StudentNo, rejected: PlaceSet) -> Standing
+fn standing_of(papers: &Papers, student: StudentNo, at: usize, rejected: PlaceSet) -> Standing
+    requires { slice_get (students_of papers.now) at ≡ Some student }
     ensures { (log : List Rejection) → AreRejectedPlaces papers.now log student rejected → result ≡ record { student = student; next = next_choice papers.now log student } }
 {
     Standing {
         student,
-        next: first_outside(choices(papers, student), rejected),
+        next: first_outside(choices_at(papers, at), rejected),
     }
 }
 

@@ -136,8 +136,8 @@ impl Segments {
     /// next choice, the first that has not rejected it, whatever the log says. The only error is a
     /// refused growth.
     ///
-    /// The cost is two look-ups and a pass over one list of choices for each entry of that log, and as
-    /// much for each of the `k` students. Memory is taken for the `k` alone.
+    /// The cost is a look-up and a pass over one list of choices for each entry of that log, and such a
+    /// pass for each of the `k` students. Memory is taken for the `k` alone.
     pub fn next_choices_at(&self, papers: &Papers, k: usize) -> Result<Vec<Standing>, AllocError>
         requires within { k ≤ length self.now }
         requires students { take k (students_in self.now) ≡ take k (students_of papers.now) }

@@ -29,8 +29,9 @@ pub struct Settled {
 /// Enters all students in order of entry. The log is settled for the papers, and so its matching,
 /// which the assignment is, is the student-optimal stable matching (Gale and Shapley 1962).
 ///
-/// The only error is want of memory. The cost is a look-up in each of a few tables and an offer for
-/// each proposal, which takes the logarithm of a school's seats, and memory is taken in proportion to the students, the schools and the rejections.
+/// The only error is want of memory. The cost is two look-ups by number and an offer for each
+/// proposal, which takes the logarithm of a school's seats, and memory is taken in proportion to the
+/// students, the schools and the rejections.
 pub fn settle(alloc: Global, papers: &Papers) -> Result<Settled, AllocError>
     ensures settled { IfOk result (λ settled. IsSettled papers.now settled.log.items) }
     ensures matching { IfOk result (λ settled. (i : ℕ) → assigned settled.assignment i ≡ next_choice papers.now settled.log.items i) }

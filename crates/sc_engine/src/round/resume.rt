@@ -59,8 +59,7 @@ impl<R: Roll> Round<R> {
     /// log that leaves them there the round goes on as if it had made that log itself.
     ///
     /// It takes memory for each student and each school of the papers and for the seats held. The cost
-    /// is a look-up in each of a few tables, a search among the student's choices and an offer for each
-    /// standing.
+    /// is two look-ups by number, a search among the student's choices and an offer for each standing.
     pub fn resume(
         alloc: Global,
         papers: &Papers,
