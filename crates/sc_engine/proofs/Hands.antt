@@ -1,68 +1,12 @@
--- Students by their positions in the order of entry.
-use Rattle.std.proofs.Common.{◌≡◌, refl, ap, sym, ◌∙◌, ℕ, ◌<◌, nat_eq, true, List, [], length, get_or, Option, Some, None, Bor, IfSome, is_some, position, slice_get, arith}
-use Rattle.std.specs.Prelude.{nat_lt}
-use Rattle.std.specs.Option.{option_and_then, option_copied, option_map_or}
-use Rattle.std.proofs.lemmas.List.{get_or_default}
-use Rattle.std.proofs.lemmas.Bool.{false≢true, ltb-false, ltb-true}
-use Rattle.std.proofs.lemmas.Option.{slice_get-get_or, slice_get_past, slice_get_read, none-some}
-use Rattle.sc_papers.specs.Key.{key_of, key_at}
-use Rattle.sc_papers.specs.Market.{Market, is_school, is_student, choices_of, schools_of, student_of, students_of}
-use Rattle.sc_papers.specs.WellFormed.{WellFormed}
-use Rattle.sc_papers.specs.declared.records.Student.{Student}
-use Rattle.sc_papers.proofs.Choices.{contains-at}
-use Rattle.sc_papers.proofs.Positions.{among-student, place-position, position-at, position-there, school-position, student-position}
-use Rattle.sc_engine.specs.Standing.{next_of, place_of, student_at}
-use Rattle.sc_engine.proofs.Tables.{length-mapped, next-none, place-at}
+-- The next choice of the student at a position.
+use Rattle.std.proofs.Common.{◌≡◌, ap, sym, ◌∙◌, ℕ, nat_eq, List, get_or, Option, Some, None, position, slice_get}
+use Rattle.std.specs.Option.{option_and_then, option_map_or}
+use Rattle.sc_papers.specs.Market.{Market, choices_of, student_at, students_of}
+use Rattle.sc_papers.proofs.Hands.{student-there}
+use Rattle.sc_engine.specs.Standing.{next_of, place_of}
+use Rattle.sc_engine.proofs.Tables.{next-none, place-at}
 
--- the student at a position stands there
-pub hand-there : (m : Market) (at : ℕ) → at < length m.students → slice_get (students_of m) at ≡ Some (student_at m at)
-hand-there m at low = slice_get-get_or (students_of m) at 0 (omega (arith, low, length-mapped (λ (e : ℕ × Student). e.0) m.students))
-
-pub hand-student : (m : Market) (at : ℕ) → at < length m.students → is_student m (student_at m at) ≡ true
-hand-student m at low = among-student m (student_at m at) (contains-at (students_of m) at (student_at m at) (hand-there m at low))
-
--- and the position is the student's
-pub hand-position : (m : Market) → WellFormed m → (at : ℕ) → at < length m.students → position (nat_eq (student_at m at)) (students_of m) ≡ Some at
-hand-position m well at low = place-position m well at (student_at m at) (hand-there m at low)
-
--- who has a position is the student at it
-pub student-there : (m : Market) (i at : ℕ) → position (nat_eq i) (students_of m) ≡ Some at → student_at m at ≡ i
-student-there m i at found =
-    let here = position-at (students_of m) i at found in get_or_default (students_of m) at 0 i here.0 ∙ here.1
-
-pub position-low : (m : Market) (i at : ℕ) → position (nat_eq i) (students_of m) ≡ Some at → at < length m.students
-position-low m i at found = omega (arith, (position-at (students_of m) i at found).0, length-mapped (λ (e : ℕ × Student). e.0) m.students)
-
--- a student of the papers has a position, and a school too
-pub has-position : (m : Market) (i : ℕ) → is_student m i ≡ true → None ≡ position (nat_eq i) (students_of m) → ⊥
-has-position m i known none = let (at, found) = student-position m i known in none-some at (none ∙ found)
-
-pub school-has_position : (m : Market) (s : ℕ) → is_school m s ≡ true → None ≡ position (nat_eq s) (schools_of m) → ⊥
-school-has_position m s known none = let (at, found) = school-position m s known in none-some at (none ∙ found)
-
--- the key of the student at a position
-pub hand-key : (m : Market) (hand s at : ℕ) → hand < length m.students → position (nat_eq s) (schools_of m) ≡ Some at → key_at m hand at ≡ Some (key_of m (student_at m hand) s)
-hand-key m hand s at low school = rw (hand-there m hand low, position-there (schools_of m) s at school) refl
-
--- the record at a position is the student's
-pub hand-record : (m : Market) (at : ℕ) → at < length m.students → option_and_then (student_of m) (slice_get (students_of m) at) ≡ student_of m (student_at m at)
-hand-record m at low = ap (option_and_then (student_of m)) (hand-there m at low)
-
--- there is one
-pub hand-recorded : (m : Market) (at : ℕ) → at < length m.students → None ≡ option_and_then (student_of m) (slice_get (students_of m) at) → ⊥
-hand-recorded m at low none = false≢true (ap is_some (none ∙ hand-record m at low) ∙ hand-student m at low)
-
--- and it has the student's choices
-pub hand-choices : (m : Market) (at : ℕ) (held : Student) → at < length m.students → Some held ≡ option_and_then (student_of m) (slice_get (students_of m) at) → held.choices ≡ choices_of m (student_at m at)
-unfolding choices_of
-hand-choices m at held low is = ap (λ o. option_map_or (λ student. student.choices) o []) (is ∙ hand-record m at low)
-
--- what a read of a list gives
-pub copied-read : {X : Type 0} (found : Option (Bor X)) (xs : List X) (k : ℕ) → is_some found ≡ nat_lt k (length xs) → IfSome found (λ x. x.now ≡ get_or xs k x.now) → option_copied found ≡ slice_get xs k
-copied-read None xs k test at = sym (slice_get_past xs k (ltb-false k (length xs) (sym test)))
-copied-read (Some x) xs k test at = sym (slice_get_read xs (length xs) k x.now refl (ltb-true k (length xs) (sym test)) at)
-
--- the next choice of the student at a position: none for one who has not entered
+-- none for one who has not entered
 pub next-absent : (m : Market) (places : List (Option ℕ)) (i at : ℕ) → position (nat_eq i) (students_of m) ≡ Some at → get_or places at None ≡ None → next_of m places i ≡ None
 unfolding next_of
 next-absent m places i at found absent = ap (option_and_then (λ k. slice_get (choices_of m i) k)) (place-at m places i at found ∙ absent)

@@ -26,10 +26,6 @@ pub record Standings : Type 0 where
 unfoldable pub place_of : Market → List (Option ℕ) → ℕ → Option ℕ
 place_of m places i = option_map_or (λ at. slice_index_or places at None) (position (nat_eq i) (students_of m)) None
 
--- the student at a position of the order of entry
-abbrev pub student_at : Market → ℕ → ℕ
-student_at m at = slice_index_or (students_of m) at 0
-
 -- whether a student has entered
 abbrev pub has_entered : Market → List (Option ℕ) → ℕ → Bool
 has_entered m places i = is_some (place_of m places i)

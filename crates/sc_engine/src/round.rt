@@ -4,8 +4,8 @@ ghost use Rattle.std.specs.Prelude.{◌≡◌, ℕ, ◌+◌, ◌^◌, ◌<◌, �
 ghost use Rattle.std.specs.Option.{option_map};
 ghost use Rattle.sc_papers.specs.Assignment.{assigned};
 ghost use Rattle.sc_papers.specs.Key.{key_of};
-ghost use Rattle.sc_papers.specs.Market.{choices_of, is_school, is_student, schools_of, seats_of, students_of};
-ghost use Rattle.sc_engine.specs.Standing.{OffersAt, roll_at, next_of, student_at, Fits, FitsBut, only, Proposes, ChainEnds, Enters, Continues, has_entered, AreEmpty};
+ghost use Rattle.sc_papers.specs.Market.{choices_of, is_school, is_student, schools_of, seats_of, students_of, student_at};
+ghost use Rattle.sc_engine.specs.Standing.{OffersAt, roll_at, next_of, Fits, FitsBut, only, Proposes, ChainEnds, Enters, Continues, has_entered, AreEmpty};
 ghost use Rattle.sc_engine.specs.Rolls.{rolls_of};
 
 mod resume;

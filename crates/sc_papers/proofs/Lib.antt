@@ -1,6 +1,7 @@
 pub mod Repeats
 pub mod Keys
 pub mod Positions
+pub mod Hands
 pub mod Objections
 pub mod Entering
 pub mod InsideLemmas

@@ -1,5 +1,5 @@
 -- The papers as contracts see them, and the words that look into them.
-use Rattle.std.specs.Prelude.{ℕ, nat_eq, Bool, List, [], Option, is_some}
+use Rattle.std.specs.Prelude.{ℕ, nat_eq, Bool, List, [], Option, is_some, slice_index_or}
 use Rattle.std.specs.Option.{option_map_or}
 use Rattle.std.specs.Map.{lookup, keys_of}
 use Rattle.sc_papers.specs.declared.records.School.{School}
@@ -35,6 +35,10 @@ schools_of m = keys_of m.schools
 -- the students' numbers, in order of entry
 abbrev pub students_of : Market → List ℕ
 students_of m = keys_of m.students
+
+-- the student at a position of the order of entry
+abbrev pub student_at : Market → ℕ → ℕ
+student_at m position = slice_index_or (students_of m) position 0
 
 -- a student's choices, best first; an unknown student has none
 unfoldable pub choices_of : Market → ℕ → List ℕ

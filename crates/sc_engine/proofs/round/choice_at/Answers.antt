@@ -1,5 +1,6 @@
 use Rattle.std.proofs.Common.{sym, ap, ◌∙◌, slice_get}
-use Rattle.sc_engine.proofs.Hands.{copied-read, next-absent, next-chosen}
+use Rattle.sc_papers.proofs.Hands.{copied-read}
+use Rattle.sc_engine.proofs.Hands.{next-absent, next-chosen}
 use Rattle.sc_engine.proofs.round.choice_at.Goals as goal
 
 pub returns-in_err-place : goal.returns-in_err-place

@@ -1,5 +1,5 @@
 use Rattle.std.proofs.Common.{◌∙◌}
-use Rattle.sc_engine.proofs.Hands.{hand-choices, hand-recorded}
+use Rattle.sc_papers.proofs.Hands.{hand-choices, hand-recorded}
 use Rattle.sc_engine.proofs.round.choices_at.Goals as goal
 
 pub unreachable-requires : goal.unreachable-requires

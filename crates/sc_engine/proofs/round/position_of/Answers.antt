@@ -1,4 +1,4 @@
-use Rattle.sc_engine.proofs.Hands.{has-position}
+use Rattle.sc_papers.proofs.Hands.{has-position}
 use Rattle.sc_engine.proofs.round.position_of.Goals as goal
 
 pub unreachable-requires : goal.unreachable-requires

@@ -1,5 +1,6 @@
 use Rattle.std.proofs.Common.{◌<◌, length}
-use Rattle.sc_engine.specs.Standing.{ChainGoesOn, choices_left, student_at}
+use Rattle.sc_papers.specs.Market.{student_at}
+use Rattle.sc_engine.specs.Standing.{ChainGoesOn, choices_left}
 use Rattle.sc_engine.specs.Round.{standings_of}
 use Rattle.sc_engine.proofs.round.Round.chain.Given as goal
 

@@ -2,7 +2,7 @@ use Rattle.std.proofs.Common.{ℕ, sym, subst}
 use Rattle.sc_engine.specs.Round.{standings_of}
 use Rattle.sc_engine.specs.Standing.{ChainEnds, FitsBut, only}
 use Rattle.sc_engine.proofs.Beginning.{begins, fits-begun, enters, moved}
-use Rattle.sc_engine.proofs.Hands.{student-there}
+use Rattle.sc_papers.proofs.Hands.{student-there}
 use Rattle.sc_engine.proofs.round.Round.enter.Goals as goal
 
 pub chain-requires-clause-fits : goal.chain-requires-clause-fits

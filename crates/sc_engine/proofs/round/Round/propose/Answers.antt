@@ -1,9 +1,10 @@
 use Rattle.std.proofs.Common.{◌≡◌, ℕ, List, sym, ap, ◌∙◌, subst, ◌+◌, [], ◌∷◌, ◌++◌, get_or, set, Some, None, Option, arith}
 use Rattle.std.proofs.lemmas.Option.{same_Some}
-use Rattle.sc_engine.specs.Standing.{next_of, only, Proposes, student_at}
+use Rattle.sc_papers.specs.Market.{student_at}
+use Rattle.sc_engine.specs.Standing.{next_of, only, Proposes}
 use Rattle.sc_engine.specs.Round.{standings_of}
 use Rattle.sc_engine.specs.Rolls.{rolls_of}
-use Rattle.sc_engine.proofs.Hands.{hand-position, student-there}
+use Rattle.sc_papers.proofs.Hands.{hand-position, student-there}
 use Rattle.sc_engine.proofs.Papers.{stander-student, stander-school, stander-short}
 use Rattle.sc_engine.proofs.Proposals.{Proposed, put-out, standing-most}
 use Rattle.sc_engine.proofs.Moves.{proposed-told, roll-room, roll-new, ends-none, ends-held, goes-on}

@@ -1,12 +1,12 @@
 use Rattle.std.proofs.Common.{◌≡◌, refl, ap, sym, subst, ◌∙◌, ℕ, List, ◌<◌, Option, None, Contains, IfSome, slice_get, arith}
 use Rattle.sc_papers.specs.Key.{key_of}
-use Rattle.sc_papers.specs.Market.{choices_of, seats_of}
+use Rattle.sc_papers.specs.Market.{choices_of, seats_of, student_at}
 use Rattle.sc_papers.specs.Matching.{held}
-use Rattle.sc_engine.specs.Standing.{next_of, student_at}
+use Rattle.sc_engine.specs.Standing.{next_of}
 use Rattle.sc_engine.specs.Round.{standings_of}
 use Rattle.sc_engine.specs.Rolls.{rolls_of}
 use Rattle.sc_engine.proofs.Beginning.{Begun, moved, begins, fits-begun, is_some-none}
-use Rattle.sc_engine.proofs.Hands.{student-there}
+use Rattle.sc_papers.proofs.Hands.{student-there}
 use Rattle.sc_engine.proofs.Moves.{roll-room, roll-new, proposed-told}
 use Rattle.sc_engine.proofs.Putting.{next-begun, put-nowhere, put-school, roll-open, put-on_roll}
 use Rattle.sc_engine.proofs.round.Round.put.Goals as goal
