@@ -1,4 +1,5 @@
 mod Tables
+mod Places
 mod Keeping
 mod Entries
 mod Offered

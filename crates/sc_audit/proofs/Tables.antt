@@ -1,6 +1,6 @@
 -- Look-ups by position, and what one write changes.
 use Rattle.std.proofs.Common.{◌≡◌, refl, ap, sym, ◌∙◌, inl, inr, ℕ, zero, suc, ◌<◌, nat_eq, cond, List, [], ◌∷◌, length, get_or, set, map, Option, Some, None, Contains, position, arith, get_or-set_other, get_or-set_same}
-use Rattle.std.specs.Option.{option_map_or}
+use Rattle.std.specs.Option.{option_map, option_map_or}
 use Rattle.std.proofs.lemmas.Bool.{cases_eq, eq-eqb, ne_eqb, cond-true, cond-false}
 use Rattle.std.proofs.lemmas.Option.{none-some}
 use Rattle.std.proofs.lemmas.List.{get_or_read, length-map}
@@ -8,7 +8,7 @@ use Rattle.std.proofs.lemmas.Map.Entries.{length-keys_of}
 use Rattle.sc_papers.specs.Market.{Market, schools_of, seats_of, school_of, students_of}
 use Rattle.sc_papers.specs.declared.records.School.{School}
 use Rattle.sc_papers.proofs.Positions.{position-among, position-at, position-one}
-use Rattle.sc_audit.specs.Ledger.{looked_up, stand_of, keys_at}
+use Rattle.sc_audit.specs.Ledger.{looked_up, set_aside, stand_of, keys_at}
 use Rattle.sc_audit.specs.declared.stand.Stand.{Stand}
 use Rattle.sc_papers.specs.declared.key.Key.{Key}
 
@@ -40,6 +40,10 @@ stand-at m stands i at now long found is =
     let low : at < length stands = omega (arith, (position-at (students_of m) i at found).0, length-keys_of m.students, long) in
     get_or_read stands at now low is None ∙ sym (looked-at (students_of m) stands None i at found)
 
+pub stand-there : (m : Market) (stands : List (Option Stand)) (i at : ℕ) → length stands ≡ length m.students → position (nat_eq i) (students_of m) ≡ Some at → get_or stands at None ≡ stand_of m stands i
+unfolding stand_of
+stand-there m stands i at long found = sym (looked-at (students_of m) stands None i at found)
+
 pub stand-away : (m : Market) (stands : List (Option Stand)) (i : ℕ) → position (nat_eq i) (students_of m) ≡ None → None ≡ stand_of m stands i
 unfolding stand_of
 stand-away m stands i away = sym (ap (λ o. option_map_or (λ k. get_or stands k None) o None) away)
@@ -49,6 +53,16 @@ unfolding stand_of
 stand-put m stands stand i at long found =
     let low : at < length stands = omega (arith, (position-at (students_of m) i at found).0, length-keys_of m.students, long) in
     looked-set (students_of m) stands None stand i at found low
+
+-- a student is set aside at its position
+pub stand-aside : (m : Market) (stands : List (Option Stand)) (i at : ℕ) (now aside : Option Stand) → length stands ≡ length m.students → position (nat_eq i) (students_of m) ≡ Some at → now ≡ get_or stands at now → aside ≡ option_map set_aside now
+    → (j : ℕ) → stand_of m (set stands at aside) j ≡ cond (nat_eq j i) (option_map set_aside (stand_of m stands j)) (stand_of m stands j)
+stand-aside m stands i at now aside long found is made j =
+    let held : aside ≡ option_map set_aside (stand_of m stands i) = made ∙ ap (option_map set_aside) (stand-at m stands i at now long found is) in
+    stand-put m stands aside i at long found j ∙ elim (cases_eq j i) [
+      | inl same ↦ ap (λ o. cond (nat_eq j i) o (stand_of m stands j)) (held ∙ ap (λ n. option_map set_aside (stand_of m stands n)) (sym same))
+      | inr apart ↦ cond-false (nat_eq j i) aside (stand_of m stands j) (ne_eqb j i apart) ∙ sym (cond-false (nat_eq j i) (option_map set_aside (stand_of m stands j)) (stand_of m stands j) (ne_eqb j i apart))
+    ]
 
 -- who stands somewhere is a student of the papers
 pub stander-among : (m : Market) (stands : List (Option Stand)) (i : ℕ) (stand : Stand) → stand_of m stands i ≡ Some stand → Contains (students_of m) i

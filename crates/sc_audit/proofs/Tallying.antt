@@ -22,7 +22,9 @@ use Rattle.sc_audit.specs.Over.{IsFirstOver}
 use Rattle.sc_audit.specs.Tallies.{no_tally, or_later, with_key, tally_at, over_at, IsTally, AreTallies}
 use Rattle.sc_audit.specs.declared.tally.Tally.{Tally}
 use Rattle.sc_audit.proofs.Tables.{looked-at, looked-set}
-use Rattle.sc_papers.proofs.Positions.{among-school, position-among, position-at, school-position}
+use Rattle.sc_papers.proofs.Choices.{contains-at, one-place}
+use Rattle.sc_papers.proofs.Positions.{among-school, position-among, position-at, position-there, school-position}
+use Rattle.sc_papers.specs.WellFormed.{WellFormed}
 
 -- the tally read at a school's position
 pub tally-read : (m : Market) (tallies : List Tally) (s at : ℕ) (now : Tally) → length tallies ≡ length m.schools → position (nat_eq s) (schools_of m) ≡ Some at → now ≡ get_or tallies at now → now ≡ tally_at m tallies s
@@ -36,6 +38,26 @@ unfolding tally_at
 tally-put m tallies tally s at long found =
     let low : at < length tallies = omega (arith, (position-at (schools_of m) s at found).0, length-keys_of m.schools, long) in
     looked-set (schools_of m) tallies no_tally tally s at found low
+
+pub tally-there : (m : Market) (tallies : List Tally) (s at : ℕ) → position (nat_eq s) (schools_of m) ≡ Some at → tally_at m tallies s ≡ get_or tallies at no_tally
+unfolding tally_at
+tally-there m tallies s at found = looked-at (schools_of m) tallies no_tally s at found
+
+pub tally-low : (m : Market) (tallies : List Tally) (s at : ℕ) → length tallies ≡ length m.schools → position (nat_eq s) (schools_of m) ≡ Some at → at < length tallies
+tally-low m tallies s at long found = omega (arith, (position-at (schools_of m) s at found).0, length-keys_of m.schools, long)
+
+-- one more key is counted at a school's position
+pub tally-counted : (m : Market) (old new : List Tally) (s at : ℕ) (key : Key) → length old ≡ length m.schools → position (nat_eq s) (schools_of m) ≡ Some at → new ≡ set old at (with_key (get_or old at no_tally) key)
+    → (t : ℕ) → tally_at m new t ≡ cond (nat_eq t s) (with_key (tally_at m old s) key) (tally_at m old t)
+tally-counted m old new s at key long found made t =
+    ap (λ tallies. tally_at m tallies t) made ∙ tally-put m old (with_key (get_or old at no_tally) key) s at long found t
+    ∙ ap (λ (one : Tally). cond (nat_eq t s) (with_key one key) (tally_at m old t)) (sym (tally-there m old s at found))
+
+-- a school's position is the place in the order of entry
+pub school-place : (m : Market) → WellFormed m → (k s : ℕ) → slice_get (schools_of m) k ≡ Some s → position (nat_eq s) (schools_of m) ≡ Some k
+school-place m well k s here =
+    let (at, found) = school-position m s (among-school m s (contains-at (schools_of m) k s here)) in
+    found ∙ ap Some (one-place (schools_of m) at k s well.schools_differ (position-there (schools_of m) s at found) here)
 
 -- at first nobody is counted
 pub tallies-none : (m : Market) (a : Matching) (tallies : List Tally) → length tallies ≡ length m.schools → All (λ tally. tally ≡ no_tally) tallies → AreTallies m a [] tallies

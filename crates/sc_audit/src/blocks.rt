@@ -1,14 +1,15 @@
 //! Who blocks an assignment.
-ghost use Rattle.std.specs.Prelude.{◌≡◌, ◌==◌, ℕ, ◌<◌, true, false, Some, length, slice_get, IfSome, IfNone};
+ghost use Rattle.std.specs.Prelude.{◌≡◌, ◌==◌, ℕ, ◌<◌, true, false, length, IfSome, IfNone};
 ghost use Rattle.std.specs.Option.{option_map_or};
 ghost use Rattle.sc_papers.specs.Assignment.{assigned};
-ghost use Rattle.sc_papers.specs.Market.{choices_of, is_student, students_of};
+ghost use Rattle.sc_papers.specs.Market.{is_school, students_of};
+ghost use Rattle.sc_audit.specs.Ledger.{student_at};
 ghost use Rattle.sc_papers.specs.Matching.{IsMatching, Blocks};
 ghost use Rattle.sc_papers.specs.WellFormed.{WellFormed};
 ghost use Rattle.sc_audit.specs.Stability.{IsEarliestBlock, IsFirstBlock};
 ghost use Rattle.sc_audit.specs.Tallies.{earlier_of, end_at, AreTallies};
 
-use crate::choices::{choice_at, choices_len};
+use crate::choices::choices_at;
 use crate::tallies::would_take;
 use crate::tally::Tally;
 use sc_papers::{Assignment, Papers, SchoolNo, StudentNo};
@@ -20,49 +21,58 @@ fn is_given(given: Option<SchoolNo>, school: SchoolNo) -> bool
     given == Some(school)
 }
 
-/// Whether the student's preferred choices end at this place, and the school there if the student would
-/// be taken.
+/// What the student at the position has.
+fn given_at(papers: &Papers, assignment: &Assignment, position: usize) -> Option<SchoolNo>
+    requires { position < length papers.now.students }
+    ensures { result ≡ assigned assignment.now (student_at papers.now position) }
+{
+    let Some(student) = papers.student_at(position) else {
+        unreachable!()
+    };
+    assignment.get(student)
+}
+
+/// Whether the preferred choices of the student at the position end at this school, and the school if
+/// the student would be taken there.
 fn end_at(
     tallies: &[Tally],
     papers: &Papers,
     assignment: &Assignment,
-    student: StudentNo,
-    place: usize,
+    position: usize,
+    school: SchoolNo,
 ) -> Option<Option<SchoolNo>>
-    requires well_formed { WellFormed papers.now }
-    requires known { is_student papers.now student ≡ true }
-    requires within { place < length (choices_of papers.now student) }
+    requires within { position < length papers.now.students }
+    requires school { is_school papers.now school ≡ true }
     requires tallies { length tallies.now ≡ length papers.now.schools }
-    ensures { (s : ℕ) → slice_get (choices_of papers.now student) place ≡ Some s → result ≡ end_at papers.now tallies.now (assigned assignment.now student) student s }
+    ensures { result ≡ end_at papers.now tallies.now (assigned assignment.now (student_at papers.now position)) (student_at papers.now position) school }
 {
-    let Some(school) = choice_at(papers, student, place) else {
-        unreachable!()
-    };
-    if is_given(assignment.get(student), school) {
+    if is_given(given_at(papers, assignment, position), school) {
         return Some(None);
     }
-    if would_take(tallies, papers, student, school) {
+    if would_take(tallies, papers, position, school) {
         return Some(Some(school));
     }
     None
 }
 
-/// The first of the choices that the student prefers to what it has at which it would be taken.
+/// The first of the choices that the student at the position prefers to what it has at which it would
+/// be taken.
 fn earliest_block(
     tallies: &[Tally],
     papers: &Papers,
     assignment: &Assignment,
-    student: StudentNo,
+    position: usize,
 ) -> Option<SchoolNo>
     requires well_formed { WellFormed papers.now }
-    requires known { is_student papers.now student ≡ true }
+    requires within { position < length papers.now.students }
     requires matching { IsMatching papers.now (assigned assignment.now) }
     requires tallies { AreTallies papers.now (assigned assignment.now) (students_of papers.now) tallies.now }
-    ensures block { IfSome result (IsEarliestBlock papers.now (assigned assignment.now) student) }
-    ensures none { IfNone result ((s : ℕ) → ¬ Blocks papers.now (assigned assignment.now) student s) }
+    ensures block { IfSome result (IsEarliestBlock papers.now (assigned assignment.now) (student_at papers.now position)) }
+    ensures none { IfNone result ((s : ℕ) → ¬ Blocks papers.now (assigned assignment.now) (student_at papers.now position) s) }
 {
-    for place in 0..choices_len(papers, student) {
-        if let Some(end) = end_at(tallies, papers, assignment, student, place) {
+    let choices = choices_at(papers, position);
+    for place in 0..choices.len() {
+        if let Some(end) = end_at(tallies, papers, assignment, position, choices[place]) {
             return end;
         }
     }
@@ -107,7 +117,7 @@ pub(crate) fn first_block(
         let Some(student) = papers.student_at(position) else {
             unreachable!()
         };
-        let block = earliest_block(tallies, papers, assignment, student);
+        let block = earliest_block(tallies, papers, assignment, position);
         first = earlier(first, student, block);
     }
     first

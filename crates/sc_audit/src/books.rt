@@ -13,8 +13,8 @@ use crate::keys::key_at;
 use crate::least::lesser;
 use crate::offers::offer;
 use crate::stand::Stand;
-use crate::stands::{no_stands, put, put_aside, stand_of};
-use sc_papers::{Key, Papers, Rejection, SchoolNo, StudentNo};
+use crate::stands::{no_stands, put_aside};
+use sc_papers::{Key, Papers, Rejection, SchoolNo};
 use std::alloc::{AllocError, Global};
 use std::collections::BinaryHeap;
 
@@ -41,27 +41,27 @@ fn no_keys(alloc: Global, count: usize) -> Result<Vec<BinaryHeap<Key>>, AllocErr
 
 impl Books {
     ghost use Rattle.sc_audit.specs.Books.{ledger_of};
-    ghost use Rattle.sc_audit.specs.Ledger.{stand_of, next_of, waiting_place, waiting_at, Fits, Comes, Follows, Finds};
-    ghost use Rattle.std.specs.Prelude.{◌≡◌, ℕ, ◌<◌, true, List, [], length, slice_get, Some, None, IfOk, OnOk, IfSome, IfNone};
+    ghost use Rattle.sc_audit.specs.Ledger.{stand_of, student_at, next_of, waiting_place, waiting_at, Fits, Comes, Follows, Finds};
+    ghost use Rattle.std.specs.Option.{option_map};
+    ghost use Rattle.std.specs.Prelude.{◌≡◌, ℕ, ◌<◌, List, [], length, nat_eq, position, slice_index_or, Some, None, IfOk, OnOk, IfSome, IfNone};
 
-    /// The student comes to the choice at a place, if there is one there.
-    fn come(&mut self, papers: &Papers, student: StudentNo, place: usize) -> Result<(), AllocError>
+    /// The student at the position comes to the choice at a place, if there is one there.
+    fn come(&mut self, papers: &Papers, student: usize, place: usize) -> Result<(), AllocError>
         requires fits { Fits papers.now (ledger_of self.old) }
-        requires known { is_student papers.now student ≡ true }
-        requires nowhere { stand_of papers.now self.old.stands.items student ≡ None }
-        ensures { OnOk result (Comes papers.now (ledger_of self.old) student place (ledger_of self.new)) }
+        requires within { student < length papers.now.students }
+        requires nowhere { stand_of papers.now self.old.stands.items (student_at papers.now student) ≡ None }
+        ensures { OnOk result (Comes papers.now (ledger_of self.old) (student_at papers.now student) place (ledger_of self.new)) }
     {
         let Some(school) = choice_at(papers, student, place) else {
             return Ok(());
         };
         let (at, seats, key) = key_at(papers, student, school);
         let out = offer(&mut self.kept[at], seats, key)?;
-        let stand = Stand {
+        self.stands[student] = Some(Stand {
             place,
             school,
             kept: true,
-        };
-        put(&mut self.stands, papers, student, Some(stand));
+        });
         if let Some(last) = out {
             put_aside(&mut self.stands, papers, last.student);
         }
@@ -89,38 +89,37 @@ impl Books {
         ensures { OnOk result (Follows papers.now [] (ledger_of self.new)) }
     {
         for position in 0..papers.students_len() {
-            let Some(student) = papers.student_at(position) else {
-                unreachable!()
-            };
-            self.come(papers, student, 0)?;
+            self.come(papers, position, 0)?;
         }
         Ok(())
     }
 
     /// Takes one more entry of a log, if it is valid after those before: the student leaves the school
-    /// and comes to the next choice. The cost is a few look-ups and an offer.
+    /// and comes to the next choice. The cost is at most four look-ups by number and an offer.
     pub(crate) fn take(&mut self, papers: &Papers, entry: Rejection) -> Result<bool, AllocError>
         requires fits { Fits papers.now (ledger_of self.old) }
         ensures { IfOk result (λ valid. (log : List Rejected) → IsValidLog papers.now log → Follows papers.now log (ledger_of self.old) → Finds papers.now log entry valid (ledger_of self.new)) }
     {
-        let student = entry.student;
-        let Some(place) = self.waiting_place(papers, entry) else {
+        let Some((student, place)) = self.waiting_place(papers, entry) else {
             return Ok(false);
         };
-        let nowhere = None;
-        put(&mut self.stands, papers, student, nowhere);
+        self.stands[student] = None;
         self.come(papers, student, place + 1)?;
         Ok(true)
     }
 
-    /// The place in the student's choices at which it stands at the entry's school without being kept
-    /// there.
-    fn waiting_place(&self, papers: &Papers, entry: Rejection) -> Option<usize>
+    /// The student's position, and the place in its choices at which it stands at the entry's school
+    /// without being kept there.
+    fn waiting_place(&self, papers: &Papers, entry: Rejection) -> Option<(usize, usize)>
         requires { length self.now.stands.items ≡ length papers.now.students }
-        ensures { result ≡ waiting_place (stand_of papers.now self.now.stands.items entry.student) entry.school }
+        ensures position { IfSome result (λ found. position (nat_eq entry.student) (students_of papers.now) ≡ Some found.0) }
+        ensures place { option_map (λ found. found.1) result ≡ waiting_place (stand_of papers.now self.now.stands.items entry.student) entry.school }
     {
-        match stand_of(self.stands.as_slice(), papers, entry.student) {
-            Some(stand) if !stand.kept && stand.school == entry.school => Some(stand.place),
+        let student = papers.student_position(entry.student)?;
+        match self.stands[student] {
+            Some(stand) if !stand.kept && stand.school == entry.school => {
+                Some((student, stand.place))
+            }
             _ => None,
         }
     }
@@ -133,19 +132,17 @@ impl Books {
     {
         let mut least = None;
         for position in 0..papers.students_len() {
-            least = lesser(least, self.waiting_at(papers, position));
+            least = lesser(least, self.waiting_at(position));
         }
         least
     }
 
     /// The school at which the student at the position stands without being kept there.
-    fn waiting_at(&self, papers: &Papers, position: usize) -> Option<SchoolNo>
-        requires within { position < length papers.now.students }
-        requires stands { length self.now.stands.items ≡ length papers.now.students }
-        ensures { (i : ℕ) → slice_get (students_of papers.now) position ≡ Some i → result ≡ waiting_at (stand_of papers.now self.now.stands.items i) }
+    fn waiting_at(&self, position: usize) -> Option<SchoolNo>
+        requires { position < length self.now.stands.items }
+        ensures { result ≡ waiting_at (slice_index_or self.now.stands.items position None) }
     {
-        let student = papers.student_at(position)?;
-        match stand_of(self.stands.as_slice(), papers, student) {
+        match self.stands[position] {
             Some(stand) if !stand.kept => Some(stand.school),
             _ => None,
         }

@@ -1,29 +1,25 @@
 //! A student's choices.
-ghost use Rattle.std.specs.Prelude.{◌≡◌, length, slice_get};
+ghost use Rattle.std.specs.Prelude.{◌≡◌, ◌<◌, length, slice_get};
 ghost use Rattle.sc_papers.specs.Market.{choices_of};
+ghost use Rattle.sc_audit.specs.Ledger.{student_at};
 
-use sc_papers::{Papers, SchoolNo, StudentNo};
+use sc_papers::{Papers, SchoolNo};
 
-/// The student's choice at a place, from 0.
-#[tactic(auto, unfolding(sc_papers::specs::Market::choices_of))]
-pub(crate) fn choice_at(papers: &Papers, student: StudentNo, place: usize) -> Option<SchoolNo>
-    ensures { result ≡ slice_get (choices_of papers.now student) place }
+/// The choices of the student at the position.
+pub(crate) fn choices_at(papers: &Papers, student: usize) -> &[SchoolNo]
+    requires { student < length papers.now.students }
+    ensures { result.now ≡ choices_of papers.now (student_at papers.now student) }
 {
-    papers
-        .student(student)?
-        .choices
-        .as_slice()
-        .get(place)
-        .copied()
+    let Some(record) = papers.record_at(student) else {
+        unreachable!()
+    };
+    record.choices.as_slice()
 }
 
-/// How many choices the student has.
-#[tactic(auto, unfolding(sc_papers::specs::Market::choices_of))]
-pub(crate) fn choices_len(papers: &Papers, student: StudentNo) -> usize
-    ensures { result ≡ length (choices_of papers.now student) }
+/// The choice at a place, from 0, of the student at the position.
+pub(crate) fn choice_at(papers: &Papers, student: usize, place: usize) -> Option<SchoolNo>
+    requires { student < length papers.now.students }
+    ensures { result ≡ slice_get (choices_of papers.now (student_at papers.now student)) place }
 {
-    match papers.student(student) {
-        Some(record) => record.choices.as_slice().len(),
-        None => 0,
-    }
+    choices_at(papers, student).get(place).copied()
 }

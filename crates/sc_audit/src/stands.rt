@@ -20,46 +20,19 @@ pub(crate) fn no_stands(alloc: Global, count: usize) -> Result<Vec<Option<Stand>
     Ok(stands)
 }
 
-/// Where the student stands, if anywhere.
-pub(crate) fn stand_of(
-    stands: &[Option<Stand>],
-    papers: &Papers,
-    student: StudentNo,
-) -> Option<Stand>
-    requires { length stands.now ≡ length papers.now.students }
-    ensures { result ≡ stand_of papers.now stands.now student }
-{
-    stands[papers.student_position(student)?]
-}
-
-/// Puts a student of the papers somewhere, or nowhere.
-pub(crate) fn put(
-    stands: &mut Vec<Option<Stand>>,
-    papers: &Papers,
-    student: StudentNo,
-    stand: Option<Stand>,
-)
-    requires known { is_student papers.now student ≡ true }
-    requires stands { length stands.old.items ≡ length papers.now.students }
-    ensures length { length stands.new.items ≡ length stands.old.items }
-    ensures stands { (j : ℕ) → stand_of papers.now stands.new.items j ≡ (if nat_eq j student then stand else stand_of papers.now stands.old.items j) }
-{
-    let Some(at) = papers.student_position(student) else {
-        unreachable!()
-    };
-    stands[at] = stand;
-}
-
-/// Leaves a student where it stands, but no longer kept.
+/// Leaves a student of the papers where it stands, but no longer kept.
 pub(crate) fn put_aside(stands: &mut Vec<Option<Stand>>, papers: &Papers, student: StudentNo)
     requires known { is_student papers.now student ≡ true }
     requires stands { length stands.old.items ≡ length papers.now.students }
     ensures length { length stands.new.items ≡ length stands.old.items }
     ensures stands { (j : ℕ) → stand_of papers.now stands.new.items j ≡ (if nat_eq j student then option_map set_aside (stand_of papers.now stands.old.items j) else stand_of papers.now stands.old.items j) }
 {
-    let aside = stand_of(stands.as_slice(), papers, student).map(|stand| Stand {
+    let Some(at) = papers.student_position(student) else {
+        unreachable!()
+    };
+    let aside = stands[at].map(|stand| Stand {
         kept: false,
         ..stand
     });
-    put(stands, papers, student, aside);
+    stands[at] = aside;
 }

@@ -1,16 +1,17 @@
 //! One pass over the students: how many have each school, and the last key among them.
-ghost use Rattle.std.specs.Prelude.{◌≡◌, ℕ, ◌+◌, ◌<◌, ◌≤◌, true, All, Some, length, nat_eq, slice_get, take, IfOk, OnOk, if◌then◌else◌};
+ghost use Rattle.std.specs.Prelude.{◌≡◌, ℕ, ◌+◌, ◌<◌, ◌≤◌, true, All, Some, length, slice_get, slice_index_or, slice_set, take, IfOk, OnOk};
 ghost use Rattle.sc_papers.specs.Assignment.{assigned};
-ghost use Rattle.sc_papers.specs.Market.{is_school, is_student, schools_of, students_of};
+ghost use Rattle.sc_papers.specs.Market.{is_school, schools_of, students_of};
 ghost use Rattle.sc_papers.specs.Matching.{IsMatching};
 ghost use Rattle.sc_papers.specs.WellFormed.{WellFormed};
 ghost use Rattle.sc_audit.specs.Least.{LeastOf};
+ghost use Rattle.sc_audit.specs.Ledger.{student_at};
 ghost use Rattle.sc_audit.specs.Tallies.{no_tally, or_later, over_at, tally_at, with_key, would_take, AreTallies};
 
 use crate::keys::key_at;
 use crate::least::lesser;
 use crate::tally::Tally;
-use sc_papers::{Assignment, Key, Papers, SchoolNo, StudentNo};
+use sc_papers::{Assignment, Key, Papers, SchoolNo};
 use std::alloc::{AllocError, Global};
 
 /// The later of a key and the last one so far.
@@ -42,29 +43,12 @@ fn no_tallies(alloc: Global, count: usize) -> Result<Vec<Tally>, AllocError>
     Ok(tallies)
 }
 
-/// The tally of a school of the papers.
-fn tally_of(tallies: &[Tally], papers: &Papers, school: SchoolNo) -> Tally
-    requires known { is_school papers.now school ≡ true }
-    requires tallies { length tallies.now ≡ length papers.now.schools }
-    ensures { result ≡ tally_at papers.now tallies.now school }
+/// Counts one more key for the school at the position.
+fn count(tallies: &mut Vec<Tally>, at: usize, key: Key)
+    requires within { at < length tallies.old.items }
+    requires few { (slice_index_or tallies.old.items at no_tally).held < 200000 }
+    ensures { tallies.new.items ≡ slice_set tallies.old.items at (with_key (slice_index_or tallies.old.items at no_tally) key) }
 {
-    let Some(at) = papers.school_position(school) else {
-        unreachable!()
-    };
-    tallies[at]
-}
-
-/// Counts one more key for a school of the papers.
-fn count(tallies: &mut Vec<Tally>, papers: &Papers, school: SchoolNo, key: Key)
-    requires known { is_school papers.now school ≡ true }
-    requires tallies { length tallies.old.items ≡ length papers.now.schools }
-    requires few { (tally_at papers.now tallies.old.items school).held < 200000 }
-    ensures length { length tallies.new.items ≡ length tallies.old.items }
-    ensures tallies { (s : ℕ) → tally_at papers.now tallies.new.items s ≡ (if nat_eq s school then with_key (tally_at papers.now tallies.old.items school) key else tally_at papers.now tallies.old.items s) }
-{
-    let Some(at) = papers.school_position(school) else {
-        unreachable!()
-    };
     let before = tallies[at];
     tallies[at] = Tally {
         held: before.held + 1,
@@ -90,8 +74,8 @@ fn count_student(
         unreachable!()
     };
     if let Some(school) = assignment.get(student) {
-        let (_, _, key) = key_at(papers, student, school);
-        count(tallies, papers, school, key);
+        let (at, _, key) = key_at(papers, position, school);
+        count(tallies, at, key);
     }
 }
 
@@ -114,6 +98,7 @@ pub(crate) fn tallies(
 
 /// The school at the position, if more students have it than it has seats.
 fn over_at(tallies: &[Tally], papers: &Papers, position: usize) -> Option<SchoolNo>
+    requires well_formed { WellFormed papers.now }
     requires within { position < length papers.now.schools }
     requires tallies { length tallies.now ≡ length papers.now.schools }
     ensures { (s : ℕ) → slice_get (schools_of papers.now) position ≡ Some s → result ≡ over_at papers.now tallies.now s }
@@ -124,7 +109,7 @@ fn over_at(tallies: &[Tally], papers: &Papers, position: usize) -> Option<School
     let Some(found) = papers.school(school) else {
         unreachable!()
     };
-    if found.seats.get() < tally_of(tallies, papers, school).held {
+    if found.seats.get() < tallies[position].held {
         Some(school)
     } else {
         None
@@ -133,7 +118,8 @@ fn over_at(tallies: &[Tally], papers: &Papers, position: usize) -> Option<School
 
 /// The least number of a school that more students have than it has seats.
 pub(crate) fn least_over(tallies: &[Tally], papers: &Papers) -> Option<SchoolNo>
-    requires { length tallies.now ≡ length papers.now.schools }
+    requires well_formed { WellFormed papers.now }
+    requires tallies { length tallies.now ≡ length papers.now.schools }
     ensures { LeastOf (schools_of papers.now) (over_at papers.now tallies.now) (length papers.now.schools) result }
 {
     let mut least = None;
@@ -143,20 +129,21 @@ pub(crate) fn least_over(tallies: &[Tally], papers: &Papers) -> Option<SchoolNo>
     least
 }
 
-/// Whether the school has a free seat, or the student is ahead there of somebody who has it.
+/// Whether the school has a free seat, or the student at the position is ahead there of somebody who has
+/// it.
 pub(crate) fn would_take(
     tallies: &[Tally],
     papers: &Papers,
-    student: StudentNo,
+    student: usize,
     school: SchoolNo,
 ) -> bool
-    requires student { is_student papers.now student ≡ true }
+    requires student { student < length papers.now.students }
     requires school { is_school papers.now school ≡ true }
     requires tallies { length tallies.now ≡ length papers.now.schools }
-    ensures { result ≡ would_take papers.now tallies.now student school }
+    ensures { result ≡ would_take papers.now tallies.now (student_at papers.now student) school }
 {
-    let (_, seats, key) = key_at(papers, student, school);
-    let tally = tally_of(tallies, papers, school);
+    let (at, seats, key) = key_at(papers, student, school);
+    let tally = tallies[at];
     if tally.held < seats.get() {
         return true;
     }

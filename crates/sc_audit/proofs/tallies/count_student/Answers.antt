@@ -1,22 +1,20 @@
-use Rattle.std.proofs.Common.{sym, arith}
+use Rattle.std.proofs.Common.{ap, sym, ◌∙◌, get_or, length, arith}
 use Rattle.sc_papers.specs.Assignment.{assigned}
-use Rattle.sc_papers.specs.Market.{students_of}
-use Rattle.sc_papers.proofs.Choices.{contains-at}
-use Rattle.sc_papers.proofs.Positions.{among-student}
+use Rattle.sc_papers.specs.Key.{key_of}
+use Rattle.std.proofs.lemmas.List.{length-set}
+use Rattle.sc_audit.specs.Tallies.{no_tally, with_key}
+use Rattle.sc_audit.specs.declared.tally.Tally.{Tally}
 use Rattle.sc_audit.proofs.Ledgers.{listed-known}
-use Rattle.sc_audit.proofs.Tallying.{tallies-same, tallies-more, tally-few}
+use Rattle.sc_audit.proofs.Places.{student-is}
+use Rattle.sc_audit.proofs.Tallying.{tallies-same, tallies-more, tally-counted, tally-few, tally-low, tally-there}
 use Rattle.sc_audit.proofs.tallies.count_student.Goals as goal
 
-pub key_at-key-requires-clause-student : goal.key_at-key-requires-clause-student
-key_at-key-requires-clause-student c = among-student c.args.papers.now c.in-Some.student (contains-at (students_of c.args.papers.now) c.args.position c.in-Some.student (sym c.in-Some.ensures))
-
-pub key_at-key-requires-clause-school : goal.key_at-key-requires-clause-school
-key_at-key-requires-clause-school c =
+pub key_at-at-requires-clause-school : goal.key_at-at-requires-clause-school
+key_at-at-requires-clause-school c =
     listed-known c.args.papers.now c.requires.well_formed c.in-Some.student c.in-Some-get.school (c.requires.matching c.in-Some.student c.in-Some-get.school (sym c.in-Some-get.ensures))
 
-pub count-requires-clause-known : goal.count-requires-clause-known
-count-requires-clause-known c =
-    listed-known c.args.papers.now c.requires.well_formed c.in-Some.student c.in-Some-get.school (c.requires.matching c.in-Some.student c.in-Some-get.school (sym c.in-Some-get.ensures))
+pub count-requires-clause-within : goal.count-requires-clause-within
+count-requires-clause-within c = tally-low c.args.papers.now c.args.tallies.now.items c.in-Some-get.school c.key_at-at.result.0 c.requires.before.schools c.key_at-at.ensures.position
 
 pub count-requires-clause-few : goal.count-requires-clause-few
 count-requires-clause-few c =
@@ -24,14 +22,21 @@ count-requires-clause-few c =
     omega (
       arith,
       tally-few c.args.papers.now (assigned c.args.assignment.now) c.args.position c.in-Some-get.school c.args.tallies.now.items known c.requires.within c.requires.before,
+      ap (λ (t : Tally). t.held) (tally-there c.args.papers.now c.args.tallies.now.items c.in-Some-get.school c.key_at-at.result.0 c.key_at-at.ensures.position),
       c.requires.within,
       c.requires.limit,
     )
 
 pub returns-in-Some-get : goal.returns-in-Some-get
 returns-in-Some-get c =
-    tallies-more c.args.papers.now (assigned c.args.assignment.now) c.args.position c.in-Some.student c.in-Some-get.school c.key_at-key.result.2 c.args.tallies.now.items c.count.new.tallies.items
-    (sym c.in-Some.ensures) (sym c.in-Some-get.ensures) c.key_at-key.ensures.key c.count.ensures.length c.count.ensures.tallies c.requires.before
+    let m = c.args.papers.now in
+    let old = c.args.tallies.now.items in
+    tallies-more m (assigned c.args.assignment.now) c.args.position c.in-Some.student c.in-Some-get.school c.key_at-at.result.2 old c.count.new.tallies.items
+    (sym c.in-Some.ensures) (sym c.in-Some-get.ensures)
+    (c.key_at-at.ensures.key ∙ ap (λ i. key_of m i c.in-Some-get.school) (student-is m c.args.position c.in-Some.student (sym c.in-Some.ensures)))
+    (ap length c.count.ensures ∙ length-set old c.key_at-at.result.0 (with_key (get_or old c.key_at-at.result.0 no_tally) c.key_at-at.result.2))
+    (tally-counted m old c.count.new.tallies.items c.in-Some-get.school c.key_at-at.result.0 c.key_at-at.result.2 c.requires.before.schools c.key_at-at.ensures.position c.count.ensures)
+    c.requires.before
 
 pub returns-in_default-get : goal.returns-in_default-get
 returns-in_default-get c =

@@ -1,11 +1,11 @@
-use Rattle.std.proofs.Common.{◌≤◌, ◌<◌, length, get_or, Some, slice_get, ◌≡◌, arith}
-use Rattle.std.proofs.lemmas.Map.Entries.{length-keys_of}
-use Rattle.std.proofs.lemmas.Option.{slice_get-get_or}
+use Rattle.std.proofs.Common.{◌≤◌, ◌<◌, ◌∙◌, ap, length, arith}
 use Rattle.sc_papers.specs.Market.{students_of}
 use Rattle.sc_audit.specs.Books.{ledger_of}
-use Rattle.sc_audit.specs.Ledger.{stand_of, waiting_at}
+use Rattle.sc_audit.specs.Ledger.{stand_of, student_at, waiting_at}
 use Rattle.sc_audit.proofs.Lessers.{least-none, least-more}
 use Rattle.sc_audit.proofs.Over.{least-over, least-within}
+use Rattle.sc_audit.proofs.Places.{student-there, student-place}
+use Rattle.sc_audit.proofs.Tables.{stand-there}
 use Rattle.sc_audit.proofs.books.Books.least_over.Goals as goal
 
 pub loop-position-init : goal.loop-position-init
@@ -13,11 +13,11 @@ loop-position-init c = least-none (students_of c.args.papers.now) (λ i. waiting
 
 pub loop-position-preserved : goal.loop-position-preserved
 loop-position-preserved c =
-    let students = students_of c.args.papers.now in
-    let low : c.loop-position.position < length students = omega (arith, c.loop-position-test.true, c.students_len-position-end.ensures.count, length-keys_of c.args.papers.now.students) in
-    let here : slice_get students c.loop-position.position ≡ Some (get_or students c.loop-position.position 0) = slice_get-get_or students c.loop-position.position 0 low in
-    least-more students (λ i. waiting_at (stand_of c.args.papers.now c.args.self.now.stands.items i)) c.loop-position.position (get_or students c.loop-position.position 0) c.loop-position.least c.waiting_at.result c.lesser-least.result here
-    (c.waiting_at.ensures (get_or students c.loop-position.position 0) here) c.lesser-least.ensures c.loop-position.invariant
+    let m = c.args.papers.now in
+    let k = c.loop-position.position in
+    let low : k < length m.students = omega (arith, c.loop-position-test.true, c.students_len-position-end.ensures.count) in
+    least-more (students_of m) (λ i. waiting_at (stand_of m c.args.self.now.stands.items i)) k (student_at m k) c.loop-position.least c.waiting_at.result c.lesser-least.result (student-there m k low)
+    (c.waiting_at.ensures ∙ ap waiting_at (stand-there m c.args.self.now.stands.items (student_at m k) k c.requires.stands (student-place m c.requires.well_formed k low))) c.lesser-least.ensures c.loop-position.invariant
 
 pub returns-clause-over : goal.returns-clause-over
 returns-clause-over c =

@@ -1,38 +1,57 @@
-use Rattle.std.proofs.Common.{◌<◌, sym, arith, refl}
+use Rattle.std.proofs.Common.{◌+◌, ◌<◌, ◌∙◌, sym, ap, subst, arith, refl, set, None}
+use Rattle.std.proofs.lemmas.List.{length-set}
 use Rattle.sc_audit.specs.Books.{ledger_of}
-use Rattle.sc_papers.proofs.Positions.{among-student}
+use Rattle.sc_audit.specs.Ledger.{Ledger, Comes, stand_of}
 use Rattle.sc_audit.proofs.Ledgers.{place-short}
-use Rattle.sc_audit.proofs.Takings.{waits-from, waits-among, waits-placed, left-fits, left-next, taken-valid, taken-follows, not-taken}
+use Rattle.sc_audit.proofs.Places.{place-low, student-placed}
+use Rattle.sc_audit.proofs.Tables.{stand-put}
+use Rattle.sc_audit.proofs.Takings.{waits-from, waits-placed, left-fits, left-next, left-nowhere, taken-valid, taken-follows, not-taken}
 use Rattle.sc_audit.proofs.books.Books.take.Goals as goal
 
 pub returns-in_default : goal.returns-in_default
-returns-in_default c = λ log valid follows. not-taken c.args.papers.now log (ledger_of c.args.self.now) c.args.entry (sym c.in_default.ensures) follows
+returns-in_default c = λ log valid follows. not-taken c.args.papers.now log (ledger_of c.args.self.now) c.args.entry (sym c.in_default.ensures.place) follows
 
-pub put-requires-clause-known : goal.put-requires-clause-known
-put-requires-clause-known c =
-    among-student c.args.papers.now c.args.entry.student (waits-among (waits-from c.args.papers.now (ledger_of c.args.self.now) c.args.entry.student c.args.entry.school c.in-Some.place (sym c.in-Some.ensures)))
+pub index_mut-requires : goal.index_mut-requires
+index_mut-requires c = omega (arith, place-low c.args.papers.now c.args.entry.student c.in-Some.student c.in-Some.ensures.position, c.requires.fits.stands)
 
 pub overflow_add-place : goal.overflow_add-place
 overflow_add-place c =
     let short : c.in-Some.place < 20 =
     place-short c.args.papers.now c.requires.fits.within_limits c.args.entry.student c.in-Some.place c.args.entry.school
-    (waits-placed (waits-from c.args.papers.now (ledger_of c.args.self.now) c.args.entry.student c.args.entry.school c.in-Some.place (sym c.in-Some.ensures)) c.requires.fits) in
+    (waits-placed (waits-from c.args.papers.now (ledger_of c.args.self.now) c.args.entry.student c.args.entry.school c.in-Some.place (sym c.in-Some.ensures.place)) c.requires.fits) in
     omega arith
 
 pub come-requires-clause-fits : goal.come-requires-clause-fits
 come-requires-clause-fits c =
-    left-fits (waits-from c.args.papers.now (ledger_of c.args.self.now) c.args.entry.student c.args.entry.school c.in-Some.place (sym c.in-Some.ensures))
-    (ledger_of (record { stands = c.put.new.stands; kept = c.args.self.now.kept })) c.requires.fits refl c.put.ensures.length c.put.ensures.stands
+    let m = c.args.papers.now in
+    let old = ledger_of c.args.self.now in
+    let stands = c.args.self.now.stands.items in
+    left-fits (waits-from m old c.args.entry.student c.args.entry.school c.in-Some.place (sym c.in-Some.ensures.place))
+    (record { stands = set stands c.in-Some.student None; kept = old.kept }) c.requires.fits refl (length-set stands c.in-Some.student None)
+    (stand-put m stands None c.args.entry.student c.in-Some.student c.requires.fits.stands c.in-Some.ensures.position)
 
-pub come-requires-clause-known : goal.come-requires-clause-known
-come-requires-clause-known c =
-    among-student c.args.papers.now c.args.entry.student (waits-among (waits-from c.args.papers.now (ledger_of c.args.self.now) c.args.entry.student c.args.entry.school c.in-Some.place (sym c.in-Some.ensures)))
+pub come-requires-clause-within : goal.come-requires-clause-within
+come-requires-clause-within c = place-low c.args.papers.now c.args.entry.student c.in-Some.student c.in-Some.ensures.position
+
+pub come-requires-clause-nowhere : goal.come-requires-clause-nowhere
+come-requires-clause-nowhere c =
+    let m = c.args.papers.now in
+    let old = ledger_of c.args.self.now in
+    let stands = c.args.self.now.stands.items in
+    ap (stand_of m (set stands c.in-Some.student None)) (student-placed m c.args.entry.student c.in-Some.student c.in-Some.ensures.position)
+    ∙ left-nowhere (waits-from m old c.args.entry.student c.args.entry.school c.in-Some.place (sym c.in-Some.ensures.place))
+    (record { stands = set stands c.in-Some.student None; kept = old.kept }) c.requires.fits refl (length-set stands c.in-Some.student None)
+    (stand-put m stands None c.args.entry.student c.in-Some.student c.requires.fits.stands c.in-Some.ensures.position)
 
 pub returns : goal.returns
 returns c = λ log valid follows.
-    let waits = waits-from c.args.papers.now (ledger_of c.args.self.now) c.args.entry.student c.args.entry.school c.in-Some.place (sym c.in-Some.ensures) in
-    let mid = ledger_of (record { stands = c.put.new.stands; kept = c.args.self.now.kept }) in (
-      taken-valid c.args.papers.now log (ledger_of c.args.self.now) c.args.entry c.in-Some.place follows waits,
-      taken-follows c.args.papers.now log (ledger_of c.args.self.now) mid (ledger_of c.come.new.self) c.args.entry c.in-Some.place valid follows waits
-          (left-next waits mid c.requires.fits refl c.put.ensures.length c.put.ensures.stands) c.in_ok-come.ensures,
+    let m = c.args.papers.now in
+    let old = ledger_of c.args.self.now in
+    let stands = c.args.self.now.stands.items in
+    let waits = waits-from m old c.args.entry.student c.args.entry.school c.in-Some.place (sym c.in-Some.ensures.place) in
+    let mid : Ledger = record { stands = set stands c.in-Some.student None; kept = old.kept } in (
+      taken-valid m log old c.args.entry c.in-Some.place follows waits,
+      taken-follows m log old mid (ledger_of c.come.new.self) c.args.entry c.in-Some.place valid follows waits
+          (left-next waits mid c.requires.fits refl (length-set stands c.in-Some.student None) (stand-put m stands None c.args.entry.student c.in-Some.student c.requires.fits.stands c.in-Some.ensures.position))
+          (subst (λ i. Comes m mid i (c.in-Some.place + 1) (ledger_of c.come.new.self)) (student-placed m c.args.entry.student c.in-Some.student c.in-Some.ensures.position) c.in_ok-come.ensures),
     )
