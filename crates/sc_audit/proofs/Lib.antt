@@ -1,5 +1,4 @@
 mod Tables
-mod Places
 mod Keeping
 mod Entries
 mod Offered

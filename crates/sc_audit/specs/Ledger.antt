@@ -17,10 +17,6 @@ pub record Ledger : Type 0 where
   pub stands : List (Option Stand)
   pub kept : List (List Key)
 
--- the student at a position of the order of entry
-abbrev pub student_at : Market → ℕ → ℕ
-student_at m at = slice_index_or (students_of m) at 0
-
 -- what a table has at the position of a number in a list, and d for one that isn't there
 abbrev pub looked_up : {X : Type 0} → List ℕ → List X → X → ℕ → X
 looked_up xs table d i = option_map_or (λ at. slice_index_or table at d) (position (nat_eq i) xs) d

@@ -2,8 +2,7 @@
 ghost use Rattle.std.specs.Prelude.{◌≡◌, ◌==◌, ℕ, ◌<◌, true, false, length, IfSome, IfNone};
 ghost use Rattle.std.specs.Option.{option_map_or};
 ghost use Rattle.sc_papers.specs.Assignment.{assigned};
-ghost use Rattle.sc_papers.specs.Market.{is_school, students_of};
-ghost use Rattle.sc_audit.specs.Ledger.{student_at};
+ghost use Rattle.sc_papers.specs.Market.{is_school, students_of, student_at};
 ghost use Rattle.sc_papers.specs.Matching.{IsMatching, Blocks};
 ghost use Rattle.sc_papers.specs.WellFormed.{WellFormed};
 ghost use Rattle.sc_audit.specs.Stability.{IsEarliestBlock, IsFirstBlock};

@@ -2,7 +2,7 @@
 ghost use Rattle.std.specs.Prelude.{◌≡◌, ℕ, ◌<◌, true, All, List, [], length, slice_get, Some, None, IfOk, OnOk, IfSome, IfNone};
 ghost use Rattle.std.specs.BinaryHeap.{heap_items, IsHeap};
 ghost use Rattle.sc_papers.specs.Log.{IsValidLog};
-ghost use Rattle.sc_papers.specs.Market.{is_student, students_of};
+ghost use Rattle.sc_papers.specs.Market.{is_student, students_of, student_at};
 ghost use Rattle.sc_papers.specs.Matching.{WithinSeats};
 ghost use Rattle.sc_papers.specs.declared.rejection.Rejection.{Rejection as Rejected};
 ghost use Rattle.sc_audit.specs.Offers.{key_cmp};
@@ -41,7 +41,7 @@ fn no_keys(alloc: Global, count: usize) -> Result<Vec<BinaryHeap<Key>>, AllocErr
 
 impl Books {
     ghost use Rattle.sc_audit.specs.Books.{ledger_of};
-    ghost use Rattle.sc_audit.specs.Ledger.{stand_of, student_at, next_of, waiting_place, waiting_at, Fits, Comes, Follows, Finds};
+    ghost use Rattle.sc_audit.specs.Ledger.{stand_of, next_of, waiting_place, waiting_at, Fits, Comes, Follows, Finds};
     ghost use Rattle.std.specs.Option.{option_map};
     ghost use Rattle.std.specs.Prelude.{◌≡◌, ℕ, ◌<◌, List, [], length, nat_eq, position, slice_index_or, Some, None, IfOk, OnOk, IfSome, IfNone};
 

@@ -1,7 +1,6 @@
 //! A student's choices.
 ghost use Rattle.std.specs.Prelude.{◌≡◌, ◌<◌, length, slice_get};
-ghost use Rattle.sc_papers.specs.Market.{choices_of};
-ghost use Rattle.sc_audit.specs.Ledger.{student_at};
+ghost use Rattle.sc_papers.specs.Market.{choices_of, student_at};
 
 use sc_papers::{Papers, SchoolNo};
 

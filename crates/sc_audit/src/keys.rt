@@ -1,8 +1,7 @@
 //! A student's key at a school.
 ghost use Rattle.std.specs.Prelude.{◌≡◌, ◌<◌, length, true, position, nat_eq, Some};
 ghost use Rattle.sc_papers.specs.Key.{key_of};
-ghost use Rattle.sc_papers.specs.Market.{is_school, schools_of, seats_of};
-ghost use Rattle.sc_audit.specs.Ledger.{student_at};
+ghost use Rattle.sc_papers.specs.Market.{is_school, schools_of, seats_of, student_at};
 
 use sc_papers::{Key, Papers, SchoolNo, Seats};
 

@@ -1,11 +1,10 @@
 //! One pass over the students: how many have each school, and the last key among them.
 ghost use Rattle.std.specs.Prelude.{◌≡◌, ℕ, ◌+◌, ◌<◌, ◌≤◌, true, All, Some, length, slice_get, slice_index_or, slice_set, take, IfOk, OnOk};
 ghost use Rattle.sc_papers.specs.Assignment.{assigned};
-ghost use Rattle.sc_papers.specs.Market.{is_school, schools_of, students_of};
+ghost use Rattle.sc_papers.specs.Market.{is_school, schools_of, students_of, student_at};
 ghost use Rattle.sc_papers.specs.Matching.{IsMatching};
 ghost use Rattle.sc_papers.specs.WellFormed.{WellFormed};
 ghost use Rattle.sc_audit.specs.Least.{LeastOf};
-ghost use Rattle.sc_audit.specs.Ledger.{student_at};
 ghost use Rattle.sc_audit.specs.Tallies.{no_tally, or_later, over_at, tally_at, with_key, would_take, AreTallies};
 
 use crate::keys::key_at;

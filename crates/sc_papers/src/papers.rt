@@ -58,13 +58,12 @@ fn class_at(student: &Student, number: SchoolNo, school: School) -> u8
 }
 
 impl Papers {
-    ghost use Rattle.std.specs.Prelude.{◌≡◌, ℕ, ◌+◌, ◌-◌, ◌<◌, ◌≤◌, ◌↔◌, [], ◌∷◌, ◌++◌, length, slice_get, position, nat_eq, ◌&&◌, if◌then◌else◌};
+    ghost use Rattle.std.specs.Prelude.{◌≡◌, ℕ, ◌+◌, ◌-◌, ◌<◌, ◌≤◌, ◌↔◌, [], ◌∷◌, ◌++◌, length, slice_get, position, nat_eq, ◌&&◌, if◌then◌else◌, OnOk, OnErr, IfErr, IfOk};
     ghost use Rattle.std.specs.Option.{option_and_then, option_copied};
     ghost use Rattle.sc_papers.specs.Market.{Market, school_of, student_of, schools_of, students_of, seats_of, is_school, is_student};
     ghost use Rattle.sc_papers.specs.Key.{key_at, key_of};
     ghost use Rattle.sc_papers.specs.WellFormed.{WellFormed, WithinLimits};
     ghost use Rattle.sc_papers.specs.Verdict.{first_of, objections_to_add, objections_to_close, objections_to_correct, objections_to_enter, objections_to_rerank, objections_to_withdraw, with_choices, with_home, with_seats, with_student, without_student, school_verdict, with_school, IsSchoolRefusal};
-    ghost use Rattle.std.specs.Prelude.{OnOk, OnErr, IfErr, IfOk};
 
     /// Papers with this seed, no schools and no students. It takes no memory.
     pub fn new(alloc: Global, seed: Seed) -> Self

@@ -1,8 +1,7 @@
 use Rattle.std.proofs.Common.{◌≡◌, ℕ, ◌≤◌, ◌∙◌, refl, ap, sym, List, length, slice_get, Some, arith}
 use Rattle.std.proofs.lemmas.Option.{slice_get_read}
 use Rattle.sc_papers.specs.Assignment.{assigned}
-use Rattle.sc_papers.specs.Market.{choices_of}
-use Rattle.sc_audit.specs.Ledger.{student_at}
+use Rattle.sc_papers.specs.Market.{choices_of, student_at}
 use Rattle.sc_audit.proofs.Blocking.{passed-none, passed-more, end-block, end-none, all-none}
 use Rattle.sc_audit.proofs.Ledgers.{choice-known}
 use Rattle.sc_audit.proofs.blocks.earliest_block.Goals as goal

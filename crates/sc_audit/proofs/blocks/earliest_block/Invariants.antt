@@ -1,5 +1,5 @@
 use Rattle.sc_papers.specs.Assignment.{assigned}
-use Rattle.sc_audit.specs.Ledger.{student_at}
+use Rattle.sc_papers.specs.Market.{student_at}
 use Rattle.sc_audit.proofs.Blocking.{PassedOver}
 use Rattle.sc_audit.proofs.blocks.earliest_block.Given as goal
 

@@ -4,7 +4,7 @@ use Rattle.sc_papers.specs.Assignment.{assigned}
 use Rattle.sc_papers.specs.Matching.{Blocks}
 use Rattle.sc_audit.specs.Stability.{IsEarliestBlock}
 use Rattle.sc_audit.proofs.Blocking.{first-none, first-more, first-is_block, first-is_none}
-use Rattle.sc_audit.proofs.Places.{student-is}
+use Rattle.sc_papers.proofs.Hands.{hand-is}
 use Rattle.sc_audit.proofs.blocks.first_block.Goals as goal
 
 pub loop-position-init : goal.loop-position-init
@@ -15,7 +15,7 @@ loop-position-preserved c =
     let m = c.args.papers.now in
     let a = assigned c.args.assignment.now in
     let block = c.earliest_block-block.result in
-    let same = student-is m c.loop-position.position c.in-Some.student (sym c.in-Some.ensures) in
+    let same = hand-is m c.loop-position.position c.in-Some.student (sym c.in-Some.ensures) in
     first-more m a c.loop-position.position c.in-Some.student c.loop-position.first c.earlier-first.result block (sym c.in-Some.ensures)
     (subst (λ i. IfSome block (IsEarliestBlock m a i)) same c.earliest_block-block.ensures.block)
     (subst (λ i. IfNone block ((t : ℕ) → Blocks m a i t → ⊥)) same c.earliest_block-block.ensures.none)

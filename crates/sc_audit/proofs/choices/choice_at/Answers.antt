@@ -1,5 +1,5 @@
 use Rattle.std.proofs.Common.{ap, ◌∙◌, slice_get}
-use Rattle.sc_audit.proofs.Places.{copied-read}
+use Rattle.sc_papers.proofs.Hands.{copied-read}
 use Rattle.sc_audit.proofs.choices.choice_at.Goals as goal
 
 pub returns : goal.returns

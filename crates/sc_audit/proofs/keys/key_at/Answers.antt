@@ -1,18 +1,18 @@
 use Rattle.std.proofs.Common.{sym, ◌∙◌}
 use Rattle.std.proofs.lemmas.Option.{none-some, same_Some}
 use Rattle.sc_papers.specs.Key.{key_of}
-use Rattle.sc_audit.specs.Ledger.{student_at}
-use Rattle.sc_audit.proofs.Places.{key-placed, school-has_place}
+use Rattle.sc_papers.specs.Market.{student_at}
+use Rattle.sc_papers.proofs.Hands.{hand-key, school-has_position}
 use Rattle.sc_audit.proofs.Tables.{seats-known}
 use Rattle.sc_audit.proofs.keys.key_at.Goals as goal
 
 pub unreachable-requires : goal.unreachable-requires
-unreachable-requires c = school-has_place c.args.papers.now c.args.school c.requires.school c.in_default.ensures
+unreachable-requires c = school-has_position c.args.papers.now c.args.school c.requires.school c.in_default.ensures
 
 pub unreachable-requires-in_default-key_at : goal.unreachable-requires-in_default-key_at
 unreachable-requires-in_default-key_at c =
     none-some (key_of c.args.papers.now (student_at c.args.papers.now c.args.student) c.args.school)
-    (c.in_default-key_at.ensures ∙ key-placed c.args.papers.now c.args.student c.args.school c.in-Some.position c.requires.student (sym c.in-Some.ensures))
+    (c.in_default-key_at.ensures ∙ hand-key c.args.papers.now c.args.student c.args.school c.in-Some.position c.requires.student (sym c.in-Some.ensures))
 
 pub returns-clause-seats : goal.returns-clause-seats
 returns-clause-seats c = sym (seats-known c.args.papers.now c.args.school c.in-Some-school.found (sym c.in-Some-school.ensures))
@@ -20,4 +20,4 @@ returns-clause-seats c = sym (seats-known c.args.papers.now c.args.school c.in-S
 pub returns-clause-key : goal.returns-clause-key
 returns-clause-key c =
     same_Some c.in-Some-key_at.key (key_of c.args.papers.now (student_at c.args.papers.now c.args.student) c.args.school)
-    (c.in-Some-key_at.ensures ∙ key-placed c.args.papers.now c.args.student c.args.school c.in-Some.position c.requires.student (sym c.in-Some.ensures))
+    (c.in-Some-key_at.ensures ∙ hand-key c.args.papers.now c.args.student c.args.school c.in-Some.position c.requires.student (sym c.in-Some.ensures))

@@ -1,12 +1,12 @@
 use Rattle.std.proofs.Common.{◌≡◌, rules, sym}
 use Rattle.std.specs.Option.{option_map}
 use Rattle.sc_audit.specs.Ledger.{set_aside}
-use Rattle.sc_audit.proofs.Places.{has-place}
+use Rattle.sc_papers.proofs.Hands.{has-position}
 use Rattle.sc_audit.proofs.Tables.{stand-aside}
 use Rattle.sc_audit.proofs.stands.put_aside.Goals as goal
 
 pub unreachable-requires : goal.unreachable-requires
-unreachable-requires c = has-place c.args.papers.now c.args.student c.requires.known c.in_default.ensures
+unreachable-requires c = has-position c.args.papers.now c.args.student c.requires.known c.in_default.ensures
 
 pub returns-clause-stands : goal.returns-clause-stands
 returns-clause-stands c =

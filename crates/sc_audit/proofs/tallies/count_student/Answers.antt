@@ -5,7 +5,7 @@ use Rattle.std.proofs.lemmas.List.{length-set}
 use Rattle.sc_audit.specs.Tallies.{no_tally, with_key}
 use Rattle.sc_audit.specs.declared.tally.Tally.{Tally}
 use Rattle.sc_audit.proofs.Ledgers.{listed-known}
-use Rattle.sc_audit.proofs.Places.{student-is}
+use Rattle.sc_papers.proofs.Hands.{hand-is}
 use Rattle.sc_audit.proofs.Tallying.{tallies-same, tallies-more, tally-counted, tally-few, tally-low, tally-there}
 use Rattle.sc_audit.proofs.tallies.count_student.Goals as goal
 
@@ -33,7 +33,7 @@ returns-in-Some-get c =
     let old = c.args.tallies.now.items in
     tallies-more m (assigned c.args.assignment.now) c.args.position c.in-Some.student c.in-Some-get.school c.key_at-at.result.2 old c.count.new.tallies.items
     (sym c.in-Some.ensures) (sym c.in-Some-get.ensures)
-    (c.key_at-at.ensures.key ∙ ap (λ i. key_of m i c.in-Some-get.school) (student-is m c.args.position c.in-Some.student (sym c.in-Some.ensures)))
+    (c.key_at-at.ensures.key ∙ ap (λ i. key_of m i c.in-Some-get.school) (hand-is m c.args.position c.in-Some.student (sym c.in-Some.ensures)))
     (ap length c.count.ensures ∙ length-set old c.key_at-at.result.0 (with_key (get_or old c.key_at-at.result.0 no_tally) c.key_at-at.result.2))
     (tally-counted m old c.count.new.tallies.items c.in-Some-get.school c.key_at-at.result.0 c.key_at-at.result.2 c.requires.before.schools c.key_at-at.ensures.position c.count.ensures)
     c.requires.before

@@ -1,7 +1,6 @@
 use Rattle.std.proofs.Common.{sym, ◌∙◌}
 use Rattle.std.proofs.lemmas.Option.{same_Some, none-some}
 use Rattle.sc_papers.specs.Key.{key_of}
-
 use Rattle.sc_papers.proofs.Hands.{hand-key, school-has_position}
 use Rattle.sc_papers.specs.Market.{student_at}
 use Rattle.sc_engine.proofs.round.key_at.Goals as goal

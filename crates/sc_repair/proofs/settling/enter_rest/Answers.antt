@@ -1,9 +1,8 @@
-use Rattle.std.proofs.Common.{sym, ◌∙◌}
+use Rattle.std.proofs.Common.{sym, ◌∙◌, arith}
 use Rattle.sc_papers.specs.Market.{students_of}
 use Rattle.sc_papers.proofs.Choices.{contains-at}
 use Rattle.sc_papers.proofs.Positions.{among-student}
 use Rattle.sc_engine.proofs.Settling.{first-apart}
-use Rattle.std.proofs.Common.{arith}
 use Rattle.sc_repair.proofs.GoingOn.{goes-on-next, goes-on-past}
 use Rattle.sc_repair.proofs.settling.enter_rest.Goals as goal
 

@@ -2,12 +2,13 @@ use Rattle.std.proofs.Common.{◌∙◌, sym, ap, subst, cond, nat_eq, true, [],
 use Rattle.std.proofs.lemmas.List.{length-set}
 use Rattle.std.specs.BinaryHeap.{heap_items, IsHeap}
 use Rattle.std.specs.Option.{option_map}
-use Rattle.sc_audit.specs.Ledger.{set_aside, student_at}
+use Rattle.sc_audit.specs.Ledger.{set_aside}
+use Rattle.sc_papers.specs.Market.{student_at}
 use Rattle.sc_audit.specs.Books.{ledger_of}
 use Rattle.sc_audit.specs.Offers.{key_cmp, Offers}
 use Rattle.sc_audit.proofs.Tables.{read-mapped, map-set, stand-put}
 use Rattle.sc_audit.proofs.Ledgers.{choice-known, school-low, keys-within, offer-seen, out-known, placing-comes}
-use Rattle.sc_audit.proofs.Places.{student-known, student-place}
+use Rattle.sc_papers.proofs.Hands.{hand-student, hand-position}
 use Rattle.sc_audit.proofs.books.Books.come.Goals as goal
 
 pub key_at-at-requires-clause-school : goal.key_at-at-requires-clause-school
@@ -35,7 +36,7 @@ put_aside-requires-clause-known c =
     let m = c.args.papers.now in
     let at = c.key_at-at.result.0 in
     let low = school-low m (ledger_of c.args.self.now) c.in-Some.school at c.requires.fits c.key_at-at.ensures.position in
-    out-known m (ledger_of c.args.self.now) (student_at c.args.papers.now c.args.student) c.in-Some.school at (heap_items c.offer.new.keys) c.in-Some-out.last c.requires.fits (student-known c.args.papers.now c.args.student c.requires.within) c.key_at-at.ensures.position
+    out-known m (ledger_of c.args.self.now) (student_at c.args.papers.now c.args.student) c.in-Some.school at (heap_items c.offer.new.keys) c.in-Some-out.last c.requires.fits (hand-student c.args.papers.now c.args.student c.requires.within) c.key_at-at.ensures.position
     (offer-seen heap_items m c.args.self.now.kept.items (student_at c.args.papers.now c.args.student) c.in-Some.school at c.index_mut.result.now c.key_at-at.result.1 c.key_at-at.result.2 (heap_items c.offer.new.keys) (Some c.in-Some-out.last) low c.index_mut.ensures.value c.key_at-at.ensures.seats c.key_at-at.ensures.key
     (subst (Offers (heap_items c.index_mut.result.now) c.key_at-at.result.1 c.key_at-at.result.2 (heap_items c.offer.new.keys)) c.in-Some-out.is c.in_ok-out.ensures.offered))
 
@@ -46,7 +47,7 @@ returns-in-Some-out c =
     let low = school-low m (ledger_of c.args.self.now) c.in-Some.school at c.requires.fits c.key_at-at.ensures.position in
     placing-comes (record {
       fits = c.requires.fits;
-      known = student-known m c.args.student c.requires.within;
+      known = hand-student m c.args.student c.requires.within;
       nowhere = c.requires.nowhere;
       choice = sym c.in-Some.ensures;
       found = c.key_at-at.ensures.position;
@@ -55,7 +56,7 @@ returns-in-Some-out c =
           (subst (Offers (heap_items c.index_mut.result.now) c.key_at-at.result.1 c.key_at-at.result.2 (heap_items c.offer.new.keys)) c.in-Some-out.is c.in_ok-out.ensures.offered);
       kept = map-set heap_items c.args.self.now.kept.items at c.offer.new.keys;
       long = c.put_aside.ensures.length ∙ length-set c.args.self.now.stands.items c.args.student (Some (record { place = c.args.place; school = c.in-Some.school; kept = true })) ∙ c.requires.fits.stands;
-      stands = λ j. c.put_aside.ensures.stands j ∙ ap (λ o. cond (nat_eq j c.in-Some-out.last.student) (option_map set_aside o) o) (stand-put m c.args.self.now.stands.items (Some (record { place = c.args.place; school = c.in-Some.school; kept = true })) (student_at m c.args.student) c.args.student c.requires.fits.stands (student-place m c.requires.fits.well_formed c.args.student c.requires.within) j);
+      stands = λ j. c.put_aside.ensures.stands j ∙ ap (λ o. cond (nat_eq j c.in-Some-out.last.student) (option_map set_aside o) o) (stand-put m c.args.self.now.stands.items (Some (record { place = c.args.place; school = c.in-Some.school; kept = true })) (student_at m c.args.student) c.args.student c.requires.fits.stands (hand-position m c.requires.fits.well_formed c.args.student c.requires.within) j);
     })
 
 pub returns-in_default-out : goal.returns-in_default-out
@@ -65,7 +66,7 @@ returns-in_default-out c =
     let low = school-low m (ledger_of c.args.self.now) c.in-Some.school at c.requires.fits c.key_at-at.ensures.position in
     placing-comes (record {
       fits = c.requires.fits;
-      known = student-known m c.args.student c.requires.within;
+      known = hand-student m c.args.student c.requires.within;
       nowhere = c.requires.nowhere;
       choice = sym c.in-Some.ensures;
       found = c.key_at-at.ensures.position;
@@ -74,5 +75,5 @@ returns-in_default-out c =
           (subst (Offers (heap_items c.index_mut.result.now) c.key_at-at.result.1 c.key_at-at.result.2 (heap_items c.offer.new.keys)) c.in_default-out.is c.in_ok-out.ensures.offered);
       kept = map-set heap_items c.args.self.now.kept.items at c.offer.new.keys;
       long = length-set c.args.self.now.stands.items c.args.student (Some (record { place = c.args.place; school = c.in-Some.school; kept = true })) ∙ c.requires.fits.stands;
-      stands = stand-put m c.args.self.now.stands.items (Some (record { place = c.args.place; school = c.in-Some.school; kept = true })) (student_at m c.args.student) c.args.student c.requires.fits.stands (student-place m c.requires.fits.well_formed c.args.student c.requires.within);
+      stands = stand-put m c.args.self.now.stands.items (Some (record { place = c.args.place; school = c.in-Some.school; kept = true })) (student_at m c.args.student) c.args.student c.requires.fits.stands (hand-position m c.requires.fits.well_formed c.args.student c.requires.within);
     })

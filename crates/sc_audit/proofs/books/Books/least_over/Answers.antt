@@ -1,10 +1,10 @@
 use Rattle.std.proofs.Common.{◌≤◌, ◌<◌, ◌∙◌, ap, length, arith}
-use Rattle.sc_papers.specs.Market.{students_of}
+use Rattle.sc_papers.specs.Market.{students_of, student_at}
 use Rattle.sc_audit.specs.Books.{ledger_of}
-use Rattle.sc_audit.specs.Ledger.{stand_of, student_at, waiting_at}
+use Rattle.sc_audit.specs.Ledger.{stand_of, waiting_at}
 use Rattle.sc_audit.proofs.Lessers.{least-none, least-more}
 use Rattle.sc_audit.proofs.Over.{least-over, least-within}
-use Rattle.sc_audit.proofs.Places.{student-there, student-place}
+use Rattle.sc_papers.proofs.Hands.{hand-there, hand-position}
 use Rattle.sc_audit.proofs.Tables.{stand-there}
 use Rattle.sc_audit.proofs.books.Books.least_over.Goals as goal
 
@@ -16,8 +16,8 @@ loop-position-preserved c =
     let m = c.args.papers.now in
     let k = c.loop-position.position in
     let low : k < length m.students = omega (arith, c.loop-position-test.true, c.students_len-position-end.ensures.count) in
-    least-more (students_of m) (λ i. waiting_at (stand_of m c.args.self.now.stands.items i)) k (student_at m k) c.loop-position.least c.waiting_at.result c.lesser-least.result (student-there m k low)
-    (c.waiting_at.ensures ∙ ap waiting_at (stand-there m c.args.self.now.stands.items (student_at m k) k c.requires.stands (student-place m c.requires.well_formed k low))) c.lesser-least.ensures c.loop-position.invariant
+    least-more (students_of m) (λ i. waiting_at (stand_of m c.args.self.now.stands.items i)) k (student_at m k) c.loop-position.least c.waiting_at.result c.lesser-least.result (hand-there m k low)
+    (c.waiting_at.ensures ∙ ap waiting_at (stand-there m c.args.self.now.stands.items (student_at m k) k c.requires.stands (hand-position m c.requires.well_formed k low))) c.lesser-least.ensures c.loop-position.invariant
 
 pub returns-clause-over : goal.returns-clause-over
 returns-clause-over c =

@@ -3,7 +3,7 @@ use Rattle.std.proofs.lemmas.List.{length-set}
 use Rattle.sc_audit.specs.Books.{ledger_of}
 use Rattle.sc_audit.specs.Ledger.{Ledger, Comes, stand_of}
 use Rattle.sc_audit.proofs.Ledgers.{place-short}
-use Rattle.sc_audit.proofs.Places.{place-low, student-placed}
+use Rattle.sc_papers.proofs.Hands.{position-low, student-there}
 use Rattle.sc_audit.proofs.Tables.{stand-put}
 use Rattle.sc_audit.proofs.Takings.{waits-from, waits-placed, left-fits, left-next, left-nowhere, taken-valid, taken-follows, not-taken}
 use Rattle.sc_audit.proofs.books.Books.take.Goals as goal
@@ -12,7 +12,7 @@ pub returns-in_default : goal.returns-in_default
 returns-in_default c = λ log valid follows. not-taken c.args.papers.now log (ledger_of c.args.self.now) c.args.entry (sym c.in_default.ensures.place) follows
 
 pub index_mut-requires : goal.index_mut-requires
-index_mut-requires c = omega (arith, place-low c.args.papers.now c.args.entry.student c.in-Some.student c.in-Some.ensures.position, c.requires.fits.stands)
+index_mut-requires c = omega (arith, position-low c.args.papers.now c.args.entry.student c.in-Some.student c.in-Some.ensures.position, c.requires.fits.stands)
 
 pub overflow_add-place : goal.overflow_add-place
 overflow_add-place c =
@@ -31,14 +31,14 @@ come-requires-clause-fits c =
     (stand-put m stands None c.args.entry.student c.in-Some.student c.requires.fits.stands c.in-Some.ensures.position)
 
 pub come-requires-clause-within : goal.come-requires-clause-within
-come-requires-clause-within c = place-low c.args.papers.now c.args.entry.student c.in-Some.student c.in-Some.ensures.position
+come-requires-clause-within c = position-low c.args.papers.now c.args.entry.student c.in-Some.student c.in-Some.ensures.position
 
 pub come-requires-clause-nowhere : goal.come-requires-clause-nowhere
 come-requires-clause-nowhere c =
     let m = c.args.papers.now in
     let old = ledger_of c.args.self.now in
     let stands = c.args.self.now.stands.items in
-    ap (stand_of m (set stands c.in-Some.student None)) (student-placed m c.args.entry.student c.in-Some.student c.in-Some.ensures.position)
+    ap (stand_of m (set stands c.in-Some.student None)) (student-there m c.args.entry.student c.in-Some.student c.in-Some.ensures.position)
     ∙ left-nowhere (waits-from m old c.args.entry.student c.args.entry.school c.in-Some.place (sym c.in-Some.ensures.place))
     (record { stands = set stands c.in-Some.student None; kept = old.kept }) c.requires.fits refl (length-set stands c.in-Some.student None)
     (stand-put m stands None c.args.entry.student c.in-Some.student c.requires.fits.stands c.in-Some.ensures.position)
@@ -53,5 +53,5 @@ returns c = λ log valid follows.
       taken-valid m log old c.args.entry c.in-Some.place follows waits,
       taken-follows m log old mid (ledger_of c.come.new.self) c.args.entry c.in-Some.place valid follows waits
           (left-next waits mid c.requires.fits refl (length-set stands c.in-Some.student None) (stand-put m stands None c.args.entry.student c.in-Some.student c.requires.fits.stands c.in-Some.ensures.position))
-          (subst (λ i. Comes m mid i (c.in-Some.place + 1) (ledger_of c.come.new.self)) (student-placed m c.args.entry.student c.in-Some.student c.in-Some.ensures.position) c.in_ok-come.ensures),
+          (subst (λ i. Comes m mid i (c.in-Some.place + 1) (ledger_of c.come.new.self)) (student-there m c.args.entry.student c.in-Some.student c.in-Some.ensures.position) c.in_ok-come.ensures),
     )

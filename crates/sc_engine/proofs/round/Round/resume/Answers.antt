@@ -1,6 +1,5 @@
-use Rattle.std.proofs.Common.{◌≡◌, Some, slice_get, length, arith}
+use Rattle.std.proofs.Common.{◌≡◌, Some, slice_get, length, arith, refl}
 use Rattle.std.proofs.lemmas.Option.{slice_get_read}
-use Rattle.std.proofs.Common.{refl}
 use Rattle.sc_engine.specs.Round.{standings_of, is_spent}
 use Rattle.sc_engine.proofs.Resuming.{absent-put, listed-after, room-put_if, put-more, continues-put}
 use Rattle.sc_engine.proofs.round.Round.resume.Goals as goal
