@@ -1,4 +1,4 @@
--- Calls that read one input more after the files of an opening.
+-- The verdict of a log, told or not.
 use Rattle.std.proofs.Common.{◌≡◌, ℕ, inl, inr, List, Option, Result, Ok, Err, refl, ap, subst}
 use Rattle.std.specs.Io.KnownBytes.{Appends}
 use Rattle.sc_papers.specs.Market.{Market}
@@ -6,40 +6,9 @@ use Rattle.sc_papers.specs.declared.rejection.Rejection.{Rejection}
 use Rattle.sc_audit.specs.Verdict.{IsVerdict}
 use Rattle.sc_audit.specs.declared.verdict.Verdict.{Verdict}
 use Rattle.sc_intake.specs.declared.fault.IntakeFault.{IntakeFault}
-use Rattle.sc_runs.specs.Auditing.{claimed_in, verdict_text, AuditsFiles, TellsVerdict, WritesVerdict}
-use Rattle.sc_runs.specs.Inputs.{Texts, inputs_in, AreInputsFault, AreWhole}
-use Rattle.sc_runs.specs.Replaying.{ReplaysFiles}
+use Rattle.sc_runs.specs.Auditing.{claimed_in, verdict_text, TellsVerdict, WritesVerdict}
 use Rattle.sc_runs.specs.declared.fault.RunFault.{RunFault}
 use Rattle.sc_runs.specs.declared.fault.RunFault.TheVariants.{Read, Intake, Journal, WriteOut, WriteJournal, OutOfMemory}
-use Rattle.sc_runs.proofs.Openings.{Keeps-refl, whole-some}
-
--- a file of the opening ended the audit
-pub AuditsFiles-unopened : (seed : List ℕ) (schools roster lists log old : Option (List ℕ)) (fault : RunFault) (texts : Texts)
-    → AreWhole schools roster lists texts → AreInputsFault (inputs_in texts) fault → AuditsFiles seed schools roster lists log old old (Err fault)
-AuditsFiles-unopened seed schools roster lists log old (Read source) texts whole is = inl (tt, Keeps-refl old)
-AuditsFiles-unopened seed schools roster lists log old (Intake fault) texts whole is =
-    let last = whole-some log in
-    inr (texts, last.0, whole, last.1, (rw is refl, Keeps-refl old))
-AuditsFiles-unopened seed schools roster lists log old (Journal fault) texts whole is = absurd is
-AuditsFiles-unopened seed schools roster lists log old WriteOut texts whole is = absurd is
-AuditsFiles-unopened seed schools roster lists log old WriteJournal texts whole is = absurd is
-AuditsFiles-unopened seed schools roster lists log old OutOfMemory texts whole is =
-    let last = whole-some log in
-    inr (texts, last.0, whole, last.1, Keeps-refl old)
-
--- a file of the opening ended the replay
-pub ReplaysFiles-unopened : (seed : List ℕ) (schools roster lists journal old : Option (List ℕ)) (fault : RunFault) (texts : Texts)
-    → AreWhole schools roster lists texts → AreInputsFault (inputs_in texts) fault → ReplaysFiles seed schools roster lists journal old old (Err fault)
-ReplaysFiles-unopened seed schools roster lists journal old (Read source) texts whole is = inl (tt, Keeps-refl old)
-ReplaysFiles-unopened seed schools roster lists journal old (Intake fault) texts whole is =
-    let last = whole-some journal in
-    inr (texts, last.0, whole, last.1, (rw is refl, Keeps-refl old))
-ReplaysFiles-unopened seed schools roster lists journal old (Journal fault) texts whole is = absurd is
-ReplaysFiles-unopened seed schools roster lists journal old WriteOut texts whole is = absurd is
-ReplaysFiles-unopened seed schools roster lists journal old WriteJournal texts whole is = absurd is
-ReplaysFiles-unopened seed schools roster lists journal old OutOfMemory texts whole is =
-    let last = whole-some journal in
-    inr (texts, last.0, whole, last.1, Keeps-refl old)
 
 -- a verdict was told of papers and the log that was read
 pub WritesVerdict-told : (m : Market) (logged : Result (List Rejection) IntakeFault) (seen log : List Rejection) (verdict : Verdict) (old new : Option (List ℕ))

@@ -1,6 +1,9 @@
 pub mod Cutting
 pub mod Openings
+pub mod Reading
+pub mod Calls
 pub mod Replies
 pub mod Pieces
 pub mod Lasts
 pub mod LastReport
+pub mod Journaling

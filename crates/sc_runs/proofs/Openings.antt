@@ -25,7 +25,6 @@ use Rattle.sc_intake.specs.Schools.{schools_in}
 use Rattle.sc_intake.specs.declared.lists.ListRow.{ListRow}
 use Rattle.sc_intake.specs.declared.roster.RosterRow.{RosterRow}
 use Rattle.sc_intake.specs.declared.schools.SchoolRow.{SchoolRow}
-use Rattle.sc_runs.specs.Inputs.{Texts, input_in, inputs_in, AreInputsFault, IsInputFault, IsWhole}
 use Rattle.sc_runs.specs.Opening.{papers_in, is_output_fault, IsCertificate, IsMatchText, IsOpeningFault, WritesExactly, WritesMatch, WritesText}
 
 pub papers_in-read : (seed schools roster lists : List ℕ) (s : List SchoolRow) (r : List RosterRow) (l : List ListRow) (m : Market)
@@ -54,51 +53,6 @@ Appends-front-kept a b c text written kept = AppendsFront-whole a c text (Append
 pub Keeps-refl : (a : Option (List ℕ)) → Keeps a a
 Keeps-refl None = tt
 Keeps-refl (Some xs) = refl
-
--- a reader gave fewer bytes than it was asked for gave all that it had
-pub IsWhole-short : (limit : ℕ) (bytes left : Option (List ℕ)) (given : List ℕ) → GivesFirst limit bytes left given → length given < limit → IsWhole bytes given
-IsWhole-short limit None left given gave short = tt
-IsWhole-short limit (Some bytes) None given gave short = absurd gave
-IsWhole-short limit (Some bytes) (Some left) given gave short =
-    elim (cases_lt (length bytes) limit) [
-      | inl all ↦ gave.0 ∙ take_all limit bytes (omega arith)
-      | inr more ↦
-          let cut : length given ≡ limit = ap length gave.0 ∙ length-take-le limit bytes more in
-          absurd (omega arith)
-    ]
-
--- whatever a reader had, there is a text that is the whole of it
-pub whole-some : (bytes : Option (List ℕ)) → (text : List ℕ) × IsWhole bytes text
-whole-some None = ([], tt)
-whole-some (Some bytes) = (bytes, refl)
-
--- a reader that gave more bytes than a limit had a text that is longer
-pub whole-long : (limit most : ℕ) (bytes left : Option (List ℕ)) (given : List ℕ) → GivesFirst limit bytes left given → most < length given
-    → (text : List ℕ) × IsWhole bytes text × (most < length text)
-whole-long limit most None left given gave long = (given, tt, long)
-whole-long limit most (Some bytes) None given gave long = absurd gave
-whole-long limit most (Some bytes) (Some left) given gave long =
-    let cut : length given ≡ length (take limit bytes) = ap length gave.0 in (
-      bytes,
-      refl,
-      elim (cases_lt (length bytes) limit) [
-        | inl all ↦
-            let same = ap length (take_all limit bytes (omega arith)) in
-            omega arith
-        | inr more ↦
-            let same = length-take-le limit bytes more in
-            omega arith
-      ],
-    )
-
--- an input within the limit is read, and a longer one is refused
-pub input_in-short : (source : Source) (text : List ℕ) → length text ≤ 67108864 → input_in source text ≡ Ok text
-unfolding input_in
-input_in-short source text short = let no : nat_lt 67108864 (length text) ≡ false = grind (arith, nat_tests) in rw no refl
-
-pub input_in-long : (source : Source) (text : List ℕ) → 67108864 < length text → input_in source text ≡ Err (fault_at source 0 TooLong)
-unfolding input_in
-input_in-long source text long = let yes : nat_lt 67108864 (length text) ≡ true = grind (arith, nat_tests) in rw yes refl
 
 -- what was written of a text is written of one of the texts that it is of
 pub WritesText-of : (Is : List ℕ → Type 0) (text : List ℕ) (old new : Option (List ℕ)) (result : Result (Unit {0}) RunFault)
@@ -160,30 +114,3 @@ is_output_fault-refused reading (Intake fault) is = refl
 is_output_fault-refused reading (Journal fault) is = refl
 is_output_fault-refused reading WriteJournal is = absurd is
 is_output_fault-refused reading OutOfMemory is = refl
-
--- the first fault of an opening's files, by the file that it is of
-pub AreInputsFault-schools : (texts : Texts) (fault : RunFault) → IsInputFault input.Schools (input_in input.Schools texts.schools) fault → AreInputsFault (inputs_in texts) fault
-AreInputsFault-schools texts (Read source) is = tt
-AreInputsFault-schools texts (Intake fault) is = rw is refl
-AreInputsFault-schools texts (Journal fault) is = absurd is
-AreInputsFault-schools texts WriteOut is = absurd is
-AreInputsFault-schools texts WriteJournal is = absurd is
-AreInputsFault-schools texts OutOfMemory is = tt
-
-pub AreInputsFault-roster : (texts : Texts) (fault : RunFault) → input_in input.Schools texts.schools ≡ Ok texts.schools
-    → IsInputFault input.Roster (input_in input.Roster texts.roster) fault → AreInputsFault (inputs_in texts) fault
-AreInputsFault-roster texts (Read source) schools is = tt
-AreInputsFault-roster texts (Intake fault) schools is = rw (schools, is) refl
-AreInputsFault-roster texts (Journal fault) schools is = absurd is
-AreInputsFault-roster texts WriteOut schools is = absurd is
-AreInputsFault-roster texts WriteJournal schools is = absurd is
-AreInputsFault-roster texts OutOfMemory schools is = tt
-
-pub AreInputsFault-lists : (texts : Texts) (fault : RunFault) → input_in input.Schools texts.schools ≡ Ok texts.schools → input_in input.Roster texts.roster ≡ Ok texts.roster
-    → IsInputFault input.Lists (input_in input.Lists texts.lists) fault → AreInputsFault (inputs_in texts) fault
-AreInputsFault-lists texts (Read source) schools roster is = tt
-AreInputsFault-lists texts (Intake fault) schools roster is = rw (schools, roster, is) refl
-AreInputsFault-lists texts (Journal fault) schools roster is = absurd is
-AreInputsFault-lists texts WriteOut schools roster is = absurd is
-AreInputsFault-lists texts WriteJournal schools roster is = absurd is
-AreInputsFault-lists texts OutOfMemory schools roster is = tt

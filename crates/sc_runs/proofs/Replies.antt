@@ -1,5 +1,5 @@
 -- What the lines, the reply lines and the report come to together.
-use Rattle.std.proofs.Common.{append_assoc, append-nil, ◌≡◌, ◌≢◌, Bool, true, false, ◌||◌, ℕ, ◌+◌, ◌≤◌, inl, inr, arith, List, [], ◌∷◌, ◌++◌, Option, None, Some, Result, Ok, Err, length, refl, sym, ◌∙◌, subst, ap, codes}
+use Rattle.std.proofs.Common.{append_assoc, append-nil, ◌≡◌, ◌≢◌, Bool, true, false, ◌||◌, ℕ, ◌+◌, ◌≤◌, inl, inr, arith, List, [], ◌∷◌, ◌++◌, Option, None, Some, Result, Ok, Err, length, length-append, refl, sym, ◌∙◌, subst, ap, codes}
 use Rattle.std.specs.Io.KnownBytes.{Appends}
 use Rattle.std.proofs.lemmas.Bool.{true≢false}
 use Rattle.std.specs.Result.{is_err, result_err}
@@ -15,15 +15,13 @@ use Rattle.sc_journal.specs.Journal.{journal_text}
 use Rattle.sc_journal.specs.Line.{line_text}
 use Rattle.sc_report.specs.Reply.{reply_text}
 use Rattle.sc_report.specs.Text.{report_text}
-use Rattle.sc_intake.specs.declared.fault.Source.TheVariants as input
-use Rattle.sc_runs.specs.Inputs.{Texts, input_in, inputs_in, AreInputsFault, AreWhole, IsInputFault, IsWhole}
 use Rattle.sc_runs.specs.Opening.{IsOpeningFault}
 use Rattle.sc_runs.specs.Pieces.{Held, Piece, journal_of, output_of, to_output, GrowsByAll, GrowsByFront}
-use Rattle.sc_runs.specs.Run.{accepted, accepted_in, after_record, after_script, answer_to, answers, lines_for, made, made_by, opened_in, replies, reply_to, unless_verdict, IsFull, KeepsBoth, RunsFiles, Writes, WritesFront, WritesRun}
+use Rattle.sc_runs.specs.Run.{accepted, accepted_in, after_record, after_script, answer_to, answers, lines_for, made, made_by, opened_in, replies, reply_to, unless_verdict, IsFull, KeepsBoth, Writes, WritesFront, WritesRun}
 use Rattle.sc_runs.specs.declared.fault.RunFault.{RunFault}
 use Rattle.sc_runs.specs.declared.fault.RunFault.TheVariants.{Read, Intake, Journal, WriteOut, WriteJournal, OutOfMemory}
 use Rattle.sc_runs.proofs.LastReport.{IsLastReport-some}
-use Rattle.sc_runs.proofs.Openings.{Keeps-refl, whole-some}
+use Rattle.sc_runs.proofs.Openings.{Keeps-refl}
 use Rattle.sc_runs.proofs.Pieces.{GrowsByAll-none, GrowsByAll-trans, GrowsByFront-after, GrowsByFront-longer, journal_of-append, output_of-append}
 
 -- a refusal that is not want of memory is the verdict
@@ -44,7 +42,7 @@ pub nothing-left : {X : Type 0} (xs : List X) → length xs ≡ 0 → xs ≡ []
 nothing-left [] none = refl
 nothing-left (x ∷ xs) none = absurd (omega arith)
 
-KeepsBoth-refl : (a : Held) → KeepsBoth a a
+pub KeepsBoth-refl : (a : Held) → KeepsBoth a a
 KeepsBoth-refl a = (Keeps-refl a.journal, Keeps-refl a.output)
 
 -- the writes that answer an amendment whose line is the next
@@ -130,8 +128,8 @@ IsFull-more few many (Ok done) more full = tt
 IsFull-more few many (Err (Read source)) more full = tt
 IsFull-more few many (Err (Intake fault)) more full = tt
 IsFull-more few many (Err (Journal fault)) more full =
-    let least = full.1 in
-    (full.0, omega arith)
+    let least = full.0 in
+    (omega arith, full.1)
 IsFull-more few many (Err WriteOut) more full = tt
 IsFull-more few many (Err WriteJournal) more full = tt
 IsFull-more few many (Err OutOfMemory) more full = tt
@@ -234,10 +232,10 @@ WritesFront-finished m script a old mid new optimal answered wrote = (
 
 -- all answers were written, and then the report, whole or in part
 WritesRun-written : (scripted : Result (List (Result Amendment Refusal)) IntakeFault) (m : Market) (script : List (Result Amendment Refusal)) (a : Matching) (old mid new : Held) (result : Result (Unit {0}) RunFault)
-    → scripted ≡ Ok script → IsStudentOptimal (after_script m script) a → GrowsByAll (answers 1 0 m script) old mid
+    → scripted ≡ Ok script → IsStudentOptimal (after_script m script) a → length (accepted m script) ≤ 999999999 → GrowsByAll (answers 1 0 m script) old mid
     → Writes (to_output (report_text (after_script m script) a) ∷ []) mid new result → IsFull 0 result
     → WritesRun (opened_in (Ok m) scripted) old new result
-WritesRun-written scripted m script a old mid new (Ok done) read optimal answered wrote full =
+WritesRun-written scripted m script a old mid new (Ok done) read optimal room answered wrote full =
     let report = report_text (after_script m script) a in
     let both = GrowsByAll-trans (answers 1 0 m script) (to_output report ∷ []) old mid new answered wrote in (
       record { papers = m; script = script },
@@ -245,6 +243,7 @@ WritesRun-written scripted m script a old mid new (Ok done) read optimal answere
       (
         report,
         (a, optimal, refl),
+        room,
         (
           subst (Appends old.journal new.journal)
               (journal_of-append (answers 1 0 m script) (to_output report ∷ []) ∙ append-nil (journal_of (answers 1 0 m script)) ∙ journal_of-answers 1 0 m script)
@@ -257,40 +256,26 @@ WritesRun-written scripted m script a old mid new (Ok done) read optimal answere
         ),
       ),
     )
-WritesRun-written scripted m script a old mid new (Err WriteOut) read optimal answered wrote full =
+WritesRun-written scripted m script a old mid new (Err WriteOut) read optimal room answered wrote full =
     (record { papers = m; script = script }, ap (opened_in (Ok m)) read, WritesFront-finished m script a old mid new optimal answered wrote)
-WritesRun-written scripted m script a old mid new (Err WriteJournal) read optimal answered wrote full =
+WritesRun-written scripted m script a old mid new (Err WriteJournal) read optimal room answered wrote full =
     (record { papers = m; script = script }, ap (opened_in (Ok m)) read, WritesFront-finished m script a old mid new optimal answered wrote)
-WritesRun-written scripted m script a old mid new (Err OutOfMemory) read optimal answered wrote full =
+WritesRun-written scripted m script a old mid new (Err OutOfMemory) read optimal room answered wrote full =
     inr (record { papers = m; script = script }, ap (opened_in (Ok m)) read, WritesFront-finished m script a old mid new optimal answered wrote)
-WritesRun-written scripted m script a old mid new (Err (Journal fault)) read optimal answered wrote full =
-    let none = full.1 in
+WritesRun-written scripted m script a old mid new (Err (Journal fault)) read optimal room answered wrote full =
+    let none = full.0 in
     absurd (omega arith)
-WritesRun-written scripted m script a old mid new (Err (Read source)) read optimal answered wrote full = absurd wrote
-WritesRun-written scripted m script a old mid new (Err (Intake fault)) read optimal answered wrote full = absurd wrote
+WritesRun-written scripted m script a old mid new (Err (Read source)) read optimal room answered wrote full = absurd wrote
+WritesRun-written scripted m script a old mid new (Err (Intake fault)) read optimal room answered wrote full = absurd wrote
 
 -- the same of the papers that stand after the script, by whatever name
 pub WritesRun-after : (scripted : Result (List (Result Amendment Refusal)) IntakeFault) (m : Market) (script : List (Result Amendment Refusal)) (later : Market) (a : Matching) (old mid new : Held) (result : Result (Unit {0}) RunFault)
-    → scripted ≡ Ok script → later ≡ after_script m script → IsStudentOptimal later a → GrowsByAll (answers 1 0 m script) old mid
+    → scripted ≡ Ok script → later ≡ after_script m script → IsStudentOptimal later a → length (accepted m script) ≤ 999999999 → GrowsByAll (answers 1 0 m script) old mid
     → Writes (to_output (report_text later a) ∷ []) mid new result → IsFull 0 result
     → WritesRun (opened_in (Ok m) scripted) old new result
-WritesRun-after scripted m script later a old mid new result read is optimal answered wrote full =
+WritesRun-after scripted m script later a old mid new result read is optimal room answered wrote full =
     WritesRun-written scripted m script a old mid new result read
-    (subst (λ n. IsStudentOptimal n a) is optimal) answered (subst (λ n. Writes (to_output (report_text n a) ∷ []) mid new result) is wrote) full
-
--- a file of the opening ended the run
-pub RunsFiles-unopened : (seed : List ℕ) (schools roster lists script : Option (List ℕ)) (old : Held) (fault : RunFault) (texts : Texts)
-    → AreWhole schools roster lists texts → AreInputsFault (inputs_in texts) fault → RunsFiles seed schools roster lists script old old (Err fault)
-RunsFiles-unopened seed schools roster lists script old (Read source) texts whole is = inl (tt, KeepsBoth-refl old)
-RunsFiles-unopened seed schools roster lists script old (Intake fault) texts whole is =
-    let last = whole-some script in
-    inr (texts, last.0, whole, last.1, (rw is refl, KeepsBoth-refl old))
-RunsFiles-unopened seed schools roster lists script old (Journal fault) texts whole is = absurd is
-RunsFiles-unopened seed schools roster lists script old WriteOut texts whole is = absurd is
-RunsFiles-unopened seed schools roster lists script old WriteJournal texts whole is = absurd is
-RunsFiles-unopened seed schools roster lists script old OutOfMemory texts whole is =
-    let last = whole-some script in
-    inr (texts, last.0, whole, last.1, inl (KeepsBoth-refl old))
+    (subst (λ n. IsStudentOptimal n a) is optimal) room answered (subst (λ n. Writes (to_output (report_text n a) ∷ []) mid new result) is wrote) full
 
 unless_verdict-one : (amendment : Amendment) (found : Option Refusal) → length (unless_verdict amendment found) ≤ 1
 unless_verdict-one amendment None = omega arith
@@ -301,15 +286,25 @@ pub accepted_in-one : (m : Market) (entry : Result Amendment Refusal) → length
 accepted_in-one m (Err refusal) = omega arith
 accepted_in-one m (Ok amendment) = unless_verdict-one amendment (verdict m amendment)
 
--- the script ended the run
-pub RunsFiles-unscripted : (seed : List ℕ) (schools roster lists script : Option (List ℕ)) (old : Held) (fault : RunFault) (texts : Texts) (last : List ℕ)
-    → AreWhole schools roster lists texts → IsWhole script last → inputs_in texts ≡ Ok texts → IsInputFault input.Script (input_in input.Script last) fault
-    → RunsFiles seed schools roster lists script old old (Err fault)
-RunsFiles-unscripted seed schools roster lists script old (Read source) texts last whole script_whole read is = inl (tt, KeepsBoth-refl old)
-RunsFiles-unscripted seed schools roster lists script old (Intake fault) texts last whole script_whole read is =
-    inr (texts, last, whole, script_whole, (rw (read, is) refl, KeepsBoth-refl old))
-RunsFiles-unscripted seed schools roster lists script old (Journal fault) texts last whole script_whole read is = absurd is
-RunsFiles-unscripted seed schools roster lists script old WriteOut texts last whole script_whole read is = absurd is
-RunsFiles-unscripted seed schools roster lists script old WriteJournal texts last whole script_whole read is = absurd is
-RunsFiles-unscripted seed schools roster lists script old OutOfMemory texts last whole script_whole read is =
-    inr (texts, last, whole, script_whole, inl (KeepsBoth-refl old))
+-- the accepted amendments of a first record and of those after it
+length-accepted : (m : Market) (entry : Result Amendment Refusal) (rest : List (Result Amendment Refusal))
+    → length (accepted m (entry ∷ rest)) ≡ length (accepted_in m entry) + length (accepted (after_record m entry) rest)
+length-accepted m entry rest = length-append (accepted_in m entry) (accepted (after_record m entry) rest)
+
+-- the lines so far, and the amendments that the records left will have accepted, are those of all
+pub counted-next : (all lines more : ℕ) (m later : Market) (entry : Result Amendment Refusal) (before left : List (Result Amendment Refusal))
+    → lines + length (accepted m before) ≡ all → before ≡ entry ∷ left → later ≡ after_record m entry → more ≡ lines + length (accepted_in m entry)
+    → more + length (accepted later left) ≡ all
+counted-next all lines more m later entry before left counted begins is count =
+    let first : length (accepted m before) ≡ length (accepted_in m entry) + length (accepted (after_record m entry) left) =
+    ap (λ records. length (accepted m records)) begins ∙ length-accepted m entry left in
+    let rest : length (accepted later left) ≡ length (accepted (after_record m entry) left) = ap (λ n. length (accepted n left)) is in
+    omega arith
+
+-- at the end the lines are those of all accepted amendments
+pub counted-all : (lines : ℕ) (opening m : Market) (all left whole : List (Result Amendment Refusal)) → lines + length (accepted m left) ≡ length (accepted opening all)
+    → left ≡ [] → all ≡ whole → lines ≤ 999999999 → length (accepted opening whole) ≤ 999999999
+counted-all lines opening m all left whole counted none same room =
+    let end : length (accepted m left) ≡ 0 = ap (λ records. length (accepted m records)) none in
+    let whole_count : length (accepted opening all) ≡ length (accepted opening whole) = ap (λ records. length (accepted opening records)) same in
+    omega arith

@@ -1,5 +1,5 @@
 -- What auditing a log does, where bytes are known.
-use Rattle.std.specs.Prelude.{◌≡◌, ◌⊎◌, ℕ, List, ◌++◌, codes, Option, Result, Ok, Err}
+use Rattle.std.specs.Prelude.{◌≡◌, ◌⊎◌, ℕ, List, [], ◌∷◌, ◌++◌, codes, Option, Result, Ok, Err}
 use Rattle.std.specs.Fmt.{decimal}
 use Rattle.std.specs.Io.KnownBytes.{Appends, Keeps}
 use Rattle.sc_papers.specs.Market.{Market}
@@ -10,10 +10,9 @@ use Rattle.sc_audit.specs.declared.verdict.Verdict.TheVariants.{BadEntry, Over, 
 use Rattle.sc_intake.specs.Fault.{◌>>=◌}
 use Rattle.sc_intake.specs.Log.{log_in}
 use Rattle.sc_intake.specs.declared.fault.IntakeFault.{IntakeFault}
-use Rattle.sc_intake.specs.declared.fault.Source.TheVariants as input
 use Rattle.sc_report.specs.Whole.{AppendsFront}
-use Rattle.sc_runs.specs.Inputs.{Texts, input_in, inputs_in, AreWhole, IsUnread, IsWhole}
-use Rattle.sc_runs.specs.Opening.{papers_in}
+use Rattle.sc_runs.specs.Inputs.{in_order, Texts, Turn, AreRead}
+use Rattle.sc_runs.specs.Opening.{opening_in, EndsUnread}
 use Rattle.sc_runs.specs.declared.fault.RunFault.{RunFault}
 use Rattle.sc_runs.specs.declared.fault.RunFault.TheVariants.{Read, Intake, Journal, WriteOut, WriteJournal, OutOfMemory}
 
@@ -35,12 +34,9 @@ claimed_in reading logged = do
   log ← logged
   Ok (record { papers = papers; log = log })
 
--- what an audit's inputs read as, or their first fault: each is read whole before any is looked into
+-- what the texts of an audit's inputs read as, or their first fault
 abbrev pub audit_in : List ℕ → Texts → List ℕ → Result Claimed IntakeFault
-audit_in seed texts log = do
-  read ← inputs_in texts
-  last ← input_in input.Log log
-  claimed_in (papers_in seed read.schools read.roster read.lists) (log_in last)
+audit_in seed texts log = claimed_in (opening_in seed texts) (log_in log)
 
 -- a verdict's line was written; a front of it where the writer failed, and nothing at want of memory
 abbrev pub TellsVerdict : Verdict → Option (List ℕ) → Option (List ℕ) → Result (Unit {0}) RunFault → Type 0
@@ -64,8 +60,8 @@ WritesVerdict reading old new (Err (Read source)) = ⊥
 WritesVerdict reading old new (Err (Journal fault)) = ⊥
 WritesVerdict reading old new (Err WriteJournal) = ⊥
 
--- what auditing files did: an input could not be read, and nothing was written; or the log was audited, each
--- input whole
-abbrev pub AuditsFiles : List ℕ → Option (List ℕ) → Option (List ℕ) → Option (List ℕ) → Option (List ℕ) → Option (List ℕ) → Option (List ℕ) → Result Verdict RunFault → Type 0
-AuditsFiles seed schools roster lists log old new result = (IsUnread result × Keeps old new)
-    ⊎ ((texts : Texts) × (last : List ℕ) × AreWhole schools roster lists texts × IsWhole log last × WritesVerdict (audit_in seed texts last) old new result)
+-- what auditing files did: reading them ended early, and nothing was written; or they were read, each whole,
+-- and the log was audited
+abbrev pub AuditsFiles : List ℕ → List Turn → Option (List ℕ) → Option (List ℕ) → Result Verdict RunFault → Type 0
+AuditsFiles seed turns old new result = EndsUnread turns old new result
+    ⊎ ((texts : Texts) × (log : List ℕ) × AreRead turns (in_order texts ++ log ∷ []) × WritesVerdict (audit_in seed texts log) old new result)

@@ -5,10 +5,9 @@ use Rattle.sc_lottery.specs.Seed.{seed_of}
 use Rattle.sc_papers.specs.Market.{Market}
 use Rattle.sc_intake.specs.Script.{script_in}
 use Rattle.sc_intake.specs.declared.fault.IntakeFault.{IntakeFault}
-use Rattle.sc_intake.specs.declared.fault.Source.TheVariants as input
 use Rattle.sc_runs.specs.Bundle.{Sections, bundle_of}
-use Rattle.sc_runs.specs.Inputs.{input_in, IsWhole}
-use Rattle.sc_runs.specs.Opening.{papers_in, WritesMatch}
+use Rattle.sc_runs.specs.Inputs.{Turn, EndsReading, IsRead}
+use Rattle.sc_runs.specs.Opening.{is_output_fault, papers_in, WritesMatch}
 use Rattle.sc_runs.specs.Run.{opened_in, WritesRun}
 use Rattle.sc_runs.specs.declared.ending.Ending.{Ending}
 use Rattle.sc_runs.specs.declared.ending.Ending.TheVariants.{Done, NotCertified, Torn, BadSeed, BadBundle, Fault}
@@ -46,29 +45,17 @@ EndsBundle text old new (BadSeed error) =
 EndsBundle text old new BadBundle = (bundle_of text ≡ None) × Keeps old new
 EndsBundle text old new (Fault fault) = RunsSections text old new (Err fault)
 
--- a bundle that is too long is refused, and nothing is written; otherwise what it holds is run
-abbrev pub EndsInput : Result (List ℕ) IntakeFault → Option (List ℕ) → Option (List ℕ) → Ending → Type 0
-EndsInput (Ok text) old new ending = EndsBundle text old new ending
-EndsInput (Err fault) old new ending = (ending ≡ Fault (Intake fault)) × Keeps old new
+-- what running a bundle did: reading it ended early, and nothing was written; or it was read whole, and what it
+-- holds was run
+abbrev pub RunsBundle : Turn → Option (List ℕ) → Option (List ℕ) → Ending → Type 0
+RunsBundle turn old new ending = ((fault : RunFault) × (ending ≡ Fault fault) × EndsReading turn fault × Keeps old new)
+    ⊎ ((text : List ℕ) × IsRead turn text × EndsBundle text old new ending)
 
-abbrev IsUnreadFor : Bool → RunFault → Type 0
-IsUnreadFor failed (Read source) = (source ≡ input.Bundle) × (failed ≡ true)
-IsUnreadFor failed (Intake fault) = ⊥
-IsUnreadFor failed (Journal fault) = ⊥
-IsUnreadFor failed WriteOut = ⊥
-IsUnreadFor failed WriteJournal = ⊥
-IsUnreadFor failed OutOfMemory = ⊤
-
--- a bundle was not read to its end: its reader failed, or there was no memory for it
-abbrev pub EndsUnread : Bool → Ending → Type 0
-EndsUnread failed Done = ⊥
-EndsUnread failed NotCertified = ⊥
-EndsUnread failed Torn = ⊥
-EndsUnread failed (BadSeed error) = ⊥
-EndsUnread failed BadBundle = ⊥
-EndsUnread failed (Fault fault) = IsUnreadFor failed fault
-
--- what running a bundle did: it was not read to its end, and nothing was written; or it was read whole
-abbrev pub RunsBundle : Option (List ℕ) → Bool → Option (List ℕ) → Option (List ℕ) → Ending → Type 0
-RunsBundle bundle failed old new ending = (EndsUnread failed ending × Keeps old new)
-    ⊎ ((text : List ℕ) × IsWhole bundle text × EndsInput (input_in input.Bundle text) old new ending)
+-- whether a call ended because the output failed
+abbrev pub ends_by_output : Ending → Bool
+ends_by_output Done = false
+ends_by_output NotCertified = false
+ends_by_output Torn = false
+ends_by_output (BadSeed error) = false
+ends_by_output BadBundle = false
+ends_by_output (Fault fault) = is_output_fault {A = Unit {0}} (Err fault)

@@ -1,18 +1,98 @@
--- What the inputs of a call are: each is read whole, and none may be longer than 64 MiB, before any is
--- looked into.
-use Rattle.std.specs.Prelude.{◌≡◌, ℕ, nat_lt, Bool, true, false, List, length, Option, None, Some, Result, Ok, Err, if◌then◌else◌, ⊤}
-use Rattle.sc_intake.specs.Fault.{◌>>=◌, fault_at}
+-- What the inputs of a call are, and what reading them does: one after the other, each whole, before any is
+-- looked into. None may be longer than 64 MiB.
+use Rattle.std.specs.Prelude.{◌≡◌, ◌⊎◌, ℕ, ◌<◌, ◌≤◌, Bool, true, List, [], ◌∷◌, length, Option, None, Some, ⊤}
+use Rattle.std.specs.List.{All}
+use Rattle.sc_intake.specs.Fault.{fault_at}
 use Rattle.sc_intake.specs.declared.fault.Cause.TheVariants.{TooLong}
-use Rattle.sc_intake.specs.declared.fault.IntakeFault.{IntakeFault}
 use Rattle.sc_intake.specs.declared.fault.Source.{Source}
 use Rattle.sc_intake.specs.declared.fault.Source.TheVariants as input
+use Rattle.sc_report.specs.Watched.{device_of, has_failed}
+use Rattle.sc_report.specs.Whole.{GivesAtMost}
+use Rattle.sc_report.specs.declared.watched.Watched.{Watched}
+use Rattle.sc_runs.specs.declared.inputs.Opening.{Opening}
 use Rattle.sc_runs.specs.declared.inputs.OpeningTexts.{OpeningTexts}
 use Rattle.sc_runs.specs.declared.fault.RunFault.{RunFault}
 use Rattle.sc_runs.specs.declared.fault.RunFault.TheVariants.{Read, Intake, Journal, WriteOut, WriteJournal, OutOfMemory}
 
--- an input, which is refused where it is longer than 64 MiB
-unfoldable pub input_in : Source → List ℕ → Result (List ℕ) IntakeFault
-input_in source text = if nat_lt 67108864 (length text) then Err (fault_at source 0 TooLong) else Ok text
+-- an input in its turn: which it is, the bytes that its reader has left, where those are known, and whether a
+-- call on the reader has failed, each before and after
+pub record Turn : Type 0 where
+  pub source : Source
+  pub left_before : Option (List ℕ)
+  pub left_after : Option (List ℕ)
+  pub failed_before : Bool
+  pub failed_after : Bool
+
+-- the turn of a reader, whose bytes are known by `remaining`
+abbrev pub turn_of : {R : Type 0} → (R → Option (List ℕ)) → Source → Watched R → Watched R → Turn
+turn_of remaining source old new = record {
+  source = source;
+  left_before = remaining (device_of old);
+  left_after = remaining (device_of new);
+  failed_before = has_failed old;
+  failed_after = has_failed new;
+}
+
+-- the files of an opening, in the order in which they are read
+abbrev pub opening_turns : {R : Type 0} → (R → Option (List ℕ)) → Opening R → Opening R → List Turn
+opening_turns remaining old new =
+    turn_of remaining input.Schools old.schools new.schools
+    ∷ turn_of remaining input.Roster old.roster new.roster
+    ∷ turn_of remaining input.Lists old.lists new.lists
+    ∷ []
+
+-- a text is the whole of what a reader had, where its bytes are known
+abbrev pub IsWhole : Option (List ℕ) → List ℕ → Type 0
+IsWhole None text = ⊤
+IsWhole (Some bytes) text = text ≡ bytes
+
+-- a reader was read to its end and gave this text, where its bytes are known
+abbrev pub ReadsToEnd : Option (List ℕ) → Option (List ℕ) → List ℕ → Type 0
+ReadsToEnd None left text = ⊤
+ReadsToEnd (Some bytes) None text = ⊥
+ReadsToEnd (Some bytes) (Some left) text = (text ≡ bytes) × (left ≡ [])
+
+-- an input was read to its end, and this is its text: it is not too long, and no call on its reader failed
+pub record IsRead (turn : Turn) (text : List ℕ) : Type 0 where
+  pub whole : ReadsToEnd turn.left_before turn.left_after text
+  pub within : length text ≤ 67108864
+  pub unfailed : turn.failed_after ≡ turn.failed_before
+
+-- an input is longer than 64 MiB, and no call on its reader failed
+pub record IsTooLong (turn : Turn) : Type 0 where
+  pub text : List ℕ
+  pub whole : IsWhole turn.left_before text
+  pub longer : 67108864 < length text
+  pub unfailed : turn.failed_after ≡ turn.failed_before
+
+-- reading an input ended early: its reader failed, it is too long, or there was no memory for it
+abbrev pub EndsReading : Turn → RunFault → Type 0
+EndsReading turn (Read source) = (source ≡ turn.source) × (turn.failed_after ≡ true)
+EndsReading turn (Intake fault) = (fault ≡ fault_at turn.source 0 TooLong) × IsTooLong turn
+EndsReading turn (Journal fault) = ⊥
+EndsReading turn WriteOut = ⊥
+EndsReading turn WriteJournal = ⊥
+EndsReading turn OutOfMemory = turn.failed_after ≡ turn.failed_before
+
+-- an input was not come to: no byte of it was taken, and no call on its reader failed
+abbrev pub IsUntouched : Turn → Type 0
+IsUntouched turn = (turn.left_after ≡ turn.left_before) × (turn.failed_after ≡ turn.failed_before)
+
+-- inputs were read one after the other, and these are their texts
+abbrev pub AreRead : List Turn → List (List ℕ) → Type 0
+AreRead [] [] = ⊤
+AreRead [] (text ∷ texts) = ⊥
+AreRead (turn ∷ rest) [] = ⊥
+AreRead (turn ∷ rest) (text ∷ texts) = IsRead turn text × AreRead rest texts
+
+-- inputs were read one after the other, until reading one of them ended early; those after it were not come to
+abbrev pub EndsAmong : List Turn → RunFault → Type 0
+EndsAmong [] fault = ⊥
+EndsAmong (turn ∷ rest) fault = (EndsReading turn fault × All IsUntouched rest) ⊎ ((text : List ℕ) × IsRead turn text × EndsAmong rest fault)
+
+-- no more was taken of an input than one byte past 64 MiB
+abbrev pub TakesWithin : Turn → Type 0
+TakesWithin turn = GivesAtMost 67108865 turn.left_before turn.left_after
 
 -- the texts of an opening's files
 pub record Texts : Type 0 where
@@ -20,135 +100,10 @@ pub record Texts : Type 0 where
   pub roster : List ℕ
   pub lists : List ℕ
 
+-- the texts, in the order in which they are read
+abbrev pub in_order : Texts → List (List ℕ)
+in_order texts = texts.schools ∷ texts.roster ∷ texts.lists ∷ []
+
 -- the texts that were read
 abbrev pub texts_of : OpeningTexts → Texts
 texts_of given = record { schools = given.schools.items; roster = given.roster.items; lists = given.lists.items }
-
--- the files of an opening, the first of which that is too long is refused
-abbrev pub inputs_in : Texts → Result Texts IntakeFault
-inputs_in texts = do
-  schools ← input_in input.Schools texts.schools
-  roster ← input_in input.Roster texts.roster
-  lists ← input_in input.Lists texts.lists
-  Ok texts
-
--- a text is the whole of what a reader had, where its bytes are known
-abbrev pub IsWhole : Option (List ℕ) → List ℕ → Type 0
-IsWhole None text = ⊤
-IsWhole (Some bytes) text = text ≡ bytes
-
--- the texts are the whole of what the three readers had
-pub record AreWhole (schools roster lists : Option (List ℕ)) (texts : Texts) : Type 0 where
-  pub schools_whole : IsWhole schools texts.schools
-  pub roster_whole : IsWhole roster texts.roster
-  pub lists_whole : IsWhole lists texts.lists
-
--- reading an input ended early: its reader failed, it is refused, or there was no memory for it
-abbrev pub IsInputFault : {A : Type 0} → Source → Result A IntakeFault → RunFault → Type 0
-IsInputFault of reading (Read source) = source ≡ of
-IsInputFault of reading (Intake fault) = reading ≡ Err fault
-IsInputFault of reading (Journal fault) = ⊥
-IsInputFault of reading WriteOut = ⊥
-IsInputFault of reading WriteJournal = ⊥
-IsInputFault of reading OutOfMemory = ⊤
-
--- whether the reader of an opening's file has failed, by those of the three
-abbrev pub has_failed_of : Bool → Bool → Bool → Source → Bool
-has_failed_of schools roster lists input.Schools = schools
-has_failed_of schools roster lists input.Roster = roster
-has_failed_of schools roster lists input.Lists = lists
-has_failed_of schools roster lists input.Script = false
-has_failed_of schools roster lists input.Log = false
-has_failed_of schools roster lists input.Journal = false
-has_failed_of schools roster lists input.Bundle = false
-
--- where a call ended because a file of the opening could not be read, its reader has failed
-abbrev pub ReadersFailed : Bool → Bool → Bool → RunFault → Type 0
-ReadersFailed schools roster lists (Read source) = has_failed_of schools roster lists source ≡ true
-ReadersFailed schools roster lists (Intake fault) = ⊤
-ReadersFailed schools roster lists (Journal fault) = ⊤
-ReadersFailed schools roster lists WriteOut = ⊤
-ReadersFailed schools roster lists WriteJournal = ⊤
-ReadersFailed schools roster lists OutOfMemory = ⊤
-
--- the same where one more input is read after the opening
-abbrev pub has_failed_with_script : Bool → Bool → Bool → Bool → Source → Bool
-has_failed_with_script schools roster lists script input.Schools = schools
-has_failed_with_script schools roster lists script input.Roster = roster
-has_failed_with_script schools roster lists script input.Lists = lists
-has_failed_with_script schools roster lists script input.Script = script
-has_failed_with_script schools roster lists script input.Log = false
-has_failed_with_script schools roster lists script input.Journal = false
-has_failed_with_script schools roster lists script input.Bundle = false
-
-abbrev pub has_failed_with_log : Bool → Bool → Bool → Bool → Source → Bool
-has_failed_with_log schools roster lists log input.Schools = schools
-has_failed_with_log schools roster lists log input.Roster = roster
-has_failed_with_log schools roster lists log input.Lists = lists
-has_failed_with_log schools roster lists log input.Script = false
-has_failed_with_log schools roster lists log input.Log = log
-has_failed_with_log schools roster lists log input.Journal = false
-has_failed_with_log schools roster lists log input.Bundle = false
-
-abbrev pub has_failed_with_journal : Bool → Bool → Bool → Bool → Source → Bool
-has_failed_with_journal schools roster lists journal input.Schools = schools
-has_failed_with_journal schools roster lists journal input.Roster = roster
-has_failed_with_journal schools roster lists journal input.Lists = lists
-has_failed_with_journal schools roster lists journal input.Script = false
-has_failed_with_journal schools roster lists journal input.Log = false
-has_failed_with_journal schools roster lists journal input.Journal = journal
-has_failed_with_journal schools roster lists journal input.Bundle = false
-
-abbrev pub RunReadersFailed : Bool → Bool → Bool → Bool → RunFault → Type 0
-RunReadersFailed schools roster lists script (Read source) = has_failed_with_script schools roster lists script source ≡ true
-RunReadersFailed schools roster lists script (Intake fault) = ⊤
-RunReadersFailed schools roster lists script (Journal fault) = ⊤
-RunReadersFailed schools roster lists script WriteOut = ⊤
-RunReadersFailed schools roster lists script WriteJournal = ⊤
-RunReadersFailed schools roster lists script OutOfMemory = ⊤
-
-abbrev pub LogReadersFailed : Bool → Bool → Bool → Bool → RunFault → Type 0
-LogReadersFailed schools roster lists log (Read source) = has_failed_with_log schools roster lists log source ≡ true
-LogReadersFailed schools roster lists log (Intake fault) = ⊤
-LogReadersFailed schools roster lists log (Journal fault) = ⊤
-LogReadersFailed schools roster lists log WriteOut = ⊤
-LogReadersFailed schools roster lists log WriteJournal = ⊤
-LogReadersFailed schools roster lists log OutOfMemory = ⊤
-
-abbrev pub JournalReadersFailed : Bool → Bool → Bool → Bool → RunFault → Type 0
-JournalReadersFailed schools roster lists journal (Read source) = has_failed_with_journal schools roster lists journal source ≡ true
-JournalReadersFailed schools roster lists journal (Intake fault) = ⊤
-JournalReadersFailed schools roster lists journal (Journal fault) = ⊤
-JournalReadersFailed schools roster lists journal WriteOut = ⊤
-JournalReadersFailed schools roster lists journal WriteJournal = ⊤
-JournalReadersFailed schools roster lists journal OutOfMemory = ⊤
-
--- reading the files of an opening ended early: a reader failed, a file is refused, or there was no
--- memory for one
-abbrev pub AreInputsFault : {A : Type 0} → Result A IntakeFault → RunFault → Type 0
-AreInputsFault reading (Read source) = ⊤
-AreInputsFault reading (Intake fault) = reading ≡ Err fault
-AreInputsFault reading (Journal fault) = ⊥
-AreInputsFault reading WriteOut = ⊥
-AreInputsFault reading WriteJournal = ⊥
-AreInputsFault reading OutOfMemory = ⊤
-
--- a call ended because an input could not be read
-abbrev pub IsUnread : {A : Type 0} → Result A RunFault → Type 0
-IsUnread (Ok done) = ⊥
-IsUnread (Err (Read source)) = ⊤
-IsUnread (Err (Intake fault)) = ⊥
-IsUnread (Err (Journal fault)) = ⊥
-IsUnread (Err WriteOut) = ⊥
-IsUnread (Err WriteJournal) = ⊥
-IsUnread (Err OutOfMemory) = ⊥
-
--- whether a call ended because a reader failed
-abbrev pub is_read_fault : {A : Type 0} → Result A RunFault → Bool
-is_read_fault (Ok done) = false
-is_read_fault (Err (Read source)) = true
-is_read_fault (Err (Intake fault)) = false
-is_read_fault (Err (Journal fault)) = false
-is_read_fault (Err WriteOut) = false
-is_read_fault (Err WriteJournal) = false
-is_read_fault (Err OutOfMemory) = false

@@ -1,5 +1,5 @@
 -- What the files of an opening make, and what matching them does to the writer's bytes, where those are known.
-use Rattle.std.specs.Prelude.{◌≡◌, ◌⊎◌, ℕ, Bool, true, false, List, Option, Result, Ok, Err, ⊤}
+use Rattle.std.specs.Prelude.{◌≡◌, ◌⊎◌, ℕ, Bool, true, false, List, Option, Result, Ok, Err, ⊤, IsErrAnd}
 use Rattle.std.specs.Io.KnownBytes.{Appends, Keeps}
 use Rattle.sc_papers.specs.Log.{IsSettled}
 use Rattle.sc_papers.specs.Market.{Market}
@@ -16,7 +16,7 @@ use Rattle.sc_intake.specs.declared.fault.IntakeFault.{IntakeFault}
 use Rattle.sc_report.specs.LogText.{log_text}
 use Rattle.sc_report.specs.Text.{IsReportText}
 use Rattle.sc_report.specs.Whole.{AppendsFront}
-use Rattle.sc_runs.specs.Inputs.{Texts, inputs_in, AreWhole, IsUnread}
+use Rattle.sc_runs.specs.Inputs.{in_order, Texts, Turn, AreRead, EndsAmong}
 use Rattle.sc_runs.specs.declared.fault.RunFault.{RunFault}
 use Rattle.sc_runs.specs.declared.fault.RunFault.TheVariants.{Read, Intake, Journal, WriteOut, WriteJournal, OutOfMemory}
 
@@ -29,10 +29,9 @@ papers_in seed schools roster lists = do
   list_rows ← lists_in lists
   papers_of seed school_rows roster_rows list_rows
 
--- the papers of an opening, or its first fault: a file that is too long comes before what stands in
--- another
+-- the papers of an opening's texts, or their first fault
 abbrev pub opening_in : List ℕ → Texts → Result Market IntakeFault
-opening_in seed texts = inputs_in texts >>= λ read. papers_in seed read.schools read.roster read.lists
+opening_in seed texts = papers_in seed texts.schools texts.roster texts.lists
 
 -- reading ended early for the first fault of what was read, or for want of memory
 abbrev pub IsOpeningFault : {A : Type 0} → Result A IntakeFault → RunFault → Type 0
@@ -87,11 +86,15 @@ WritesMatch show_log reading old new (Err (Read source)) = ⊥
 WritesMatch show_log reading old new (Err (Journal fault)) = ⊥
 WritesMatch show_log reading old new (Err WriteJournal) = ⊥
 
--- what matching files did: an input could not be read, and nothing was written; or they were matched,
--- each whole
-abbrev pub MatchesFiles : List ℕ → Bool → Option (List ℕ) → Option (List ℕ) → Option (List ℕ) → Option (List ℕ) → Option (List ℕ) → Result (Unit {0}) RunFault → Type 0
-MatchesFiles seed show_log schools roster lists old new result = (IsUnread result × Keeps old new)
-    ⊎ ((texts : Texts) × AreWhole schools roster lists texts × WritesMatch show_log (opening_in seed texts) old new result)
+-- reading the inputs of a call ended early, and nothing was written
+abbrev pub EndsUnread : {A : Type 0} → List Turn → Option (List ℕ) → Option (List ℕ) → Result A RunFault → Type 0
+EndsUnread turns old new result = IsErrAnd result (EndsAmong turns) × Keeps old new
+
+-- what matching files did: reading them ended early, and nothing was written; or they were read, each whole,
+-- and matched
+abbrev pub MatchesFiles : List ℕ → Bool → List Turn → Option (List ℕ) → Option (List ℕ) → Result (Unit {0}) RunFault → Type 0
+MatchesFiles seed show_log turns old new result = EndsUnread turns old new result
+    ⊎ ((texts : Texts) × AreRead turns (in_order texts) × WritesMatch show_log (opening_in seed texts) old new result)
 
 -- whether a run ended because the output failed
 abbrev pub is_output_fault : {A : Type 0} → Result A RunFault → Bool

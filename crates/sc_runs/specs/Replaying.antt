@@ -1,28 +1,18 @@
 -- What replaying a journal does, where bytes are known.
-use Rattle.std.specs.Prelude.{◌≡◌, ◌⊎◌, ℕ, List, Option, Result, Ok, Err}
+use Rattle.std.specs.Prelude.{◌≡◌, ◌⊎◌, ℕ, List, [], ◌∷◌, ◌++◌, Option, Result, Ok, Err}
 use Rattle.std.specs.Io.KnownBytes.{Appends, Keeps}
 use Rattle.sc_papers.specs.Market.{Market}
-use Rattle.sc_intake.specs.Fault.{◌>>=◌}
 use Rattle.sc_intake.specs.declared.fault.IntakeFault.{IntakeFault}
-use Rattle.sc_intake.specs.declared.fault.Source.TheVariants as input
 use Rattle.sc_journal.specs.Journal.{IsFirstFault, IsReplay}
 use Rattle.sc_journal.specs.declared.fault.JournalFault.{JournalFault}
 use Rattle.sc_journal.specs.declared.fault.JournalCause.{JournalCause}
 use Rattle.sc_journal.specs.declared.fault.JournalCause.TheVariants as cause
 use Rattle.sc_journal.specs.declared.journal.Tail.{Tail}
 use Rattle.sc_report.specs.Whole.{AppendsFront}
-use Rattle.sc_runs.specs.Inputs.{Texts, input_in, inputs_in, AreWhole, IsUnread, IsWhole}
-use Rattle.sc_runs.specs.Opening.{papers_in, IsReport}
+use Rattle.sc_runs.specs.Inputs.{in_order, Texts, Turn, AreRead}
+use Rattle.sc_runs.specs.Opening.{opening_in, EndsUnread, IsReport}
 use Rattle.sc_runs.specs.declared.fault.RunFault.{RunFault}
 use Rattle.sc_runs.specs.declared.fault.RunFault.TheVariants.{Read, Intake, Journal, WriteOut, WriteJournal, OutOfMemory}
-
--- the papers that a journal is replayed over, or the first fault of the inputs: each is read whole before
--- any is looked into
-abbrev pub replay_in : List ℕ → Texts → List ℕ → Result Market IntakeFault
-replay_in seed texts journal = do
-  read ← inputs_in texts
-  last ← input_in input.Journal journal
-  papers_in seed read.schools read.roster read.lists
 
 -- a text is the report after a journal was replayed over papers, which ended so
 abbrev pub IsReplayReport : Market → List ℕ → Tail → List ℕ → Type 0
@@ -41,11 +31,11 @@ WritesReplay reading journal old new (Err OutOfMemory) = Keeps old new
 WritesReplay reading journal old new (Err (Read source)) = ⊥
 WritesReplay reading journal old new (Err WriteJournal) = ⊥
 
--- what replaying files did: an input could not be read, and nothing was written; or the journal was
--- replayed, each input whole
-abbrev pub ReplaysFiles : List ℕ → Option (List ℕ) → Option (List ℕ) → Option (List ℕ) → Option (List ℕ) → Option (List ℕ) → Option (List ℕ) → Result Tail RunFault → Type 0
-ReplaysFiles seed schools roster lists journal old new result = (IsUnread result × Keeps old new)
-    ⊎ ((texts : Texts) × (last : List ℕ) × AreWhole schools roster lists texts × IsWhole journal last × WritesReplay (replay_in seed texts last) last old new result)
+-- what replaying files did: reading them ended early, and nothing was written; or they were read, each whole,
+-- and the journal was replayed
+abbrev pub ReplaysFiles : List ℕ → List Turn → Option (List ℕ) → Option (List ℕ) → Result Tail RunFault → Type 0
+ReplaysFiles seed turns old new result = EndsUnread turns old new result
+    ⊎ ((texts : Texts) × (journal : List ℕ) × AreRead turns (in_order texts ++ journal ∷ []) × WritesReplay (opening_in seed texts) journal old new result)
 
 abbrev journal_fault_by : JournalCause → JournalFault → RunFault
 journal_fault_by cause.Shape fault = Journal fault

@@ -1,5 +1,5 @@
 -- What a script comes to: the papers after it, and the texts of a run.
-use Rattle.std.specs.Prelude.{◌≡◌, ◌⊎◌, ⊤, ℕ, ◌+◌, ◌≤◌, Bool, true, false, List, [], ◌∷◌, ◌++◌, length, codes, Option, None, Some, Result, Ok, Err}
+use Rattle.std.specs.Prelude.{◌≡◌, ◌⊎◌, ⊤, ℕ, ◌+◌, ◌≤◌, Bool, true, false, List, [], ◌∷◌, ◌++◌, length, codes, Option, None, Some, Result, Ok, Err, IsErrAnd}
 use Rattle.std.specs.Io.KnownBytes.{Keeps}
 use Rattle.sc_papers.specs.Market.{Market}
 use Rattle.sc_papers.specs.Verdict.{after, unless_refused, verdict}
@@ -8,12 +8,12 @@ use Rattle.sc_papers.specs.declared.amendment.Refusal.{Refusal}
 use Rattle.sc_intake.specs.Fault.{◌>>=◌}
 use Rattle.sc_intake.specs.Script.{script_in}
 use Rattle.sc_intake.specs.declared.fault.IntakeFault.{IntakeFault}
-use Rattle.sc_intake.specs.declared.fault.Source.TheVariants as input
 use Rattle.sc_journal.specs.Journal.{journal_text}
 use Rattle.sc_journal.specs.Line.{line_text}
+use Rattle.sc_journal.specs.declared.fault.JournalFault.{JournalFault}
 use Rattle.sc_report.specs.Reply.{reply_text}
-use Rattle.sc_runs.specs.Inputs.{Texts, input_in, inputs_in, AreWhole, IsUnread, IsWhole}
-use Rattle.sc_runs.specs.Opening.{papers_in, IsReport}
+use Rattle.sc_runs.specs.Inputs.{in_order, Texts, Turn, AreRead, EndsAmong}
+use Rattle.sc_runs.specs.Opening.{opening_in, IsReport}
 use Rattle.sc_runs.specs.Pieces.{Held, Piece, to_journal, to_output, Grows, GrowsByAll, GrowsByFront}
 use Rattle.sc_journal.specs.declared.fault.JournalCause.TheVariants.{JournalFull}
 use Rattle.sc_runs.specs.declared.fault.RunFault.{RunFault}
@@ -85,12 +85,16 @@ made_by line number (Some refusal) = to_output (reply_text number (Err refusal))
 abbrev pub made : List ℕ → ℕ → Market → Amendment → List Piece
 made line number m amendment = made_by line number (verdict m amendment)
 
--- the journal is full: it has as many lines as there are numbers for
+-- the fault of a journal in which line 999,999,999 stands, and the next would have no number
+abbrev pub full_journal : JournalFault
+full_journal = record { line = 1000000000; cause = JournalFull }
+
+-- the journal is full only where it has as many lines as there are numbers for
 abbrev pub IsFull : {A : Type 0} → ℕ → Result A RunFault → Type 0
 IsFull lines (Ok done) = ⊤
 IsFull lines (Err (Read source)) = ⊤
 IsFull lines (Err (Intake fault)) = ⊤
-IsFull lines (Err (Journal fault)) = (fault.cause ≡ JournalFull) × (999999999 ≤ lines)
+IsFull lines (Err (Journal fault)) = (999999999 ≤ lines) × (fault ≡ full_journal)
 IsFull lines (Err WriteOut) = ⊤
 IsFull lines (Err WriteJournal) = ⊤
 IsFull lines (Err OutOfMemory) = ⊤
@@ -127,12 +131,9 @@ opened_in reading scripted = do
   script ← scripted
   Ok (record { papers = papers; script = script })
 
--- what a run's inputs read as, or their first fault: each is read whole before any is looked into
+-- what the texts of a run's inputs read as, or their first fault
 abbrev pub run_in : List ℕ → Texts → List ℕ → Result Opened IntakeFault
-run_in seed texts script = do
-  read ← inputs_in texts
-  last ← input_in input.Script script
-  opened_in (papers_in seed read.schools read.roster read.lists) (script_in last)
+run_in seed texts script = opened_in (opening_in seed texts) (script_in script)
 
 -- a text is the report after a run: that of the papers as they then stand, under their student-optimal
 -- stable matching
@@ -140,9 +141,10 @@ abbrev pub IsLastReport : Opened → List ℕ → Type 0
 IsLastReport opened report = IsReport (after_script opened.papers opened.script) report
 
 -- a run wrote its texts: to the output a reply line for each record, and then the report; to the journal
--- the lines of the accepted amendments
+-- the lines of the accepted amendments, no more than there are numbers for
 abbrev pub WritesAll : Opened → Held → Held → Type 0
 WritesAll opened old new = (report : List ℕ) × IsLastReport opened report
+    × (length (accepted opened.papers opened.script) ≤ 999999999)
     × Grows old new (journal_text 1 (accepted opened.papers opened.script)) (replies 1 opened.papers opened.script ++ report)
 
 -- a run ended amid its writes: the answers to the records, and then the report
@@ -163,11 +165,11 @@ WritesRun reading old new (Err WriteOut) = (opened : Opened) × (reading ≡ Ok 
 WritesRun reading old new (Err WriteJournal) = (opened : Opened) × (reading ≡ Ok opened) × WritesFront opened old new
 WritesRun reading old new (Err OutOfMemory) = KeepsBoth old new ⊎ ((opened : Opened) × (reading ≡ Ok opened) × WritesFront opened old new)
 WritesRun reading old new (Err (Journal fault)) =
-    (opened : Opened) × (reading ≡ Ok opened) × ((fault.cause ≡ JournalFull) × (999999999 ≤ length opened.script)) × WritesFront opened old new
+    (opened : Opened) × (reading ≡ Ok opened) × IsFull {A = Unit {0}} (length opened.script) (Err (Journal fault)) × WritesFront opened old new
 WritesRun reading old new (Err (Read source)) = ⊥
 
--- what running files did: an input could not be read, and nothing was written; or they were run, each
--- whole
-abbrev pub RunsFiles : List ℕ → Option (List ℕ) → Option (List ℕ) → Option (List ℕ) → Option (List ℕ) → Held → Held → Result (Unit {0}) RunFault → Type 0
-RunsFiles seed schools roster lists script old new result = (IsUnread result × KeepsBoth old new)
-    ⊎ ((texts : Texts) × (last : List ℕ) × AreWhole schools roster lists texts × IsWhole script last × WritesRun (run_in seed texts last) old new result)
+-- what running files did: reading them ended early, and nothing was written; or they were read, each whole,
+-- and run
+abbrev pub RunsFiles : List ℕ → List Turn → Held → Held → Result (Unit {0}) RunFault → Type 0
+RunsFiles seed turns old new result = (IsErrAnd result (EndsAmong turns) × KeepsBoth old new)
+    ⊎ ((texts : Texts) × (script : List ℕ) × AreRead turns (in_order texts ++ script ∷ []) × WritesRun (run_in seed texts script) old new result)

@@ -1,12 +1,13 @@
 //! From three files and a log to a verdict.
 
-ghost use Rattle.std.specs.Prelude.{◌≡◌, ◌||◌, ◌++◌, IfErr, IfOk, MatchResult, OnOk, Ok};
+ghost use Rattle.std.specs.Prelude.{◌≡◌, ◌||◌, ◌++◌, ◌∷◌, [], All, IfOk, MatchResult, OnOk, Ok};
 ghost use Rattle.std.specs.Fmt.{decimal};
 ghost use Rattle.sc_audit.specs.Verdict.{IsVerdict};
 ghost use Rattle.sc_intake.specs.Log.{log_in};
+ghost use Rattle.sc_intake.specs.declared.fault.Source.TheVariants as input;
 ghost use Rattle.sc_report.specs.Watched.{device_of, has_failed};
 ghost use Rattle.sc_runs.specs.Auditing.{claimed_in, verdict_text, AuditsFiles, TellsVerdict, WritesVerdict};
-ghost use Rattle.sc_runs.specs.Inputs.{LogReadersFailed};
+ghost use Rattle.sc_runs.specs.Inputs.{opening_turns, turn_of, TakesWithin};
 ghost use Rattle.sc_runs.specs.Opening.{is_output_fault, papers_in, IsOpeningFault};
 
 use crate::fault::RunFault;
@@ -124,10 +125,10 @@ pub fn audit_files<R: Read, W: Write>(
     out: &mut Watched<W>,
 ) -> Result<Verdict, RunFault>
     ensures verdict { AuditsFiles seed.now
-        (R.remaining (device_of opening.old.schools)) (R.remaining (device_of opening.old.roster)) (R.remaining (device_of opening.old.lists))
-        (R.remaining (device_of log.old)) (W.contents (device_of out.old)) (W.contents (device_of out.new)) result }
+        (opening_turns R.remaining opening.old opening.new ++ turn_of R.remaining input.Log log.old log.new ∷ [])
+        (W.contents (device_of out.old)) (W.contents (device_of out.new)) result }
     ensures failed { has_failed out.new ≡ (has_failed out.old || is_output_fault result) }
-    ensures read_failed { IfErr result (LogReadersFailed (has_failed opening.new.schools) (has_failed opening.new.roster) (has_failed opening.new.lists) (has_failed log.new)) }
+    ensures limit { All TakesWithin (opening_turns R.remaining opening.old opening.new ++ turn_of R.remaining input.Log log.old log.new ∷ []) }
 {
     let texts = match read_opening(alloc, opening) {
         Ok(texts) => texts,

@@ -1,8 +1,7 @@
 //! Reading the inputs of a call, each whole.
 
-ghost use Rattle.std.specs.Prelude.{◌≡◌, ◌||◌, ℕ, List, IfErr, MatchResult, Ok};
-ghost use Rattle.sc_report.specs.Watched.{device_of, has_failed};
-ghost use Rattle.sc_runs.specs.Inputs.{Texts, input_in, inputs_in, is_read_fault, texts_of, AreInputsFault, AreWhole, IsInputFault, IsWhole, ReadersFailed};
+ghost use Rattle.std.specs.Prelude.{All, IfErr, IfOk};
+ghost use Rattle.sc_runs.specs.Inputs.{in_order, opening_turns, texts_of, turn_of, AreRead, EndsAmong, EndsReading, IsRead, TakesWithin};
 
 use crate::fault::RunFault;
 use sc_intake::{Cause, IntakeFault, MOST_BYTES, Source};
@@ -34,15 +33,15 @@ pub struct Files<'a> {
     pub lists: &'a [u8],
 }
 
-/// Reads an input whole, and refuses one that is too long.
+/// Reads an input whole, and refuses one that is too long. At most one byte past the limit is taken.
 pub fn read_input<R: Read>(
     alloc: Global,
     from: &mut Watched<R>,
     source: Source,
 ) -> Result<Vec<u8>, RunFault>
-    ensures read { (text : List ℕ) × IsWhole (R.remaining (device_of from.old)) text
-        × MatchResult result (λ given. (given.items ≡ text) × (input_in source text ≡ Ok text)) (IsInputFault source (input_in source text)) }
-    ensures failed { has_failed from.new ≡ (has_failed from.old || is_read_fault result) }
+    ensures read { IfOk result (λ given. IsRead (turn_of R.remaining source from.old from.new) given.items) }
+    ensures ended { IfErr result (EndsReading (turn_of R.remaining source from.old from.new)) }
+    ensures limit { TakesWithin (turn_of R.remaining source from.old from.new) }
 {
     match read_whole(alloc, from, MOST_BYTES + 1) {
         Ok(bytes) => {
@@ -65,10 +64,9 @@ pub fn read_opening<R: Read>(
     alloc: Global,
     opening: &mut Opening<R>,
 ) -> Result<OpeningTexts, RunFault>
-    ensures read { (texts : Texts)
-        × AreWhole (R.remaining (device_of opening.old.schools)) (R.remaining (device_of opening.old.roster)) (R.remaining (device_of opening.old.lists)) texts
-        × MatchResult result (λ given. (texts_of given ≡ texts) × (inputs_in texts ≡ Ok texts)) (AreInputsFault (inputs_in texts)) }
-    ensures failed { IfErr result (ReadersFailed (has_failed opening.new.schools) (has_failed opening.new.roster) (has_failed opening.new.lists)) }
+    ensures read { IfOk result (λ given. AreRead (opening_turns R.remaining opening.old opening.new) (in_order (texts_of given))) }
+    ensures ended { IfErr result (EndsAmong (opening_turns R.remaining opening.old opening.new)) }
+    ensures limit { All TakesWithin (opening_turns R.remaining opening.old opening.new) }
 {
     let schools = match read_input(alloc, &mut opening.schools, Source::Schools) {
         Ok(schools) => schools,

@@ -1,11 +1,11 @@
 //! From three files to an assignment.
 
-ghost use Rattle.std.specs.Prelude.{◌≡◌, ◌||◌, IfErr, MatchResult, Ok};
+ghost use Rattle.std.specs.Prelude.{◌≡◌, ◌||◌, All, MatchResult, Ok};
 ghost use Rattle.sc_papers.specs.Matching.{IsStudentOptimal};
 ghost use Rattle.sc_repair.specs.Standing.{matching_of, IsCertified};
 ghost use Rattle.sc_report.specs.Text.{IsReportText};
 ghost use Rattle.sc_report.specs.Watched.{device_of, has_failed};
-ghost use Rattle.sc_runs.specs.Inputs.{ReadersFailed};
+ghost use Rattle.sc_runs.specs.Inputs.{opening_turns, TakesWithin};
 ghost use Rattle.sc_runs.specs.Opening.{is_output_fault, papers_in, IsCertificate, IsOpeningFault, MatchesFiles, WritesExactly, WritesMatch, WritesText};
 
 use crate::fault::RunFault;
@@ -128,6 +128,8 @@ pub fn match_texts<W: Write>(
 /// Nothing is written before the files are known to be good. An error is the first fault of the
 /// files, each of which is read whole before any is looked into; that a file or the output failed; or
 /// want of memory, after which nothing was written. After a fault of the output a front of the text was.
+/// Where reading a file ends early, those after it are not touched; of none more than one byte past
+/// 64 MiB is taken.
 pub fn match_files<R: Read, W: Write>(
     alloc: Global,
     seed: &Seed,
@@ -135,11 +137,10 @@ pub fn match_files<R: Read, W: Write>(
     show_log: bool,
     out: &mut Watched<W>,
 ) -> Result<(), RunFault>
-    ensures bytes { MatchesFiles seed.now show_log
-        (R.remaining (device_of opening.old.schools)) (R.remaining (device_of opening.old.roster)) (R.remaining (device_of opening.old.lists))
+    ensures bytes { MatchesFiles seed.now show_log (opening_turns R.remaining opening.old opening.new)
         (W.contents (device_of out.old)) (W.contents (device_of out.new)) result }
     ensures failed { has_failed out.new ≡ (has_failed out.old || is_output_fault result) }
-    ensures read_failed { IfErr result (ReadersFailed (has_failed opening.new.schools) (has_failed opening.new.roster) (has_failed opening.new.lists)) }
+    ensures limit { All TakesWithin (opening_turns R.remaining opening.old opening.new) }
 {
     let texts = match read_opening(alloc, opening) {
         Ok(texts) => texts,

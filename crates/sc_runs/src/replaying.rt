@@ -1,8 +1,9 @@
 //! From three files and a journal to a report.
 
-ghost use Rattle.std.specs.Prelude.{◌≡◌, ◌||◌, IfErr, Ok};
+ghost use Rattle.std.specs.Prelude.{◌≡◌, ◌||◌, ◌++◌, ◌∷◌, [], All, Ok};
+ghost use Rattle.sc_intake.specs.declared.fault.Source.TheVariants as input;
 ghost use Rattle.sc_report.specs.Watched.{device_of, has_failed};
-ghost use Rattle.sc_runs.specs.Inputs.{JournalReadersFailed};
+ghost use Rattle.sc_runs.specs.Inputs.{opening_turns, turn_of, TakesWithin};
 ghost use Rattle.sc_runs.specs.Opening.{is_output_fault, papers_in};
 ghost use Rattle.sc_runs.specs.Replaying.{ReplaysFiles, WritesReplay};
 
@@ -70,10 +71,10 @@ pub fn replay_files<R: Read, W: Write>(
     out: &mut Watched<W>,
 ) -> Result<Tail, RunFault>
     ensures report { ReplaysFiles seed.now
-        (R.remaining (device_of opening.old.schools)) (R.remaining (device_of opening.old.roster)) (R.remaining (device_of opening.old.lists))
-        (R.remaining (device_of journal.old)) (W.contents (device_of out.old)) (W.contents (device_of out.new)) result }
+        (opening_turns R.remaining opening.old opening.new ++ turn_of R.remaining input.Journal journal.old journal.new ∷ [])
+        (W.contents (device_of out.old)) (W.contents (device_of out.new)) result }
     ensures failed { has_failed out.new ≡ (has_failed out.old || is_output_fault result) }
-    ensures read_failed { IfErr result (JournalReadersFailed (has_failed opening.new.schools) (has_failed opening.new.roster) (has_failed opening.new.lists) (has_failed journal.new)) }
+    ensures limit { All TakesWithin (opening_turns R.remaining opening.old opening.new ++ turn_of R.remaining input.Journal journal.old journal.new ∷ []) }
 {
     let texts = match read_opening(alloc, opening) {
         Ok(texts) => texts,

@@ -1,18 +1,20 @@
 //! From four files to replies and an assignment.
 
-ghost use Rattle.std.specs.Prelude.{◌≡◌, ◌||◌, ℕ, List, ◌∷◌, [], Option, false, IfErr, MatchResult, Ok};
+ghost use Rattle.std.specs.Prelude.{◌≡◌, ◌||◌, ℕ, List, ◌++◌, ◌∷◌, [], All, Option, false, MatchResult, Ok};
 ghost use Rattle.sc_intake.specs.Script.{script_in};
+ghost use Rattle.sc_intake.specs.declared.fault.Source.TheVariants as input;
 ghost use Rattle.sc_repair.specs.Standing.{matching_of, IsCertified};
 ghost use Rattle.sc_report.specs.Text.{report_text};
 ghost use Rattle.sc_report.specs.Watched.{device_of, has_failed};
 ghost use Rattle.sc_runs.specs.Opening.{is_output_fault, papers_in, IsOpeningFault};
-ghost use Rattle.sc_runs.specs.Inputs.{RunReadersFailed};
+ghost use Rattle.sc_runs.specs.Inputs.{opening_turns, turn_of, TakesWithin};
 ghost use Rattle.sc_runs.specs.Pieces.{to_output};
 ghost use Rattle.sc_runs.specs.Run.{is_journal_fault, opened_in, IsFull, RunsFiles, Writes, WritesRun};
 
 use crate::fault::RunFault;
 use crate::inputs::{Files, Opening, read_input, read_opening};
 use crate::matching::open_files;
+use crate::recorder::Recorder;
 use crate::script::{answer_all, write_line};
 use sc_intake::{Source, read_script};
 use sc_papers::{Amendment, Refusal, Seed};
@@ -56,18 +58,18 @@ fn write_last<W: Write>(
 }
 
 /// Writes the report of the standing assignment, and flushes the journal and then the output.
-fn finish<W: Write, J: Write>(
+fn finish<W: Write, J: Recorder>(
     alloc: Global,
     clearing: &Clearing,
     out: &mut Watched<W>,
-    journal: &mut Watched<J>,
+    journal: &mut J,
 ) -> Result<(), RunFault>
     ensures writes { Writes (to_output (report_text clearing.now.papers (matching_of clearing.now)) ∷ [])
-        (record { journal = J.contents (device_of journal.old); output = W.contents (device_of out.old) })
-        (record { journal = J.contents (device_of journal.new); output = W.contents (device_of out.new) }) result }
+        (record { journal = J.contents journal.old; output = W.contents (device_of out.old) })
+        (record { journal = J.contents journal.new; output = W.contents (device_of out.new) }) result }
     ensures full { IsFull 0 result }
     ensures failed { has_failed out.new ≡ (has_failed out.old || is_output_fault result) }
-    ensures journal_failed { has_failed journal.new ≡ (has_failed journal.old || is_journal_fault result) }
+    ensures journal_failed { J.has_failed journal.new ≡ (J.has_failed journal.old || is_journal_fault result) }
 {
     if let Err(fault) = write_last(alloc, clearing, out) {
         return Err(fault);
@@ -83,19 +85,19 @@ fn finish<W: Write, J: Write>(
 }
 
 /// Answers the records of the script in turn, and writes the report of the papers as they then stand.
-fn run_opened<W: Write, J: Write>(
+fn run_opened<W: Write, J: Recorder>(
     alloc: Global,
     clearing: &mut Clearing,
     script: &[u8],
     out: &mut Watched<W>,
-    journal: &mut Watched<J>,
+    journal: &mut J,
 ) -> Result<(), RunFault>
     requires certified { IsCertified clearing.old }
     ensures writes { WritesRun (opened_in (Ok clearing.old.papers) (script_in script.now))
-        (record { journal = J.contents (device_of journal.old); output = W.contents (device_of out.old) })
-        (record { journal = J.contents (device_of journal.new); output = W.contents (device_of out.new) }) result }
+        (record { journal = J.contents journal.old; output = W.contents (device_of out.old) })
+        (record { journal = J.contents journal.new; output = W.contents (device_of out.new) }) result }
     ensures failed { has_failed out.new ≡ (has_failed out.old || is_output_fault result) }
-    ensures journal_failed { has_failed journal.new ≡ (has_failed journal.old || is_journal_fault result) }
+    ensures journal_failed { J.has_failed journal.new ≡ (J.has_failed journal.old || is_journal_fault result) }
 {
     let records = match read_records(alloc, script) {
         Ok(records) => records,
@@ -109,19 +111,19 @@ fn run_opened<W: Write, J: Write>(
 
 /// Opens the papers that the files hold, answers the records of the script in turn, and writes the
 /// report of the papers as they then stand.
-pub fn run_texts<W: Write, J: Write>(
+pub fn run_texts<W: Write, J: Recorder>(
     alloc: Global,
     seed: &Seed,
     files: Files<'_>,
     script: &[u8],
     out: &mut Watched<W>,
-    journal: &mut Watched<J>,
+    journal: &mut J,
 ) -> Result<(), RunFault>
     ensures writes { WritesRun (opened_in (papers_in seed.now files.entry.schools.now files.entry.roster.now files.entry.lists.now) (script_in script.now))
-        (record { journal = J.contents (device_of journal.old); output = W.contents (device_of out.old) })
-        (record { journal = J.contents (device_of journal.new); output = W.contents (device_of out.new) }) result }
+        (record { journal = J.contents journal.old; output = W.contents (device_of out.old) })
+        (record { journal = J.contents journal.new; output = W.contents (device_of out.new) }) result }
     ensures failed { has_failed out.new ≡ (has_failed out.old || is_output_fault result) }
-    ensures journal_failed { has_failed journal.new ≡ (has_failed journal.old || is_journal_fault result) }
+    ensures journal_failed { J.has_failed journal.new ≡ (J.has_failed journal.old || is_journal_fault result) }
 {
     match open_files(alloc, seed, files) {
         Ok(mut clearing) => run_opened(alloc, &mut clearing, script, out, journal),
@@ -145,13 +147,12 @@ pub fn run<R: Read, W: Write, J: Write>(
     journal: &mut Watched<J>,
 ) -> Result<(), RunFault>
     ensures writes { RunsFiles seed.now
-        (R.remaining (device_of inputs.old.opening.schools)) (R.remaining (device_of inputs.old.opening.roster)) (R.remaining (device_of inputs.old.opening.lists))
-        (R.remaining (device_of inputs.old.script))
+        (opening_turns R.remaining inputs.old.opening inputs.new.opening ++ turn_of R.remaining input.Script inputs.old.script inputs.new.script ∷ [])
         (record { journal = J.contents (device_of journal.old); output = W.contents (device_of out.old) })
         (record { journal = J.contents (device_of journal.new); output = W.contents (device_of out.new) }) result }
     ensures failed { has_failed out.new ≡ (has_failed out.old || is_output_fault result) }
     ensures journal_failed { has_failed journal.new ≡ (has_failed journal.old || is_journal_fault result) }
-    ensures read_failed { IfErr result (RunReadersFailed (has_failed inputs.new.opening.schools) (has_failed inputs.new.opening.roster) (has_failed inputs.new.opening.lists) (has_failed inputs.new.script)) }
+    ensures limit { All TakesWithin (opening_turns R.remaining inputs.old.opening inputs.new.opening ++ turn_of R.remaining input.Script inputs.old.script inputs.new.script ∷ []) }
 {
     let texts = match read_opening(alloc, &mut inputs.opening) {
         Ok(texts) => texts,

@@ -8,9 +8,10 @@ ghost use Rattle.sc_report.specs.Reply.{reply_text};
 ghost use Rattle.sc_report.specs.Watched.{device_of, has_failed};
 ghost use Rattle.sc_runs.specs.Opening.{is_output_fault};
 ghost use Rattle.sc_runs.specs.Pieces.{to_journal, to_output};
-ghost use Rattle.sc_runs.specs.Run.{accepted_in, made, after_record, after_script, after_verdict, answer_to, answers, is_journal_fault, unless_verdict, IsFull, Writes};
+ghost use Rattle.sc_runs.specs.Run.{accepted, accepted_in, made, after_record, after_script, after_verdict, answer_to, answers, is_journal_fault, unless_verdict, IsFull, Writes};
 
 use crate::fault::RunFault;
+use crate::recorder::Recorder;
 use sc_journal::{JournalCause, JournalFault, LineNo, line};
 use sc_papers::{Amendment, Refusal};
 use sc_repair::Clearing;
@@ -76,21 +77,21 @@ fn write_reply<W: Write>(
 }
 
 /// Writes the line of an accepted amendment to the journal, and then its reply line to the output.
-fn write_accepted<W: Write, J: Write>(
+fn write_accepted<W: Write, J: Recorder>(
     alloc: Global,
     number: u64,
     line: &[u8],
     out: &mut Watched<W>,
-    journal: &mut Watched<J>,
+    journal: &mut J,
 ) -> Result<(), RunFault>
     ensures writes { Writes (to_journal line.now ∷ to_output (reply_text number (Ok tt)) ∷ [])
-        (record { journal = J.contents (device_of journal.old); output = W.contents (device_of out.old) })
-        (record { journal = J.contents (device_of journal.new); output = W.contents (device_of out.new) }) result }
+        (record { journal = J.contents journal.old; output = W.contents (device_of out.old) })
+        (record { journal = J.contents journal.new; output = W.contents (device_of out.new) }) result }
     ensures full { IsFull 0 result }
     ensures failed { has_failed out.new ≡ (has_failed out.old || is_output_fault result) }
-    ensures journal_failed { has_failed journal.new ≡ (has_failed journal.old || is_journal_fault result) }
+    ensures journal_failed { J.has_failed journal.new ≡ (J.has_failed journal.old || is_journal_fault result) }
 {
-    match write_whole(journal, line) {
+    match journal.write_line(line) {
         Ok(()) => write_reply(alloc, number, &Ok(()), out),
         Err(_) => Err(RunFault::WriteJournal),
     }
@@ -98,7 +99,7 @@ fn write_accepted<W: Write, J: Write>(
 
 /// Makes an amendment whose line would be this, or refuses it, and writes the line, where it is accepted,
 /// and the reply line. `lines` counts the lines of the journal.
-fn make<W: Write, J: Write>(
+fn make<W: Write, J: Recorder>(
     alloc: Global,
     clearing: &mut Clearing,
     number: u64,
@@ -106,18 +107,18 @@ fn make<W: Write, J: Write>(
     line: &[u8],
     lines: &mut u32,
     out: &mut Watched<W>,
-    journal: &mut Watched<J>,
+    journal: &mut J,
 ) -> Result<(), RunFault>
     requires room { lines.old < 999999999 }
     ensures lines { OnOk result (lines.new ≡ lines.old + length (unless_verdict amendment (verdict clearing.old.papers amendment))) }
     ensures papers { OnOk result (clearing.new.papers ≡ after_verdict clearing.old.papers amendment (verdict clearing.old.papers amendment)) }
     ensures optimal { OnOk result (IsOptimal clearing.old → IsOptimal clearing.new) }
     ensures writes { Writes (made line.now number clearing.old.papers amendment)
-        (record { journal = J.contents (device_of journal.old); output = W.contents (device_of out.old) })
-        (record { journal = J.contents (device_of journal.new); output = W.contents (device_of out.new) }) result }
+        (record { journal = J.contents journal.old; output = W.contents (device_of out.old) })
+        (record { journal = J.contents journal.new; output = W.contents (device_of out.new) }) result }
     ensures full { IsFull 0 result }
     ensures failed { has_failed out.new ≡ (has_failed out.old || is_output_fault result) }
-    ensures journal_failed { has_failed journal.new ≡ (has_failed journal.old || is_journal_fault result) }
+    ensures journal_failed { J.has_failed journal.new ≡ (J.has_failed journal.old || is_journal_fault result) }
 {
     let reply = match reply(clearing, amendment) {
         Ok(reply) => reply,
@@ -133,14 +134,14 @@ fn make<W: Write, J: Write>(
 }
 
 /// Answers an amendment.
-fn answer_amendment<W: Write, J: Write>(
+fn answer_amendment<W: Write, J: Recorder>(
     alloc: Global,
     clearing: &mut Clearing,
     number: u64,
     amendment: Amendment,
     lines: &mut u32,
     out: &mut Watched<W>,
-    journal: &mut Watched<J>,
+    journal: &mut J,
 ) -> Result<(), RunFault>
     requires room { lines.old ≤ 999999999 }
     ensures lines { OnOk result (lines.new ≡ lines.old + length (unless_verdict amendment (verdict clearing.old.papers amendment))) }
@@ -148,11 +149,11 @@ fn answer_amendment<W: Write, J: Write>(
     ensures papers { OnOk result (clearing.new.papers ≡ after_verdict clearing.old.papers amendment (verdict clearing.old.papers amendment)) }
     ensures optimal { OnOk result (IsOptimal clearing.old → IsOptimal clearing.new) }
     ensures writes { Writes (answer_to number lines.old clearing.old.papers (Ok amendment))
-        (record { journal = J.contents (device_of journal.old); output = W.contents (device_of out.old) })
-        (record { journal = J.contents (device_of journal.new); output = W.contents (device_of out.new) }) result }
+        (record { journal = J.contents journal.old; output = W.contents (device_of out.old) })
+        (record { journal = J.contents journal.new; output = W.contents (device_of out.new) }) result }
     ensures full { IsFull lines.old result }
     ensures failed { has_failed out.new ≡ (has_failed out.old || is_output_fault result) }
-    ensures journal_failed { has_failed journal.new ≡ (has_failed journal.old || is_journal_fault result) }
+    ensures journal_failed { J.has_failed journal.new ≡ (J.has_failed journal.old || is_journal_fault result) }
 {
     match LineNo::new(*lines + 1) {
         Some(next) => match line(alloc, next, &amendment) {
@@ -177,14 +178,14 @@ fn answer_amendment<W: Write, J: Write>(
 
 /// Answers a record of a script: an amendment is made or refused, and what is no amendment is refused.
 /// `lines` counts the lines of the journal.
-fn answer<W: Write, J: Write>(
+fn answer<W: Write, J: Recorder>(
     alloc: Global,
     clearing: &mut Clearing,
     number: u64,
     entry: Result<Amendment, Refusal>,
     lines: &mut u32,
     out: &mut Watched<W>,
-    journal: &mut Watched<J>,
+    journal: &mut J,
 ) -> Result<(), RunFault>
     requires room { lines.old ≤ 999999999 }
     ensures lines { OnOk result (lines.new ≡ lines.old + length (accepted_in clearing.old.papers entry)) }
@@ -192,11 +193,11 @@ fn answer<W: Write, J: Write>(
     ensures papers { OnOk result (clearing.new.papers ≡ after_record clearing.old.papers entry) }
     ensures optimal { OnOk result (IsOptimal clearing.old → IsOptimal clearing.new) }
     ensures writes { Writes (answer_to number lines.old clearing.old.papers entry)
-        (record { journal = J.contents (device_of journal.old); output = W.contents (device_of out.old) })
-        (record { journal = J.contents (device_of journal.new); output = W.contents (device_of out.new) }) result }
+        (record { journal = J.contents journal.old; output = W.contents (device_of out.old) })
+        (record { journal = J.contents journal.new; output = W.contents (device_of out.new) }) result }
     ensures full { IsFull lines.old result }
     ensures failed { has_failed out.new ≡ (has_failed out.old || is_output_fault result) }
-    ensures journal_failed { has_failed journal.new ≡ (has_failed journal.old || is_journal_fault result) }
+    ensures journal_failed { J.has_failed journal.new ≡ (J.has_failed journal.old || is_journal_fault result) }
 {
     match entry {
         Ok(amendment) => {
@@ -208,22 +209,23 @@ fn answer<W: Write, J: Write>(
 
 /// Answers the records of a script in turn: the journal is given the lines of the accepted amendments,
 /// the output the reply lines, both numbered from 1, and no reply before its line.
-pub fn answer_all<W: Write, J: Write>(
+pub fn answer_all<W: Write, J: Recorder>(
     alloc: Global,
     clearing: &mut Clearing,
     script: Vec<Result<Amendment, Refusal>>,
     out: &mut Watched<W>,
-    journal: &mut Watched<J>,
+    journal: &mut J,
 ) -> Result<(), RunFault>
     requires optimal { IsOptimal clearing.old }
     ensures optimal { OnOk result (IsOptimal clearing.new) }
     ensures papers { OnOk result (clearing.new.papers ≡ after_script clearing.old.papers script.items) }
+    ensures room { OnOk result (length (accepted clearing.old.papers script.items) ≤ 999999999) }
     ensures writes { Writes (answers 1 0 clearing.old.papers script.items)
-        (record { journal = J.contents (device_of journal.old); output = W.contents (device_of out.old) })
-        (record { journal = J.contents (device_of journal.new); output = W.contents (device_of out.new) }) result }
+        (record { journal = J.contents journal.old; output = W.contents (device_of out.old) })
+        (record { journal = J.contents journal.new; output = W.contents (device_of out.new) }) result }
     ensures full { IsFull (length script.items) result }
     ensures failed { has_failed out.new ≡ (has_failed out.old || is_output_fault result) }
-    ensures journal_failed { has_failed journal.new ≡ (has_failed journal.old || is_journal_fault result) }
+    ensures journal_failed { J.has_failed journal.new ≡ (J.has_failed journal.old || is_journal_fault result) }
 {
     let mut number = 0;
     let mut lines = 0;

@@ -1,28 +1,46 @@
-use Rattle.sc_report.specs.Watched.{device_of}
-use Rattle.sc_runs.specs.Inputs.{Texts}
-use Rattle.sc_runs.proofs.Openings.{AreInputsFault-lists, AreInputsFault-roster, AreInputsFault-schools, whole-some}
+use Rattle.std.proofs.Common.{refl}
+use Rattle.sc_intake.specs.declared.fault.Source.TheVariants as input
+use Rattle.sc_runs.specs.Inputs.{turn_of}
+use Rattle.sc_runs.proofs.Reading.{EndsAmong-third, TakesWithin-opening, TakesWithin-untouched}
 use Rattle.sc_runs.proofs.inputs.read_opening.Goals as goal
 
-pub returns-in-Err-clause-read : goal.returns-in-Err-clause-read
-returns-in-Err-clause-read g c =
-    let schools = c.in-Err.ensures.read in
-    let roster = whole-some (g.R.Read.remaining (device_of c.args.opening.now.roster)) in
-    let lists = whole-some (g.R.Read.remaining (device_of c.args.opening.now.lists)) in
-    let texts : Texts = record { schools = schools.0; roster = roster.0; lists = lists.0 } in
-    (texts, record { schools_whole = schools.1; roster_whole = roster.1; lists_whole = lists.1 }, AreInputsFault-schools texts c.in-Err.fault schools.2)
+pub returns-in-Err-clause-limit : goal.returns-in-Err-clause-limit
+returns-in-Err-clause-limit g c =
+    let old = c.args.opening.now in
+    let roster = turn_of g.R.Read.remaining input.Roster old.roster old.roster in
+    let lists = turn_of g.R.Read.remaining input.Lists old.lists old.lists in
+    TakesWithin-opening (turn_of g.R.Read.remaining input.Schools old.schools c.read_input.new.from) roster lists
+    c.in-Err.ensures.limit (TakesWithin-untouched roster (refl, refl)) (TakesWithin-untouched lists (refl, refl))
 
-pub returns-in-Err-read_input-clause-read : goal.returns-in-Err-read_input-clause-read
-returns-in-Err-read_input-clause-read g c =
-    let schools = c.in-Ok.ensures.read in
-    let roster = c.in-Err-read_input.ensures.read in
-    let lists = whole-some (g.R.Read.remaining (device_of c.args.opening.now.lists)) in
-    let texts : Texts = record { schools = schools.0; roster = roster.0; lists = lists.0 } in
-    (texts, record { schools_whole = schools.1; roster_whole = roster.1; lists_whole = lists.1 }, AreInputsFault-roster texts c.in-Err-read_input.fault schools.2.1 roster.2)
+pub returns-in-Err-read_input-clause-limit : goal.returns-in-Err-read_input-clause-limit
+returns-in-Err-read_input-clause-limit g c =
+    let old = c.args.opening.now in
+    let lists = turn_of g.R.Read.remaining input.Lists old.lists old.lists in
+    TakesWithin-opening (turn_of g.R.Read.remaining input.Schools old.schools c.read_input.new.from)
+    (turn_of g.R.Read.remaining input.Roster old.roster c.read_input-2.new.from) lists
+    c.in-Ok.ensures.limit c.in-Err-read_input.ensures.limit (TakesWithin-untouched lists (refl, refl))
 
-pub returns-in-Err-read_input-2-clause-read : goal.returns-in-Err-read_input-2-clause-read
-returns-in-Err-read_input-2-clause-read g c =
-    let schools = c.in-Ok.ensures.read in
-    let roster = c.in-Ok-read_input.ensures.read in
-    let lists = c.in-Err-read_input-2.ensures.read in
-    let texts : Texts = record { schools = schools.0; roster = roster.0; lists = lists.0 } in
-    (texts, record { schools_whole = schools.1; roster_whole = roster.1; lists_whole = lists.1 }, AreInputsFault-lists texts c.in-Err-read_input-2.fault schools.2.1 roster.2.1 lists.2)
+pub returns-in-Err-read_input-2-clause-ended : goal.returns-in-Err-read_input-2-clause-ended
+returns-in-Err-read_input-2-clause-ended g c =
+    let old = c.args.opening.now in
+    EndsAmong-third (turn_of g.R.Read.remaining input.Schools old.schools c.read_input.new.from)
+    (turn_of g.R.Read.remaining input.Roster old.roster c.read_input-2.new.from)
+    (turn_of g.R.Read.remaining input.Lists old.lists c.read_input-3.new.from)
+    c.in-Ok.schools.items c.in-Ok-read_input.roster.items c.in-Err-read_input-2.fault
+    c.in-Ok.ensures.read c.in-Ok-read_input.ensures.read c.in-Err-read_input-2.ensures.ended
+
+pub returns-in-Err-read_input-2-clause-limit : goal.returns-in-Err-read_input-2-clause-limit
+returns-in-Err-read_input-2-clause-limit g c =
+    let old = c.args.opening.now in
+    TakesWithin-opening (turn_of g.R.Read.remaining input.Schools old.schools c.read_input.new.from)
+    (turn_of g.R.Read.remaining input.Roster old.roster c.read_input-2.new.from)
+    (turn_of g.R.Read.remaining input.Lists old.lists c.read_input-3.new.from)
+    c.in-Ok.ensures.limit c.in-Ok-read_input.ensures.limit c.in-Err-read_input-2.ensures.limit
+
+pub returns-clause-limit : goal.returns-clause-limit
+returns-clause-limit g c =
+    let old = c.args.opening.now in
+    TakesWithin-opening (turn_of g.R.Read.remaining input.Schools old.schools c.read_input.new.from)
+    (turn_of g.R.Read.remaining input.Roster old.roster c.read_input-2.new.from)
+    (turn_of g.R.Read.remaining input.Lists old.lists c.read_input-3.new.from)
+    c.in-Ok.ensures.limit c.in-Ok-read_input.ensures.limit c.in-Ok-read_input-2.ensures.limit

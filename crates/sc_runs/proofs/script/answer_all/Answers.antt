@@ -1,7 +1,7 @@
-use Rattle.std.proofs.Common.{refl, sym, ◌∙◌, ap, arith, rules, ◌≡◌, ◌∷◌, length}
+use Rattle.std.proofs.Common.{refl, sym, ◌∙◌, ap, arith, rules, ◌≡◌, ◌∷◌, length, zero-add}
 use Rattle.std.specs.Vec.Iter.{into_iter_items}
 use Rattle.sc_runs.specs.Run.{after_script}
-use Rattle.sc_runs.proofs.Replies.{accepted_in-one, or-nothing, said-failed, said-first, said-next}
+use Rattle.sc_runs.proofs.Replies.{accepted_in-one, counted-next, or-nothing, said-failed, said-first, said-next}
 use Rattle.sc_runs.proofs.script.answer_all.Goals as goal
 
 pub loop-entry-init : goal.loop-entry-init
@@ -12,6 +12,7 @@ loop-entry-init g c = record {
   count = omega arith;
   room = omega arith;
   lines = omega arith;
+  counted = zero-add _;
   optimal = c.requires.optimal;
   failed = refl;
   journal_failed = refl;
@@ -46,6 +47,7 @@ loop-entry-preserved g c =
       count = omega arith;
       room = room;
       lines = omega arith;
+      counted = counted-next _ at.lines _ at.clearing.papers _ c.in-Some.entry _ _ at.invariant.counted steps c.in_default.ensures.papers c.in_default.ensures.lines;
       optimal = c.in_default.ensures.optimal at.invariant.optimal;
       failed = c.in_default.ensures.failed ∙ sym (or-nothing _ _ refl) ∙ at.invariant.failed;
       journal_failed = c.in_default.ensures.journal_failed ∙ sym (or-nothing _ _ refl) ∙ at.invariant.journal_failed;

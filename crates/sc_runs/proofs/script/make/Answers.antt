@@ -14,8 +14,8 @@ returns-in-Err-clause-writes g c = GrowsByFront-kept _ _ _ _ _ (Keeps-refl _) (K
 pub returns-in-Err-reply-clause-writes : goal.returns-in-Err-reply-clause-writes
 returns-in-Err-reply-clause-writes g c =
     Writes-same (to_output (reply_text c.args.number (Err c.in-Err-reply.refusal)) ∷ []) (made c.args.line.now c.args.number c.args.clearing.now.papers c.args.amendment)
-    (record { journal = g.J.Write.contents (device_of c.args.journal.now); output = g.W.Write.contents (device_of c.args.out.now) })
-    (record { journal = g.J.Write.contents (device_of c.args.journal.now); output = g.W.Write.contents (device_of c.write_reply.new.out) })
+    (record { journal = g.J.Recorder.contents c.args.journal.now; output = g.W.Write.contents (device_of c.args.out.now) })
+    (record { journal = g.J.Recorder.contents c.args.journal.now; output = g.W.Write.contents (device_of c.write_reply.new.out) })
     c.write_reply.result
     (sym (made-refused c.args.line.now c.args.number c.args.clearing.now.papers c.args.amendment c.in-Err-reply.refusal (sym c.in-Err-reply.is ∙ c.in-Ok.ensures.reply)))
-    (c.write_reply.ensures.writes (g.J.Write.contents (device_of c.args.journal.now)))
+    (c.write_reply.ensures.writes (g.J.Recorder.contents c.args.journal.now))

@@ -1,0 +1,79 @@
+-- Calls that read their inputs, by what reading them and then using them did.
+use Rattle.std.proofs.Common.{◌≡◌, ℕ, inl, inr, ap, Bool, List, [], ◌∷◌, ◌++◌, Option, Result, Ok, Err, refl, ◌∙◌, subst}
+use Rattle.std.proofs.lemmas.List.Elements.{All-nil}
+use Rattle.std.specs.Io.KnownBytes.{Keeps}
+use Rattle.sc_intake.specs.Log.{log_in}
+use Rattle.sc_intake.specs.Script.{script_in}
+use Rattle.sc_audit.specs.declared.verdict.Verdict.{Verdict}
+use Rattle.sc_journal.specs.declared.journal.Tail.{Tail}
+use Rattle.sc_runs.specs.Auditing.{claimed_in, AuditsFiles, WritesVerdict}
+use Rattle.sc_runs.specs.Inputs.{in_order, Texts, Turn, AreRead, EndsAmong, EndsReading, IsRead, IsUntouched}
+use Rattle.sc_runs.specs.Opening.{opening_in, papers_in, EndsUnread, MatchesFiles, WritesMatch}
+use Rattle.sc_runs.specs.Pieces.{Held}
+use Rattle.sc_runs.specs.Replaying.{ReplaysFiles, WritesReplay}
+use Rattle.sc_runs.specs.Run.{opened_in, KeepsBoth, RunsFiles, WritesRun}
+use Rattle.sc_runs.specs.declared.fault.RunFault.{RunFault}
+use Rattle.sc_runs.proofs.Openings.{Keeps-refl}
+use Rattle.sc_runs.proofs.Reading.{All-untouched, AreRead-more, EndsAmong-first, EndsAmong-later}
+
+-- files that are the texts that were read
+pub record AreTexts (texts : Texts) (schools roster lists : List ℕ) : Type 0 where
+  pub schools_same : schools ≡ texts.schools
+  pub roster_same : roster ≡ texts.roster
+  pub lists_same : lists ≡ texts.lists
+
+papers_in-texts : (seed : List ℕ) (texts : Texts) (schools roster lists : List ℕ) → AreTexts texts schools roster lists → papers_in seed schools roster lists ≡ opening_in seed texts
+papers_in-texts seed texts schools roster lists same =
+    ap (λ s. papers_in seed s roster lists) same.schools_same
+    ∙ ap (λ r. papers_in seed texts.schools r lists) same.roster_same
+    ∙ ap (λ l. papers_in seed texts.schools texts.roster l) same.lists_same
+
+-- the files were read, and matched
+pub MatchesFiles-read : (seed : List ℕ) (show_log : Bool) (turns : List Turn) (texts : Texts) (schools roster lists : List ℕ) (old new : Option (List ℕ)) (result : Result (Unit {0}) RunFault)
+    → AreRead turns (in_order texts) → AreTexts texts schools roster lists → WritesMatch show_log (papers_in seed schools roster lists) old new result → MatchesFiles seed show_log turns old new result
+MatchesFiles-read seed show_log turns texts schools roster lists old new result read same wrote =
+    inr (texts, read, subst (λ reading. WritesMatch show_log reading old new result) (papers_in-texts seed texts schools roster lists same) wrote)
+
+-- reading the files of the opening ended early, and the input after them was not come to
+pub EndsAmong-opening : (turns : List Turn) (turn : Turn) (fault : RunFault) → EndsAmong turns fault → IsUntouched turn → EndsAmong (turns ++ turn ∷ []) fault
+EndsAmong-opening turns turn fault ended untouched = EndsAmong-first turns (turn ∷ []) fault ended (All-untouched turn untouched)
+
+-- reading the input after the files of the opening ended early
+pub EndsAmong-last : (turns : List Turn) (turn : Turn) (texts : List (List ℕ)) (fault : RunFault) → AreRead turns texts → EndsReading turn fault → EndsAmong (turns ++ turn ∷ []) fault
+EndsAmong-last turns turn texts fault read ended = EndsAmong-later turns (turn ∷ []) texts fault read (inl (ended, All-nil IsUntouched))
+
+-- the files and the log were read, and the log was audited
+pub AuditsFiles-read : (seed : List ℕ) (turns : List Turn) (turn : Turn) (texts : Texts) (log schools roster lists given : List ℕ) (old new : Option (List ℕ)) (result : Result Verdict RunFault)
+    → AreRead turns (in_order texts) → IsRead turn log → AreTexts texts schools roster lists → given ≡ log
+    → WritesVerdict (claimed_in (papers_in seed schools roster lists) (log_in given)) old new result → AuditsFiles seed (turns ++ turn ∷ []) old new result
+AuditsFiles-read seed turns turn texts log schools roster lists given old new result read log_read same is wrote = inr (
+  texts,
+  log,
+  AreRead-more turns turn (in_order texts) log read log_read,
+  subst (λ reading. WritesVerdict (claimed_in reading (log_in log)) old new result) (papers_in-texts seed texts schools roster lists same)
+      (subst (λ text. WritesVerdict (claimed_in (papers_in seed schools roster lists) (log_in text)) old new result) is wrote),
+)
+
+-- the files and the journal were read, and the journal was replayed
+pub ReplaysFiles-read : (seed : List ℕ) (turns : List Turn) (turn : Turn) (texts : Texts) (journal schools roster lists given : List ℕ) (old new : Option (List ℕ)) (result : Result Tail RunFault)
+    → AreRead turns (in_order texts) → IsRead turn journal → AreTexts texts schools roster lists → given ≡ journal
+    → WritesReplay (papers_in seed schools roster lists) given old new result → ReplaysFiles seed (turns ++ turn ∷ []) old new result
+ReplaysFiles-read seed turns turn texts journal schools roster lists given old new result read journal_read same is wrote = inr (
+  texts,
+  journal,
+  AreRead-more turns turn (in_order texts) journal read journal_read,
+  subst (λ reading. WritesReplay reading journal old new result) (papers_in-texts seed texts schools roster lists same)
+      (subst (λ text. WritesReplay (papers_in seed schools roster lists) text old new result) is wrote),
+)
+
+-- the files and the script were read, and run
+pub RunsFiles-read : (seed : List ℕ) (turns : List Turn) (turn : Turn) (texts : Texts) (script schools roster lists given : List ℕ) (old new : Held) (result : Result (Unit {0}) RunFault)
+    → AreRead turns (in_order texts) → IsRead turn script → AreTexts texts schools roster lists → given ≡ script
+    → WritesRun (opened_in (papers_in seed schools roster lists) (script_in given)) old new result → RunsFiles seed (turns ++ turn ∷ []) old new result
+RunsFiles-read seed turns turn texts script schools roster lists given old new result read script_read same is wrote = inr (
+  texts,
+  script,
+  AreRead-more turns turn (in_order texts) script read script_read,
+  subst (λ reading. WritesRun (opened_in reading (script_in script)) old new result) (papers_in-texts seed texts schools roster lists same)
+      (subst (λ text. WritesRun (opened_in (papers_in seed schools roster lists) (script_in text)) old new result) is wrote),
+)
