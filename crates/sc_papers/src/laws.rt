@@ -1,6 +1,7 @@
 //! The laws of the mechanism. Each function does nothing: its contract is the law.
-ghost use Rattle.std.specs.Prelude.{◌≡◌, ◌↔◌, ℕ, ◌+◌, ◌≤◌, Bool, List, [], ◌∷◌, ◌++◌, length, take, slice_get, Some, None, false, Contains};
+ghost use Rattle.std.specs.Prelude.{◌≡◌, ◌↔◌, ℕ, ◌+◌, ◌≤◌, Bool, List, [], ◌∷◌, ◌++◌, length, take, slice_get, Some, None, true, false, Contains};
 ghost use Rattle.sc_papers.specs.Chain.{and_one, InChain, PutsOut, Ends, IsChain};
+ghost use Rattle.sc_papers.specs.Key.{IsStrictOrder, is_ahead, is_before, key_cmp};
 ghost use Rattle.sc_papers.specs.Log.{is_rejected, next_choice, matching_of, IsValidEntry, IsValidLog, IsSettled};
 ghost use Rattle.sc_papers.specs.Market.{Market, students_of, choices_of, seats_of, zone_at};
 ghost use Rattle.sc_papers.specs.Matching.{IsStudentOptimal, Matching};
@@ -10,7 +11,22 @@ ghost use Rattle.sc_papers.specs.Restriction.{restricted, cut, joined, entries_o
 ghost use Rattle.sc_papers.specs.Verdict.{after, verdict};
 ghost use Rattle.sc_papers.specs.WellFormed.{WellFormed};
 ghost use Rattle.sc_papers.specs.declared.amendment.Amendment.{Amendment};
+ghost use Rattle.sc_papers.specs.declared.key.Key.{Key};
 ghost use Rattle.sc_papers.specs.declared.rejection.Rejection.{Rejection};
+ghost use Rattle.std.specs.declared.cmp.Ordering.TheVariants.{Less, Equal, Greater};
+
+/// At each school being ahead is a strict order: nobody is ahead of themselves, whoever is ahead of one
+/// who is ahead of a third is ahead of the third, and of two different students one is ahead.
+pub fn being_ahead_is_a_strict_order()
+    ensures { (m : Market) (s : ℕ) → IsStrictOrder (is_ahead m s) }
+{}
+
+/// A comparison of two keys says which of them is ahead, and that they are equal only where they are one.
+pub fn comparison_says_who_is_ahead()
+    ensures ahead { (a b : Key) → (key_cmp a b ≡ Less ↔ is_before a b ≡ true) }
+    ensures equal { (a b : Key) → (key_cmp a b ≡ Equal ↔ a ≡ b) }
+    ensures behind { (a b : Key) → (key_cmp a b ≡ Greater ↔ is_before b a ≡ true) }
+{}
 
 /// The matching of every settled log is student-optimal, whoever made the log (Gale and Shapley,
 /// Theorem 2). So a settled log certifies its matching.
