@@ -1,5 +1,5 @@
 -- The moves of a chain, as the code makes them.
-use Rattle.std.proofs.Common.{◌≡◌, refl, ap, sym, subst, ◌∙◌, ℕ, ◌+◌, ◌<◌, ◌≤◌, nat_eq, List, [], ◌∷◌, ◌++◌, length, set, Option, Some, None, Contains, position, is_some, append_assoc, append-nil, arith}
+use Rattle.std.proofs.Common.{◌≡◌, refl, ap, sym, subst, ◌∙◌, ℕ, ◌+◌, ◌<◌, nat_eq, List, [], ◌∷◌, ◌++◌, length, set, Option, Some, None, Contains, position, is_some, append_assoc, append-nil, arith}
 use Rattle.sc_papers.specs.Market.{Market, students_of, schools_of}
 use Rattle.sc_papers.specs.Key.{key_of}
 use Rattle.sc_papers.specs.declared.key.Key.{Key}
@@ -110,9 +110,6 @@ goes-on_ends m a b c i j first last = record {
 }
 
 -- what an offer asks of the roll
-pub roll-room : (m : Market) (r : Standings) (hand s at : ℕ) → FitsBut m r (only hand) → position (nat_eq s) (schools_of m) ≡ Some at → length (roll_at r.rolls at).keys ≤ (roll_at r.rolls at).seats
-roll-room m r hand s at fits school = (subst (RollFits m (next_of m r.places) (only hand) s) (roll-at m r.rolls s at school) (fits.each s)).within
-
 pub roll-new : (m : Market) (r : Standings) (hand s at : ℕ) (key : Key) → FitsBut m r (only hand) → position (nat_eq s) (schools_of m) ≡ Some at → key ≡ key_of m hand s → Contains (roll_at r.rolls at).keys key → ⊥
 roll-new m r hand s at key fits school is held =
     away-off m (next_of m r.places) (only hand) s (roll_at r.rolls at) hand (subst (RollFits m (next_of m r.places) (only hand) s) (roll-at m r.rolls s at school) (fits.each s)) (eq-eqb hand hand refl)

@@ -166,7 +166,6 @@ fn key_at(papers: &Papers, student: usize, school: SchoolNo) -> (usize, Key)
 /// Offers a seat of the school at the position to the key.
 fn offer_to<R: Roll>(rolls: &mut Vec<R>, at: usize, key: Key) -> Result<Option<Key>, AllocError>
     requires within { at < length rolls.old.items }
-    requires room { let roll = roll_at (rolls_of R.keys R.seats rolls.old.items) at in length roll.keys ≤ roll.seats }
     requires new { ¬ Contains (roll_at (rolls_of R.keys R.seats rolls.old.items) at).keys key }
     ensures { IfOk result (λ out. OffersAt (rolls_of R.keys R.seats rolls.old.items) (rolls_of R.keys R.seats rolls.new.items) at key out) }
 {
@@ -193,7 +192,6 @@ impl<R: Roll> Round<R> {
     fn offer(&mut self, at: usize, key: Key) -> Result<Option<Key>, AllocError>
         requires within { at < length self.old.rolls.items }
         requires count_fits { self.old.proposals + 1 < 2 ^ 64 }
-        requires room { let roll = roll_at (standings_of R.keys R.seats self.old).rolls at in length roll.keys ≤ roll.seats }
         requires new { ¬ Contains (roll_at (standings_of R.keys R.seats self.old).rolls at).keys key }
         ensures offered { IfOk result (λ out. OffersAt (standings_of R.keys R.seats self.old).rolls (standings_of R.keys R.seats self.new).rolls at key out) }
         ensures places { self.new.places.items ≡ self.old.places.items }

@@ -27,8 +27,7 @@ pub trait Roll: Drop {
     /// and the offered one, and the last of them is put out: at capacity 0 the offered one.
     /// A refused growth changes nothing.
     fn offer(&mut self, key: Key) -> Result<Option<Key>, AllocError>
-        requires within { length (keys self.old) ≤ seats self.old }
-        requires new { ¬ Contains (keys self.old) key }
+        requires { ¬ Contains (keys self.old) key }
         ensures together { IfOk result (λ out. IsPermutation (key ∷ keys self.old) (option_to_list out ++ keys self.new)) }
         ensures last { IfOk result (λ out. IfSome out (λ worst. All (λ held. is_before held worst ≡ true) (keys self.new))) }
         ensures full { IfOk result (λ out. IsSome out → length (keys self.old) ≡ seats self.old) }

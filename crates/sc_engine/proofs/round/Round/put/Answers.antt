@@ -7,7 +7,7 @@ use Rattle.sc_engine.specs.Round.{standings_of}
 use Rattle.sc_engine.specs.Rolls.{rolls_of}
 use Rattle.sc_engine.proofs.Beginning.{Begun, moved, begins, fits-begun, is_some-none}
 use Rattle.sc_papers.proofs.Hands.{student-there}
-use Rattle.sc_engine.proofs.Moves.{roll-room, roll-new, proposed-told}
+use Rattle.sc_engine.proofs.Moves.{roll-new, proposed-told}
 use Rattle.sc_engine.proofs.Putting.{next-begun, put-nowhere, put-school, roll-open, put-on_roll}
 use Rattle.sc_engine.proofs.round.Round.put.Goals as goal
 
@@ -42,19 +42,6 @@ key_at-position-requires-clause-school g c =
     ap (λ choices. slice_get choices place) (sym (c.choices_at.ensures ∙ ap (choices_of papers) there)) ∙ c.place_in.ensures in
     let begun : Begun papers old (moved old at place) student at place = begins papers old student at place c.requires.fits c.position_of-at.ensures c.requires.absent in
     put-school papers old student place c.in-Some.school c.requires.fits (here ∙ c.in-Some.is)
-
-pub offer_to-requires-clause-room : goal.offer_to-requires-clause-room
-offer_to-requires-clause-room g c =
-    let papers = c.args.papers.now in
-    let student = c.args.standing.student in
-    let at = c.position_of-at.result in
-    let place = c.place_in.result in
-    let old = standings_of g.R.Roll.keys g.R.Roll.seats c.args.self.now in
-    let there : student_at papers at ≡ student = student-there papers student at c.position_of-at.ensures in
-    let here : slice_get (choices_of papers student) place ≡ c.args.standing.next =
-    ap (λ choices. slice_get choices place) (sym (c.choices_at.ensures ∙ ap (choices_of papers) there)) ∙ c.place_in.ensures in
-    let begun : Begun papers old (moved old at place) student at place = begins papers old student at place c.requires.fits c.position_of-at.ensures c.requires.absent in
-    roll-room papers (moved old at place) student c.in-Some.school c.key_at-position.result.0 (fits-begun begun) c.key_at-position.ensures.position
 
 pub offer_to-requires-clause-new : goal.offer_to-requires-clause-new
 offer_to-requires-clause-new g c =
