@@ -119,7 +119,7 @@ impl Roll for HeapRoll {
         self.capacity
     }
 
-    fn copy(&self, _alloc: Global) -> Result<Self, AllocError> {
+    fn copy(&self) -> Result<Self, AllocError> {
         Ok(HeapRoll {
             keys: self.keys.clone()?,
             capacity: self.capacity,

@@ -51,7 +51,7 @@ pub trait Roll: Drop {
         ensures { result ≡ seats self.now };
 
     /// An equal roll, or the error of a refused growth. The cost is its length.
-    fn copy(&self, alloc: Global) -> Result<Self, AllocError>
+    fn copy(&self) -> Result<Self, AllocError>
         ensures keys { IfOk result (λ roll. keys roll ≡ keys self.now) }
         ensures capacity { IfOk result (λ roll. seats roll ≡ seats self.now) };
 }
