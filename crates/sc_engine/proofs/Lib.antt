@@ -9,6 +9,7 @@ pub mod Moves
 pub mod Places
 pub mod Beginning
 pub mod Starting
+pub mod CountingLaws
 pub mod Settling
 pub mod Backwards
 pub mod Putting
