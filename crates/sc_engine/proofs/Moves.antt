@@ -3,13 +3,12 @@ use Rattle.std.proofs.Common.{◌≡◌, refl, ap, sym, subst, ◌∙◌, ℕ, �
 use Rattle.sc_papers.specs.Market.{Market, students_of, schools_of}
 use Rattle.sc_papers.specs.Key.{key_of}
 use Rattle.sc_papers.specs.declared.key.Key.{Key}
-use Rattle.sc_papers.specs.declared.records.Student.{Student}
 use Rattle.sc_papers.specs.declared.rejection.Rejection.{Rejection}
 use Rattle.sc_seats.specs.Roll.{Held}
 use Rattle.sc_engine.specs.Standing.{Standings, place_of, next_of, FitsBut, only, OffersAt, RollFits, roll_at, ChainEnds, ChainGoesOn, Extends, Proposes}
 use Rattle.std.proofs.lemmas.Bool.{eq-eqb}
 use Rattle.sc_engine.proofs.Rolls.{away-off}
-use Rattle.sc_engine.proofs.Tables.{length-mapped, roll-at, stands-at, StandsAt, position-of, PositionOf}
+use Rattle.sc_engine.proofs.Tables.{place-low, roll-at, stands-at, StandsAt, position-of, PositionOf}
 use Rattle.sc_engine.proofs.Proposals.{Proposed, put-out, Out, fits-held, fits-ended, counted-ended, counted-held}
 use Rattle.sc_engine.proofs.Steps.{Rejected, entry_of, entered-stays, fits-put_out, counted-put_out, midway-put_out, continues-held, continues-ended, left-put_out}
 
@@ -61,7 +60,7 @@ goes-on m r r' hand s at rolls out done same_rolls log moved one_more =
     let stood : StandsAt m r.places out.student s = stands-at m r.places out.student s gone.stands in
     let where_is : PositionOf m r.places out.student stood.place = position-of m r.places out.student stood.place stood.entered in
     let done' : Proposed m r hand s at r'.rolls (Some out) = subst (λ rs. Proposed m r hand s at rs (Some out)) (sym same_rolls) done in
-    let low : where_is.at < length r.places = omega (arith, where_is.low, done.fits.places, length-mapped (λ (e : ℕ × Student). e.0) m.students) in
+    let low : where_is.at < length r.places = place-low r.places where_is.at stood.place where_is.here in
     let step : Rejected m r r' out.student s where_is.at stood.place = record {
       student = where_is.found;
       low = low;

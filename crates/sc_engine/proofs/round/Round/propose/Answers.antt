@@ -60,8 +60,8 @@ position_of-next-requires g c =
     proposed-told papers old hand c.in-Some.school c.key_at-at.result.0 c.key_at-at.result.1 rolls c.in_ok-out.field-0 (Some c.in-Some-2.out) c.requires.fits stands c.key_at-at.ensures.position c.key_at-at.ensures.key c.in_ok-out.ensures.offered c.in-Some-2.is in
     stander-student papers old.places out c.in-Some.school (put-out papers old hand c.in-Some.school c.key_at-at.result.0 rolls c.in-Some-2.out proposed).stands
 
-pub reject-requires-clause-short : goal.reject-requires-clause-short
-reject-requires-clause-short g c place is =
+pub reject-requires : goal.reject-requires
+reject-requires g c place is =
     let papers = c.args.papers.now in
     let hand : ℕ = student_at papers c.args.hand in
     let old = standings_of g.R.Roll.keys g.R.Roll.seats c.args.self.now in
