@@ -15,3 +15,4 @@ pub mod Backwards
 pub mod Putting
 pub mod Resuming
 pub mod FirstTwo
+pub mod Growing
