@@ -7,13 +7,13 @@ use Rattle.std.proofs.lemmas.Option.{none-some, slice_get_within}
 use Rattle.std.proofs.lemmas.List.{length-set}
 use Rattle.std.proofs.lemmas.List.Elements.{All-set, All-contains}
 use Rattle.std.proofs.lemmas.Map.Entries.{All-lookup, length-keys_of}
-use Rattle.sc_papers.specs.Key.{key_of}
+use Rattle.sc_papers.specs.Key.{key_of, key_cmp}
 use Rattle.sc_papers.specs.Market.{Market, student_of, students_of, schools_of, choices_of, seats_of, is_student, is_school}
 use Rattle.sc_papers.specs.WellFormed.{WellFormed, WithinLimits, IsShort, IsProper}
 use Rattle.sc_papers.specs.declared.key.Key.{Key}
 use Rattle.sc_papers.specs.declared.records.Student.{Student}
 use Rattle.sc_papers.proofs.Choices.{contains-at, place-of}
-use Rattle.sc_audit.specs.Offers.{key_cmp, Offers}
+use Rattle.sc_audit.specs.Offers.{Offers}
 use Rattle.sc_audit.specs.Ledger.{Ledger, stand_of, next_of, is_kept, set_aside, keys_at, KeepsBest, Fits, Comes}
 use Rattle.sc_audit.specs.declared.stand.Stand.{Stand}
 use Rattle.sc_audit.proofs.Tables.{read-mapped, stander-among, keys-read, keys-put}

@@ -12,7 +12,7 @@ use Rattle.sc_papers.specs.WellFormed.{WellFormed, WithinLimits}
 use Rattle.sc_papers.specs.declared.key.Key.{Key}
 use Rattle.sc_papers.proofs.Choices.{contains-at}
 use Rattle.sc_papers.proofs.Students.{how_many-none, lister-among}
-use Rattle.sc_audit.specs.Offers.{key_cmp}
+use Rattle.sc_papers.specs.Key.{key_cmp}
 use Rattle.sc_audit.specs.Ledger.{Ledger, stand_of, next_of, is_kept, keys_at, keeps, KeepsBest, Fits, Comes, Follows}
 use Rattle.sc_audit.specs.declared.stand.Stand.{Stand}
 use Rattle.sc_audit.proofs.Tables.{stand-away}

@@ -10,7 +10,7 @@ use Rattle.sc_papers.specs.Market.{Market, students_of, choices_of}
 use Rattle.sc_papers.specs.declared.rejection.Rejection.{Rejection}
 use Rattle.sc_papers.proofs.Rejections.{next-same}
 use Rattle.sc_papers.proofs.Standings.{next-moves}
-use Rattle.sc_audit.specs.Offers.{key_cmp}
+use Rattle.sc_papers.specs.Key.{key_cmp}
 use Rattle.sc_audit.specs.Ledger.{Ledger, stand_of, next_of, is_kept, keys_at, waiting_place, KeepsBest, Fits, Comes, Follows}
 use Rattle.sc_audit.specs.declared.stand.Stand.{Stand}
 use Rattle.sc_audit.proofs.Tables.{stander-among}

@@ -2,14 +2,13 @@
 use Rattle.std.specs.Prelude.{◌≡◌, ℕ, ◌≤◌, nat_eq, ◌==◌, Bool, true, false, ◌&&◌, List, [], ◌∷◌, ◌++◌, length, Option, None, Some, All, count_by, position, slice_get, slice_index_or, not, if◌then◌else◌}
 use Rattle.std.specs.BinaryHeap.{IsHeap}
 use Rattle.std.specs.Option.{option_map, option_map_or}
-use Rattle.sc_papers.specs.Key.{key_of, is_ahead}
+use Rattle.sc_papers.specs.Key.{key_of, is_ahead, key_cmp}
 use Rattle.sc_papers.specs.Log.{next_choice, IsValidEntry}
 use Rattle.sc_papers.specs.Market.{Market, choices_of, schools_of, seats_of, students_of}
 use Rattle.sc_papers.specs.Matching.{Matching, has, how_many}
 use Rattle.sc_papers.specs.WellFormed.{WellFormed, WithinLimits}
 use Rattle.sc_papers.specs.declared.key.Key.{Key}
 use Rattle.sc_papers.specs.declared.rejection.Rejection.{Rejection}
-use Rattle.sc_audit.specs.Offers.{key_cmp}
 use Rattle.sc_audit.specs.declared.stand.Stand.{Stand}
 
 -- each student's stand, by position, and the keys kept at each school, by position

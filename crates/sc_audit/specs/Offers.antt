@@ -2,14 +2,8 @@
 use Rattle.std.specs.Prelude.{◌≡◌, ℕ, ◌≤◌, false, List, ◌∷◌, ◌++◌, length, Option, All, IfSome, IsSome}
 use Rattle.std.specs.List.Sorted.{IsPermutation}
 use Rattle.std.specs.Option.{option_to_list}
-use Rattle.std.specs.Ordering.{nat_cmp, ordering_then}
-use Rattle.std.specs.declared.cmp.Ordering.{Ordering}
 use Rattle.sc_papers.specs.Key.{is_before}
 use Rattle.sc_papers.specs.declared.key.Key.{Key}
-
--- what `cmp` answers at keys
-abbrev pub key_cmp : Key → Key → Ordering
-key_cmp a b = ordering_then (nat_cmp a.class b.class) (ordering_then (nat_cmp a.draw b.draw) (nat_cmp a.student b.student))
 
 -- an offer of one of the seats to a key: it joins the others, and where they are then more than the
 -- seats, the last of them is out

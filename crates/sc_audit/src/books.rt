@@ -5,7 +5,7 @@ ghost use Rattle.sc_papers.specs.Log.{IsValidLog};
 ghost use Rattle.sc_papers.specs.Market.{is_student, students_of, student_at};
 ghost use Rattle.sc_papers.specs.Matching.{WithinSeats};
 ghost use Rattle.sc_papers.specs.declared.rejection.Rejection.{Rejection as Rejected};
-ghost use Rattle.sc_audit.specs.Offers.{key_cmp};
+ghost use Rattle.sc_papers.specs.Key.{key_cmp};
 ghost use Rattle.sc_audit.specs.Over.{IsFirstOver};
 
 use crate::choices::choice_at;

@@ -2,8 +2,8 @@
 ghost use Rattle.std.specs.Prelude.{◌≡◌, ◌≤◌, false, [], ◌∷◌, length, All, IfOk, OnOk, IfSome, IfNone};
 ghost use Rattle.std.specs.BinaryHeap.{heap_items, IsHeap};
 ghost use Rattle.std.specs.List.Sorted.{IsPermutation};
-ghost use Rattle.sc_papers.specs.Key.{is_before};
-ghost use Rattle.sc_audit.specs.Offers.{key_cmp, Offers};
+ghost use Rattle.sc_papers.specs.Key.{is_before, key_cmp};
+ghost use Rattle.sc_audit.specs.Offers.{Offers};
 
 use sc_papers::{Key, Seats};
 use std::alloc::AllocError;

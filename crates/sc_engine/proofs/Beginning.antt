@@ -1,5 +1,5 @@
 -- A student who enters begins a chain.
-use Rattle.std.proofs.Common.{◌≡◌, inl, inr, refl, ap, sym, subst, ◌∙◌, ℕ, ◌<◌, ◌==◌, nat_eq, Bool, true, false, not, ◌&&◌, ◌||◌, List, [], ◌∷◌, ◌++◌, length, set, Option, Some, None, is_some, find, position, slice_get, arith, length-set}
+use Rattle.std.proofs.Common.{◌≡◌, inl, inr, refl, ap, sym, subst, ◌∙◌, ℕ, ◌<◌, ◌==◌, ◌≤◌, nat_eq, Bool, true, false, not, ◌&&◌, ◌||◌, List, [], ◌∷◌, ◌++◌, length, get_or, set, Option, Some, None, is_some, find, position, slice_get, arith, length-set, get_or-set_same, get_or-set_other}
 use Rattle.std.proofs.lemmas.Bool.{cases_Bool, cases_eq, eq-eqb, ne_eqb, false≢true, true≢false, and_left, and_right, or_right}
 use Rattle.sc_papers.specs.Market.{Market, students_of, choices_of}
 use Rattle.sc_papers.specs.Matching.{has}
@@ -15,7 +15,7 @@ use Rattle.sc_papers.proofs.Restriction.{restricted-restricts, next-kept, next-d
 use Rattle.sc_papers.proofs.Subsets.{next-passes}
 use Rattle.sc_papers.proofs.Validity.{along}
 use Rattle.sc_engine.specs.Standing.{Standings, place_of, next_of, has_entered, FitsBut, Fits, only, nobody, entered_papers, Continues, Midway, ChainEnds, Enters, CountsProposals, Extends, RollFits, roll_of}
-use Rattle.sc_engine.proofs.Tables.{place-written, place-kept, next-by, next-none}
+use Rattle.sc_engine.proofs.Tables.{place-apart, place-at, next-by, next-none}
 use Rattle.sc_engine.proofs.Tables as tables
 use Rattle.sc_engine.proofs.Rolls.{roll-fits_still}
 use Rattle.sc_engine.proofs.Proposals.{has-none, not-there, stays, standing-without, standing-others, counted-within}
@@ -24,9 +24,10 @@ use Rattle.sc_engine.proofs.Proposals.{has-none, not-there, stays, standing-with
 pub record Begun (m : Market) (r r' : Standings) (i at place : ℕ) : Type 0 where
   pub fits : Fits m r
   pub student : position (nat_eq i) (students_of m) ≡ Some at
-  pub low : at < length r.places
   pub absent : has_entered m r.places i ≡ false
-  pub places : r'.places ≡ set r.places at (Some place)
+  pub own : get_or r'.places at None ≡ Some place
+  pub others : (k : ℕ) → (k ≡ at → ⊥) → get_or r'.places k None ≡ get_or r.places k None
+  pub within : length r'.places ≤ length m.students
   pub rolls : r'.rolls ≡ r.rolls
   pub log : r'.log ≡ r.log
   pub proposals : r'.proposals ≡ r.proposals
@@ -37,10 +38,10 @@ is_some-none (Some x) e = absurd (true≢false e)
 
 module _ {m : Market} {r r' : Standings} {i at place : ℕ} (begun : Begun m r r' i at place) where
   pub place-begun : place_of m r'.places i ≡ Some place
-  place-begun = ap (λ ps. place_of m ps i) begun.places ∙ place-written m r.places i at (Some place) begun.student begun.low
+  place-begun = place-at m r'.places i at begun.student ∙ begun.own
 
   pub place-others : (j : ℕ) → (j ≡ i → ⊥) → place_of m r'.places j ≡ place_of m r.places j
-  place-others j apart = ap (λ ps. place_of m ps j) begun.places ∙ place-kept m r.places i at (Some place) begun.student j apart
+  place-others j apart = place-apart m r.places r'.places i at begun.student begun.others j apart
 
   pub next-others : (j : ℕ) → (j ≡ i → ⊥) → next_of m r'.places j ≡ next_of m r.places j
   next-others j apart = tables.next-kept m r.places r'.places j (place-others j apart)
@@ -85,7 +86,7 @@ pub fits-begun : {m : Market} {r r' : Standings} {i at place : ℕ} → Begun m 
 fits-begun {m} {r} {r'} {i} {at} {place} begun = record {
   well_formed = begun.fits.well_formed;
   within_limits = begun.fits.within_limits;
-  places = ap length begun.places ∙ length-set r.places at (Some place) ∙ begun.fits.places;
+  places = begun.within;
   rolls = ap length begun.rolls ∙ begun.fits.rolls;
   each = λ t. subst (λ rolls. RollFits m (next_of m r'.places) (only i) t (roll_of m rolls t)) (sym begun.rolls)
       (roll-fits_still m (next_of m r.places) (next_of m r'.places) nobody (only i) t (roll_of m r.rolls t) (stand-alike begun t) (begun.fits.each t));
@@ -151,17 +152,21 @@ enters {m} {r} {r'} {r''} {i} begun ends = record {
   counted = omega (arith, counted-begun begun, ends.counted);
 }
 
--- the standings with the student at a place of its choices
-abbrev pub moved : Standings → ℕ → ℕ → Standings
-moved r at place = record r { places = set r.places at (Some place) }
+-- the standings with the student at a place of its choices, after room is made for it
+abbrev pub moved : Standings → List (Option ℕ) → ℕ → ℕ → Standings
+moved r room at place = record r { places = set room at (Some place) }
 
-pub begins : (m : Market) (r : Standings) (i at place : ℕ) → Fits m r → position (nat_eq i) (students_of m) ≡ Some at → has_entered m r.places i ≡ false → Begun m r (moved r at place) i at place
-begins m r i at place fits found absent = record {
+pub begins : (m : Market) (r : Standings) (room : List (Option ℕ)) (i at place : ℕ) → Fits m r → position (nat_eq i) (students_of m) ≡ Some at → has_entered m r.places i ≡ false
+    → at < length room → ((k : ℕ) → get_or room k None ≡ get_or r.places k None) → ((n : ℕ) → at < n → length r.places ≤ n → length room ≤ n) → Begun m r (moved r room at place) i at place
+begins m r room i at place fits found absent low same within = record {
   fits = fits;
   student = found;
-  low = omega (arith, (position-at (students_of m) i at found).0, tables.length-mapped (λ (e : ℕ × Student). e.0) m.students, fits.places);
   absent = absent;
-  places = refl;
+  own = get_or-set_same room at (Some place) None low;
+  others = λ k other. get_or-set_other room at k (Some place) None other ∙ same k;
+  within =
+      let here : at < length m.students = omega (arith, (position-at (students_of m) i at found).0, tables.length-mapped (λ (e : ℕ × Student). e.0) m.students) in
+      omega (arith, length-set room at (Some place), within (length m.students) here fits.places);
   rolls = refl;
   log = refl;
   proposals = refl;

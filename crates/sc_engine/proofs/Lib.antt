@@ -9,8 +9,10 @@ pub mod Moves
 pub mod Places
 pub mod Beginning
 pub mod Starting
+pub mod CountingLaws
 pub mod Settling
 pub mod Backwards
 pub mod Putting
 pub mod Resuming
 pub mod FirstTwo
+pub mod Growing

@@ -1,15 +1,14 @@
 -- The moves of a chain, as the code makes them.
-use Rattle.std.proofs.Common.{◌≡◌, refl, ap, sym, subst, ◌∙◌, ℕ, ◌+◌, ◌<◌, ◌≤◌, nat_eq, List, [], ◌∷◌, ◌++◌, length, set, Option, Some, None, Contains, position, is_some, append_assoc, append-nil, arith}
+use Rattle.std.proofs.Common.{◌≡◌, refl, ap, sym, subst, ◌∙◌, ℕ, ◌+◌, ◌<◌, nat_eq, List, [], ◌∷◌, ◌++◌, length, set, Option, Some, None, Contains, position, is_some, append_assoc, append-nil, arith}
 use Rattle.sc_papers.specs.Market.{Market, students_of, schools_of}
 use Rattle.sc_papers.specs.Key.{key_of}
 use Rattle.sc_papers.specs.declared.key.Key.{Key}
-use Rattle.sc_papers.specs.declared.records.Student.{Student}
 use Rattle.sc_papers.specs.declared.rejection.Rejection.{Rejection}
 use Rattle.sc_seats.specs.Roll.{Held}
 use Rattle.sc_engine.specs.Standing.{Standings, place_of, next_of, FitsBut, only, OffersAt, RollFits, roll_at, ChainEnds, ChainGoesOn, Extends, Proposes}
 use Rattle.std.proofs.lemmas.Bool.{eq-eqb}
 use Rattle.sc_engine.proofs.Rolls.{away-off}
-use Rattle.sc_engine.proofs.Tables.{length-mapped, roll-at, stands-at, StandsAt, position-of, PositionOf}
+use Rattle.sc_engine.proofs.Tables.{place-low, roll-at, stands-at, StandsAt, position-of, PositionOf}
 use Rattle.sc_engine.proofs.Proposals.{Proposed, put-out, Out, fits-held, fits-ended, counted-ended, counted-held}
 use Rattle.sc_engine.proofs.Steps.{Rejected, entry_of, entered-stays, fits-put_out, counted-put_out, midway-put_out, continues-held, continues-ended, left-put_out}
 
@@ -61,7 +60,7 @@ goes-on m r r' hand s at rolls out done same_rolls log moved one_more =
     let stood : StandsAt m r.places out.student s = stands-at m r.places out.student s gone.stands in
     let where_is : PositionOf m r.places out.student stood.place = position-of m r.places out.student stood.place stood.entered in
     let done' : Proposed m r hand s at r'.rolls (Some out) = subst (λ rs. Proposed m r hand s at rs (Some out)) (sym same_rolls) done in
-    let low : where_is.at < length r.places = omega (arith, where_is.low, done.fits.places, length-mapped (λ (e : ℕ × Student). e.0) m.students) in
+    let low : where_is.at < length r.places = place-low r.places where_is.at stood.place where_is.here in
     let step : Rejected m r r' out.student s where_is.at stood.place = record {
       student = where_is.found;
       low = low;
@@ -110,9 +109,6 @@ goes-on_ends m a b c i j first last = record {
 }
 
 -- what an offer asks of the roll
-pub roll-room : (m : Market) (r : Standings) (hand s at : ℕ) → FitsBut m r (only hand) → position (nat_eq s) (schools_of m) ≡ Some at → length (roll_at r.rolls at).keys ≤ (roll_at r.rolls at).seats
-roll-room m r hand s at fits school = (subst (RollFits m (next_of m r.places) (only hand) s) (roll-at m r.rolls s at school) (fits.each s)).within
-
 pub roll-new : (m : Market) (r : Standings) (hand s at : ℕ) (key : Key) → FitsBut m r (only hand) → position (nat_eq s) (schools_of m) ≡ Some at → key ≡ key_of m hand s → Contains (roll_at r.rolls at).keys key → ⊥
 roll-new m r hand s at key fits school is held =
     away-off m (next_of m r.places) (only hand) s (roll_at r.rolls at) hand (subst (RollFits m (next_of m r.places) (only hand) s) (roll-at m r.rolls s at school) (fits.each s)) (eq-eqb hand hand refl)

@@ -115,7 +115,7 @@ fits-held m r r' hand s at done same counted = record {
   proposals = counted-within m r (only hand) r' nobody counted done.fits.proposals;
   well_formed = done.fits.well_formed;
   within_limits = done.fits.within_limits;
-  places = ap length same ∙ done.fits.places;
+  places = omega (arith, ap (λ (l : List (Option ℕ)). length l) same, done.fits.places);
   rolls = done.offered.same_length ∙ done.fits.rolls;
   each = λ t. subst (λ places. RollFits m (next_of m places) nobody t (roll_of m r'.rolls t)) (sym same) (elim (cases_eq t s) [
     | inl at_s ↦ subst (λ u. RollFits m next nobody u (roll_of m r'.rolls u)) (sym at_s) (subst (RollFits m next nobody s) (sym (roll-after done)) here)

@@ -2,7 +2,7 @@
 use Rattle.std.proofs.Common.{◌≡◌, inl, inr, refl, ap, sym, subst, ◌∙◌, ℕ, zero, suc, ◌+◌, ◌<◌, ◌≤◌, ◌==◌, nat_eq, Bool, true, false, cond, not, ◌&&◌, ◌||◌, List, [], ◌∷◌, ◌++◌, length, get_or, take, filter, Option, Some, None, Contains, is_some, slice_get, add-one, arith}
 use Rattle.std.specs.List.{list_any, IsDistinct}
 use Rattle.std.specs.Map.{keys_of}
-use Rattle.std.proofs.lemmas.Bool.{cases_Bool, eqb-true, eq-eqb, false≢true, true≢false, cond-true, cond-false, or_right, false_from_ne_true}
+use Rattle.std.proofs.lemmas.Bool.{cases_Bool, eqb-true, eq-eqb, false≢true, cond-true, cond-false, or_right, false_from_ne_true}
 use Rattle.std.proofs.lemmas.Option.{slice_get_within, get_or_from_slice_get}
 use Rattle.std.proofs.lemmas.List.Folds.{list_any_none}
 use Rattle.std.proofs.lemmas.List.{get_or-take, get_or_default}
@@ -16,14 +16,14 @@ use Rattle.sc_papers.specs.Progress.{placed}
 use Rattle.sc_papers.specs.Restriction.{restricted}
 use Rattle.sc_papers.specs.WellFormed.{WellFormed}
 use Rattle.sc_papers.specs.declared.records.Student.{Student}
-use Rattle.sc_papers.specs.declared.rejection.Rejection.{Rejection}
 use Rattle.sc_papers.proofs.Counting.{contains-head, contains-tail}
 use Rattle.sc_papers.proofs.Optimality.{settled-optimal}
 use Rattle.sc_papers.proofs.Rejections.{any-push}
-use Rattle.sc_papers.proofs.Students.{how_many-agree, how_many-none}
-use Rattle.sc_engine.specs.Standing.{Standings, place_of, next_of, has_entered, Fits, standing_but, entered_papers, Continues, Enters, SettlesFirst}
-use Rattle.sc_engine.proofs.Tables.{next-none, next-among, length-mapped}
+use Rattle.sc_papers.proofs.Students.{how_many-agree}
+use Rattle.sc_engine.specs.Standing.{Standings, next_of, has_entered, Fits, standing_but, entered_papers, Continues, Enters, SettlesFirst}
+use Rattle.sc_engine.proofs.Tables.{next-among, length-mapped}
 use Rattle.sc_papers.proofs.Positions.{any-among}
+use Rattle.sc_engine.proofs.CountingLaws.{exact-none}
 use Rattle.sc_engine.proofs.Proposals.{stays}
 use Rattle.sc_engine.proofs.Places.{assigned-with_place}
 
@@ -72,20 +72,12 @@ settles-more m old new k i here before enters = record {
 
 -- nobody stands at a choice where nobody has entered
 pub settles-none : (m : Market) (r : Standings) → Fits m r → ((i : ℕ) → has_entered m r.places i ≡ false) → Continues m [] r → r.log ≡ [] → r.proposals ≡ 0 → SettlesFirst m r 0
-unfolding standing_but
 settles-none m r fits nowhere continues no_log none = record {
   fits = fits;
   entered = nowhere;
   settled = continues;
-  counted =
-      let standing : how_many m (λ i. is_some (next_of m r.places i) && not false) ≡ 0 =
-      how_many-none m (λ i. is_some (next_of m r.places i) && not false) (λ i among. stays (is_some (next_of m r.places i)) ∙ ap is_some (next-none m r.places i (is_some-none (place_of m r.places i) (nowhere i)))) in
-      omega (arith, standing, none, ap (λ (l : List Rejection). length l) no_log);
+  counted = exact-none m r nowhere no_log none;
 }
-  where
-    is_some-none : (o : Option ℕ) → is_some o ≡ false → o ≡ None
-    is_some-none None e = refl
-    is_some-none (Some x) e = absurd (true≢false e)
 
 -- papers restricted to students among whom all are, are the papers
 filter-all : (test : ℕ → Bool) (es : List (ℕ × Student)) → ((i : ℕ) → Contains (keys_of es) i → test i ≡ true) → filter (λ e. test e.0) es ≡ es

@@ -91,7 +91,7 @@ pub fits-start : (m : Market) (r : Standings) → IsStart m r → Fits m r
 fits-start m r start = record {
   well_formed = start.well_formed;
   within_limits = start.within_limits;
-  places = start.places;
+  places = omega (arith, start.places);
   rolls = start.rolls;
   each = λ s. subst (RollFits m (next_of m r.places) nobody s) (sym (roll-empty m r.rolls start.empty s)) (record {
     seats = refl;

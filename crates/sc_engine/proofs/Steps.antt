@@ -88,7 +88,7 @@ fits-put_out m r r' hand s at out place_at place done moved counted = record {
   proposals = counted-within m r (only hand) r' (only out.student) counted done.fits.proposals;
   well_formed = done.fits.well_formed;
   within_limits = done.fits.within_limits;
-  places = ap length moved.places ∙ length-set r.places place_at (Some (place + 1)) ∙ done.fits.places;
+  places = omega (arith, ap (λ (l : List (Option ℕ)). length l) moved.places, length-set r.places place_at (Some (place + 1)), done.fits.places);
   rolls = done.offered.same_length ∙ done.fits.rolls;
   each = λ t. elim (cases_eq t s) [
     | inl at_s ↦ subst (λ u. RollFits m next' (only i) u (roll_of m r'.rolls u)) (sym at_s) (subst (RollFits m next' (only i) s) (sym (roll-after done)) here)

@@ -1,10 +1,8 @@
 -- Look-ups by position, and what one write changes.
-use Rattle.std.proofs.Common.{◌≡◌, refl, ap, sym, ◌∙◌, ℕ, zero, suc, ◌<◌, nat_eq, true, List, [], ◌∷◌, length, get_or, set, map, Option, Some, None, Contains, is_some, position, slice_get, arith, get_or-set_other, get_or-set_same}
+use Rattle.std.proofs.Common.{◌≡◌, refl, ap, ◌∙◌, ℕ, zero, suc, ◌<◌, nat_eq, true, List, [], ◌∷◌, ◌++◌, length, get_or, set, map, Option, Some, None, Contains, is_some, position, slice_get, arith, get_or-set_other, get_or-set_same}
 use Rattle.std.specs.Option.{option_map_or, option_and_then}
 use Rattle.std.proofs.lemmas.Option.{none-some}
-use Rattle.std.proofs.lemmas.List.{get_or_read}
 use Rattle.sc_papers.specs.Market.{Market, students_of, schools_of, choices_of}
-use Rattle.sc_papers.specs.declared.records.Student.{Student}
 use Rattle.sc_papers.proofs.Positions.{position-among, position-at, position-one}
 use Rattle.sc_seats.specs.Roll.{Held}
 use Rattle.sc_engine.specs.Standing.{place_of, next_of, roll_of, roll_at, no_roll, has_entered}
@@ -30,16 +28,31 @@ unfolding place_of
 place-written m places i at place found low =
     ap (λ o. option_map_or (λ k. get_or (set places at place) k None) o None) found ∙ get_or-set_same places at place None low
 
+-- the places of the others, where the other positions are as before
+pub place-apart : (m : Market) (old new : List (Option ℕ)) (i at : ℕ) → position (nat_eq i) (students_of m) ≡ Some at → ((k : ℕ) → (k ≡ at → ⊥) → get_or new k None ≡ get_or old k None) → (j : ℕ) → (j ≡ i → ⊥) → place_of m new j ≡ place_of m old j
+unfolding place_of
+place-apart m old new i at found others j apart = go (position (nat_eq j) (students_of m)) refl
+  where
+    go : (o : Option ℕ) → position (nat_eq j) (students_of m) ≡ o → option_map_or (λ k. get_or new k None) o None ≡ option_map_or (λ k. get_or old k None) o None
+    go None is = refl
+    go (Some k) is = others k (λ same. apart (position-one (students_of m) i j at found (is ∙ ap Some same)))
+
 -- the others keep theirs
 pub place-kept : (m : Market) (places : List (Option ℕ)) (i at : ℕ) (place : Option ℕ) → position (nat_eq i) (students_of m) ≡ Some at → (j : ℕ) → (j ≡ i → ⊥) → place_of m (set places at place) j ≡ place_of m places j
-unfolding place_of
-place-kept m places i at place found j apart = go (position (nat_eq j) (students_of m)) refl
-  where
-    go : (o : Option ℕ) → position (nat_eq j) (students_of m) ≡ o → option_map_or (λ k. get_or (set places at place) k None) o None ≡ option_map_or (λ k. get_or places k None) o None
-    go None is = refl
-    go (Some k) is =
-        let other : k ≡ at → ⊥ = λ same. apart (position-one (students_of m) i j at found (is ∙ ap Some same)) in
-        get_or-set_other places at k place None other
+place-kept m places i at place found j apart = place-apart m places (set places at place) i at found (λ k other. get_or-set_other places at k place None other) j apart
+
+-- a place stands within the list
+pub place-low : (places : List (Option ℕ)) (at place : ℕ) → get_or places at None ≡ Some place → at < length places
+place-low [] at place is = absurd (none-some place is)
+place-low (p ∷ ps) zero place is = omega arith
+place-low (p ∷ ps) (suc at) place is = omega (arith, place-low ps at place is)
+
+-- one position more, at which nobody stands
+pub place-room : (places : List (Option ℕ)) (k : ℕ) → get_or (places ++ None ∷ []) k None ≡ get_or places k None
+place-room [] zero = refl
+place-room [] (suc k) = refl
+place-room (p ∷ ps) zero = refl
+place-room (p ∷ ps) (suc k) = place-room ps k
 
 -- the place of a student at a known position
 pub place-at : (m : Market) (places : List (Option ℕ)) (i at : ℕ) → position (nat_eq i) (students_of m) ≡ Some at → place_of m places i ≡ get_or places at None
@@ -117,9 +130,3 @@ position-of m places i place is = go (position (nat_eq i) (students_of m)) refl 
     go : (o : Option ℕ) → position (nat_eq i) (students_of m) ≡ o → option_map_or (λ k. get_or places k None) o None ≡ Some place → PositionOf m places i place
     go None at none = absurd (none-some place none)
     go (Some k) at there = record { at = k; found = at; low = (position-at (students_of m) i k at).0; here = there }
-
--- what is read at a student's position is its place
-pub read-place : (m : Market) (places : List (Option ℕ)) (i at : ℕ) (now : Option ℕ) → length places ≡ length m.students → position (nat_eq i) (students_of m) ≡ Some at → now ≡ get_or places at now → place_of m places i ≡ now
-read-place m places i at now long found is =
-    let low : at < length places = omega (arith, (position-at (students_of m) i at found).0, length-mapped (λ (e : ℕ × Student). e.0) m.students, long) in
-    place-at m places i at found ∙ sym (get_or_read places at now low is None)

@@ -1,3 +1,4 @@
 pub mod Standing
 pub mod Rolls
 pub mod Round
+pub mod Counting

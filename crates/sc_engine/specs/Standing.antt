@@ -15,7 +15,8 @@ use Rattle.sc_papers.specs.declared.rejection.Rejection.{Rejection}
 use Rattle.sc_seats.specs.Roll.{Held}
 
 -- what a round holds: for each student, by position, the place in its choices at which it stands, or
--- none where it hasn't entered; each school's roll, by position; the log; the count of proposals
+-- none where it hasn't entered, as nobody has who comes after the last place; each school's roll, by
+-- position; the log; the count of proposals
 pub record Standings : Type 0 where
   pub places : List (Option ℕ)
   pub rolls : List Held
@@ -66,7 +67,7 @@ standing_but m places away = how_many m (λ i. is_some (next_of m places i) && n
 pub record FitsBut (m : Market) (r : Standings) (away : ℕ → Bool) : Type 0 where
   pub well_formed : WellFormed m
   pub within_limits : WithinLimits m
-  pub places : length r.places ≡ length m.students
+  pub places : length r.places ≤ length m.students
   pub rolls : length r.rolls ≡ length m.schools
   pub each : (s : ℕ) → RollFits m (next_of m r.places) away s (roll_of m r.rolls s)
   pub proposals : r.proposals ≤ length r.log + standing_but m r.places away

@@ -1,6 +1,6 @@
 //! Rounds of proposals.
 
-ghost use Rattle.std.specs.Prelude.{◌≡◌, ℕ, ◌+◌, ◌^◌, ◌<◌, ◌≤◌, true, false, All, List, [], ◌∷◌, ◌++◌, Contains, Option, None, Some, length, position, nat_eq, slice_get, slice_index_or, slice_set, if◌then◌else◌, IfOk, IfSome, OnOk, OnErr};
+ghost use Rattle.std.specs.Prelude.{◌≡◌, ℕ, ◌+◌, ◌^◌, ◌<◌, ◌≤◌, true, false, All, List, [], ◌∷◌, ◌++◌, Contains, Option, None, Some, length, position, nat_eq, slice_get, slice_index_or, slice_set, if◌then◌else◌, IfOk, IfSome, IsSome, OnOk, OnErr};
 ghost use Rattle.std.specs.Option.{option_map};
 ghost use Rattle.sc_papers.specs.Assignment.{assigned};
 ghost use Rattle.sc_papers.specs.Key.{key_of};
@@ -21,7 +21,7 @@ use std::alloc::{AllocError, Global};
 pub struct Round<R: Roll> {
     alloc: Global,
     // By position of the student: the place in the choices at which the student stands, if it has
-    // entered.
+    // entered. Nobody has who comes after the last of these positions.
     places: Vec<Option<usize>>,
     // By position of the school.
     rolls: Vec<R>,
@@ -75,7 +75,6 @@ fn choices_stood_at(
     places: &[Option<usize>],
     papers: &Papers,
 ) -> Result<Assignment, AllocError>
-    requires { length places.now ≡ length papers.now.students }
     ensures { IfOk result (λ assignment. (i : ℕ) → assigned assignment i ≡ next_of papers.now places.now i) }
 {
     let mut assignment = Assignment::new(alloc);
@@ -118,19 +117,40 @@ fn choices_at(papers: &Papers, at: usize) -> &[SchoolNo]
     student.choices.as_slice()
 }
 
+/// The place of the choices at which the student at the position stands: none past the last place.
+fn place_at(places: &[Option<usize>], at: usize) -> Option<usize>
+    ensures place { result ≡ slice_index_or places.now at None }
+    ensures within { IsSome result → at < length places.now }
+{
+    match places.get(at) {
+        Some(place) => *place,
+        None => None,
+    }
+}
+
+/// Makes room for a position. Nobody stands there yet, nor at those that come before it.
+fn make_room(places: &mut Vec<Option<usize>>, at: usize) -> Result<(), AllocError>
+    ensures room { OnOk result (at < length places.new.items) }
+    ensures same { OnOk result ((k : ℕ) → slice_index_or places.new.items k None ≡ slice_index_or places.old.items k None) }
+    ensures within { OnOk result ((n : ℕ) → at < n → length places.old.items ≤ n → length places.new.items ≤ n) }
+{
+    while places.len() <= at {
+        places.push(None)?;
+    }
+    Ok(())
+}
+
 /// The choice at which the student at the position stands.
 fn choice_at(places: &[Option<usize>], papers: &Papers, at: usize) -> Option<SchoolNo>
-    requires places { length places.now ≡ length papers.now.students }
-    requires within { at < length papers.now.students }
+    requires { at < length papers.now.students }
     ensures { (i : ℕ) → position (nat_eq i) (students_of papers.now) ≡ Some at → result ≡ next_of papers.now places.now i }
 {
-    let place = places[at]?;
+    let place = place_at(places, at)?;
     choices_at(papers, at).get(place).copied()
 }
 
 /// The choice at which the student stands.
 fn next_in(places: &[Option<usize>], papers: &Papers, student: StudentNo) -> Option<SchoolNo>
-    requires { length places.now ≡ length papers.now.students }
     ensures { result ≡ next_of papers.now places.now student }
 {
     choice_at(places, papers, papers.student_position(student)?)
@@ -166,7 +186,6 @@ fn key_at(papers: &Papers, student: usize, school: SchoolNo) -> (usize, Key)
 /// Offers a seat of the school at the position to the key.
 fn offer_to<R: Roll>(rolls: &mut Vec<R>, at: usize, key: Key) -> Result<Option<Key>, AllocError>
     requires within { at < length rolls.old.items }
-    requires room { let roll = roll_at (rolls_of R.keys R.seats rolls.old.items) at in length roll.keys ≤ roll.seats }
     requires new { ¬ Contains (roll_at (rolls_of R.keys R.seats rolls.old.items) at).keys key }
     ensures { IfOk result (λ out. OffersAt (rolls_of R.keys R.seats rolls.old.items) (rolls_of R.keys R.seats rolls.new.items) at key out) }
 {
@@ -177,11 +196,10 @@ fn offer_to<R: Roll>(rolls: &mut Vec<R>, at: usize, key: Key) -> Result<Option<K
 
 /// The student at the position moves on to the next place of its choices.
 fn move_on(places: &mut Vec<Option<usize>>, at: usize)
-    requires within { at < length places.old.items }
-    requires short { (place : ℕ) → slice_index_or places.old.items at None ≡ Some place → place < 20 }
+    requires { (place : ℕ) → slice_index_or places.old.items at None ≡ Some place → place < 20 }
     ensures { (place : ℕ) → slice_index_or places.old.items at None ≡ Some place → places.new.items ≡ slice_set places.old.items at (Some (place + 1)) }
 {
-    if let Some(place) = places[at] {
+    if let Some(place) = place_at(places.as_slice(), at) {
         places[at] = Some(place + 1);
     }
 }
@@ -193,7 +211,6 @@ impl<R: Roll> Round<R> {
     fn offer(&mut self, at: usize, key: Key) -> Result<Option<Key>, AllocError>
         requires within { at < length self.old.rolls.items }
         requires count_fits { self.old.proposals + 1 < 2 ^ 64 }
-        requires room { let roll = roll_at (standings_of R.keys R.seats self.old).rolls at in length roll.keys ≤ roll.seats }
         requires new { ¬ Contains (roll_at (standings_of R.keys R.seats self.old).rolls at).keys key }
         ensures offered { IfOk result (λ out. OffersAt (standings_of R.keys R.seats self.old).rolls (standings_of R.keys R.seats self.new).rolls at key out) }
         ensures places { self.new.places.items ≡ self.old.places.items }
@@ -207,8 +224,7 @@ impl<R: Roll> Round<R> {
 
     /// Notes that the school rejects the student at the position, who moves on to the next choice.
     fn reject(&mut self, at: usize, entry: Rejection) -> Result<(), AllocError>
-        requires within { at < length self.old.places.items }
-        requires short { (place : ℕ) → slice_index_or self.old.places.items at None ≡ Some place → place < 20 }
+        requires { (place : ℕ) → slice_index_or self.old.places.items at None ≡ Some place → place < 20 }
         ensures log { OnOk result (self.new.log.items ≡ self.old.log.items ++ entry ∷ []) }
         ensures moved { OnOk result ((place : ℕ) → slice_index_or self.old.places.items at None ≡ Some place → self.new.places.items ≡ slice_set self.old.places.items at (Some (place + 1))) }
         ensures rolls { self.new.rolls.items ≡ self.old.rolls.items }
@@ -262,6 +278,7 @@ impl<R: Roll> Round<R> {
         ensures { OnOk result (Enters papers.now (standings_of R.keys R.seats self.old) (standings_of R.keys R.seats self.new) student) }
     {
         let at = position_of(papers, student);
+        make_room(&mut self.places, at)?;
         self.places[at] = Some(0);
         self.chain(papers, at)?;
         Ok(())
@@ -294,7 +311,8 @@ impl<R: Roll> Round<R> {
     /// entered, in whatever order they did.
     ///
     /// A refused growth leaves the round spent, and a spent round answers the error to every student.
-    /// No memory is taken for a proposal but by the log and the rolls.
+    /// No memory is taken for a proposal but by the log and the rolls, nor for a student but where it
+    /// came to the papers after the round began.
     pub fn enter_one(&mut self, papers: &Papers, student: StudentNo) -> Result<(), AllocError>
         // Of a round that is not spent: it fits the papers, and the student is in them and has not
         // entered.

@@ -4,6 +4,7 @@ ghost use Rattle.sc_journal.specs.Journal.{no_memory};
 ghost use Rattle.sc_journal.specs.Replaying.{line_of};
 
 use sc_papers::Refusal;
+use std::error::Error;
 use std::fmt;
 
 /// Why a line of a journal is not taken. The causes of one line are tested in this order.
@@ -46,6 +47,8 @@ impl fmt::Display for JournalFault {
         write!(f, "journal line {}: {}", self.line, self.cause)
     }
 }
+
+impl Error for JournalFault {}
 
 impl JournalFault {
     /// The fault of a line. Want of memory is of no line, and takes line 0.

@@ -29,3 +29,4 @@ pub mod Cutting
 pub mod Reordering
 pub mod Locality
 pub mod Amending
+pub mod Weaving

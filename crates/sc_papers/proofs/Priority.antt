@@ -1,9 +1,10 @@
 -- At each school the students stand in a strict order.
-use Rattle.std.proofs.Common.{◌≡◌, ◌⊎◌, inl, inr, ℕ, true, false, arith}
+use Rattle.std.proofs.Common.{◌≡◌, ◌⊎◌, ◌↔◌, inl, inr, subst, ℕ, true, false, arith}
+use Rattle.std.specs.declared.cmp.Ordering.TheVariants.{Less, Equal, Greater}
 use Rattle.std.proofs.lemmas.Bool.Decides.{nat_tests}
 use Rattle.std.proofs.lemmas.Bool.{cases_Bool}
 use Rattle.sc_papers.specs.Market.{Market}
-use Rattle.sc_papers.specs.Key.{is_before, is_ahead, key_of}
+use Rattle.sc_papers.specs.Key.{IsStrictOrder, is_before, is_ahead, key_cmp, key_of}
 use Rattle.sc_papers.specs.declared.key.Key.{Key}
 
 pub before-irrefl : (a : Key) → is_before a a ≡ false
@@ -39,3 +40,25 @@ ahead-total m s i j apart =
       | inl ahead ↦ inl ahead
       | inr behind ↦ inr (before-total (key_of m i s) (key_of m j s) apart behind)
     ]
+
+pub ahead-strict : (m : Market) (s : ℕ) → IsStrictOrder (is_ahead m s)
+ahead-strict m s = record { irreflexive = ahead-irrefl m s; transitive = ahead-trans m s; total = ahead-total m s }
+
+pub cmp-less : (a b : Key) → (key_cmp a b ≡ Less ↔ is_before a b ≡ true)
+cmp-less a b = (λ less. grind (arith, nat_tests), λ ahead. grind (arith, nat_tests))
+
+pub cmp-greater : (a b : Key) → (key_cmp a b ≡ Greater ↔ is_before b a ≡ true)
+cmp-greater a b = (λ greater. grind (arith, nat_tests), λ ahead. grind (arith, nat_tests))
+
+pub cmp-equal : (a b : Key) → (key_cmp a b ≡ Equal ↔ a ≡ b)
+cmp-equal a b = (λ equal. one_key equal, λ same. subst (λ key. key_cmp a key ≡ Equal) same (tied_itself a))
+  where
+    tied_itself : (key : Key) → key_cmp key key ≡ Equal
+    tied_itself key = grind (arith, nat_tests)
+
+    one_key : key_cmp a b ≡ Equal → a ≡ b
+    one_key equal =
+        let class : a.class ≡ b.class = grind (arith, nat_tests) in
+        let draw : a.draw ≡ b.draw = grind (arith, nat_tests) in
+        let student : a.student ≡ b.student = grind (arith, nat_tests) in
+        λ t. let key : Key = record { class = class t; draw = draw t; student = student t } in key

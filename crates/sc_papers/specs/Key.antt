@@ -1,7 +1,9 @@
 -- Priority at a school: classes, keys, and who is ahead of whom.
-use Rattle.std.specs.Prelude.{ℕ, ◌==◌, Bool, ◌&&◌, not, nat_lt, Option, slice_get, if◌then◌else◌}
+use Rattle.std.specs.Prelude.{◌≡◌, ◌⊎◌, ℕ, ◌==◌, Bool, true, false, ◌&&◌, not, nat_lt, Option, slice_get, if◌then◌else◌}
 use Rattle.std.specs.List.{list_any}
 use Rattle.std.specs.Option.{option_and_then, option_map}
+use Rattle.std.specs.Ordering.{nat_cmp, ordering_then}
+use Rattle.std.specs.declared.cmp.Ordering.{Ordering}
 use Rattle.sc_lottery.specs.Draw.{draw}
 use Rattle.sc_papers.specs.Market.{Market, schools_of, siblings_of, students_of, zone_of, zone_at}
 use Rattle.sc_papers.specs.declared.key.Key.{Key}
@@ -34,6 +36,17 @@ is_before a b =
     (if a.draw == b.draw then nat_lt a.student b.student else nat_lt a.draw b.draw)
     else nat_lt a.class b.class
 
+-- the same as a comparison answers it: class, then draw, then number
+abbrev pub key_cmp : Key → Key → Ordering
+key_cmp a b = ordering_then (nat_cmp a.class b.class) (ordering_then (nat_cmp a.draw b.draw) (nat_cmp a.student b.student))
+
 -- whether student i is ahead of student j at school s
 unfoldable pub is_ahead : Market → ℕ → ℕ → ℕ → Bool
 is_ahead m s i j = is_before (key_of m i s) (key_of m j s)
+
+-- a strict order of students: nobody is ahead of themselves, whoever is ahead of one who is ahead of a
+-- third is ahead of the third, and of two different students one is ahead of the other
+pub record IsStrictOrder (ahead : ℕ → ℕ → Bool) : Type 0 where
+  pub irreflexive : (i : ℕ) → ahead i i ≡ false
+  pub transitive : (i j k : ℕ) → ahead i j ≡ true → ahead j k ≡ true → ahead i k ≡ true
+  pub total : (i j : ℕ) → (i ≡ j → ⊥) → (ahead i j ≡ true) ⊎ (ahead j i ≡ true)

@@ -12,3 +12,4 @@ pub mod Restriction
 pub mod Chain
 pub mod Progress
 pub mod Reordering
+pub mod Interleaving

@@ -1,6 +1,10 @@
 //! The laws of the mechanism. Each function does nothing: its contract is the law.
-ghost use Rattle.std.specs.Prelude.{◌≡◌, ◌↔◌, ℕ, ◌+◌, ◌≤◌, Bool, List, [], ◌∷◌, ◌++◌, length, take, slice_get, Some, None, false, Contains};
+ghost use Rattle.std.specs.Prelude.{◌≡◌, ◌↔◌, ℕ, ◌+◌, ◌≤◌, Bool, List, [], ◌∷◌, ◌++◌, length, take, slice_get, Some, None, true, false, Contains, flat_map};
+ghost use Rattle.std.specs.List.Sorted.{IsPermutation};
+ghost use Rattle.std.specs.Option.{option_map};
 ghost use Rattle.sc_papers.specs.Chain.{and_one, InChain, PutsOut, Ends, IsChain};
+ghost use Rattle.sc_papers.specs.Interleaving.{IsInterleaving, after_list, verdicts};
+ghost use Rattle.sc_papers.specs.Key.{IsStrictOrder, is_ahead, is_before, key_cmp};
 ghost use Rattle.sc_papers.specs.Log.{is_rejected, next_choice, matching_of, IsValidEntry, IsValidLog, IsSettled};
 ghost use Rattle.sc_papers.specs.Market.{Market, students_of, choices_of, seats_of, zone_at};
 ghost use Rattle.sc_papers.specs.Matching.{IsStudentOptimal, Matching};
@@ -10,7 +14,23 @@ ghost use Rattle.sc_papers.specs.Restriction.{restricted, cut, joined, entries_o
 ghost use Rattle.sc_papers.specs.Verdict.{after, verdict};
 ghost use Rattle.sc_papers.specs.WellFormed.{WellFormed};
 ghost use Rattle.sc_papers.specs.declared.amendment.Amendment.{Amendment};
+ghost use Rattle.sc_papers.specs.declared.amendment.Refusal.{Refusal};
+ghost use Rattle.sc_papers.specs.declared.key.Key.{Key};
 ghost use Rattle.sc_papers.specs.declared.rejection.Rejection.{Rejection};
+ghost use Rattle.std.specs.declared.cmp.Ordering.TheVariants.{Less, Equal, Greater};
+
+/// At each school being ahead is a strict order: nobody is ahead of themselves, whoever is ahead of one
+/// who is ahead of a third is ahead of the third, and of two different students one is ahead.
+pub fn being_ahead_is_a_strict_order()
+    ensures { (m : Market) (s : ℕ) → IsStrictOrder (is_ahead m s) }
+{}
+
+/// A comparison of two keys says which of them is ahead, and that they are equal only where they are one.
+pub fn comparison_says_who_is_ahead()
+    ensures ahead { (a b : Key) → (key_cmp a b ≡ Less ↔ is_before a b ≡ true) }
+    ensures equal { (a b : Key) → (key_cmp a b ≡ Equal ↔ a ≡ b) }
+    ensures behind { (a b : Key) → (key_cmp a b ≡ Greater ↔ is_before b a ≡ true) }
+{}
 
 /// The matching of every settled log is student-optimal, whoever made the log (Gale and Shapley,
 /// Theorem 2). So a settled log certifies its matching.
@@ -131,4 +151,33 @@ pub fn order_of_entry_decides_nothing()
 /// change, and papers change only within the set, every student outside has the same.
 pub fn nothing_changes_outside()
     ensures { (m n : Market) (test : ℕ → Bool) (a b : Matching) → WellFormed m → WellFormed n → AreApart m test → AreApart n test → AlikeOutside test m n → IsStudentOptimal m a → IsStudentOptimal n b → (i : ℕ) → test i ≡ false → a i ≡ b i }
+{}
+
+/// The order of entry decides nothing about what anybody has: papers that are equal up to order have
+/// student-optimal matchings that give every student the same.
+pub fn papers_equal_up_to_order_leave_one_matching()
+    ensures { (m n : Market) (a b : Matching) → WellFormed m → IsReordering m n → IsStudentOptimal m a → IsStudentOptimal n b → (i : ℕ) → a i ≡ b i }
+{}
+
+/// Amendments in turn: each is answered by its verdict in the papers after those before it, an accepted
+/// one is made, a refused one changes nothing, and the papers stay well-formed. So it is with every
+/// interleaving of several desks' lists.
+pub fn amendments_are_answered_in_turn()
+    ensures verdicts { (m : Market) (list : List Amendment) (k : ℕ) → slice_get (verdicts m list) k ≡ option_map (verdict (after_list m (take k list))) (slice_get list k) }
+    ensures accepted { (m : Market) (list : List Amendment) (a : Amendment) → verdict (after_list m list) a ≡ None → after_list m (list ++ a ∷ []) ≡ after (after_list m list) a }
+    ensures refused { (m : Market) (list : List Amendment) (a : Amendment) (refusal : Refusal) → verdict (after_list m list) a ≡ Some refusal → after_list m (list ++ a ∷ []) ≡ after_list m list }
+    ensures well_formed { (m : Market) (list : List Amendment) → WellFormed m → WellFormed (after_list m list) }
+{}
+
+/// An interleaving of several desks' lists has all their members, each once.
+pub fn interleaving_has_each_member_once()
+    ensures { (desks : List (List Amendment)) (woven : List Amendment) → IsInterleaving desks woven → IsPermutation (flat_map (λ list. list) desks) woven }
+{}
+
+/// The order of amendments decides nothing either, where it leaves the same papers: two lists of
+/// amendments of the same papers, or two interleavings of several desks' lists, after which the papers
+/// are equal up to order, leave every student the same.
+pub fn amendments_that_leave_the_same_papers_leave_one_matching()
+    ensures lists { (m : Market) (first second : List Amendment) (a b : Matching) → WellFormed m → IsReordering (after_list m first) (after_list m second) → IsStudentOptimal (after_list m first) a → IsStudentOptimal (after_list m second) b → (i : ℕ) → a i ≡ b i }
+    ensures interleavings { (m : Market) (desks : List (List Amendment)) (first second : List Amendment) (a b : Matching) → WellFormed m → IsInterleaving desks first → IsInterleaving desks second → IsReordering (after_list m first) (after_list m second) → IsStudentOptimal (after_list m first) a → IsStudentOptimal (after_list m second) b → (i : ℕ) → a i ≡ b i }
 {}

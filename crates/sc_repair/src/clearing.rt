@@ -10,7 +10,9 @@ use sc_checkpoint::Segments;
 use sc_papers::{Assignment, Papers, Rejection, SchoolNo, StudentNo};
 use sc_seats::HeapRoll;
 use std::alloc::{AllocError, Global};
+use std::fmt;
 use std::marker::Model;
+use thiserror::Error;
 
 /// The papers and the standing assignment under them, with the log of rejections that certifies it, in
 /// segments, one for each student in order of entry: of every clearing, the standing assignment is the
@@ -37,9 +39,17 @@ impl Model for Clearing {
 }
 
 /// The papers of a clearing that could not be opened for want of memory, as they were.
-#[derive(Drop)]
+#[derive(Drop, Error)]
+#[error("out of memory")]
 pub struct OpenRefused {
     pub papers: Papers,
+}
+
+impl fmt::Debug for OpenRefused {
+    /// Names the refusal; the papers are not shown.
+    fn fmt<W: fmt::Write>(&self, f: &mut fmt::Formatter<W>) -> fmt::Result {
+        f.write_str("OpenRefused")
+    }
 }
 
 /// How many of the students have the school.

@@ -5,6 +5,7 @@ pub mod Orders
 pub mod TallyLemmas
 pub mod Places
 pub mod ReasonLemmas
+pub mod ReasonCounts
 pub mod LineLemmas
 pub mod ReasonLaws
 pub mod AdmissionLaws

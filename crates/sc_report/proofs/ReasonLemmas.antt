@@ -16,14 +16,14 @@ use Rattle.sc_report.specs.declared.reason.Reason.{Reason}
 use Rattle.sc_report.specs.declared.reason.ReasonRow.{ReasonRow}
 
 -- what stands before the first that passes: an element that fails, and what stands there after it
-before-fails : (p : ℕ → Bool) (x : ℕ) (xs : List ℕ) → p x ≡ false → before_first p (x ∷ xs) ≡ x ∷ before_first p xs
+pub before-fails : (p : ℕ → Bool) (x : ℕ) (xs : List ℕ) → p x ≡ false → before_first p (x ∷ xs) ≡ x ∷ before_first p xs
 before-fails p x xs fails =
     let count : position_or_len p (x ∷ xs) ≡ suc (position_or_len p xs) =
     cond-true (not (p x)) (1 + position_or_len p xs) 0 (ap not fails) ∙ omega arith in
     ap (λ n. take n (x ∷ xs)) count
 
 -- and nothing before one that passes
-before-passes : (p : ℕ → Bool) (x : ℕ) (xs : List ℕ) → p x ≡ true → before_first p (x ∷ xs) ≡ []
+pub before-passes : (p : ℕ → Bool) (x : ℕ) (xs : List ℕ) → p x ≡ true → before_first p (x ∷ xs) ≡ []
 before-passes p x xs passes = ap (λ n. take n (x ∷ xs)) (cond-false (not (p x)) (1 + position_or_len p xs) 0 (ap not passes))
 
 -- none of the first k passes

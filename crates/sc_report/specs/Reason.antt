@@ -1,5 +1,5 @@
 -- Reasons: why a student does not have a choice that it prefers to what it has.
-use Rattle.std.specs.Prelude.{ℕ, ◌<◌, ◌≡◌, true, nat_lt, List, map, flat_map, if◌then◌else◌}
+use Rattle.std.specs.Prelude.{ℕ, ◌<◌, ◌≡◌, ◌==◌, ◌&&◌, true, nat_lt, List, map, flat_map, count_by, if◌then◌else◌}
 use Rattle.std.specs.List.{before_first}
 use Rattle.sc_papers.specs.Key.{is_before, key_of}
 use Rattle.sc_papers.specs.Market.{Market, choices_of, students_of}
@@ -38,6 +38,10 @@ reasons_of m a i = map (reason_row m a i) (preferred m a i)
 -- the rows of all students by rising number, and of each in order of choice
 abbrev pub reason_rows : Market → Matching → List ReasonRow
 reason_rows m a = flat_map (reasons_of m a) (rising (students_of m))
+
+-- how many rows stand for a student and a school
+unfoldable pub rows_for : Market → Matching → ℕ → ℕ → ℕ
+rows_for m a i s = count_by (λ row. row.student == i && row.school == s) (reason_rows m a)
 
 -- what each reason says of a student's key and a school's cutoff: the school is closed, the last
 -- class admitted is smaller, or the class is the same and the key is after the last one admitted

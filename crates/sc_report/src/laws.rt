@@ -3,13 +3,13 @@
 ghost use Rattle.std.specs.Prelude.{◌≡◌, ◌↔◌, ℕ, true, false, Some};
 ghost use Rattle.sc_papers.specs.Key.{key_of};
 ghost use Rattle.sc_papers.specs.Market.{Market};
-ghost use Rattle.sc_papers.specs.Matching.{Matching, IsStable, IsStudentOptimal, Prefers, WithinSeats};
+ghost use Rattle.sc_papers.specs.Matching.{IsMatching, Matching, IsStable, IsStudentOptimal, Prefers, WithinSeats};
 ghost use Rattle.sc_papers.specs.Reordering.{IsReordering};
 ghost use Rattle.sc_papers.specs.WellFormed.{WellFormed};
 ghost use Rattle.sc_report.specs.Admission.{first_admitting, is_admitted};
 ghost use Rattle.sc_report.specs.Cutoff.{cutoff};
 ghost use Rattle.sc_report.specs.CutoffText.{cutoff_text};
-ghost use Rattle.sc_report.specs.Reason.{reason, Applies};
+ghost use Rattle.sc_report.specs.Reason.{reason, rows_for, Applies};
 ghost use Rattle.sc_report.specs.ReasonText.{reason_text};
 ghost use Rattle.sc_report.specs.Text.{assignment_text, report_text};
 ghost use Rattle.sc_report.specs.declared.reason.Reason.{Reason};
@@ -23,6 +23,13 @@ pub fn order_of_entry_decides_no_text()
     ensures reasons { (m n : Market) (a b : Matching) → WellFormed m → IsReordering m n → ((i : ℕ) → a i ≡ b i) → reason_text m a ≡ reason_text n b }
     ensures report { (m n : Market) (a b : Matching) → WellFormed m → IsReordering m n → ((i : ℕ) → a i ≡ b i) → report_text m a ≡ report_text n b }
     ensures optimal { (m n : Market) (a b : Matching) → WellFormed m → IsReordering m n → IsStudentOptimal m a → IsStudentOptimal n b → report_text m a ≡ report_text n b }
+{}
+
+/// A reason's row stands, once, for each student and school where the student prefers the school to what
+/// it has, and for no others.
+pub fn each_place_not_given_has_one_row()
+    ensures preferred { (m : Market) (a : Matching) → WellFormed m → IsMatching m a → (i s : ℕ) → Prefers m i s (a i) → rows_for m a i s ≡ 1 }
+    ensures others { (m : Market) (a : Matching) → WellFormed m → IsMatching m a → (i s : ℕ) → (Prefers m i s (a i) → ⊥) → rows_for m a i s ≡ 0 }
 {}
 
 /// In a stable matching the reason of each choice that a student prefers to what it has is true of

@@ -7,10 +7,9 @@ use Rattle.std.specs.Ordering.{ordering_index}
 use Rattle.std.proofs.lemmas.Bool.{cases_order}
 use Rattle.std.proofs.Common.{inl, inr}
 use Rattle.std.proofs.lemmas.List.Sorted.{IsPermutation-insert, IsPermutation-trans, IsPermutation-append_comm}
-use Rattle.sc_papers.specs.Key.{is_before}
+use Rattle.sc_papers.specs.Key.{is_before, key_cmp}
 use Rattle.sc_papers.specs.declared.key.Key.{Key}
 use Rattle.sc_seats.specs.Roll.{IsAscending}
-use Rattle.sc_seats.specs.Order.{key_cmp}
 use Rattle.sc_seats.proofs.Order.{index-rises, ascending-places, ascending-front, ascending-insert}
 
 -- against any key, the keys of an ascending list rise

@@ -5,9 +5,8 @@ use Rattle.std.specs.Ordering.{ordering_index}
 use Rattle.std.specs.declared.cmp.Ordering.TheVariants.{Less, Greater}
 use Rattle.std.proofs.lemmas.Bool.Decides.{nat_tests}
 use Rattle.std.proofs.lemmas.List.Elements.{All-cons, All-head, All-tail, All-nil, All-pop}
-use Rattle.sc_papers.specs.Key.{is_before}
+use Rattle.sc_papers.specs.Key.{is_before, key_cmp}
 use Rattle.sc_papers.specs.declared.key.Key.{Key}
-use Rattle.sc_seats.specs.Order.{key_cmp}
 use Rattle.sc_seats.specs.Roll.{IsAscending}
 
 pub before-from_less : (a b : Key) → key_cmp a b ≡ Less → is_before a b ≡ true

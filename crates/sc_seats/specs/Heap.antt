@@ -1,7 +1,7 @@
 -- How a heap keeps a roll. Contracts see the keys in order.
 use Rattle.std.specs.Prelude.{◌≤◌, length}
 use Rattle.std.specs.BinaryHeap.{heap_items, IsHeap}
-use Rattle.sc_seats.specs.Order.{key_cmp}
+use Rattle.sc_papers.specs.Key.{key_cmp}
 use Rattle.sc_seats.specs.Roll.{Held, IsAscending, in_order}
 use Rattle.sc_seats.specs.declared.heap.HeapRoll.TheInside.{Inside}
 

@@ -1,3 +1,2 @@
 pub mod Roll
-pub mod Order
 pub mod Heap

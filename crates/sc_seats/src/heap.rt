@@ -2,9 +2,8 @@ ghost use Rattle.std.specs.Prelude.{◌≡◌, ℕ, ◌+◌, ◌<◌, ◌≤◌,
 ghost use Rattle.std.specs.Bool.{OnTrue, OnFalse};
 ghost use Rattle.std.specs.BinaryHeap.{heap_items, heap_len, heap_capacity, IsHeap};
 ghost use Rattle.std.specs.List.Sorted.{IsPermutation};
-ghost use Rattle.sc_papers.specs.Key.{is_before};
+ghost use Rattle.sc_papers.specs.Key.{is_before, key_cmp};
 ghost use Rattle.sc_papers.specs.declared.key.Key.{Key as Priority};
-ghost use Rattle.sc_seats.specs.Order.{key_cmp};
 
 use crate::roll::Roll;
 use sc_papers::{Key, Seats};
@@ -120,7 +119,7 @@ impl Roll for HeapRoll {
         self.capacity
     }
 
-    fn copy(&self, _alloc: Global) -> Result<Self, AllocError> {
+    fn copy(&self) -> Result<Self, AllocError> {
         Ok(HeapRoll {
             keys: self.keys.clone()?,
             capacity: self.capacity,

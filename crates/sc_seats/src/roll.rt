@@ -27,8 +27,7 @@ pub trait Roll: Drop {
     /// and the offered one, and the last of them is put out: at capacity 0 the offered one.
     /// A refused growth changes nothing.
     fn offer(&mut self, key: Key) -> Result<Option<Key>, AllocError>
-        requires within { length (keys self.old) ≤ seats self.old }
-        requires new { ¬ Contains (keys self.old) key }
+        requires { ¬ Contains (keys self.old) key }
         ensures together { IfOk result (λ out. IsPermutation (key ∷ keys self.old) (option_to_list out ++ keys self.new)) }
         ensures last { IfOk result (λ out. IfSome out (λ worst. All (λ held. is_before held worst ≡ true) (keys self.new))) }
         ensures full { IfOk result (λ out. IsSome out → length (keys self.old) ≡ seats self.old) }
@@ -52,7 +51,7 @@ pub trait Roll: Drop {
         ensures { result ≡ seats self.now };
 
     /// An equal roll, or the error of a refused growth. The cost is its length.
-    fn copy(&self, alloc: Global) -> Result<Self, AllocError>
+    fn copy(&self) -> Result<Self, AllocError>
         ensures keys { IfOk result (λ roll. keys roll ≡ keys self.now) }
         ensures capacity { IfOk result (λ roll. seats roll ≡ seats self.now) };
 }

@@ -94,9 +94,9 @@ impl Roll for SortedRoll {
         self.capacity
     }
 
-    fn copy(&self, alloc: Global) -> Result<Self, AllocError> {
+    fn copy(&self) -> Result<Self, AllocError> {
         Ok(SortedRoll {
-            keys: Vec::from_slice(alloc, self.keys.as_slice())?,
+            keys: self.keys.clone()?,
             capacity: self.capacity,
         })
     }

@@ -73,7 +73,7 @@ fn two_seats<R: Roll>(rt: &impl Abort, alloc: Global) -> Result<(), AllocError> 
     assert_eq!(rt; offer(rt, &mut roll, &mut seen, four)?, Some(three));
     assert_eq!(rt; roll.worst(), Some(two));
     assert_eq!(rt; offer(rt, &mut roll, &mut seen, one)?, Some(one));
-    let copy = roll.copy(alloc)?;
+    let copy = roll.copy()?;
     assert_eq!(rt; copy.len(), 2);
     assert_eq!(rt; copy.worst(), Some(two));
     assert_eq!(rt; copy.capacity(), roll.capacity());
@@ -160,9 +160,9 @@ fn grow<R: Roll>(rt: &impl Abort, alloc: Global) -> Result<(), AllocError> {
     }
     let last = key(rt, 3, 9, 9);
     assert_eq!(rt; offer(rt, &mut roll, &mut seen, last)?, Some(last));
-    let copy = match roll.copy(alloc) {
+    let copy = match roll.copy() {
         Ok(copy) => copy,
-        Err(_refused) => roll.copy(alloc)?,
+        Err(_refused) => roll.copy()?,
     };
     assert_eq!(rt; copy.len(), 8);
     assert_eq!(rt; copy.worst(), roll.worst());

@@ -1,6 +1,6 @@
 use Rattle.std.proofs.Common.{◌≡◌, [], length, All}
 use Rattle.std.specs.BinaryHeap.{heap_items, IsHeap}
-use Rattle.sc_audit.specs.Offers.{key_cmp}
+use Rattle.sc_papers.specs.Key.{key_cmp}
 use Rattle.sc_audit.proofs.books.no_keys.Given as goal
 
 abbrev pub invariant-loop-added : goal.invariant-loop-added

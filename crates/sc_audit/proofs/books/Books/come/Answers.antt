@@ -5,7 +5,8 @@ use Rattle.std.specs.Option.{option_map}
 use Rattle.sc_audit.specs.Ledger.{set_aside}
 use Rattle.sc_papers.specs.Market.{student_at}
 use Rattle.sc_audit.specs.Books.{ledger_of}
-use Rattle.sc_audit.specs.Offers.{key_cmp, Offers}
+use Rattle.sc_papers.specs.Key.{key_cmp}
+use Rattle.sc_audit.specs.Offers.{Offers}
 use Rattle.sc_audit.proofs.Tables.{read-mapped, map-set, stand-put}
 use Rattle.sc_audit.proofs.Ledgers.{choice-known, school-low, keys-within, offer-seen, out-known, placing-comes}
 use Rattle.sc_papers.proofs.Hands.{hand-student, hand-position}

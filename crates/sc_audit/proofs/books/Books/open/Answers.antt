@@ -3,7 +3,7 @@ use Rattle.std.specs.BinaryHeap.{heap_items, IsHeap}
 use Rattle.std.proofs.lemmas.List.{length-map}
 use Rattle.std.proofs.lemmas.List.Elements.{All-map}
 use Rattle.sc_audit.specs.Books.{ledger_of}
-use Rattle.sc_audit.specs.Offers.{key_cmp}
+use Rattle.sc_papers.specs.Key.{key_cmp}
 use Rattle.sc_audit.proofs.Openings.{nobody-stands, fits-empty}
 use Rattle.sc_audit.proofs.books.Books.open.Goals as goal
 

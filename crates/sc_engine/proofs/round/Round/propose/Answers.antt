@@ -7,7 +7,7 @@ use Rattle.sc_engine.specs.Rolls.{rolls_of}
 use Rattle.sc_papers.proofs.Hands.{hand-position, student-there}
 use Rattle.sc_engine.proofs.Papers.{stander-student, stander-school, stander-short}
 use Rattle.sc_engine.proofs.Proposals.{Proposed, put-out, standing-most}
-use Rattle.sc_engine.proofs.Moves.{proposed-told, roll-room, roll-new, ends-none, ends-held, goes-on}
+use Rattle.sc_engine.proofs.Moves.{proposed-told, roll-new, ends-none, ends-held, goes-on}
 use Rattle.sc_engine.proofs.Tables.{place-at}
 use Rattle.sc_engine.proofs.round.Round.propose.Goals as goal
 
@@ -26,10 +26,6 @@ key_at-at-requires-clause-school g c =
     let stands : next_of papers old.places hand ≡ Some c.in-Some.school =
     sym (c.in-Some.ensures hand (hand-position papers c.requires.fits.well_formed c.args.hand c.requires.within) ∙ ap (λ places. next_of papers places hand) c.as_slice.ensures.value) in
     stander-school papers old.places hand c.in-Some.school c.requires.fits.well_formed stands
-
-pub offer-requires-clause-room : goal.offer-requires-clause-room
-offer-requires-clause-room g c =
-    roll-room c.args.papers.now (standings_of g.R.Roll.keys g.R.Roll.seats c.args.self.now) (student_at c.args.papers.now c.args.hand) c.in-Some.school c.key_at-at.result.0 c.requires.fits c.key_at-at.ensures.position
 
 pub offer-requires-clause-new : goal.offer-requires-clause-new
 offer-requires-clause-new g c =
@@ -64,8 +60,8 @@ position_of-next-requires g c =
     proposed-told papers old hand c.in-Some.school c.key_at-at.result.0 c.key_at-at.result.1 rolls c.in_ok-out.field-0 (Some c.in-Some-2.out) c.requires.fits stands c.key_at-at.ensures.position c.key_at-at.ensures.key c.in_ok-out.ensures.offered c.in-Some-2.is in
     stander-student papers old.places out c.in-Some.school (put-out papers old hand c.in-Some.school c.key_at-at.result.0 rolls c.in-Some-2.out proposed).stands
 
-pub reject-requires-clause-short : goal.reject-requires-clause-short
-reject-requires-clause-short g c place is =
+pub reject-requires : goal.reject-requires
+reject-requires g c place is =
     let papers = c.args.papers.now in
     let hand : ℕ = student_at papers c.args.hand in
     let old = standings_of g.R.Roll.keys g.R.Roll.seats c.args.self.now in

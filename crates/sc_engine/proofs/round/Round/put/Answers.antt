@@ -7,7 +7,7 @@ use Rattle.sc_engine.specs.Round.{standings_of}
 use Rattle.sc_engine.specs.Rolls.{rolls_of}
 use Rattle.sc_engine.proofs.Beginning.{Begun, moved, begins, fits-begun, is_some-none}
 use Rattle.sc_papers.proofs.Hands.{student-there}
-use Rattle.sc_engine.proofs.Moves.{roll-room, roll-new, proposed-told}
+use Rattle.sc_engine.proofs.Moves.{roll-new, proposed-told}
 use Rattle.sc_engine.proofs.Putting.{next-begun, put-nowhere, put-school, roll-open, put-on_roll}
 use Rattle.sc_engine.proofs.round.Round.put.Goals as goal
 
@@ -23,11 +23,12 @@ returns-in_default-clause-stands g c =
     let student = c.args.standing.student in
     let at = c.position_of-at.result in
     let place = c.place_in.result in
+    let room = c.make_room.new.places.items in
     let old = standings_of g.R.Roll.keys g.R.Roll.seats c.args.self.now in
     let there : student_at papers at ≡ student = student-there papers student at c.position_of-at.ensures in
     let here : slice_get (choices_of papers student) place ≡ c.args.standing.next =
     ap (λ choices. slice_get choices place) (sym (c.choices_at.ensures ∙ ap (choices_of papers) there)) ∙ c.place_in.ensures in
-    let begun : Begun papers old (moved old at place) student at place = begins papers old student at place c.requires.fits c.position_of-at.ensures c.requires.absent in
+    let begun : Begun papers old (moved old room at place) student at place = begins papers old room student at place c.requires.fits c.position_of-at.ensures c.requires.absent c.in_ok-make_room.ensures.room c.in_ok-make_room.ensures.same c.in_ok-make_room.ensures.within in
     put-nowhere begun c.args.standing.next here c.in_default.is
 
 pub key_at-position-requires-clause-school : goal.key_at-position-requires-clause-school
@@ -36,25 +37,13 @@ key_at-position-requires-clause-school g c =
     let student = c.args.standing.student in
     let at = c.position_of-at.result in
     let place = c.place_in.result in
+    let room = c.make_room.new.places.items in
     let old = standings_of g.R.Roll.keys g.R.Roll.seats c.args.self.now in
     let there : student_at papers at ≡ student = student-there papers student at c.position_of-at.ensures in
     let here : slice_get (choices_of papers student) place ≡ c.args.standing.next =
     ap (λ choices. slice_get choices place) (sym (c.choices_at.ensures ∙ ap (choices_of papers) there)) ∙ c.place_in.ensures in
-    let begun : Begun papers old (moved old at place) student at place = begins papers old student at place c.requires.fits c.position_of-at.ensures c.requires.absent in
+    let begun : Begun papers old (moved old room at place) student at place = begins papers old room student at place c.requires.fits c.position_of-at.ensures c.requires.absent c.in_ok-make_room.ensures.room c.in_ok-make_room.ensures.same c.in_ok-make_room.ensures.within in
     put-school papers old student place c.in-Some.school c.requires.fits (here ∙ c.in-Some.is)
-
-pub offer_to-requires-clause-room : goal.offer_to-requires-clause-room
-offer_to-requires-clause-room g c =
-    let papers = c.args.papers.now in
-    let student = c.args.standing.student in
-    let at = c.position_of-at.result in
-    let place = c.place_in.result in
-    let old = standings_of g.R.Roll.keys g.R.Roll.seats c.args.self.now in
-    let there : student_at papers at ≡ student = student-there papers student at c.position_of-at.ensures in
-    let here : slice_get (choices_of papers student) place ≡ c.args.standing.next =
-    ap (λ choices. slice_get choices place) (sym (c.choices_at.ensures ∙ ap (choices_of papers) there)) ∙ c.place_in.ensures in
-    let begun : Begun papers old (moved old at place) student at place = begins papers old student at place c.requires.fits c.position_of-at.ensures c.requires.absent in
-    roll-room papers (moved old at place) student c.in-Some.school c.key_at-position.result.0 (fits-begun begun) c.key_at-position.ensures.position
 
 pub offer_to-requires-clause-new : goal.offer_to-requires-clause-new
 offer_to-requires-clause-new g c =
@@ -62,13 +51,14 @@ offer_to-requires-clause-new g c =
     let student = c.args.standing.student in
     let at = c.position_of-at.result in
     let place = c.place_in.result in
+    let room = c.make_room.new.places.items in
     let old = standings_of g.R.Roll.keys g.R.Roll.seats c.args.self.now in
     let there : student_at papers at ≡ student = student-there papers student at c.position_of-at.ensures in
     let here : slice_get (choices_of papers student) place ≡ c.args.standing.next =
     ap (λ choices. slice_get choices place) (sym (c.choices_at.ensures ∙ ap (choices_of papers) there)) ∙ c.place_in.ensures in
-    let begun : Begun papers old (moved old at place) student at place = begins papers old student at place c.requires.fits c.position_of-at.ensures c.requires.absent in
+    let begun : Begun papers old (moved old room at place) student at place = begins papers old room student at place c.requires.fits c.position_of-at.ensures c.requires.absent c.in_ok-make_room.ensures.room c.in_ok-make_room.ensures.same c.in_ok-make_room.ensures.within in
     let key = c.key_at-position.ensures.key ∙ ap (λ i. key_of papers i c.in-Some.school) there in
-    roll-new papers (moved old at place) student c.in-Some.school c.key_at-position.result.0 c.key_at-position.result.1 (fits-begun begun) c.key_at-position.ensures.position key
+    roll-new papers (moved old room at place) student c.in-Some.school c.key_at-position.result.0 c.key_at-position.result.1 (fits-begun begun) c.key_at-position.ensures.position key
 
 pub unreachable-requires : goal.unreachable-requires
 unreachable-requires g c =
@@ -88,15 +78,16 @@ returns-clause-stands g c =
     let student = c.args.standing.student in
     let at = c.position_of-at.result in
     let place = c.place_in.result in
+    let room = c.make_room.new.places.items in
     let old = standings_of g.R.Roll.keys g.R.Roll.seats c.args.self.now in
     let there : student_at papers at ≡ student = student-there papers student at c.position_of-at.ensures in
     let here : slice_get (choices_of papers student) place ≡ c.args.standing.next =
     ap (λ choices. slice_get choices place) (sym (c.choices_at.ensures ∙ ap (choices_of papers) there)) ∙ c.place_in.ensures in
-    let begun : Begun papers old (moved old at place) student at place = begins papers old student at place c.requires.fits c.position_of-at.ensures c.requires.absent in
+    let begun : Begun papers old (moved old room at place) student at place = begins papers old room student at place c.requires.fits c.position_of-at.ensures c.requires.absent c.in_ok-make_room.ensures.room c.in_ok-make_room.ensures.same c.in_ok-make_room.ensures.within in
     let key = c.key_at-position.ensures.key ∙ ap (λ i. key_of papers i c.in-Some.school) there in
     let rolls = rolls_of g.R.Roll.keys g.R.Roll.seats c.offer_to.new.rolls.items in
-    put-on_roll begun (record (moved old at place) { rolls = rolls }) c.args.standing.next c.in-Some.school c.key_at-position.result.0 here c.in-Some.is
-    (proposed-told papers (moved old at place) student c.in-Some.school c.key_at-position.result.0 c.key_at-position.result.1 rolls c.in_ok-out.out None
+    put-on_roll begun (record (moved old room at place) { rolls = rolls }) c.args.standing.next c.in-Some.school c.key_at-position.result.0 here c.in-Some.is
+    (proposed-told papers (moved old room at place) student c.in-Some.school c.key_at-position.result.0 c.key_at-position.result.1 rolls c.in_ok-out.out None
     (fits-begun begun) (next-begun begun c.args.standing.next here ∙ c.in-Some.is) c.key_at-position.ensures.position key c.in_ok-out.ensures
     (is_some-none c.in_ok-out.out (sym c.is_some.ensures ∙ c.if-is_some.false)))
     refl refl refl
