@@ -5,6 +5,7 @@ use Rattle.std.proofs.lemmas.List.Elements.{All-append, All-cons, All-head, All-
 use Rattle.std.specs.Int.{IsInRange}
 use Rattle.std.specs.List.{All, list_all}
 use Rattle.std.specs.Prelude.{map, ⊤}
+use Rattle.sc_papers.specs.Interleaving.{after_verdict}
 use Rattle.sc_papers.specs.Market.{Market}
 use Rattle.sc_papers.specs.Verdict.{after, verdict}
 use Rattle.sc_papers.specs.declared.amendment.Amendment.{Amendment}
@@ -21,7 +22,7 @@ use Rattle.sc_intake.specs.declared.fault.Source.TheVariants.{Script}
 use Rattle.sc_journal.specs.Journal.{after_all, journal_text, AreAccepted, IsReplay}
 use Rattle.sc_journal.specs.Spelling.{IsInRanges, IsSchool}
 use Rattle.sc_journal.specs.declared.journal.Tail.TheVariants.{Whole}
-use Rattle.sc_runs.specs.Run.{accepted, accepted_in, after_record, after_script, after_verdict, unless_verdict}
+use Rattle.sc_runs.specs.Run.{accepted, accepted_in, after_record, after_script, unless_verdict}
 
 -- a first amendment of this verdict, and those accepted after it
 AreAccepted-first : (m : Market) (amendment : Amendment) (found : Option Refusal) (rest : List Amendment) → verdict m amendment ≡ found

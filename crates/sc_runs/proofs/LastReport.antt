@@ -1,5 +1,6 @@
 -- The papers after a script are well-formed, and so they have a report.
 use Rattle.std.proofs.Common.{◌≡◌, ℕ, List, [], ◌∷◌, Option, None, Some, Result, Ok, Err, refl}
+use Rattle.sc_papers.specs.Interleaving.{after_verdict}
 use Rattle.sc_papers.specs.Market.{Market}
 use Rattle.sc_papers.specs.Verdict.{verdict}
 use Rattle.sc_papers.specs.WellFormed.{WellFormed}
@@ -9,7 +10,7 @@ use Rattle.sc_papers.proofs.Amending.{WellFormed-after}
 use Rattle.sc_papers.proofs.Existence.{optimal-exists}
 use Rattle.sc_report.specs.Text.{report_text}
 use Rattle.sc_runs.specs.Opening.{IsReport}
-use Rattle.sc_runs.specs.Run.{after_record, after_script, after_verdict, Opened, IsLastReport}
+use Rattle.sc_runs.specs.Run.{after_record, after_script, Opened, IsLastReport}
 
 -- an amendment of any verdict leaves the papers well-formed
 WellFormed-after_verdict : (m : Market) (amendment : Amendment) (found : Option Refusal) → WellFormed m → verdict m amendment ≡ found → WellFormed (after_verdict m amendment found)

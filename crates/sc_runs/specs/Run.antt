@@ -1,6 +1,7 @@
 -- What a script comes to: the papers after it, and the texts of a run.
 use Rattle.std.specs.Prelude.{◌≡◌, ◌⊎◌, ⊤, ℕ, ◌+◌, ◌≤◌, Bool, true, false, List, [], ◌∷◌, ◌++◌, length, codes, Option, None, Some, Result, Ok, Err, IsErrAnd}
 use Rattle.std.specs.Io.KnownBytes.{Keeps}
+use Rattle.sc_papers.specs.Interleaving.{after_verdict}
 use Rattle.sc_papers.specs.Market.{Market}
 use Rattle.sc_papers.specs.Verdict.{after, unless_refused, verdict}
 use Rattle.sc_papers.specs.declared.amendment.Amendment.{Amendment}
@@ -24,11 +25,6 @@ use Rattle.sc_runs.specs.declared.fault.RunFault.TheVariants.{Read, Intake, Jour
 abbrev pub reply_to : Market → Result Amendment Refusal → Result (Unit {0}) Refusal
 reply_to m (Ok amendment) = unless_refused (verdict m amendment)
 reply_to m (Err refusal) = Err refusal
-
--- the papers after an amendment of this verdict: a refused one changes nothing
-abbrev pub after_verdict : Market → Amendment → Option Refusal → Market
-after_verdict m amendment None = after m amendment
-after_verdict m amendment (Some refusal) = m
 
 -- the papers after a record of a script: one that is no amendment changes nothing
 abbrev pub after_record : Market → Result Amendment Refusal → Market

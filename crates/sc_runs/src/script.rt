@@ -1,6 +1,7 @@
 //! A script's records answered, one after the other.
 
 ghost use Rattle.std.specs.Prelude.{◌≡◌, ◌≢◌, ◌||◌, ℕ, ◌+◌, ◌≤◌, ◌<◌, List, ◌∷◌, [], length, Option, Ok, false, IfOk, OnOk};
+ghost use Rattle.sc_papers.specs.Interleaving.{after_verdict};
 ghost use Rattle.sc_papers.specs.Verdict.{unless_refused, verdict};
 ghost use Rattle.sc_papers.specs.declared.amendment.Refusal.TheVariants.{OutOfMemory as refused_for_memory};
 ghost use Rattle.sc_repair.specs.Standing.{IsOptimal};
@@ -8,7 +9,7 @@ ghost use Rattle.sc_report.specs.Reply.{reply_text};
 ghost use Rattle.sc_report.specs.Watched.{device_of, has_failed};
 ghost use Rattle.sc_runs.specs.Opening.{is_output_fault};
 ghost use Rattle.sc_runs.specs.Pieces.{to_journal, to_output};
-ghost use Rattle.sc_runs.specs.Run.{accepted, accepted_in, made, after_record, after_script, after_verdict, answer_to, answers, is_journal_fault, unless_verdict, IsFull, Writes};
+ghost use Rattle.sc_runs.specs.Run.{accepted, accepted_in, made, after_record, after_script, answer_to, answers, is_journal_fault, unless_verdict, IsFull, Writes};
 
 use crate::fault::RunFault;
 use crate::recorder::Recorder;
