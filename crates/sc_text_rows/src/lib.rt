@@ -1,0 +1,6 @@
+//! What the formats read as and what the calls write, in the worked rows: text in, text out. Tests alone,
+//! over public calls; it holds nothing that a program calls.
+#![tactic(auto)]
+
+#[cfg(test)]
+mod intake;
