@@ -4,3 +4,9 @@
 
 #[cfg(test)]
 mod intake;
+#[cfg(test)]
+mod journal;
+#[cfg(test)]
+mod report;
+#[cfg(test)]
+mod runs;
