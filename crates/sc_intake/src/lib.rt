@@ -26,6 +26,3 @@ pub use papers::papers_of;
 pub use roster::{RosterRow, RosterRows, read_roster};
 pub use schools::{SchoolRow, SchoolRows, read_schools};
 pub use script::read_script;
-
-#[cfg(test)]
-mod tests;

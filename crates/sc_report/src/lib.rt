@@ -28,6 +28,3 @@ pub use report::{ReportFault, write_report};
 pub use text::{assignment_text, report_text};
 pub use watched::{DeviceFailed, Watched};
 pub use whole::{ReadFault, read_whole, write_whole};
-
-#[cfg(test)]
-mod tests;

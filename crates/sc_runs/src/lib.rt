@@ -17,8 +17,6 @@ mod replaying;
 mod running;
 mod script;
 mod sections;
-#[cfg(test)]
-mod tests;
 
 pub use auditing::audit_files;
 pub use bundle::run_bundle;

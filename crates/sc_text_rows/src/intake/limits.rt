@@ -1,0 +1,54 @@
+//! The greatest inputs, and one past them.
+use super::{View, told};
+use sc_intake::MOST_BYTES;
+use std::alloc::{AllocError, Global};
+use std::process::Abort;
+
+/// A header above rows with the numbers from 1 to this.
+fn rows_under(alloc: Global, header: &str, count: u32) -> Result<String, AllocError> {
+    let mut text = String::from_str(alloc, header)?;
+    for number in 1..=count {
+        let row = format!(in alloc; "{number},0,1\n")?;
+        text.push_str(row.as_str())?;
+    }
+    Ok(text)
+}
+
+/// An input of so many rows reads as is wanted.
+fn expect_rows(
+    rt: &impl Abort,
+    alloc: Global,
+    view: View,
+    header: &str,
+    count: u32,
+    want: &str,
+) -> Result<(), AllocError> {
+    let text = rows_under(alloc, header, count)?;
+    let told = told(alloc, view, text.as_bytes())?;
+    assert!(rt; told.as_str() == want, "{told}");
+    Ok(())
+}
+
+#[test]
+fn at_most_5000_schools(rt: HostRuntime) -> Result<(), AllocError> {
+    let header = "school,zone,seats\n";
+    expect_rows(&rt, rt.alloc(), View::Schools, header, 5_000, "5000 rows")?;
+    let more = "schools row 5002: TooLong";
+    expect_rows(&rt, rt.alloc(), View::Schools, header, 5_001, more)
+}
+
+#[test]
+fn at_most_200000_students(rt: HostRuntime) -> Result<(), AllocError> {
+    let header = "student,zone,siblings\n";
+    let more = "roster row 200002: TooLong";
+    expect_rows(&rt, rt.alloc(), View::Roster, header, 200_001, more)
+}
+
+#[test]
+fn at_most_64_mebibytes(rt: HostRuntime) -> Result<(), AllocError> {
+    assert!(rt; MOST_BYTES == 67_108_864);
+    let newlines = vec![in rt.alloc(); b'\n'; 67_108_865]?;
+    let more = told(rt.alloc(), View::Log, newlines.as_slice())?;
+    assert!(rt; more.as_str() == "log row 0: TooLong", "{more}");
+    Ok(())
+}

@@ -1,0 +1,206 @@
+//! The lines of a journal, both ways, and journals replayed over Market B.
+use sc_journal::{JournalFault, LineNo, Tail, line, read_line, replay};
+use sc_markets::{amendment, market_b, places_text};
+use sc_papers::Amendment;
+use sc_repair::Clearing;
+use std::alloc::{AllocError, Global};
+use std::process::Abort;
+use std::test::Fail;
+
+/// The line of an amendment.
+fn written(alloc: Global, number: LineNo, amendment: &Amendment) -> Result<String, AllocError> {
+    let text = line(alloc, number, amendment)?;
+    let text = String::from_utf8_lossy(alloc, text.as_slice())?;
+    format!(in alloc; "{text}")
+}
+
+/// What a text reads as, written again; nothing where it is no line.
+fn reread(alloc: Global, text: &str) -> Result<String, AllocError> {
+    match read_line(alloc, text.as_bytes())? {
+        Some(read) => written(alloc, read.number, &read.amendment),
+        None => Ok(String::new(alloc)),
+    }
+}
+
+/// Each text is written again as is wanted.
+fn expect_reread(rt: &impl Abort, alloc: Global, table: &[(&str, &str)]) -> Result<(), AllocError> {
+    for (text, want) in table {
+        let again = reread(alloc, text)?;
+        assert!(rt; again.as_str() == *want, "{text}: {again}");
+    }
+    Ok(())
+}
+
+/// Each student's place in order of entry, 0 for none, and the tail.
+fn standing(alloc: Global, clearing: &Clearing, tail: Tail) -> Result<String, AllocError> {
+    let places = places_text(alloc, clearing)?;
+    format!(in alloc; "{places}{tail:?}")
+}
+
+/// What a replay answers.
+fn told(
+    alloc: Global,
+    replayed: Result<(Clearing, Tail), JournalFault>,
+) -> Result<String, AllocError> {
+    match replayed {
+        Ok((clearing, tail)) => standing(alloc, &clearing, tail),
+        Err(fault) => format!(in alloc; "{} {:?}", fault.line, fault.cause),
+    }
+}
+
+/// What the replay of a journal over Market B answers.
+fn replayed(alloc: Global, journal: &[u8]) -> Result<String, AllocError> {
+    match market_b(alloc) {
+        Ok(papers) => told(alloc, replay(alloc, papers, journal)),
+        Err(fault) => format!(in alloc; "{fault}"),
+    }
+}
+
+/// The replay of a journal answers what is wanted.
+fn expect_replay(
+    rt: &impl Abort,
+    alloc: Global,
+    journal: &[u8],
+    want: &str,
+) -> Result<(), AllocError> {
+    let told = replayed(alloc, journal)?;
+    assert!(rt;
+        told.as_str() == want,
+        "after {} bytes: {told}",
+        journal.len()
+    );
+    Ok(())
+}
+
+/// The replay of each journal answers what is wanted.
+fn expect_replays(
+    rt: &impl Abort,
+    alloc: Global,
+    table: &[(&str, &str)],
+) -> Result<(), AllocError> {
+    for (journal, want) in table {
+        expect_replay(rt, alloc, journal.as_bytes(), want)?;
+    }
+    Ok(())
+}
+
+#[test]
+fn line_numbers(rt: HostRuntime) {
+    for (number, next) in &[(1, 2), (999_999_998, 999_999_999)] {
+        let number = LineNo::new(*number).expect(&rt, "a line");
+        assert!(rt; number.next() == LineNo::new(*next));
+    }
+    let last = LineNo::new(999_999_999).expect(&rt, "a line");
+    assert_eq!(rt; last.get(), 999_999_999);
+    assert!(rt; last.next().is_none());
+    assert!(rt; LineNo::new(0).is_none());
+    assert!(rt; LineNo::new(1_000_000_000).is_none());
+}
+
+#[test]
+fn a_line_written(rt: HostRuntime) -> Result<(), Fail> {
+    let newcomer = amendment(rt.alloc(), "enter,3,1,10,10")?;
+    let number = LineNo::new(1).expect(&rt, "a line");
+    let text = line(rt.alloc(), number, &newcomer)?;
+    assert!(rt; text.as_slice() == b"1,enter,3,1,10,10\n".as_slice());
+    Ok(())
+}
+
+#[test]
+fn lines_both_ways(rt: HostRuntime) -> Result<(), AllocError> {
+    expect_reread(
+        &rt,
+        rt.alloc(),
+        &[
+            ("1,enter,3,1,10,10", "1,enter,3,1,10,10\n"),
+            ("2,withdraw,3", "2,withdraw,3\n"),
+            (
+                "3,rerank,999999999,1 99999 20",
+                "3,rerank,999999999,1 99999 20\n",
+            ),
+            ("4,add,10,1", "4,add,10,1\n"),
+            ("5,close,10,10000", "5,close,10,10000\n"),
+            ("6,correct,1,0,", "6,correct,1,0,\n"),
+            ("7,enter,4,0,,", "7,enter,4,0,,\n"),
+            (
+                "999999999,correct,1,9999,20 10",
+                "999999999,correct,1,9999,20 10\n",
+            ),
+        ],
+    )
+}
+
+#[test]
+fn spellings_refused(rt: HostRuntime) -> Result<(), AllocError> {
+    expect_reread(
+        &rt,
+        rt.alloc(),
+        &[
+            ("", ""),
+            ("1", ""),
+            ("1,", ""),
+            ("1,withdraw,3\r", ""),
+            ("1,withdraw,3\n", ""),
+            ("01,withdraw,3", ""),
+            ("1,withdraw,03", ""),
+            ("1,withdraw,\"3\"", ""),
+            ("1,withdraw, 3", ""),
+            ("1,withdraw,3,", ""),
+            ("1,rerank,1,10  20", ""),
+            ("1,rerank,1,10 20 ", ""),
+            ("1,rerank,1", ""),
+            ("1,enter,3,1,10,10,", ""),
+            ("1,add,10,0", ""),
+            ("1,add,10,00", ""),
+            ("1,close,100000,1", ""),
+            ("0,withdraw,3", ""),
+            ("1000000000,withdraw,3", ""),
+            ("1,withdraw,1000000000", ""),
+            ("1,Withdraw,3", ""),
+            ("1,remove,3", ""),
+            ("\u{FEFF}1,withdraw,3", ""),
+            ("nonsense", ""),
+        ],
+    )
+}
+
+#[test]
+fn replays(rt: HostRuntime) -> Result<(), AllocError> {
+    expect_replays(
+        &rt,
+        rt.alloc(),
+        &[
+            ("", "1:10 2:20 Whole"),
+            ("1,enter,3,1,10,10\n2,withdraw,3\n", "1:10 2:20 Whole"),
+            ("1,enter,3,1,10,10\n", "1:20 2:0 3:10 Whole"),
+            ("1,enter,3,1,10,10\n2,withdraw,3", "1:20 2:0 3:10 Torn"),
+            ("1,enter,3,1,10,10\n3,withdraw,3\n", "2 Number"),
+            ("0,enter,3,1,10,10\n", "1 Shape"),
+            ("2,enter,3,1,10,10\n", "1 Number"),
+            ("1,enter,3,1,10,10\nnonsense\n", "2 Shape"),
+            ("1,enter,3,1,10,10\n3,nonsense\n", "2 Shape"),
+            ("1,enter,3,1,10,10\n2,withdraw,3\r\n", "2 Shape"),
+            ("1,enter,3,1,10,10\n\n", "2 Shape"),
+            (
+                "1,enter,3,1,10,10\n2,withdraw,9\n",
+                "2 Refused(UnknownStudent)",
+            ),
+            ("3,withdraw,9\n", "1 Number"),
+        ],
+    )
+}
+
+#[test]
+fn a_journal_cut_short(rt: HostRuntime) -> Result<(), AllocError> {
+    let journal = b"1,enter,3,1,10,10\n2,withdraw,3\n";
+    for end in 0..journal.len() + 1 {
+        let want = match end {
+            0 | 31 => "1:10 2:20 Whole",
+            1..=17 => "1:10 2:20 Torn",
+            18 => "1:20 2:0 3:10 Whole",
+            _ => "1:20 2:0 3:10 Torn",
+        };
+        expect_replay(&rt, rt.alloc(), &journal[..end], want)?;
+    }
+    Ok(())
+}

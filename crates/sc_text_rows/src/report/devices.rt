@@ -1,0 +1,92 @@
+//! Readers and writers that fail in mid-stream, read and written whole.
+use sc_report::devices::{Ending, FailingReader, FailingWriter};
+use sc_report::{DeviceFailed, ReadFault, Watched, read_whole, write_whole};
+use std::io::ErrorKind;
+use std::test::Fail;
+
+#[test]
+fn written_whole_in_pieces(rt: HostRuntime) -> Result<(), Fail> {
+    let room = Vec::with_capacity(rt.alloc(), 20)?;
+    let mut to = Watched::new(FailingWriter::new(room, 20, 3, Ending::Fails));
+    write_whole(&mut to, b"student,school\n")?;
+    write_whole(&mut to, b"")?;
+    to.flush()?;
+    assert_eq!(rt; to.inner().taken(), b"student,school\n".as_slice());
+    assert!(rt; !to.failed());
+    Ok(())
+}
+
+#[test]
+fn a_front_after_a_fault(rt: HostRuntime) -> Result<(), Fail> {
+    for ending in [Ending::Fails, Ending::TakesNone] {
+        let room = Vec::with_capacity(rt.alloc(), 10)?;
+        let mut to = Watched::new(FailingWriter::new(room, 10, 4, ending));
+        assert_eq!(rt;
+            write_whole(&mut to, b"student,school\n"),
+            Err(DeviceFailed)
+        );
+        assert_eq!(rt; to.inner().taken(), b"student,sc".as_slice());
+        assert!(rt; to.failed());
+    }
+    Ok(())
+}
+
+#[test]
+fn failed_by_its_flush(rt: HostRuntime) -> Result<(), Fail> {
+    let room = Vec::with_capacity(rt.alloc(), 2)?;
+    let mut to = Watched::new(FailingWriter::new(room, 2, 2, Ending::Fails));
+    write_whole(&mut to, b"ok")?;
+    assert!(rt; !to.failed());
+    assert_eq!(rt; to.flush(), Err(DeviceFailed));
+    assert!(rt; to.failed());
+    Ok(())
+}
+
+#[test]
+fn read_up_to_a_limit(rt: HostRuntime) -> Result<(), Fail> {
+    for (limit, given, left) in [
+        (0, "", "abcdef"),
+        (4, "abcd", "ef"),
+        (6, "abcdef", ""),
+        (9, "abcdef", ""),
+    ] {
+        let mut from = Watched::new(b"abcdef".as_slice());
+        let bytes = read_whole(rt.alloc(), &mut from, limit)?;
+        assert_eq!(rt; bytes.as_slice(), given.as_bytes(), "at {limit}");
+        assert_eq!(rt; *from.inner(), left.as_bytes(), "at {limit}");
+        assert!(rt; !from.failed());
+    }
+    Ok(())
+}
+
+#[test]
+fn read_in_pieces(rt: HostRuntime) -> Result<(), Fail> {
+    let reader = FailingReader::new(b"abcdef", 6, 4, ErrorKind::Interrupted);
+    let mut from = Watched::new(reader);
+    let bytes = read_whole(rt.alloc(), &mut from, 6)?;
+    assert_eq!(rt; bytes.as_slice(), b"abcdef".as_slice());
+    assert!(rt; !from.failed());
+    // No read is tried again, an interrupted one neither.
+    let mut from = Watched::new(reader);
+    let fault = read_whole(rt.alloc(), &mut from, 7).err();
+    assert_eq!(rt; fault, Some(ReadFault::Device));
+    assert!(rt; from.failed());
+    Ok(())
+}
+
+#[test]
+fn failed_after_calls(rt: HostRuntime) -> Result<(), Fail> {
+    let mut from = Watched::new(FailingReader::after_calls(b"abcdef", 2, 2, ErrorKind::Other));
+    let bytes = read_whole(rt.alloc(), &mut from, 4)?;
+    assert_eq!(rt; bytes.as_slice(), b"abcd".as_slice());
+    let fault = read_whole(rt.alloc(), &mut from, 1).err();
+    assert_eq!(rt; fault, Some(ReadFault::Device));
+    for ending in [Ending::Fails, Ending::TakesNone] {
+        let room = Vec::with_capacity(rt.alloc(), 10)?;
+        let mut to = Watched::new(FailingWriter::after_calls(room, 1, 5, ending));
+        assert_eq!(rt; write_whole(&mut to, b"student"), Err(DeviceFailed));
+        assert_eq!(rt; to.inner().taken(), b"stude".as_slice());
+        assert!(rt; to.failed());
+    }
+    Ok(())
+}
