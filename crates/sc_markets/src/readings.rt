@@ -1,0 +1,92 @@
+//! Papers, amendments and assignments, read from their rows.
+
+use sc_intake::{
+    Cause, IntakeFault, Source, papers_of, read_lists, read_log, read_roster, read_schools,
+    read_script,
+};
+use sc_papers::{Amendment, Assignment, Papers, Refusal, Rejection, Seed};
+use sc_repair::Clearing;
+use std::alloc::{AllocError, Global};
+
+/// A file of these rows under its header.
+fn file(alloc: Global, source: Source, header: &str, rows: &str) -> Result<String, IntakeFault> {
+    format!(in alloc; "{header}\n{rows}").map_err(|_refused| IntakeFault {
+        source,
+        row: 0,
+        cause: Cause::OutOfMemory,
+    })
+}
+
+/// The papers of these schools (`SCHOOL,ZONE,SEATS` in each row), these students (`STUDENT,ZONE,SIBLINGS`)
+/// and their lists (`STUDENT,CHOICES`), under the seed of 64 zeros, or the fault of the three files: they
+/// are read as the program reads them, each with its header above these rows.
+pub fn papers(
+    alloc: Global,
+    schools: &str,
+    students: &str,
+    lists: &str,
+) -> Result<Papers, IntakeFault> {
+    let schools = file(alloc, Source::Schools, "school,zone,seats", schools)?;
+    let roster = file(alloc, Source::Roster, "student,zone,siblings", students)?;
+    let lists = file(alloc, Source::Lists, "student,choices", lists)?;
+    read(
+        alloc,
+        schools.as_bytes(),
+        roster.as_bytes(),
+        lists.as_bytes(),
+    )
+}
+
+/// The papers of three files.
+fn read(alloc: Global, schools: &[u8], roster: &[u8], lists: &[u8]) -> Result<Papers, IntakeFault> {
+    let schools = read_schools(alloc, schools)?;
+    let roster = read_roster(alloc, roster)?;
+    let lists = read_lists(alloc, lists)?;
+    papers_of(alloc, zero_seed(), &schools, &roster, &lists)
+}
+
+/// The seed of 64 zeros.
+#[tactic(auto, unfolding(sc_lottery::specs::Seed::seed_of, sc_lottery::specs::Seed::first_wrong_place, sc_lottery::specs::Seed::bytes_of))]
+fn zero_seed() -> Seed {
+    match Seed::from_hex(&[b'0'; 64]) {
+        Ok(seed) => seed,
+        Err(_) => unreachable!(),
+    }
+}
+
+/// The amendment that a script of this one record makes, as `enter,3,1,10,10`; `Shape` where it makes none,
+/// and `OutOfMemory`.
+pub fn amendment(alloc: Global, record: &str) -> Result<Amendment, Refusal> {
+    match read_script(alloc, record.as_bytes()) {
+        Ok(script) => first(script),
+        Err(_) => Err(Refusal::OutOfMemory),
+    }
+}
+
+/// The amendment of a script that has no other.
+fn first(script: Vec<Result<Amendment, Refusal>>) -> Result<Amendment, Refusal> {
+    let mut script = script;
+    script.pop().unwrap_or(Err(Refusal::Shape))
+}
+
+/// The assignment in which each of these students has that school (`STUDENT,SCHOOL` in each row), or `None`
+/// where the rows are no such pairs, or memory is refused.
+pub fn assignment(alloc: Global, rows: &str) -> Option<Assignment> {
+    let pairs = read_log(alloc, rows.as_bytes()).ok()?;
+    assigned(alloc, pairs.as_slice()).ok()
+}
+
+/// The assignment of these pairs.
+fn assigned(alloc: Global, pairs: &[Rejection]) -> Result<Assignment, AllocError> {
+    let mut assignment = Assignment::new(alloc);
+    for pair in pairs {
+        assignment.put(pair.student, pair.school)?;
+    }
+    Ok(assignment)
+}
+
+/// The clearing of such papers, or `None` where they have a fault, or memory is refused.
+pub fn clearing(alloc: Global, schools: &str, students: &str, lists: &str) -> Option<Clearing> {
+    let papers = papers(alloc, schools, students, lists).ok()?;
+    Clearing::open(alloc, papers).ok()
+}
