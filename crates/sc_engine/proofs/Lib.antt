@@ -10,7 +10,5 @@ pub mod Places
 pub mod Beginning
 pub mod Starting
 pub mod Settling
-pub mod Backwards
 pub mod Putting
 pub mod Resuming
-pub mod FirstTwo
