@@ -23,6 +23,3 @@ pub use auditor::audit;
 pub use checker::check_stable;
 pub use stability::Stability;
 pub use verdict::Verdict;
-
-#[cfg(test)]
-mod tests;

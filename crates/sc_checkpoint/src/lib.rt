@@ -10,6 +10,3 @@ mod standing;
 
 pub use segments::Segments;
 pub use standing::Standing;
-
-#[cfg(test)]
-mod tests;

@@ -11,8 +11,6 @@ pub mod Beginning
 pub mod Starting
 pub mod CountingLaws
 pub mod Settling
-pub mod Backwards
 pub mod Putting
 pub mod Resuming
-pub mod FirstTwo
 pub mod Growing

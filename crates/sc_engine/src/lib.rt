@@ -9,6 +9,3 @@ mod settled;
 
 pub use round::Round;
 pub use settled::{Settled, settle};
-
-#[cfg(test)]
-mod tests;

@@ -8,4 +8,7 @@ mod worked;
 
 pub use readings::{amendment, assignment, clearing, papers};
 pub use texts::{log_text, places_text, standing};
-pub use worked::{five_students, market_a, market_b, market_b_and_newcomer, two_students};
+pub use worked::{
+    FIVE_STUDENTS, Files, MARKET_A, MARKET_B, MARKET_B_AND_NEWCOMER, TWO_STUDENTS, market_a,
+    market_b,
+};

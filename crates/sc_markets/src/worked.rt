@@ -5,43 +5,63 @@ use sc_intake::IntakeFault;
 use sc_papers::Papers;
 use std::alloc::Global;
 
-/// The students of Market A and Market B: each has a sibling where the other wants to go.
-const TWO: &str = "1,0,20\n2,0,10\n";
-
-/// The lists of these students.
-const TWO_LISTS: &str = "1,10 20\n2,20 10\n";
-
-/// Market A: schools 10 and 20 with a seat each, both in no zone.
-pub fn market_a(alloc: Global) -> Result<Papers, IntakeFault> {
-    papers(alloc, "10,0,1\n20,0,1\n", TWO, TWO_LISTS)
+/// The rows of the three files of a market.
+#[derive(Clone, Copy)]
+pub struct Files<'a> {
+    pub schools: &'a str,
+    pub students: &'a str,
+    pub lists: &'a str,
 }
+
+impl Files<'_> {
+    /// The papers of these rows, as `papers` reads them.
+    pub fn papers(&self, alloc: Global) -> Result<Papers, IntakeFault> {
+        papers(alloc, self.schools, self.students, self.lists)
+    }
+}
+
+/// Market A: schools 10 and 20 with a seat each, both in no zone, and two students, each with a sibling
+/// where the other wants to go.
+pub const MARKET_A: Files<'static> = Files {
+    schools: "10,0,1\n20,0,1\n",
+    students: "1,0,20\n2,0,10\n",
+    lists: "1,10 20\n2,20 10\n",
+};
 
 /// Market B: Market A with school 10 in zone 1.
-pub fn market_b(alloc: Global) -> Result<Papers, IntakeFault> {
-    papers(alloc, "10,1,1\n20,0,1\n", TWO, TWO_LISTS)
-}
+pub const MARKET_B: Files<'static> = Files {
+    schools: "10,1,1\n20,0,1\n",
+    students: "1,0,20\n2,0,10\n",
+    lists: "1,10 20\n2,20 10\n",
+};
 
 /// Market B after its newcomer, student 3, who puts out student 1, who puts out student 2.
-pub fn market_b_and_newcomer(alloc: Global) -> Result<Papers, IntakeFault> {
-    papers(
-        alloc,
-        "10,1,1\n20,0,1\n",
-        "1,0,20\n2,0,10\n3,1,10\n",
-        "1,10 20\n2,20 10\n3,10\n",
-    )
-}
+pub const MARKET_B_AND_NEWCOMER: Files<'static> = Files {
+    schools: "10,1,1\n20,0,1\n",
+    students: "1,0,20\n2,0,10\n3,1,10\n",
+    lists: "1,10 20\n2,20 10\n3,10\n",
+};
 
-/// The papers in which a correction of student 1 rewinds to the start.
-pub fn five_students(alloc: Global) -> Result<Papers, IntakeFault> {
-    papers(
-        alloc,
-        "10,1,1\n20,0,2\n",
-        "1,1,\n2,0,\n3,0,\n4,0,\n5,0,\n",
-        "1,10 20\n2,10 20\n3,20\n4,20 10\n5,20\n",
-    )
-}
+/// The market in which a correction of student 1 rewinds to the start.
+pub const FIVE_STUDENTS: Files<'static> = Files {
+    schools: "10,1,1\n20,0,2\n",
+    students: "1,1,\n2,0,\n3,0,\n4,0,\n5,0,\n",
+    lists: "1,10 20\n2,10 20\n3,20\n4,20 10\n5,20\n",
+};
 
 /// One seat, two students.
-pub fn two_students(alloc: Global) -> Result<Papers, IntakeFault> {
-    papers(alloc, "1,0,1\n", "1,0,\n2,0,\n", "1,1\n2,1\n")
+pub const TWO_STUDENTS: Files<'static> = Files {
+    schools: "1,0,1\n",
+    students: "1,0,\n2,0,\n",
+    lists: "1,1\n2,1\n",
+};
+
+/// The papers of Market A.
+pub fn market_a(alloc: Global) -> Result<Papers, IntakeFault> {
+    MARKET_A.papers(alloc)
+}
+
+/// The papers of Market B.
+pub fn market_b(alloc: Global) -> Result<Papers, IntakeFault> {
+    MARKET_B.papers(alloc)
 }

@@ -34,6 +34,3 @@ pub use school_no::SchoolNo;
 pub use school_refusal::SchoolRefusal;
 pub use seats::Seats;
 pub use zone::Zone;
-
-#[cfg(test)]
-mod tests;

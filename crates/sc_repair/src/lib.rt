@@ -8,6 +8,3 @@ mod settling;
 
 pub use clearing::{Clearing, OpenRefused};
 pub use rewind::rewind_point;
-
-#[cfg(test)]
-mod tests;

@@ -2,4 +2,3 @@ pub mod Order
 pub mod Offers
 pub mod Ordering
 pub mod Heaps
-pub mod Seen

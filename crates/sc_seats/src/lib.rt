@@ -11,6 +11,3 @@ mod sorted;
 pub use heap::HeapRoll;
 pub use roll::Roll;
 pub use sorted::SortedRoll;
-
-#[cfg(test)]
-mod tests;

@@ -3,8 +3,8 @@ use Rattle.sc_papers.specs.Market.{students_of}
 use Rattle.sc_papers.proofs.Choices.{contains-at}
 use Rattle.sc_engine.specs.Round.{standings_of, is_spent}
 use Rattle.sc_papers.proofs.Positions.{among-student}
-use Rattle.sc_engine.proofs.Backwards.{EnteredFrom, absent-before, entered-before}
-use Rattle.sc_engine.proofs.tests.settle_backwards.Goals as goal
+use Rattle.sc_rows.proofs.Backwards.{EnteredFrom, absent-before, entered-before}
+use Rattle.sc_rows.proofs.rounds.settle_backwards.Goals as goal
 
 pub enter_one-requires-clause-student : goal.enter_one-requires-clause-student
 enter_one-requires-clause-student g c ready = among-student c.args.papers.now c.in-Some.student (contains-at (students_of c.args.papers.now) (c.loop-left.left - 1) c.in-Some.student (sym c.in-Some.ensures))

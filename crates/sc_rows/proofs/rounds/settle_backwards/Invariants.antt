@@ -1,6 +1,6 @@
 use Rattle.sc_engine.specs.Round.{standings_of, is_spent}
-use Rattle.sc_engine.proofs.Backwards.{EnteredFrom}
-use Rattle.sc_engine.proofs.tests.settle_backwards.Given as goal
+use Rattle.sc_rows.proofs.Backwards.{EnteredFrom}
+use Rattle.sc_rows.proofs.rounds.settle_backwards.Given as goal
 
 abbrev pub invariant-loop-left : goal.invariant-loop-left
 invariant-loop-left g l = EnteredFrom l.papers (standings_of g.R.Roll.keys g.R.Roll.seats l.round) (is_spent l.round) l.left

@@ -1,7 +1,7 @@
 use Rattle.std.proofs.Common.{ap, ◌∙◌, nat_eq}
 use Rattle.std.specs.List.{list_any}
-use Rattle.sc_seats.proofs.Seen.{unseen-new, seen-after}
-use Rattle.sc_seats.proofs.tests.offer.Goals as goal
+use Rattle.sc_rows.proofs.Seen.{unseen-new, seen-after}
+use Rattle.sc_rows.proofs.rolls.offer.Goals as goal
 
 pub offer_again-requires-clause-new : goal.offer_again-requires-clause-new
 offer_again-requires-clause-new g c =

@@ -1,6 +1,6 @@
 use Rattle.std.proofs.Common.{◌≤◌, length, All}
 use Rattle.std.specs.Prelude.{Contains}
-use Rattle.sc_seats.proofs.tests.agree.Given as goal
+use Rattle.sc_rows.proofs.rolls.agree.Given as goal
 
 abbrev pub invariant-loop-offer : goal.invariant-loop-offer
 invariant-loop-offer g l = record {

@@ -2,9 +2,9 @@ use Rattle.std.proofs.Common.{◌∙◌}
 use Rattle.sc_papers.specs.Market.{students_of}
 use Rattle.sc_engine.specs.Round.{standings_of}
 use Rattle.sc_engine.specs.Standing.{SettlesFirst}
-use Rattle.sc_engine.proofs.FirstTwo.{student-at, after-two}
+use Rattle.sc_rows.proofs.FirstTwo.{student-at, after-two}
 use Rattle.sc_engine.proofs.Settling.{settles-none, settles-more, first-apart}
-use Rattle.sc_engine.proofs.tests.first_two_stand.Goals as goal
+use Rattle.sc_rows.proofs.rounds.first_two_stand.Goals as goal
 
 pub enter_one-requires-clause-student : goal.enter_one-requires-clause-student
 enter_one-requires-clause-student g c ready = student-at c.args.papers.now 0 c.args.one c.requires.one

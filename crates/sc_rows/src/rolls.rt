@@ -1,20 +1,20 @@
+//! Rolls of both kinds: who holds the seats of one school.
 ghost use Rattle.std.specs.Prelude.{◌≡◌, ◌≤◌, ◌∷◌, ◌++◌, length, All, Contains, OnOk, IfOk};
 ghost use Rattle.std.specs.List.Sorted.{IsPermutation};
 ghost use Rattle.std.specs.Option.{option_to_list};
 
-use crate::heap::HeapRoll;
-use crate::roll::Roll;
-use crate::sorted::SortedRoll;
+use crate::given::student;
 use sc_papers::{Key, Seats, StudentNo};
+use sc_seats::{HeapRoll, Roll, SortedRoll};
 use std::alloc::{AllocError, Global};
 use std::process::Abort;
 use std::test::Fail;
 
-fn key(rt: &impl Abort, class: u8, draw: u64, student: u32) -> Key {
+fn key(rt: &impl Abort, class: u8, draw: u64, number: u32) -> Key {
     Key {
         class,
         draw,
-        student: StudentNo::new(student).expect(rt, "a student"),
+        student: student(rt, number),
     }
 }
 

@@ -1,24 +1,15 @@
-//! The worked row: schools 10 in zone 1 and 20, with a seat each, and three students, of whom the last
-//! sets off a chain of three rejections.
+//! Checkpoints of Market B and its newcomer: schools 10 in zone 1 and 20, with a seat each, and three
+//! students, of whom the last sets off a chain of three rejections.
 ghost use Rattle.std.specs.Prelude.{◌≡◌, ◌∷◌, ◌++◌, [], IfOk, OnOk};
 ghost use Rattle.sc_papers.specs.Market.{students_of};
 ghost use Rattle.sc_checkpoint.specs.Chains.{students_in};
 
-use super::*;
-use sc_papers::{Amendment, Papers, Rejection, SchoolList, SchoolNo, Seats, Seed, StudentNo, Zone};
+use crate::given::{school, student};
+use sc_checkpoint::{Segments, Standing};
+use sc_papers::{Amendment, Papers, Rejection, SchoolList, Seats, Seed, Zone};
 use std::alloc::{AllocError, Global};
 use std::process::Abort;
 use std::test::Fail;
-
-fn student(rt: &impl Abort, number: u32) -> StudentNo
-    ensures { result ≡ number }
-{
-    StudentNo::new(number).expect(rt, "a student")
-}
-
-fn school(rt: &impl Abort, number: u32) -> SchoolNo {
-    SchoolNo::new(number).expect(rt, "a school")
-}
 
 fn zone(rt: &impl Abort, number: u32) -> Zone {
     Zone::new(number).expect(rt, "a zone")
@@ -133,21 +124,52 @@ fn expect_standings(rt: &impl Abort, standings: &[Standing], wanted: &[(u32, u32
     }
 }
 
+/// Where the students of the papers stand after the segments.
+fn expect_next_choices(
+    rt: &impl Abort,
+    papers: &Papers,
+    segments: &Segments,
+) -> Result<(), AllocError>
+    requires papers { students_of papers.now ≡ 1 ∷ 2 ∷ 3 ∷ [] }
+    requires segments { students_in segments.now ≡ 1 ∷ 2 ∷ 3 ∷ [] }
+{
+    expect_standings(
+        rt,
+        segments.next_choices_at(papers, 2)?.as_slice(),
+        &[(1, 10), (2, 20)],
+    );
+    expect_standings(
+        rt,
+        segments.next_choices_at(papers, 3)?.as_slice(),
+        &[(1, 20), (2, 0), (3, 10)],
+    );
+    Ok(())
+}
+
 #[test]
 fn students_stand_at_their_next_choices(rt: HostRuntime) -> Result<(), Fail> {
     let papers = worked_papers(&rt, rt.alloc())?;
     let segments = worked_segments(&rt, rt.alloc())?;
-    expect_standings(
-        &rt,
-        segments.next_choices_at(&papers, 2)?.as_slice(),
-        &[(1, 10), (2, 20)],
-    );
-    expect_standings(
-        &rt,
-        segments.next_choices_at(&papers, 3)?.as_slice(),
-        &[(1, 20), (2, 0), (3, 10)],
-    );
+    expect_next_choices(&rt, &papers, &segments)?;
     Ok(())
+}
+
+fn expect_growths(rt: &impl Abort, papers: &Papers, segments: &mut Segments)
+    requires papers { students_of papers.now ≡ 1 ∷ 2 ∷ 3 ∷ [] }
+    requires segments { students_in segments.old ≡ 1 ∷ 2 ∷ 3 ∷ [] }
+{
+    assert!(rt; segments.flat().map_or(3, |log| log.len()) == 3);
+    assert!(rt; segments.prefix(3).map_or(3, |log| log.len()) == 3);
+    assert!(rt; segments.copy_prefix(3).map_or(3, |copy| copy.len()) == 3);
+    assert!(rt;
+        segments
+            .next_choices_at(papers, 3)
+            .map_or(3, |standings| standings.len())
+            == 3
+    );
+    let pushed = segments.push(student(rt, 4), &last_chain(rt)).is_ok();
+    assert!(rt; segments.len() == if pushed { 4 } else { 3 });
+    assert!(rt; segments.rejections().len() == if pushed { 6 } else { 3 });
 }
 
 // Run with each allocation refused in turn, this one sees want of memory from each call that takes any.
@@ -155,17 +177,6 @@ fn students_stand_at_their_next_choices(rt: HostRuntime) -> Result<(), Fail> {
 fn each_growth_refused(rt: HostRuntime) -> Result<(), Fail> {
     let papers = worked_papers(&rt, rt.alloc())?;
     let mut segments = worked_segments(&rt, rt.alloc())?;
-    assert!(rt; segments.flat().map_or(3, |log| log.len()) == 3);
-    assert!(rt; segments.prefix(3).map_or(3, |log| log.len()) == 3);
-    assert!(rt; segments.copy_prefix(3).map_or(3, |copy| copy.len()) == 3);
-    assert!(rt;
-        segments
-            .next_choices_at(&papers, 3)
-            .map_or(3, |standings| standings.len())
-            == 3
-    );
-    let pushed = segments.push(student(&rt, 4), &last_chain(&rt)).is_ok();
-    assert!(rt; segments.len() == if pushed { 4 } else { 3 });
-    assert!(rt; segments.rejections().len() == if pushed { 6 } else { 3 });
+    expect_growths(&rt, &papers, &mut segments);
     Ok(())
 }

@@ -1,6 +1,6 @@
 use Rattle.std.proofs.Common.{◌∙◌, sym}
-use Rattle.sc_engine.proofs.FirstTwo.{student-at, third-apart}
-use Rattle.sc_engine.proofs.tests.resume_with_the_third.Goals as goal
+use Rattle.sc_rows.proofs.FirstTwo.{student-at, third-apart}
+use Rattle.sc_rows.proofs.rounds.resume_with_the_third.Goals as goal
 
 pub enter_one-requires-clause-student : goal.enter_one-requires-clause-student
 enter_one-requires-clause-student g c ready = student-at c.args.papers.now 2 c.in-Some-Some-Some.three (sym c.in-Some-Some-Some.ensures'')

@@ -1,6 +1,6 @@
 use Rattle.std.proofs.Common.{◌≤◌, length, All}
 use Rattle.std.specs.Prelude.{Contains}
-use Rattle.sc_seats.proofs.tests.grow.Given as goal
+use Rattle.sc_rows.proofs.rolls.grow.Given as goal
 
 abbrev pub invariant-loop-number : goal.invariant-loop-number
 invariant-loop-number g l = record {

@@ -1,0 +1,22 @@
+use Rattle.std.proofs.Common.{sym, ◌∙◌}
+use Rattle.sc_papers.specs.Market.{students_of}
+use Rattle.sc_papers.proofs.Choices.{contains-at}
+use Rattle.sc_papers.proofs.Positions.{among-student}
+use Rattle.sc_engine.proofs.Settling.{settles-more, first-apart}
+use Rattle.sc_rows.proofs.rounds.enter_all.Goals as goal
+
+pub enter_one-requires-clause-fits : goal.enter_one-requires-clause-fits
+enter_one-requires-clause-fits g c = λ ready. c.loop-position.invariant.0.fits
+
+pub enter_one-requires-clause-student : goal.enter_one-requires-clause-student
+enter_one-requires-clause-student g c = λ ready. among-student c.args.papers.now c.in-Some.student (contains-at (students_of c.args.papers.now) c.loop-position.position c.in-Some.student (sym c.in-Some.ensures))
+
+pub enter_one-requires-clause-absent : goal.enter_one-requires-clause-absent
+enter_one-requires-clause-absent g c = λ ready.
+    c.loop-position.invariant.0.entered c.in-Some.student ∙ first-apart (students_of c.args.papers.now) c.loop-position.position c.in-Some.student c.loop-position.invariant.0.fits.well_formed.students_differ (sym c.in-Some.ensures)
+
+pub loop-position-preserved : goal.loop-position-preserved
+loop-position-preserved g c = (
+  settles-more c.args.papers.now _ _ c.loop-position.position c.in-Some.student (sym c.in-Some.ensures) c.loop-position.invariant.0 c.in_ok-enter_one.ensures.enters,
+  c.in_ok-enter_one.ensures.ready,
+)

@@ -1,0 +1,197 @@
+//! Clearings: what an opening and each amendment leave. A standing is written as each student's place, in
+//! order of entry, and the log: `1:20 2:0 3:10 |(1,10)(2,20)(2,10)`, where 0 stands for no place.
+//!
+//! Each line of a script is a record and, after `=>`, what is wanted: the answer, how many proposals the
+//! last settling then made, and the standing that is left.
+use crate::given::{papers_of, school, student};
+use sc_markets::{FIVE_STUDENTS, Files, MARKET_A, MARKET_B, TWO_STUDENTS, amendment, standing};
+use sc_papers::{Amendment, Refusal};
+use sc_repair::Clearing;
+use std::alloc::{AllocError, Global};
+use std::process::Abort;
+
+/// The clearing of a market.
+fn open(rt: &impl Abort, alloc: Global, files: Files<'_>) -> Clearing {
+    let papers = papers_of(rt, alloc, files);
+    Clearing::open(alloc, papers).ok().expect(rt, "memory")
+}
+
+/// The clearing has this standing.
+fn expect_standing(rt: &impl Abort, alloc: Global, clearing: &Clearing, want: &str) {
+    let text = standing(alloc, clearing).expect(rt, "memory");
+    assert_eq!(rt; text.as_str(), want);
+}
+
+/// What the clearing answers to an amendment, its refusal or `ok`.
+fn answer(alloc: Global, clearing: &mut Clearing, record: &str) -> Result<String, Refusal> {
+    match clearing.amend(amendment(alloc, record)?) {
+        Ok(()) => Ok(String::from_str(alloc, "ok")?),
+        Err(refusal) => Ok(refusal.to_string(alloc)?),
+    }
+}
+
+/// What an amendment leaves, with the answer to it.
+fn left_by(alloc: Global, clearing: &mut Clearing, record: &str) -> Result<String, Refusal> {
+    let answer = answer(alloc, clearing, record)?;
+    let standing = standing(alloc, clearing)?;
+    let proposals = clearing.proposals_last();
+    Ok(format!(in alloc; "{answer}, {proposals}: {standing}")?)
+}
+
+/// The clearing of the market has this standing, and the records leave what is wanted, one after another.
+fn walk(rt: &impl Abort, alloc: Global, files: Files<'_>, opening: &str, script: &str) {
+    let mut clearing = open(rt, alloc, files);
+    expect_standing(rt, alloc, &clearing, opening);
+    for line in script.lines() {
+        let (record, want) = line.split_once(" => ").expect(rt, "a record and an answer");
+        let left = left_by(alloc, &mut clearing, record).expect(rt, "memory");
+        assert_eq!(rt; left.as_str(), want, "{record}");
+    }
+}
+
+#[test]
+fn market_a_and_a_seat_closed(rt: HostRuntime) {
+    let script = "close,10,1 => ok, 4: 1:20 2:0 |(1,10)(2,20)(2,10)\n";
+    walk(&rt, rt.alloc(), MARKET_A, "1:10 2:20 |", script);
+}
+
+#[test]
+fn market_b_and_a_newcomer_who_withdraws(rt: HostRuntime) {
+    let script = "\
+enter,3,1,10,10 => ok, 3: 1:20 2:0 3:10 |(1,10)(2,20)(2,10)
+withdraw,3 => ok, 0: 1:10 2:20 |
+";
+    walk(&rt, rt.alloc(), MARKET_B, "1:10 2:20 |", script);
+}
+
+#[test]
+fn a_seat_added(rt: HostRuntime) {
+    let script = "\
+enter,3,1,10,10 => ok, 3: 1:20 2:0 3:10 |(1,10)(2,20)(2,10)
+add,10,1 => ok, 3: 1:10 2:20 3:10 |
+";
+    walk(&rt, rt.alloc(), MARKET_B, "1:10 2:20 |", script);
+}
+
+#[test]
+fn free_seats_and_seat_limits(rt: HostRuntime) {
+    let files = Files {
+        schools: "10,0,2\n",
+        students: "1,0,\n",
+        lists: "1,10\n",
+    };
+    let script = "\
+close,10,2 => ok, 1: 1:0 |(1,10)
+close,10,1 => TooFewSeats, 1: 1:0 |(1,10)
+add,10,10000 => ok, 1: 1:10 |
+add,10,1 => TooManySeats, 1: 1:10 |
+";
+    walk(&rt, rt.alloc(), files, "1:10 |", script);
+}
+
+#[test]
+fn a_correction_rewinds_to_the_start(rt: HostRuntime) {
+    let opening = "1:10 2:0 3:0 4:20 5:20 |(2,10)(3,20)(2,20)";
+    let script = "correct,1,0, => ok, 6: 1:0 2:10 3:0 4:20 5:20 |(1,10)(1,20)(3,20)\n";
+    walk(&rt, rt.alloc(), FIVE_STUDENTS, opening, script);
+}
+
+#[test]
+fn rerank_to_the_same(rt: HostRuntime) {
+    let script = "\
+enter,3,1,10,10 => ok, 3: 1:20 2:0 3:10 |(1,10)(2,20)(2,10)
+rerank,1,10 20 => ok, 5: 1:20 2:0 3:10 |(1,10)(2,20)(2,10)
+rerank,1,10 10 => SchoolTwice 10, 5: 1:20 2:0 3:10 |(1,10)(2,20)(2,10)
+";
+    walk(&rt, rt.alloc(), MARKET_B, "1:10 2:20 |", script);
+}
+
+#[test]
+fn withdraw_and_return(rt: HostRuntime) {
+    let script = "\
+withdraw,2 => ok, 0: 1:1 |
+enter,2,0,,1 => ok, 1: 1:0 2:1 |(1,1)
+withdraw,1 => ok, 1: 2:1 |
+enter,1,0,,1 => ok, 1: 2:1 1:0 |(1,1)
+";
+    walk(&rt, rt.alloc(), TWO_STUDENTS, "1:0 2:1 |(1,1)", script);
+}
+
+#[test]
+fn either_order(rt: HostRuntime) {
+    let newcomer_first = "\
+enter,3,1,10,10 => ok, 3: 1:20 2:0 3:10 |(1,10)(2,20)(2,10)
+add,20,1 => ok, 4: 1:20 2:20 3:10 |(1,10)
+";
+    walk(&rt, rt.alloc(), MARKET_B, "1:10 2:20 |", newcomer_first);
+    let seat_first = "\
+add,20,1 => ok, 2: 1:10 2:20 |
+enter,3,1,10,10 => ok, 2: 1:20 2:20 3:10 |(1,10)
+";
+    walk(&rt, rt.alloc(), MARKET_B, "1:10 2:20 |", seat_first);
+}
+
+// The list of 21 schools has an unknown one, too: its length comes first.
+#[test]
+fn each_refusal_once(rt: HostRuntime) {
+    let script = "\
+enter,3,1,10,10 => ok, 3: 1:20 2:0 3:10 |(1,10)(2,20)(2,10)
+enter,1,0,, => StudentExists, 3: 1:20 2:0 3:10 |(1,10)(2,20)(2,10)
+enter,4,0,, => EmptyList, 3: 1:20 2:0 3:10 |(1,10)(2,20)(2,10)
+enter,4,0,,77 1 2 3 4 5 6 7 8 9 10 11 12 13 14 15 16 17 18 19 20 => ListTooLong, 3: 1:20 2:0 3:10 |(1,10)(2,20)(2,10)
+enter,4,0,,77 => UnknownSchool 77, 3: 1:20 2:0 3:10 |(1,10)(2,20)(2,10)
+enter,4,0,,77 10 10 => UnknownSchool 77, 3: 1:20 2:0 3:10 |(1,10)(2,20)(2,10)
+enter,4,0,77,10 10 => UnknownSchool 77, 3: 1:20 2:0 3:10 |(1,10)(2,20)(2,10)
+enter,4,0,10 10,10 => SchoolTwice 10, 3: 1:20 2:0 3:10 |(1,10)(2,20)(2,10)
+withdraw,99 => UnknownStudent, 3: 1:20 2:0 3:10 |(1,10)(2,20)(2,10)
+add,77,1 => UnknownSchool 77, 3: 1:20 2:0 3:10 |(1,10)(2,20)(2,10)
+";
+    walk(&rt, rt.alloc(), MARKET_B, "1:10 2:20 |", script);
+}
+
+/// Enters the newcomer, and once more where memory was refused, which leaves the clearing as it was
+/// opened.
+fn enter_or_keep(
+    rt: &impl Abort,
+    alloc: Global,
+    clearing: &mut Clearing,
+    entry: Amendment,
+    again: Amendment,
+) {
+    if let Err(refusal) = clearing.amend(entry) {
+        assert_eq!(rt; refusal, Refusal::OutOfMemory);
+        assert_eq!(rt; clearing.proposals_last(), 2);
+        expect_standing(rt, alloc, clearing, "1:10 2:20 |");
+        assert!(rt; clearing.amend(again) == Ok(()));
+    }
+    expect_standing(rt, alloc, clearing, "1:20 2:0 3:10 |(1,10)(2,20)(2,10)");
+}
+
+/// To be run with each allocation failing in turn: want of memory leaves Market B as it was opened, and
+/// the same call then succeeds.
+#[test]
+fn each_growth_refused(rt: HostRuntime) {
+    let alloc = rt.alloc();
+    let mut clearing = open(&rt, alloc, MARKET_B);
+    let entry = amendment(alloc, "enter,3,1,10,10").expect(&rt, "an amendment");
+    let again = amendment(alloc, "enter,3,1,10,10").expect(&rt, "an amendment");
+    enter_or_keep(&rt, alloc, &mut clearing, entry, again);
+}
+
+fn expect_read_back(rt: &impl Abort, clearing: &Clearing) {
+    assert!(rt; clearing.place_of(student(rt, 1)) == Some(None));
+    assert!(rt; clearing.place_of(student(rt, 3)).is_none());
+    assert!(rt; clearing.held(school(rt, 1)) == Some(1));
+    assert!(rt; clearing.held(school(rt, 2)).is_none());
+    assert!(rt; clearing.proposals_last() == 2);
+    assert!(rt; clearing.places().at(0) == Some((student(rt, 2), school(rt, 1))));
+    let places = clearing.assignment().expect(rt, "memory");
+    assert!(rt; places.at(0) == clearing.places().at(0));
+    let log = clearing.log().expect(rt, "memory");
+    assert!(rt; log.as_slice() == clearing.rejections());
+}
+
+#[test]
+fn one_seat_two_students(rt: HostRuntime) {
+    expect_read_back(&rt, &open(&rt, rt.alloc(), TWO_STUDENTS));
+}

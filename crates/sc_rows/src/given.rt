@@ -1,0 +1,32 @@
+//! What the tests begin with: numbers, and the papers of a market after a script.
+ghost use Rattle.std.specs.Prelude.{◌≡◌};
+
+use sc_markets::{Files, amendment};
+use sc_papers::{Papers, SchoolNo, StudentNo};
+use std::alloc::Global;
+use std::process::Abort;
+
+pub fn student(rt: &impl Abort, number: u32) -> StudentNo
+    ensures { result ≡ number }
+{
+    StudentNo::new(number).expect(rt, "a student's number")
+}
+
+pub fn school(rt: &impl Abort, number: u32) -> SchoolNo
+    ensures { result ≡ number }
+{
+    SchoolNo::new(number).expect(rt, "a school's number")
+}
+
+/// Makes an amendment that the papers allow.
+pub fn amend(rt: &impl Abort, alloc: Global, papers: &mut Papers, record: &str) {
+    let amendment = amendment(alloc, record).expect(rt, "an amendment");
+    papers
+        .apply(amendment)
+        .expect(rt, "an amendment that is allowed");
+}
+
+/// The papers of a market.
+pub fn papers_of(rt: &impl Abort, alloc: Global, files: Files<'_>) -> Papers {
+    files.papers(alloc).expect(rt, "papers")
+}

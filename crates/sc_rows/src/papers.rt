@@ -1,0 +1,132 @@
+//! Papers: what they hold, the keys, and what each amendment changes.
+use crate::given::{amend, papers_of, school, student};
+use sc_markets::{Files, MARKET_B, amendment, assignment};
+use sc_papers::{Assignment, Key, Papers, Refusal, Seed};
+use std::alloc::Global;
+use std::process::Abort;
+
+#[test]
+fn schools_are_read_back(rt: HostRuntime) {
+    let papers = papers_of(&rt, rt.alloc(), MARKET_B);
+    assert!(rt; papers.schools_len() == 2);
+    assert!(rt; papers.school_at(1) == Some(school(&rt, 20)));
+    assert!(rt; papers.school_position(school(&rt, 20)) == Some(1));
+    let ten = papers.school(school(&rt, 10)).expect(&rt, "school 10");
+    assert!(rt; ten.zone.get() == 1);
+    assert!(rt; Seed::from_hex(&[b'0'; 64]) == Ok(papers.seed()));
+}
+
+fn expect_students(rt: &impl Abort, alloc: Global, papers: &Papers) {
+    assert!(rt; papers.students_len() == 2);
+    assert!(rt; papers.student_at(0) == Some(student(rt, 1)));
+    assert!(rt; papers.student_position(student(rt, 2)) == Some(1));
+    let two = papers.student(student(rt, 2)).expect(rt, "student 2");
+    let again = two.copy(alloc).expect(rt, "memory");
+    assert!(rt; again.choices.as_slice() == [school(rt, 20), school(rt, 10)].as_slice());
+    let second = papers.record_at(1).expect(rt, "the second student");
+    assert!(rt; second.choices.as_slice() == two.choices.as_slice());
+    assert!(rt; papers.record_at(2).is_none());
+}
+
+#[test]
+fn students_are_read_back(rt: HostRuntime) {
+    expect_students(&rt, rt.alloc(), &papers_of(&rt, rt.alloc(), MARKET_B));
+}
+
+/// The student at this position has this number, and has at school 10 a key of this class and draw.
+fn expect_key(rt: &impl Abort, papers: &Papers, at: usize, number: u32, class: u8, draw: u64) {
+    let want = Some(Key {
+        class,
+        draw,
+        student: student(rt, number),
+    });
+    assert!(rt; papers.key(student(rt, number), school(rt, 10)) == want);
+    assert!(rt; papers.key_at(at, 0) == want);
+    assert!(rt; papers.key_at(at, 1).is_none());
+}
+
+// The classes by the rule: sibling and zone, sibling, zone, neither. The draws are the lottery's
+// under the zero seed.
+#[test]
+fn keys_by_class_draw_and_number(rt: HostRuntime) {
+    let files = Files {
+        schools: "10,1,1\n",
+        students: "1,1,10\n2,0,10\n3,1,\n4,2,\n",
+        lists: "1,10\n2,10\n3,10\n4,10\n",
+    };
+    let papers = papers_of(&rt, rt.alloc(), files);
+    expect_key(&rt, &papers, 0, 1, 0, 0xe56a5d4028bd8653);
+    expect_key(&rt, &papers, 1, 2, 1, 0xb819d2bd1aed8da0);
+    expect_key(&rt, &papers, 2, 3, 2, 0xccef36a8c70d778b);
+    expect_key(&rt, &papers, 3, 4, 3, 0x7c5941da8d485751);
+}
+
+fn leave_and_return(rt: &impl Abort, alloc: Global, papers: &mut Papers) {
+    let before = papers.key(student(rt, 1), school(rt, 10));
+    amend(rt, alloc, papers, "withdraw,1");
+    assert!(rt; papers.students_len() == 1);
+    assert!(rt; papers.key(student(rt, 1), school(rt, 10)).is_none());
+    amend(rt, alloc, papers, "enter,1,0,20,10 20");
+    assert!(rt; papers.student_at(0) == Some(student(rt, 2)));
+    assert!(rt; papers.student_at(1) == Some(student(rt, 1)));
+    assert!(rt; papers.key(student(rt, 1), school(rt, 10)) == before);
+}
+
+#[test]
+fn withdraw_and_return(rt: HostRuntime) {
+    let mut papers = papers_of(&rt, rt.alloc(), MARKET_B);
+    leave_and_return(&rt, rt.alloc(), &mut papers);
+}
+
+fn expect_changed(rt: &impl Abort, copy: &Papers) {
+    assert!(rt; copy.student_at(0) == Some(student(rt, 1)));
+    let one = copy.student(student(rt, 1)).expect(rt, "student 1");
+    assert!(rt; one.zone.get() == 7);
+    assert!(rt; one.siblings.as_slice().is_empty());
+    assert!(rt; one.choices.as_slice() == [school(rt, 20)].as_slice());
+}
+
+fn change_and_copy(rt: &impl Abort, alloc: Global, papers: &mut Papers) {
+    amend(rt, alloc, papers, "rerank,1,20");
+    amend(rt, alloc, papers, "correct,1,7,");
+    expect_changed(rt, &papers.copy().expect(rt, "memory"));
+}
+
+#[test]
+fn changes_keep_the_place_and_the_rest(rt: HostRuntime) {
+    let mut papers = papers_of(&rt, rt.alloc(), MARKET_B);
+    change_and_copy(&rt, rt.alloc(), &mut papers);
+}
+
+fn expect_assigned(rt: &impl Abort, copy: &Assignment) {
+    assert!(rt; copy.len() == 2);
+    assert!(rt; copy.get(student(rt, 2)) == Some(school(rt, 30)));
+    assert!(rt; copy.at(0) == Some((student(rt, 2), school(rt, 30))));
+    assert!(rt; copy.at(2).is_none());
+}
+
+#[test]
+fn an_assignment_is_a_map(rt: HostRuntime) {
+    let assignment = assignment(rt.alloc(), "2,10\n1,20\n2,30\n").expect(&rt, "pairs");
+    expect_assigned(&rt, &assignment.copy().expect(&rt, "memory"));
+}
+
+/// Makes amendments for which memory may be refused: if it is, the papers stay as they were.
+fn amend_or_keep(rt: &impl Abort, alloc: Global, papers: &mut Papers, script: &str) {
+    for record in script.lines() {
+        let amendment = amendment(alloc, record).expect(rt, "an amendment");
+        let before = papers.students_len();
+        if papers.apply(amendment) == Err(Refusal::OutOfMemory) {
+            assert!(rt; papers.students_len() == before);
+        }
+    }
+}
+
+// Run with each allocation refused in turn, this one sees want of memory from each amendment that
+// takes any.
+#[test]
+fn each_growth_refused(rt: HostRuntime) {
+    let mut papers = papers_of(&rt, rt.alloc(), MARKET_B);
+    let script = "enter,3,1,10,10\nrerank,1,20\ncorrect,2,1,20\nwithdraw,1\nadd,10,1\nclose,10,1\n";
+    amend_or_keep(&rt, rt.alloc(), &mut papers, script);
+}

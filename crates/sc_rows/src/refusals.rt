@@ -1,0 +1,164 @@
+//! What the papers refuse, and in which order it is tested. Each line of a script is a record and, after
+//! `=>`, the answer that is wanted.
+use crate::given::{papers_of, school, student};
+use sc_markets::{MARKET_B, amendment};
+use sc_papers::{Amendment, Papers, Refusal, SchoolList, SchoolRefusal, Seats, Seed, Zone};
+use std::alloc::{AllocError, Global};
+use std::process::Abort;
+use std::test::Fail;
+
+fn zero_papers(rt: &impl Abort, alloc: Global) -> Papers {
+    let seed = Seed::from_hex(&[b'0'; 64]).expect(rt, "a seed");
+    Papers::new(alloc, seed)
+}
+
+fn add_school(rt: &impl Abort, papers: &mut Papers, number: u32) -> Result<(), SchoolRefusal> {
+    let zone = Zone::new(0).expect(rt, "a zone");
+    let seats = Seats::new(1).expect(rt, "seats");
+    papers.add_school(school(rt, number), zone, seats)
+}
+
+#[test]
+fn refusals_of_schools(rt: HostRuntime) {
+    let mut papers = zero_papers(&rt, rt.alloc());
+    for number in 1..5001 {
+        assert!(rt; add_school(&rt, &mut papers, number) == Ok(()));
+    }
+    assert!(rt; add_school(&rt, &mut papers, 7) == Err(SchoolRefusal::SchoolExists));
+    assert!(rt; add_school(&rt, &mut papers, 5001) == Err(SchoolRefusal::TooManySchools));
+    let mut closed = papers_of(&rt, rt.alloc(), MARKET_B);
+    assert!(rt; add_school(&rt, &mut closed, 30) == Err(SchoolRefusal::SchoolsClosed));
+}
+
+/// The entry of a student who lists school 10 alone.
+fn entry(rt: &impl Abort, alloc: Global, number: u32) -> Result<Amendment, AllocError> {
+    let mut choices = Vec::new(alloc);
+    choices.push(school(rt, 10))?;
+    Ok(Amendment::Enter {
+        student: student(rt, number),
+        zone: Zone::new(0).expect(rt, "a zone"),
+        siblings: SchoolList::from_vec(Vec::new(alloc)),
+        choices: SchoolList::from_vec(choices),
+    })
+}
+
+/// The refusal of an amendment, which `check` and `apply` both answer.
+fn refusal_of(rt: &impl Abort, papers: &mut Papers, amendment: Amendment) -> Option<Refusal> {
+    let checked = papers.check(&amendment).err();
+    let applied = papers.apply(amendment).err();
+    assert!(rt; checked == applied);
+    applied
+}
+
+fn fill_with_students(rt: &impl Abort, alloc: Global, papers: &mut Papers) -> Result<(), Fail> {
+    for number in 1..200_001 {
+        papers.apply(entry(rt, alloc, number)?)?;
+    }
+    let one_more = entry(rt, alloc, 200_001)?;
+    assert!(rt; refusal_of(rt, papers, one_more) == Some(Refusal::RosterFull));
+    Ok(())
+}
+
+#[test]
+fn the_roster_is_full(rt: HostRuntime) -> Result<(), Fail> {
+    let mut papers = zero_papers(&rt, rt.alloc());
+    assert!(rt; add_school(&rt, &mut papers, 10) == Ok(()));
+    fill_with_students(&rt, rt.alloc(), &mut papers)
+}
+
+/// What the papers answer to an amendment: its refusal, or `ok`.
+fn answer(
+    rt: &impl Abort,
+    alloc: Global,
+    papers: &mut Papers,
+    record: &str,
+) -> Result<String, AllocError> {
+    let amendment = amendment(alloc, record).expect(rt, "an amendment");
+    match refusal_of(rt, papers, amendment) {
+        Some(refusal) => refusal.to_string(alloc),
+        None => String::from_str(alloc, "ok"),
+    }
+}
+
+/// How many seats a school of the papers has.
+fn seats(rt: &impl Abort, papers: &Papers, number: u32) -> u32 {
+    let found = papers.school(school(rt, number)).expect(rt, "a school");
+    found.seats.get()
+}
+
+/// The papers give the wanted answers, one after another.
+fn expect_answers(rt: &impl Abort, alloc: Global, papers: &mut Papers, script: &str) {
+    for line in script.lines() {
+        let (record, want) = line.split_once(" => ").expect(rt, "a record and an answer");
+        let answer = answer(rt, alloc, papers, record).expect(rt, "memory");
+        assert_eq!(rt; answer.as_str(), want, "{record}");
+    }
+}
+
+/// Market B gives the wanted answers, and then has two students, and so many seats in school 10.
+fn expect_of_market_b(rt: &impl Abort, alloc: Global, script: &str, left: u32) {
+    let mut papers = papers_of(rt, alloc, MARKET_B);
+    expect_answers(rt, alloc, &mut papers, script);
+    assert!(rt; papers.students_len() == 2);
+    assert!(rt; seats(rt, &papers, 10) == left);
+    assert!(rt; seats(rt, &papers, 20) == 1);
+}
+
+// A list of 21 schools has an unknown one, too: its length comes first.
+#[test]
+fn refusals_to_enter_in_their_order(rt: HostRuntime) {
+    let script = "\
+enter,1,0,, => StudentExists
+enter,4,0,, => EmptyList
+enter,4,0,,77 1 2 3 4 5 6 7 8 9 10 11 12 13 14 15 16 17 18 19 20 => ListTooLong
+enter,4,0,77 1 2 3 4 5 6 7 8 9 10 11 12 13 14 15 16 17 18 19 20,10 => ListTooLong
+enter,4,0,,77 => UnknownSchool 77
+enter,4,0,,77 10 10 => UnknownSchool 77
+enter,4,0,77,10 10 => UnknownSchool 77
+enter,4,0,10 10,10 => SchoolTwice 10
+";
+    expect_of_market_b(&rt, rt.alloc(), script, 1);
+}
+
+#[test]
+fn refusals_to_rerank_in_their_order(rt: HostRuntime) {
+    let script = "\
+rerank,9, => UnknownStudent
+rerank,1, => EmptyList
+rerank,1,77 1 2 3 4 5 6 7 8 9 10 11 12 13 14 15 16 17 18 19 20 => ListTooLong
+rerank,1,10 10 77 => UnknownSchool 77
+rerank,1,10 20 10 => SchoolTwice 10
+";
+    expect_of_market_b(&rt, rt.alloc(), script, 1);
+}
+
+#[test]
+fn refusals_to_correct_in_their_order(rt: HostRuntime) {
+    let script = "\
+correct,9,1,77 1 2 3 4 5 6 7 8 9 10 11 12 13 14 15 16 17 18 19 20 => UnknownStudent
+correct,1,1,77 1 2 3 4 5 6 7 8 9 10 11 12 13 14 15 16 17 18 19 20 => ListTooLong
+correct,1,1,10 10 77 => UnknownSchool 77
+correct,1,1,20 20 => SchoolTwice 20
+";
+    expect_of_market_b(&rt, rt.alloc(), script, 1);
+}
+
+#[test]
+fn refusals_of_the_unknown(rt: HostRuntime) {
+    let script = "\
+withdraw,9 => UnknownStudent
+add,77,10000 => UnknownSchool 77
+close,77,10000 => UnknownSchool 77
+";
+    expect_of_market_b(&rt, rt.alloc(), script, 1);
+}
+
+#[test]
+fn free_seats_and_seat_limits(rt: HostRuntime) {
+    let to_the_most = "add,10,9999 => ok\nadd,10,1 => TooManySeats\n";
+    expect_of_market_b(&rt, rt.alloc(), to_the_most, 10_000);
+    let to_none = "close,10,1 => ok\nclose,10,1 => TooFewSeats\n";
+    expect_of_market_b(&rt, rt.alloc(), to_none, 0);
+    let from_the_most = "add,10,9999 => ok\nclose,10,10000 => ok\nclose,10,1 => TooFewSeats\n";
+    expect_of_market_b(&rt, rt.alloc(), from_the_most, 0);
+}

@@ -1,0 +1,46 @@
+//! From where on an amendment settles anew.
+use crate::given::papers_of;
+use sc_markets::{Files, amendment};
+use sc_papers::{Papers, Refusal};
+use sc_repair::rewind_point;
+use std::alloc::Global;
+use std::process::Abort;
+
+/// The rewind point of an amendment, or its refusal.
+fn point(alloc: Global, papers: &Papers, record: &str) -> Result<String, Refusal> {
+    let amendment = amendment(alloc, record)?;
+    match rewind_point(papers, &amendment) {
+        Ok(point) => Ok(format!(in alloc; "{point}")?),
+        Err(refusal) => Ok(refusal.to_string(alloc)?),
+    }
+}
+
+/// The amendments have the wanted rewind points, which stand after `=>`.
+fn expect_points(rt: &impl Abort, alloc: Global, papers: &Papers, script: &str) {
+    for line in script.lines() {
+        let (record, want) = line.split_once(" => ").expect(rt, "a record and a point");
+        let point = point(alloc, papers, record).expect(rt, "an amendment");
+        assert_eq!(rt; point.as_str(), want, "{record}");
+    }
+}
+
+// The papers of the correction that rewinds to the start, with a school 30 that nobody lists.
+#[test]
+fn each_amendment_rewinds(rt: HostRuntime) {
+    let files = Files {
+        schools: "10,1,1\n20,0,2\n30,0,1\n",
+        students: "1,1,\n2,0,\n3,0,\n4,0,\n5,0,\n",
+        lists: "1,10 20\n2,10 20\n3,20\n4,20 10\n5,20\n",
+    };
+    let script = "\
+correct,1,0, => 0
+withdraw,3 => 2
+rerank,5,10 => 4
+enter,6,0,,10 => 5
+add,10,1 => 0
+close,20,1 => 0
+add,30,1 => 5
+withdraw,99 => UnknownStudent
+";
+    expect_points(&rt, rt.alloc(), &papers_of(&rt, rt.alloc(), files), script);
+}

@@ -1,0 +1,214 @@
+//! Rounds of proposals: settlings from the beginning, in reverse and from where students stand.
+ghost use Rattle.std.specs.Prelude.{◌≡◌, true, false, List, ◌∷◌, [], Some, IfOk, OnOk, length, slice_get, map};
+ghost use Rattle.sc_papers.specs.Market.{is_student, students_of};
+ghost use Rattle.sc_papers.specs.declared.rejection.Rejection.{Rejection};
+ghost use Rattle.sc_checkpoint.specs.Standings.{StandAfter};
+ghost use Rattle.sc_engine.specs.Round.{standings_of, is_spent};
+ghost use Rattle.sc_engine.specs.Standing.{Fits, has_entered, SettlesFirst};
+
+use crate::given::{papers_of, school, student};
+use sc_checkpoint::Standing;
+use sc_engine::{Round, Settled, settle};
+use sc_markets::{FIVE_STUDENTS, Files, MARKET_B_AND_NEWCOMER, TWO_STUDENTS, log_text};
+use sc_papers::{Papers, StudentNo};
+use sc_seats::{HeapRoll, Roll, SortedRoll};
+use std::alloc::{AllocError, Global};
+use std::process::Abort;
+use std::test::Fail;
+
+/// What the proposals came to, as a text: the log, how many proposals there were, and who has which
+/// school, in order of entry.
+fn settled_text(alloc: Global, settled: &Settled) -> Result<String, AllocError> {
+    let mut text = log_text(alloc, settled.log.as_slice())?;
+    write!(text, " {}:", settled.proposals)?;
+    for place in 0..settled.assignment.len() {
+        if let Some((student, school)) = settled.assignment.at(place) {
+            write!(text, " {} at {}", student.get(), school.get())?;
+        }
+    }
+    Ok(text)
+}
+
+/// The proposals came to what is wanted.
+fn expect_settled(
+    rt: &impl Abort,
+    alloc: Global,
+    settled: Result<Settled, AllocError>,
+    want: &str,
+) {
+    let settled = settled.expect(rt, "memory");
+    let text = settled_text(alloc, &settled).expect(rt, "memory");
+    assert_eq!(rt; text.as_str(), want);
+}
+
+#[test]
+fn one_seat_two_students(rt: HostRuntime) {
+    let papers = papers_of(&rt, rt.alloc(), TWO_STUDENTS);
+    let settled = settle(rt.alloc(), &papers);
+    expect_settled(&rt, rt.alloc(), settled, "(1,1) 2: 2 at 1");
+}
+
+#[test]
+fn a_newcomer(rt: HostRuntime) {
+    let papers = papers_of(&rt, rt.alloc(), MARKET_B_AND_NEWCOMER);
+    let settled = settle(rt.alloc(), &papers);
+    let want = "(1,10)(2,20)(2,10) 5: 1 at 20 3 at 10";
+    expect_settled(&rt, rt.alloc(), settled, want);
+}
+
+/// Where the first two students stand once they alone have entered.
+fn first_two_stand<R: Roll>(
+    alloc: Global,
+    papers: &Papers,
+    one: StudentNo,
+    two: StudentNo,
+) -> Result<[Standing; 2], AllocError>
+    requires one { slice_get (students_of papers.now) 0 ≡ Some one }
+    requires two { slice_get (students_of papers.now) 1 ≡ Some two }
+    ensures after { IfOk result (λ standings. (earlier : List Rejection) × StandAfter papers.now earlier standings) }
+    ensures students { IfOk result (λ standings. map (λ standing. standing.student) standings ≡ one ∷ two ∷ []) }
+{
+    let mut round: Round<R> = Round::start(alloc, papers)?;
+    round.enter_one(papers, one)?;
+    round.enter_one(papers, two)?;
+    Ok([
+        Standing {
+            student: one,
+            next: round.next_choice(papers, one),
+        },
+        Standing {
+            student: two,
+            next: round.next_choice(papers, two),
+        },
+    ])
+}
+
+/// Enters the third student into a round that goes on from where the first two stand.
+fn resume_with_the_third<R: Roll>(alloc: Global, papers: &Papers) -> Result<Settled, AllocError> {
+    let (Some(one), Some(two), Some(three)) = (
+        papers.student_at(0),
+        papers.student_at(1),
+        papers.student_at(2),
+    ) else {
+        return Err(AllocError);
+    };
+    let standings = first_two_stand::<R>(alloc, papers, one, two)?;
+    let mut round: Round<R> = Round::resume(alloc, papers, &standings)?;
+    round.enter_one(papers, three)?;
+    round.into_settled(papers)
+}
+
+#[test]
+fn a_newcomer_to_a_resumed_round(rt: HostRuntime) {
+    let papers = papers_of(&rt, rt.alloc(), MARKET_B_AND_NEWCOMER);
+    let want = "(1,10)(2,20)(2,10) 3: 1 at 20 3 at 10";
+    let sorted = resume_with_the_third::<SortedRoll>(rt.alloc(), &papers);
+    expect_settled(&rt, rt.alloc(), sorted, want);
+    let heap = resume_with_the_third::<HeapRoll>(rt.alloc(), &papers);
+    expect_settled(&rt, rt.alloc(), heap, want);
+}
+
+/// Enters all students, the last one first.
+fn settle_backwards<R: Roll>(alloc: Global, papers: &Papers) -> Result<Settled, AllocError> {
+    let mut round: Round<R> = Round::start(alloc, papers)?;
+    let mut left = papers.students_len();
+    while left > 0 {
+        left -= 1;
+        let Some(student) = papers.student_at(left) else {
+            unreachable!()
+        };
+        round.enter_one(papers, student)?;
+    }
+    round.into_settled(papers)
+}
+
+/// Enters all students in order into a round in which nobody has entered.
+fn enter_all<R: Roll>(round: &mut Round<R>, papers: &Papers) -> Result<(), AllocError>
+    requires first { SettlesFirst papers.now (standings_of R.keys R.seats round.old) 0 }
+    requires ready { is_spent round.old ≡ false }
+    ensures ready { OnOk result (is_spent round.new ≡ false) }
+    ensures all { OnOk result (SettlesFirst papers.now (standings_of R.keys R.seats round.new) (length papers.now.students)) }
+{
+    for position in 0..papers.students_len() {
+        let Some(student) = papers.student_at(position) else {
+            unreachable!()
+        };
+        round.enter_one(papers, student)?;
+    }
+    Ok(())
+}
+
+/// Enters all students, the first one first.
+fn settle_forwards<R: Roll>(alloc: Global, papers: &Papers) -> Result<Settled, AllocError> {
+    let mut round: Round<R> = Round::start(alloc, papers)?;
+    enter_all(&mut round, papers)?;
+    round.into_settled(papers)
+}
+
+#[test]
+fn entry_in_order(rt: HostRuntime) {
+    let papers = papers_of(&rt, rt.alloc(), FIVE_STUDENTS);
+    let want = "(2,10)(3,20)(2,20) 6: 1 at 10 4 at 20 5 at 20";
+    expect_settled(&rt, rt.alloc(), settle(rt.alloc(), &papers), want);
+    let sorted = settle_forwards::<SortedRoll>(rt.alloc(), &papers);
+    expect_settled(&rt, rt.alloc(), sorted, want);
+    let heap = settle_forwards::<HeapRoll>(rt.alloc(), &papers);
+    expect_settled(&rt, rt.alloc(), heap, want);
+}
+
+#[test]
+fn entry_in_reverse(rt: HostRuntime) {
+    let papers = papers_of(&rt, rt.alloc(), FIVE_STUDENTS);
+    let want = "(3,20)(2,10)(2,20) 6: 1 at 10 4 at 20 5 at 20";
+    let sorted = settle_backwards::<SortedRoll>(rt.alloc(), &papers);
+    expect_settled(&rt, rt.alloc(), sorted, want);
+    let heap = settle_backwards::<HeapRoll>(rt.alloc(), &papers);
+    expect_settled(&rt, rt.alloc(), heap, want);
+}
+
+/// Where a growth is refused within `enter_one`, the round stays spent: to be run with each allocation
+/// failing in turn.
+fn spend(
+    rt: &impl Abort,
+    papers: &Papers,
+    mut round: Round<SortedRoll>,
+    one: StudentNo,
+) -> Result<(), AllocError>
+    requires fits { Fits papers.now (standings_of (⟦<SortedRoll as Roll>⟧.keys) (⟦<SortedRoll as Roll>⟧.seats) round) }
+    requires ready { is_spent round ≡ false }
+    requires student { is_student papers.now one ≡ true }
+    requires absent { has_entered papers.now (standings_of (⟦<SortedRoll as Roll>⟧.keys) (⟦<SortedRoll as Roll>⟧.seats) round).places one ≡ false }
+{
+    if round.enter_one(papers, one).is_err() {
+        assert!(rt; round.is_spent());
+        assert!(rt; round.enter_one(papers, one).is_err());
+        assert!(rt; round.into_settled(papers).is_err());
+        return Err(AllocError);
+    }
+    assert!(rt; !round.is_spent());
+    assert_eq!(rt; round.next_choice(papers, one), Some(school(rt, 1)));
+    assert!(rt; round.log().is_empty());
+    assert_eq!(rt; round.proposals(), 1);
+    Ok(())
+}
+
+/// Spends a round of these papers, if the student is in them.
+fn spend_one(rt: &impl Abort, alloc: Global, papers: &Papers) -> Result<(), AllocError> {
+    let one = student(rt, 1);
+    if papers.student(one).is_none() {
+        return Ok(());
+    }
+    let round: Round<SortedRoll> = Round::start(alloc, papers)?;
+    spend(rt, papers, round, one)
+}
+
+#[test]
+fn a_spent_round(rt: HostRuntime) -> Result<(), Fail> {
+    let files = Files {
+        schools: "1,0,1\n",
+        students: "1,0,\n",
+        lists: "1,1\n",
+    };
+    spend_one(&rt, rt.alloc(), &papers_of(&rt, rt.alloc(), files))?;
+    Ok(())
+}
