@@ -1,0 +1,293 @@
+#!/usr/bin/env python3
+"""Runs the built program and `reference.py` on random inputs, and compares every byte, status and fault line.
+
+    compare.py SEED CASES [--program PATH] [--jobs N]
+
+A case is a bundle, or a subcommand with its files, or a command line that may be wrong. Its inputs are random markets, tidy or
+untidy, often with faults; scripts, journals and logs, right or with changes. The same SEED makes the same cases. Where the two
+differ, the inputs are made as small as they can be while they still differ, and printed. The last line counts the cases and the
+differences; the status is 1 where there is one.
+"""
+import argparse
+import collections
+import multiprocessing
+import os
+import pathlib
+import random
+import subprocess
+import sys
+import tempfile
+
+sys.path.insert(0, str(pathlib.Path(__file__).resolve().parent))
+import reference  # noqa: E402
+
+HERE = pathlib.Path(__file__).resolve().parent.parent
+BUILT = HERE / "crates/clearinghouse/out/clearinghouse"
+INPUTS = {"match": ["schools", "roster", "lists"], "run": ["schools", "roster", "lists", "script"],
+          "audit": ["schools", "roster", "lists", "log"], "replay": ["schools", "roster", "lists", "journal"]}
+Case = collections.namedtuple("Case", "kind seed texts words")
+
+
+# ---- markets and texts -------------------------------------------------------------------------------------------
+
+def pick_numbers(rng, count, greatest):
+    spread = rng.choice([count + 2, 30, greatest])
+    return rng.sample(range(1, max(spread, count) + 1), count) if spread < 10**6 else [rng.randint(1, greatest) for _ in range(count)]
+
+
+def market(rng):
+    schools = pick_numbers(rng, rng.randint(0, 6), 99_999)
+    students = list(dict.fromkeys(pick_numbers(rng, rng.randint(0, 9), 999_999_999)))
+    some = schools or [7]
+    rows = [(school, rng.choice([0, 0, 1, 2]), rng.choice([0, 1, 1, 1, 2, 3])) for school in schools]
+    roster = [(student, rng.choice([0, 1, 2]), rng.sample(some, rng.choice([0, 0, 1, min(2, len(some))]))) for student in students]
+    lists = [(student, rng.sample(some, rng.randint(1, len(some)))) for student in students]
+    rng.shuffle(lists)
+    return rows, roster, lists
+
+
+def spell(rng, value, untidy):
+    if isinstance(value, list):
+        gap = " " * (rng.choice([1, 1, 2, 3]) if untidy else 1)
+        return gap.join(spell(rng, each, untidy) for each in value)
+    return "0" * (rng.choice([0, 0, 1, 2]) if untidy and value < 10**6 else 0) + str(value)
+
+
+def rendered(rng, header, rows, untidy):
+    lines = []
+    for row in ([header] if header else []) + rows:
+        fields = [field if isinstance(field, str) else spell(rng, field, untidy) for field in row]
+        if untidy:
+            fields = [rng.choice(["", "", " ", "\t"]) + field + rng.choice(["", "", " "]) for field in fields]
+            fields = [f'"{field}"' if rng.random() < 0.15 else field for field in fields]
+        lines.append(",".join(fields))
+        if untidy and rng.random() < 0.1:
+            lines.append("")
+    end = rng.choice(["\n", "\r\n", "\r"]) if untidy else "\n"
+    text = end.join(lines) + (end if lines and not (untidy and rng.random() < 0.3) else "")
+    return (reference.MARK if untidy and rng.random() < 0.2 else b"") + text.encode()
+
+
+def changed(rng, text):
+    """A text with a small change, of a kind that people and programs make."""
+    lines = text.split(b"\n")
+    at = rng.randrange(len(lines))
+    kind = rng.randrange(11)
+    if kind == 0 and text:
+        place = rng.randrange(len(text))
+        return text[:place] + text[place + 1:]
+    if kind == 1:
+        place = rng.randint(0, len(text))
+        return text[:place] + bytes([rng.choice(b'0123456789,, "\t\r\n%x-\xe9\x00')]) + text[place:]
+    if kind == 2:
+        return text[:rng.randint(0, len(text))]
+    if kind == 3:
+        lines.insert(at, rng.choice(lines))
+    elif kind == 4 and len(lines) > 1:
+        del lines[at]
+    elif kind == 5:
+        other = rng.randrange(len(lines))
+        lines[at], lines[other] = lines[other], lines[at]
+    elif kind == 6:
+        lines[at] += rng.choice([b",", b" ", b",1", b"\r", b'"'])
+    elif kind == 7:
+        fields = lines[at].split(b",")
+        fields[rng.randrange(len(fields))] = rng.choice([b"", b"x", b"0", b"99999", b"100000", b"10000", b"10001", b"1000000000", b"1 1", b"7  8"])
+        lines[at] = b",".join(fields)
+    elif kind == 8:
+        return reference.MARK * rng.choice([1, 2]) + text
+    elif kind == 9:
+        fields = lines[at].split(b",")
+        fields[-1] = b" ".join(str(n).encode() for n in range(1, rng.choice([20, 21, 22])))
+        lines[at] = b",".join(fields)
+    elif text:
+        place = rng.randrange(len(text))
+        return text[:place] + bytes([rng.choice(b"0123456789, \n")]) + text[place + 1:]
+    return b"\n".join(lines)
+
+
+def amendments(rng, rows, roster, count):
+    schools = [row[0] for row in rows] + [rng.choice([77, 99_999])]
+    students = [row[0] for row in roster] + [rng.randint(1, 40) for _ in range(3)]
+
+    def some(most):
+        return [rng.choice(schools) if rng.random() < 0.1 else school for school in rng.sample(schools[:-1] or schools, min(rng.randint(0, most), len(schools[:-1] or schools)))]
+
+    for _ in range(count):
+        student, school, zone = rng.choice(students), rng.choice(schools), rng.choice([0, 1, 2])
+        yield rng.choice([["enter", student, zone, some(2), some(4)], ["withdraw", student], ["rerank", student, some(4)],
+                          ["add", school, rng.choice([1, 2, 3, 10_000])], ["close", school, rng.choice([1, 1, 2, 9_999])],
+                          ["correct", student, zone, some(2)], ["enter", rng.randint(1, 60), zone, some(2), some(5)]])
+
+
+def seed_text(rng):
+    if rng.random() < 0.5:
+        return b"0" * 64
+    text = "".join(rng.choice("0123456789abcdefABCDEF") for _ in range(64))
+    if rng.random() < 0.06:
+        text = rng.choice([text[1:], text + "0", text[:20] + rng.choice("gG-. ") + text[21:], ""])
+    return text.encode()
+
+
+def make_case(seed, at):
+    rng = random.Random(f"{seed}:{at}")
+    rows, roster, lists = market(rng)
+    untidy = rng.random() < 0.3
+    texts = {"schools": rendered(rng, ["school", "zone", "seats"], [list(row) for row in rows], untidy),
+             "roster": rendered(rng, ["student", "zone", "siblings"], [list(row) for row in roster], untidy),
+             "lists": rendered(rng, ["student", "choices"], [list(row) for row in lists], untidy)}
+    kind = rng.choice(["bundle", "bundle", "match", "run", "run", "audit", "replay", "words"])
+    script = rendered(rng, None, list(amendments(rng, rows, roster, rng.randint(0, 8))), untidy)
+    key = b"0" * 32
+    if kind == "run" or (kind == "bundle" and rng.random() < 0.6):
+        texts["script"] = script
+    elif kind == "audit":
+        try:
+            log = reference.call_match(key, *(texts[name] for name in INPUTS["match"]), print_log=True)[0]
+        except reference.Stop:
+            log = b"1,1\n"
+        texts["log"] = log if rng.random() < 0.4 else changed(rng, log)
+    elif kind == "replay":
+        try:
+            journal = reference.call_run(key, *(texts[name] for name in INPUTS["match"]), script)[1]
+        except reference.Stop:
+            journal = b"1,withdraw,1\n"
+        texts["journal"] = journal if rng.random() < 0.4 else changed(rng, journal)
+    if rng.random() < 0.4:
+        name = rng.choice(sorted(texts))
+        texts[name] = changed(rng, texts[name])
+    seed_given = seed_text(rng) if kind in ("bundle", "match", "run") else rng.choice([b"0" * 64, seed_text(rng)])
+    if kind == "bundle":
+        end = rng.choice([b"\n", b"\n", b"\r\n"])
+        whole = b"".join(b"%" + name.encode() + end + text + (b"" if text.endswith(b"\n") or rng.random() < 0.02 else end)
+                         for name, text in [("seed", seed_given + b"\n"), *texts.items()])
+        return Case("bundle", b"", {"bundle": changed(rng, whole) if rng.random() < 0.1 else whole}, None)
+    if kind == "words":
+        return Case("words", seed_given, texts, wrong_words(rng))
+    return Case(kind, seed_given, texts, rng.choice([["--print-log"], []]) if kind == "match" else [])
+
+
+def wrong_words(rng):
+    """A command line that is not one of the four."""
+    name = rng.choice(sorted(INPUTS))
+    words = [[f"--{each}", each] for each in ["seed", *INPUTS[name]]]
+    if name == "run":
+        words.append(["--journal", "journal"])
+    kind = rng.randrange(6)
+    if kind == 0:
+        del words[rng.randrange(len(words))]
+    elif kind == 1:
+        words.append(rng.choice(words))
+    elif kind == 2:
+        words.append([rng.choice(["--sead", "-x", "extra", "--log-print"])])
+    elif kind == 3:
+        words[-1] = [words[-1][0]]
+    elif kind == 4:
+        name = rng.choice(["mtch", "Match", "--match", "open"])
+    else:
+        words = []
+    rng.shuffle(words) if kind != 3 else None
+    return [name, *(word for pair in words for word in pair)]
+
+
+# ---- running both ------------------------------------------------------------------------------------------------
+
+def expected(case):
+    if case.kind == "bundle":
+        return reference.told(reference.call_bundle, case.texts["bundle"])
+    call = {"match": reference.call_match, "run": reference.call_run, "audit": reference.call_audit, "replay": reference.call_replay}[case.kind]
+
+    def made():
+        key = reference.seed_of(case.seed)
+        given = [case.texts[name] for name in INPUTS[case.kind]]
+        return call(key, *given, print_log=True) if "--print-log" in case.words else call(key, *given)
+
+    return reference.told(made)
+
+
+def actual(case, program, folder):
+    if case.kind == "bundle":
+        done = subprocess.run([program], input=case.texts["bundle"], capture_output=True, cwd=folder)
+        return done.stdout, b"", done.stderr, done.returncode
+    for name, text in case.texts.items():
+        (folder / name).write_bytes(text)
+    if case.kind == "words":
+        done = subprocess.run([program, *case.words], stdin=subprocess.DEVNULL, capture_output=True, cwd=folder)
+        return done.stdout, b"", b"", done.returncode
+    words = [case.kind, "--seed", case.seed.decode()]
+    for name in INPUTS[case.kind]:
+        words += [f"--{name}", name]
+    if case.kind == "run":
+        (folder / "written").unlink(missing_ok=True)
+        words += ["--journal", "written"]
+    done = subprocess.run([program, *words, *case.words], stdin=subprocess.DEVNULL, capture_output=True, cwd=folder)
+    written = folder / "written"
+    journal = written.read_bytes() if case.kind == "run" and written.exists() else b""
+    return done.stdout, journal, done.stderr, done.returncode
+
+
+def differ(case, program, folder):
+    want = (b"", b"", b"", 2) if case.kind == "words" else expected(case)
+    got = actual(case, program, folder)
+    return None if want == got else (want, got)
+
+
+def smaller(case, program, folder):
+    """The case with as few lines, and then as few bytes, as still differ."""
+    for cut in (lambda text: text.splitlines(keepends=True), lambda text: [text[i:i + 1] for i in range(len(text))]):
+        again = True
+        while again:
+            again = False
+            for name, text in case.texts.items():
+                parts = cut(text)
+                if len(parts) > 400:
+                    continue
+                for at in range(len(parts)):
+                    tried = case._replace(texts={**case.texts, name: b"".join(parts[:at] + parts[at + 1:])})
+                    if differ(tried, program, folder):
+                        case, again = tried, True
+                        break
+    return case
+
+
+def work(given):
+    seed, first, last, program = given
+    shared = pathlib.Path("/dev/shm")
+    found = []
+    with tempfile.TemporaryDirectory(dir=shared if shared.is_dir() else None) as name:
+        folder = pathlib.Path(name)
+        for at in range(first, last):
+            case = make_case(seed, at)
+            if differ(case, program, folder):
+                case = smaller(case, program, folder)
+                found.append((at, case, differ(case, program, folder)))
+    return last - first, found
+
+
+def main():
+    parser = argparse.ArgumentParser(description=__doc__.split("\n")[0])
+    parser.add_argument("seed")
+    parser.add_argument("cases", type=int)
+    parser.add_argument("--program", default=str(BUILT))
+    parser.add_argument("--jobs", type=int, default=os.cpu_count())
+    given = parser.parse_args()
+    step = 200
+    parts = [(given.seed, first, min(first + step, given.cases), os.path.abspath(given.program)) for first in range(0, given.cases, step)]
+    cases = differences = 0
+    with multiprocessing.Pool(given.jobs) as pool:
+        for tried, found in pool.imap_unordered(work, parts):
+            cases += tried
+            differences += len(found)
+            for at, case, (want, got) in found[:3]:
+                print(f"case {at}: {case.kind} {case.words or ''} seed {case.seed.decode()}")
+                for name, text in case.texts.items():
+                    print(f"  {name}: {text!r}")
+                for what, left, right in zip(("output", "journal", "line", "status"), want, got):
+                    if left != right:
+                        print(f"  {what}: the rules give {left!r}, the program {right!r}")
+    print(f"{cases} cases, {differences} differences")
+    return 1 if differences else 0
+
+
+if __name__ == "__main__":
+    sys.exit(main())

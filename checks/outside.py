@@ -1,0 +1,216 @@
+#!/usr/bin/env python3
+"""Tries the built program from outside: refused memory, full discs, broken streams, odd inputs, and kills.
+
+    outside.py [--program PATH] [--kills N]
+
+The gate does not run it; run it before a release. After each trial the same must hold: each `ok` reply that stands whole in the
+output has its line whole in the journal; output and journal are prefixes of what a whole run writes; the program ended by
+itself, or by a signal that was sent to it; and a status other than 0 has its line on standard error. It prints a line for each
+group of trials, and ends with status 1 where one failed.
+"""
+import argparse
+import os
+import pathlib
+import random
+import re
+import signal
+import subprocess
+import sys
+import tempfile
+import threading
+import time
+
+HERE = pathlib.Path(__file__).resolve().parent
+BUILT = HERE.parent / "crates/clearinghouse/out/clearinghouse"
+LIMIT = 67_108_864
+SEED = "0" * 64
+SCHOOLS, ROSTER, LISTS = "school,zone,seats\n10,1,1\n20,0,1\n", "student,zone,siblings\n1,0,20\n2,0,10\n", "student,choices\n1,10 20\n2,20 10\n"
+SCRIPT = "enter,3,1,10,10\nnonsense\nwithdraw,99\nadd,77,1\nwithdraw,3\nadd,20,1\nenter,5,0,,10 20\n"
+
+
+class Trials:
+    """The program, a folder with the inputs, and the count of what was tried and what failed."""
+
+    def __init__(self, program, folder):
+        self.program, self.folder = program, folder
+        self.tried = self.failed = 0
+        for name, text in (("schools", SCHOOLS), ("roster", ROSTER), ("lists", LISTS), ("script", SCRIPT)):
+            (folder / name).write_text(text)
+        opening = ["--seed", SEED, "--schools", "schools", "--roster", "roster", "--lists", "lists"]
+        self.calls = {"match": ["match", *opening], "log": ["match", *opening, "--print-log"],
+                      "run": ["run", *opening, "--script", "script", "--journal", "journal"],
+                      "audit": ["audit", *opening, "--log", "log"], "replay": ["replay", *opening, "--journal", "kept"]}
+        bundle = f"%seed\n{SEED}\n%schools\n{SCHOOLS}%roster\n{ROSTER}%lists\n{LISTS}%script\n{SCRIPT}"
+        self.bundle = bundle.encode()
+        (folder / "log").write_bytes(self.run(self.calls["log"]).stdout)
+        self.whole_run = self.run(self.calls["run"]).stdout
+        self.whole_journal = (folder / "journal").read_bytes()
+        (folder / "kept").write_bytes(self.whole_journal)
+
+    def run(self, words, given=b"", **options):
+        options.setdefault("stdout", subprocess.PIPE)
+        options.setdefault("stderr", subprocess.PIPE)
+        options.setdefault("timeout", 120)
+        return subprocess.run([self.program, *words], input=given, cwd=self.folder, **options)
+
+    def check(self, name, holds, what=""):
+        self.tried += 1
+        if not holds:
+            self.failed += 1
+            print(f"FAILED {name}: {what}")
+
+    def ended(self, name, done, status, line, output=None):
+        """The call ended so: with this status and this line."""
+        said = (done.stderr or b"").decode(errors="replace").strip()
+        self.check(name, done.returncode == status and said == line, f"status {done.returncode}, line {said!r}; wanted {status}, {line!r}")
+        if output is not None:
+            self.check(name, done.stdout == output, f"output {done.stdout[:200]!r}")
+
+    def fronts(self, name, output, journal, whole_output=None, whole_journal=None):
+        """What was written is a prefix of the whole, and no reply stands without its line."""
+        whole_output = self.whole_run if whole_output is None else whole_output
+        whole_journal = self.whole_journal if whole_journal is None else whole_journal
+        self.check(name, whole_output.startswith(output), f"output is no prefix: {output[-80:]!r}")
+        self.check(name, whole_journal.startswith(journal), f"journal is no prefix: {journal[-80:]!r}")
+        replies = len(re.findall(rb"^[0-9]+,ok\n", output, re.M))
+        self.check(name, replies <= journal.count(b"\n"), f"{replies} replies, {journal.count(bytes([10]))} lines")
+
+
+def refused_growths(trials, folder):
+    """Each growth of each call refused in turn."""
+    shim = folder / "refuse.so"
+    subprocess.run(["cc", "-shared", "-fPIC", "-O1", "-o", shim, HERE / "refuse.c"], check=True)
+    for name, words in [("bundle", []), *trials.calls.items()]:
+        given = trials.bundle if name == "bundle" else b""
+
+        def under(**more):
+            (trials.folder / "journal").unlink(missing_ok=True)
+            return trials.run(words, given, env={**os.environ, "LD_PRELOAD": str(shim), **more})
+
+        whole = trials.run(words, given)
+        calls = int(under(FAIL_COUNT="1").stderr.split()[-1])
+        passed = 0
+        for at in range(1, calls + 1):
+            done = under(FAIL_AT=str(at))
+            what = f"{name}, growth {at}"
+            if done.returncode == whole.returncode and done.stdout == whole.stdout:
+                passed += 1  # the library asked for the memory again, and got it
+                continue
+            said = done.stderr.decode(errors="replace").strip()
+            known = ("clearinghouse: out of memory", "error: out of memory", "")
+            trials.check(what, done.returncode == 5 and said in known, f"status {done.returncode}, line {said!r}")
+            trials.check(what, whole.stdout.startswith(done.stdout), f"output {done.stdout[:200]!r}")
+            if name == "run":
+                journal = trials.folder / "journal"
+                trials.fronts(what, done.stdout, journal.read_bytes() if journal.exists() else b"")
+        print(f"{name}: each of {calls} growths refused, {passed} of which were asked for again")
+
+
+def devices(trials):
+    """Full discs, closed streams, and a reader of the output that goes away."""
+    full = [word if word != "journal" else "/dev/full" for word in trials.calls["run"]]
+    done = trials.run(full)
+    trials.ended("journal on a full disc", done, 4, "clearinghouse: cannot write journal")
+    trials.check("journal on a full disc", b",ok" not in done.stdout, done.stdout)
+    for name, words in [("bundle", []), *trials.calls.items()]:
+        with open("/dev/full", "wb") as out:
+            done = trials.run(words, trials.bundle if name == "bundle" else b"", stdout=out)
+        trials.ended(f"{name}: output on a full disc", done, 4, "clearinghouse: cannot write output")
+        closed = subprocess.run(["sh", "-c", '"$0" "$@" >&-', trials.program, *words], input=trials.bundle, cwd=trials.folder, stderr=subprocess.PIPE)
+        trials.ended(f"{name}: output closed", closed, 4, "clearinghouse: cannot write output")
+        read, write = os.pipe()
+        os.close(read)
+        gone = trials.run(words, trials.bundle if name == "bundle" else b"", stdout=write)
+        os.close(write)
+        trials.ended(f"{name}: nobody reads the output", gone, 4, "clearinghouse: cannot write output")
+    closed = subprocess.run(["sh", "-c", '"$0" <&-', trials.program], cwd=trials.folder, capture_output=True)
+    trials.ended("input closed", closed, 4, "clearinghouse: cannot read bundle", b"")
+    quiet = subprocess.run(["sh", "-c", '"$0" 2>&-', trials.program], input=b"no bundle", cwd=trials.folder, stdout=subprocess.PIPE)
+    trials.check("errors closed", quiet.returncode == 3 and quiet.stdout == b"", quiet)
+    print("full discs, closed streams, readers gone: tried")
+
+
+def inputs(trials):
+    """Folders, endless inputs, pipes, and inputs at the limit."""
+    for name in ("schools", "roster", "lists", "script"):
+        def given(path):
+            return [path if before == f"--{name}" else word for before, word in zip(["", *trials.calls["run"]], trials.calls["run"])]
+        trials.ended(f"{name} is a folder", trials.run(given("/")), 4, f"clearinghouse: cannot read {name}", b"")
+        trials.ended(f"{name} is not there", trials.run(given("missing")), 4, f"clearinghouse: cannot read {name}", b"")
+        trials.ended(f"{name} is endless", trials.run(given("/dev/zero")), 3, f"clearinghouse: {name} row 0: TooLong", b"")
+    with open("/dev/zero", "rb") as endless:
+        done = subprocess.run([trials.program], stdin=endless, capture_output=True, timeout=120)
+    trials.ended("the bundle is endless", done, 3, "clearinghouse: bundle row 0: TooLong", b"")
+    long = trials.folder / "long"
+    front = (SCHOOLS).encode()
+    words = [word if word != "schools" else "long" for word in trials.calls["match"]]
+    whole = trials.run(trials.calls["match"]).stdout
+    long.write_bytes(front + b"\n" * (LIMIT - len(front)))
+    trials.ended("schools of 64 MiB", trials.run(words), 0, "", whole)
+    long.write_bytes(front + b"\n" * (LIMIT - len(front) + 1))
+    trials.ended("schools of a byte more", trials.run(words), 3, "clearinghouse: schools row 0: TooLong", b"")
+    long.unlink()
+    slow = subprocess.Popen([trials.program], stdin=subprocess.PIPE, stdout=subprocess.PIPE, stderr=subprocess.PIPE, cwd=trials.folder)
+
+    def feed():
+        for at in range(len(trials.bundle)):
+            slow.stdin.write(trials.bundle[at:at + 1])
+            slow.stdin.flush()
+        slow.stdin.close()
+
+    feeder = threading.Thread(target=feed)
+    feeder.start()
+    output = slow.stdout.read()
+    feeder.join()
+    trials.check("a bundle byte by byte", slow.wait() == 0 and output == trials.whole_run, output[:200])
+    print("folders, endless inputs, pipes and limits: tried")
+
+
+def kills(trials, count):
+    """A long run, killed at random moments."""
+    rng = random.Random(1)
+    students = range(1, 301)
+    schools = range(1, 21)
+    folder = trials.folder / "long_run"
+    folder.mkdir()
+    (folder / "schools").write_text("school,zone,seats\n" + "".join(f"{s},0,12\n" for s in schools))
+    (folder / "roster").write_text("student,zone,siblings\n" + "".join(f"{i},0,\n" for i in students))
+    lists = "".join(f"{i},{' '.join(map(str, rng.sample(schools, 6)))}\n" for i in students)
+    (folder / "lists").write_text("student,choices\n" + lists)
+    script = [rng.choice([f"rerank,{rng.choice(students)},{' '.join(map(str, rng.sample(schools, 5)))}", f"add,{rng.choice(schools)},1",
+                          f"close,{rng.choice(schools)},1", f"withdraw,{rng.choice(students)}"]) for _ in range(1500)]
+    (folder / "script").write_text("\n".join(script) + "\n")
+    words = [trials.program, *trials.calls["run"]]
+    began = time.monotonic()
+    whole = subprocess.run(words, cwd=folder, capture_output=True, check=True).stdout
+    lasted = time.monotonic() - began
+    journal = (folder / "journal").read_bytes()
+    for at in range(count):
+        with open(folder / "out", "wb") as out:
+            run = subprocess.Popen(words, cwd=folder, stdout=out, stderr=subprocess.PIPE)
+            time.sleep(rng.random() * lasted)
+            run.send_signal(signal.SIGKILL)
+            run.wait()
+        trials.check(f"kill {at}", run.returncode in (0, -signal.SIGKILL), run.returncode)
+        trials.fronts(f"kill {at}", (folder / "out").read_bytes(), (folder / "journal").read_bytes() if (folder / "journal").exists() else b"", whole, journal)
+    print(f"{count} kills within {lasted:.1f} seconds: tried")
+
+
+def main():
+    parser = argparse.ArgumentParser(description=__doc__.split("\n")[0])
+    parser.add_argument("--program", default=str(BUILT))
+    parser.add_argument("--kills", type=int, default=60)
+    given = parser.parse_args()
+    with tempfile.TemporaryDirectory() as name:
+        folder = pathlib.Path(name)
+        trials = Trials(os.path.abspath(given.program), folder)
+        devices(trials)
+        inputs(trials)
+        kills(trials, given.kills)
+        refused_growths(trials, folder)
+    print(f"{trials.tried} trials, {trials.failed} failed")
+    return 1 if trials.failed else 0
+
+
+if __name__ == "__main__":
+    sys.exit(main())

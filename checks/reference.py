@@ -1,0 +1,548 @@
+#!/usr/bin/env python3
+"""A second reading of the rules, in plain Python, written from docs/ alone. It shares nothing with the crates.
+
+It is slow and simple on purpose: `compare.py` runs it beside the built program on random inputs.
+
+    reference.py                           reads a bundle from standard input
+    reference.py match --seed .. --schools .. --roster .. --lists .. [--print-log]
+    reference.py run .. --script .. --journal ..
+    reference.py audit .. --log ..
+    reference.py replay .. --journal ..
+
+Each call is also a function here: it takes the bytes of the inputs and gives (output, journal, fault line, status).
+"""
+import re
+import struct
+import sys
+
+MOST_BYTES = 67_108_864
+MOST_SCHOOLS = 5_000
+MOST_STUDENTS = 200_000
+MOST_LISTED = 20
+MOST_SEATS = 10_000
+LAST_LINE = 999_999_999
+MARK = b"\xef\xbb\xbf"
+STUDENT, SCHOOL, ZONE, SEATS, COUNT = (1, 999_999_999), (1, 99_999), (0, 9_999), (0, MOST_SEATS), (1, MOST_SEATS)
+
+
+class Stop(Exception):
+    """A call ended early: its fault line, without the program's name, and its status."""
+
+    def __init__(self, line, status):
+        super().__init__(line)
+        self.line, self.status = line, status
+
+
+def intake(source, row, cause):
+    return Stop(f"{source} row {row}: {cause}", 3)
+
+
+# ---- the lottery -------------------------------------------------------------------------------------------------
+
+def chacha_block(key, counter):
+    """RFC 8439's block function with a 64-bit counter and a 64-bit stream number of 0: sixteen words."""
+    start = [0x61707865, 0x3320646E, 0x79622D32, 0x6B206574, *struct.unpack("<8I", key),
+             counter & 0xFFFFFFFF, counter >> 32, 0, 0]
+    words = list(start)
+
+    def turn(a, b, c, d):
+        for first, second, left in ((a, b, 16), (c, d, 12), (a, b, 8), (c, d, 7)):
+            other = d if first == a else b
+            words[first] = (words[first] + words[second]) & 0xFFFFFFFF
+            mixed = words[other] ^ words[first]
+            words[other] = ((mixed << left) | (mixed >> (32 - left))) & 0xFFFFFFFF
+
+    for _ in range(10):
+        turn(0, 4, 8, 12), turn(1, 5, 9, 13), turn(2, 6, 10, 14), turn(3, 7, 11, 15)
+        turn(0, 5, 10, 15), turn(1, 6, 11, 12), turn(2, 7, 8, 13), turn(3, 4, 9, 14)
+    return [(a + b) & 0xFFFFFFFF for a, b in zip(words, start)]
+
+
+def draw(key, student, blocks={}):
+    place = 2 * student
+    at = (key, place // 16)
+    if at not in blocks:
+        if len(blocks) > 100_000:
+            blocks.clear()
+        blocks[at] = chacha_block(key, place // 16)
+    return blocks[at][place % 16] << 32 | blocks[at][place % 16 + 1]
+
+
+def seed_of(text):
+    """The 32 bytes of 64 hexadecimal digits."""
+    if len(text) != 64:
+        raise Stop("seed: Length", 2)
+    for place, byte in enumerate(text):
+        if byte not in b"0123456789abcdefABCDEF":
+            raise Stop(f"seed: Digit {place}", 2)
+    return bytes.fromhex(text.decode())
+
+
+# ---- records, fields and files -----------------------------------------------------------------------------------
+
+def records(text):
+    """Cuts comma-separated values into records of fields. Lines without any byte give none."""
+    rows, row, field, state = [], [], bytearray(), "record"
+
+    def end_field():
+        row.append(bytes(field).strip(b" \t"))
+        field.clear()
+
+    def end_record():
+        end_field()
+        rows.append(list(row))
+        row.clear()
+
+    for byte in text:
+        if state == "record" and byte in b"\r\n":
+            continue
+        if state == "quoted":
+            if byte == 0x22:
+                state = "quote"
+            else:
+                field.append(byte)
+        elif state in ("record", "field") and byte == 0x22:
+            state = "quoted"
+        elif state == "quote" and byte == 0x22:
+            field.append(byte)
+            state = "quoted"
+        elif byte == 0x2C:
+            end_field()
+            state = "field"
+        elif byte in b"\r\n":
+            end_record()
+            state = "record"
+        else:
+            field.append(byte)
+            state = "plain"
+    if state != "record":
+        end_record()
+    return rows
+
+
+def records_of(source, text):
+    """The records of an input: within its limit, and with one byte order mark at most."""
+    if len(text) > MOST_BYTES:
+        raise intake(source, 0, "TooLong")
+    if text.startswith(MARK):
+        text = text[len(MARK):]
+    if text.startswith(MARK):
+        raise intake(source, 1, "Header")
+    return records(text)
+
+
+class Bad(Exception):
+    """A field of a row is faulty, for this cause."""
+
+
+def number(field):
+    if not re.fullmatch(rb"[0-9]{1,9}", field):
+        raise Bad("Number")
+    return int(field)
+
+
+def numbers(field):
+    return [number(word) for word in field.split(b" ") if word]
+
+
+def within(limits, *found):
+    for value in found:
+        if not limits[0] <= value <= limits[1]:
+            raise Bad("Range")
+
+
+def rows_of(source, text, header, most, read):
+    """The rows of a file with a header, each as `read` gives it: its own number first."""
+    found = records_of(source, text)
+    if not found or found[0] != header:
+        raise intake(source, 1, "Header")
+    rows, seen = [], set()
+    for at, fields in enumerate(found[1:], start=2):
+        try:
+            if at - 1 > most:
+                raise Bad("TooLong")
+            if len(fields) != len(header):
+                raise Bad("Fields")
+            row = read(fields)
+            if row[0] in seen:
+                raise Bad("Twice")
+        except Bad as bad:
+            raise intake(source, at, bad.args[0]) from None
+        seen.add(row[0])
+        rows.append((at, *row))
+    return rows
+
+
+def school_row(fields):
+    school, zone, seats = (number(field) for field in fields)
+    within(SCHOOL, school), within(ZONE, zone), within(SEATS, seats)
+    return school, zone, seats
+
+
+def roster_row(fields):
+    student, zone, siblings = number(fields[0]), number(fields[1]), numbers(fields[2])
+    within(STUDENT, student), within(ZONE, zone), within(SCHOOL, *siblings)
+    return student, zone, siblings
+
+
+def lists_row(fields):
+    student, choices = number(fields[0]), numbers(fields[1])
+    within(STUDENT, student), within(SCHOOL, *choices)
+    return student, choices
+
+
+# ---- papers and amendments ---------------------------------------------------------------------------------------
+
+NAMES = {1: "Shape", 2: "UnknownStudent", 3: "StudentExists", 4: "EmptyList", 5: "ListTooLong", 6: "UnknownSchool",
+         7: "SchoolTwice", 8: "RosterFull", 9: "TooManySeats", 10: "TooFewSeats"}
+
+
+class Papers:
+    """The seed, the schools by number as [zone, seats], and the students in order of entry as [zone, siblings, choices]."""
+
+    def __init__(self, key):
+        self.key, self.schools, self.students = key, {}, {}
+
+    def key_of(self, student, school):
+        zone, siblings, _ = self.students[student]
+        there = self.schools[school][0]
+        same = zone == there and zone != 0
+        kind = {(True, True): 0, (True, False): 1, (False, True): 2, (False, False): 3}[school in siblings, same]
+        return kind, draw(self.key, student), student
+
+    def refusal(self, amendment):
+        """The first refusal that applies, as (code,) or (code, school), or None."""
+        word, *rest = amendment
+        if word in ("withdraw", "rerank", "correct") and rest[0] not in self.students:
+            return (2,)
+        if word == "enter" and rest[0] in self.students:
+            return (3,)
+        choices = {"enter": lambda: rest[3], "rerank": lambda: rest[1]}.get(word, lambda: None)()
+        siblings = rest[2] if word in ("enter", "correct") else None
+        lists = [found for found in (choices, siblings) if found is not None]
+        if choices is not None and not choices:
+            return (4,)
+        if any(len(found) > MOST_LISTED for found in lists):
+            return (5,)
+        for found in lists if word not in ("add", "close") else [[rest[0]]]:
+            for school in found:
+                if school not in self.schools:
+                    return (6, school)
+        for found in lists:
+            for at, school in enumerate(found):
+                if school in found[:at]:
+                    return (7, school)
+        if word == "enter" and len(self.students) >= MOST_STUDENTS:
+            return (8,)
+        if word == "add" and self.schools[rest[0]][1] + rest[1] > MOST_SEATS:
+            return (9,)
+        if word == "close" and self.schools[rest[0]][1] < rest[1]:
+            return (10,)
+        return None
+
+    def make(self, amendment):
+        word, *rest = amendment
+        if word == "enter":
+            self.students[rest[0]] = [rest[1], rest[2], rest[3]]
+        elif word == "withdraw":
+            del self.students[rest[0]]
+        elif word == "rerank":
+            self.students[rest[0]][2] = rest[1]
+        elif word == "add":
+            self.schools[rest[0]][1] += rest[1]
+        elif word == "close":
+            self.schools[rest[0]][1] -= rest[1]
+        else:
+            self.students[rest[0]][0:2] = rest[1:3]
+
+
+def papers_of(key, schools, roster, lists):
+    school_rows = rows_of("schools", schools, [b"school", b"zone", b"seats"], MOST_SCHOOLS, school_row)
+    roster_rows = rows_of("roster", roster, [b"student", b"zone", b"siblings"], MOST_STUDENTS, roster_row)
+    list_rows = rows_of("lists", lists, [b"student", b"choices"], MOST_STUDENTS, lists_row)
+    papers = Papers(key)
+    for _, school, zone, seats in school_rows:
+        papers.schools[school] = [zone, seats]
+    listed = {student: choices for _, student, choices in list_rows}
+    for row, student, zone, siblings in roster_rows:
+        if student not in listed:
+            raise intake("roster", row, "NoList")
+        amendment = ("enter", student, zone, siblings, listed[student])
+        refusal = papers.refusal(amendment)
+        if refusal:
+            raise intake("roster", row, "Refused " + " ".join(map(str, (refusal[0], NAMES[refusal[0]], *refusal[1:]))))
+        papers.make(amendment)
+    for row, student, _ in list_rows:
+        if student not in papers.students:
+            raise intake("lists", row, "NotInRoster")
+    return papers
+
+
+def amendment_of(fields):
+    """The amendment that a script's record is, or None where it is none."""
+    forms = {b"enter": (STUDENT, ZONE, list, list), b"withdraw": (STUDENT,), b"rerank": (STUDENT, list),
+             b"add": (SCHOOL, COUNT), b"close": (SCHOOL, COUNT), b"correct": (STUDENT, ZONE, list)}
+    form = forms.get(fields[0])
+    if form is None or len(fields) != len(form) + 1:
+        return None
+    found = []
+    try:
+        for kind, field in zip(form, fields[1:]):
+            if kind is list:
+                found.append(numbers(field))
+                within(SCHOOL, *found[-1])
+            else:
+                found.append(number(field))
+                within(kind, found[-1])
+    except Bad:
+        return None
+    return (fields[0].decode(), *found)
+
+
+def line_of(at, amendment):
+    """The one spelling of an amendment in the journal, with its line's number."""
+    fields = [" ".join(map(str, part)) if isinstance(part, list) else str(part) for part in amendment]
+    return ",".join([str(at), *fields]).encode()
+
+
+# ---- settling ----------------------------------------------------------------------------------------------------
+
+def settled(papers):
+    """Deferred acceptance, one student after the other in order of entry: the places, and the log of rejections."""
+    held = {school: [] for school in papers.schools}
+    next_at = {student: 0 for student in papers.students}
+    log = []
+    for entering in papers.students:
+        student = entering
+        while student is not None and next_at[student] < len(papers.students[student][2]):
+            school = papers.students[student][2][next_at[student]]
+            held[school].append(papers.key_of(student, school))
+            held[school].sort()
+            out = held[school].pop() if len(held[school]) > papers.schools[school][1] else None
+            student = None
+            if out is not None:
+                student = out[2]
+                log.append((student, school))
+                next_at[student] += 1
+    places = {}
+    for student, at in next_at.items():
+        choices = papers.students[student][2]
+        places[student] = choices[at] if at < len(choices) else None
+    return places, log
+
+
+def report(papers):
+    places, _ = settled(papers)
+    holders = {school: [] for school in papers.schools}
+    for student, school in places.items():
+        if school is not None:
+            holders[school].append(papers.key_of(student, school))
+    lines = ["student,school"]
+    for student in sorted(places):
+        lines.append(f"{student},{'-' if places[student] is None else places[student]}")
+    lines.append("school,seats,held,class,draw,student")
+    for school in sorted(papers.schools):
+        seats, held = papers.schools[school][1], len(holders[school])
+        if seats == 0:
+            lines.append(f"{school},0,0,closed,-,-")
+        elif held < seats:
+            lines.append(f"{school},{seats},{held},free,-,-")
+        else:
+            kind, drawn, student = max(holders[school])
+            lines.append(f"{school},{seats},{held},{kind},{drawn:016x},{student}")
+    lines.append("student,school,reason")
+    for student in sorted(places):
+        for school in papers.students[student][2]:
+            if school == places[student]:
+                break
+            if papers.schools[school][1] == 0:
+                reason = "seats"
+            elif max(holders[school])[0] < papers.key_of(student, school)[0]:
+                reason = "class"
+            else:
+                reason = "lottery"
+            lines.append(f"{student},{school},{reason}")
+    return ("\n".join(lines) + "\n").encode()
+
+
+def verdict(papers, log):
+    """What an audit says of a log: each entry by the rule, and then the seats."""
+    rejected = {student: set() for student in papers.students}
+
+    def next_choice(student):
+        return next((s for s in papers.students[student][2] if s not in rejected[student]), None)
+
+    def standing(school):
+        return [other for other in papers.students if next_choice(other) == school]
+
+    for at, (student, school) in enumerate(log, start=1):
+        if student not in papers.students or next_choice(student) != school:
+            return f"bad entry {at}"
+        mine = papers.key_of(student, school)
+        ahead = sum(papers.key_of(other, school) < mine for other in standing(school) if other != student)
+        if ahead < papers.schools[school][1]:
+            return f"bad entry {at}"
+        rejected[student].add(school)
+    over = [school for school in papers.schools if len(standing(school)) > papers.schools[school][1]]
+    return f"over {min(over)}" if over else "certified"
+
+
+# ---- the calls ---------------------------------------------------------------------------------------------------
+
+def too_long(*named):
+    """Every input is read whole, in its order, before any is looked into."""
+    for source, text in named:
+        if len(text) > MOST_BYTES:
+            raise intake(source, 0, "TooLong")
+
+
+def files(schools, roster, lists):
+    return ("schools", schools), ("roster", roster), ("lists", lists)
+
+
+def call_match(key, schools, roster, lists, print_log=False):
+    too_long(*files(schools, roster, lists))
+    papers = papers_of(key, schools, roster, lists)
+    if print_log:
+        return b"".join(b"%d,%d\n" % entry for entry in settled(papers)[1]), b"", 0
+    return report(papers), b"", 0
+
+
+def call_run(key, schools, roster, lists, script):
+    too_long(*files(schools, roster, lists), ("script", script))
+    papers = papers_of(key, schools, roster, lists)
+    output, journal, lines = [], [], 0
+    for at, fields in enumerate(records_of("script", script), start=1):
+        amendment = amendment_of(fields)
+        refusal = (1,) if amendment is None else papers.refusal(amendment)
+        if refusal is None:
+            papers.make(amendment)
+            lines += 1
+            journal.append(line_of(lines, amendment) + b"\n")
+            output.append(f"{at},ok\n".encode())
+        else:
+            words = [at, "refused", refusal[0], NAMES[refusal[0]], *refusal[1:]]
+            output.append((",".join(map(str, words)) + "\n").encode())
+    return b"".join(output) + report(papers), b"".join(journal), 0
+
+
+def call_audit(key, schools, roster, lists, log):
+    too_long(*files(schools, roster, lists), ("log", log))
+    papers = papers_of(key, schools, roster, lists)
+    entries = []
+    for row, fields in enumerate(records_of("log", log), start=1):
+        try:
+            if len(fields) != 2:
+                raise Bad("Fields")
+            entry = tuple(number(field) for field in fields)
+            within(STUDENT, entry[0]), within(SCHOOL, entry[1])
+        except Bad as bad:
+            raise intake("log", row, bad.args[0]) from None
+        entries.append(entry)
+    said = verdict(papers, entries)
+    return f"{said}\n".encode(), b"", 0 if said == "certified" else 1
+
+
+def spelled(line):
+    """The number and the amendment of a journal's line, or None where the line is in no such spelling."""
+    if any(byte in line for byte in b'"\r\t'):
+        return None
+    fields = line.split(b",")
+    if not re.fullmatch(rb"[1-9][0-9]{0,8}", fields[0]) or len(fields) < 2:
+        return None
+    amendment = amendment_of(fields[1:])
+    if amendment is None or line_of(int(fields[0]), amendment) != line:
+        return None
+    return int(fields[0]), amendment
+
+
+def call_replay(key, schools, roster, lists, journal):
+    too_long(*files(schools, roster, lists), ("journal", journal))
+    papers = papers_of(key, schools, roster, lists)
+    *whole, torn = journal.split(b"\n")
+    for at, line in enumerate(whole, start=1):
+        found = spelled(line)
+        if found is None:
+            raise Stop(f"journal line {at}: Shape", 3)
+        if found[0] != at:
+            raise Stop(f"journal line {at}: Number", 3)
+        refusal = papers.refusal(found[1])
+        if refusal:
+            words = " ".join(map(str, ("Refused", refusal[0], NAMES[refusal[0]], *refusal[1:])))
+            raise Stop(f"journal line {at}: {words}", 3)
+        papers.make(found[1])
+    return report(papers), b"", "torn" if torn else 0
+
+
+def sections(text):
+    """The sections of a bundle by their markers' names, or None where one is missing."""
+    markers = [b"%seed", b"%schools", b"%roster", b"%lists", b"%script"]
+    found, at, place = [], 0, 0
+    while place < len(text):
+        end = text.find(b"\n", place)
+        after = len(text) if end < 0 else end + 1
+        line = text[place:] if end < 0 else text[place:end].removesuffix(b"\r")
+        if at < len(markers) and line == markers[at]:
+            found.append([place, after])
+            at += 1
+        elif at == 0:
+            return None
+        place = after
+    if at < 4:
+        return None
+    ends = [begins for begins, _ in found[1:]] + [len(text)]
+    return [text[after:end] for (_, after), end in zip(found, ends)]
+
+
+def call_bundle(text):
+    if len(text) > MOST_BYTES:
+        raise intake("bundle", 0, "TooLong")
+    parts = sections(text)
+    if parts is None:
+        raise Stop("bundle", 3)
+    key = seed_of(parts[0].strip(b" \t\r\n"))
+    if len(parts) == 5:
+        output, _, status = call_run(key, *parts[1:])
+        return output, b"", status
+    return call_match(key, *parts[1:])
+
+
+def told(call, *given, **options):
+    """What a call gives: output, journal, the line on standard error, and the status. Where it ends early, the two are empty."""
+    try:
+        output, journal, status = call(*given, **options)
+    except Stop as stop:
+        return b"", b"", f"clearinghouse: {stop.line}\n".encode(), stop.status
+    if status == "torn":
+        return output, journal, b"clearinghouse: journal torn\n", 0
+    return output, journal, b"", status
+
+
+def main(words):
+    if not words:
+        output, journal, line, status = told(call_bundle, sys.stdin.buffer.read())
+    else:
+        options = dict(zip(words[1::2], words[2::2])) if "--print-log" not in words else None
+        if options is None:
+            rest = [word for word in words[1:] if word != "--print-log"]
+            options = dict(zip(rest[::2], rest[1::2]))
+        last = {"match": None, "run": "--script", "audit": "--log", "replay": "--journal"}[words[0]]
+        names = ["--schools", "--roster", "--lists"] + ([last] if last else [])
+
+        def call():
+            key = seed_of(options["--seed"].encode())
+            texts = [open(options[name], "rb").read() for name in names]
+            if words[0] == "match":
+                return call_match(key, *texts, print_log="--print-log" in words)
+            return {"run": call_run, "audit": call_audit, "replay": call_replay}[words[0]](key, *texts)
+
+        output, journal, line, status = told(call)
+        if words[0] == "run":
+            open(options["--journal"], "wb").write(journal)
+    sys.stdout.buffer.write(output)
+    sys.stderr.buffer.write(line)
+    return status
+
+
+if __name__ == "__main__":
+    sys.exit(main(sys.argv[1:]))
