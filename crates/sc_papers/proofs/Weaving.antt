@@ -1,16 +1,16 @@
 -- Lists of amendments, and lists that are woven into one.
-use Rattle.std.proofs.Common.{◌≡◌, refl, sym, subst, ◌∙◌, ap, ℕ, zero, suc, List, [], ◌∷◌, ◌++◌, take, Option, Some, None, All, IsPermutation}
+use Rattle.std.proofs.Common.{◌≡◌, inl, inr, refl, sym, subst, ◌∙◌, ap, ℕ, zero, suc, List, [], ◌∷◌, ◌++◌, take, Option, Some, None, All, IsPermutation}
 use Rattle.std.specs.List.{slice_get, flat_map}
 use Rattle.std.specs.Option.{option_map}
 use Rattle.std.proofs.lemmas.Grind.{flat_map-append}
-use Rattle.std.proofs.lemmas.List.Elements.{All-head, All-tail}
+use Rattle.std.proofs.lemmas.List.Elements.{All-cons, All-head, All-tail, All-weaker}
 use Rattle.std.proofs.lemmas.List.Sorted.{IsPermutation-refl, IsPermutation-cons, IsPermutation-trans, IsPermutation-middle}
 use Rattle.sc_papers.specs.Market.{Market}
 use Rattle.sc_papers.specs.Matching.{Matching, IsStudentOptimal}
 use Rattle.sc_papers.specs.Reordering.{IsReordering}
 use Rattle.sc_papers.specs.WellFormed.{WellFormed}
 use Rattle.sc_papers.specs.Verdict.{after, verdict}
-use Rattle.sc_papers.specs.Interleaving.{IsInterleaving, after_verdict, after_one, after_list, verdicts}
+use Rattle.sc_papers.specs.Interleaving.{IsInterleaving, StandsInOrder, after_verdict, after_one, after_list, verdicts}
 use Rattle.sc_papers.specs.declared.amendment.Amendment.{Amendment}
 use Rattle.sc_papers.specs.declared.amendment.Refusal.{Refusal}
 use Rattle.sc_papers.proofs.Amending.{WellFormed-after}
@@ -81,3 +81,24 @@ interleaving-members lists [] empty = subst (λ all. IsPermutation all []) (sym 
 interleaving-members lists (first ∷ woven) (front, rest, back, are, then) =
     subst (λ before. IsPermutation (flat_map (λ list. list) before) (first ∷ woven)) (sym are)
     (IsPermutation-trans _ _ _ (member-first front first rest back) (IsPermutation-cons first _ _ (interleaving-members (front ++ rest ∷ back) woven then)))
+
+-- one more member in front
+in-order-behind : {A : Type 0} (list : List A) (first : A) (woven : List A) → StandsInOrder list woven → StandsInOrder list (first ∷ woven)
+in-order-behind [] first woven stands = tt
+in-order-behind (x ∷ xs) first woven stands = inr stands
+
+in-order-all : {A : Type 0} (front : List (List A)) (first : A) (rest : List A) (back : List (List A)) (woven : List A)
+    → All (λ list. StandsInOrder list woven) (front ++ rest ∷ back) → All (λ list. StandsInOrder list (first ∷ woven)) (front ++ (first ∷ rest) ∷ back)
+in-order-all [] first rest back woven stand =
+    All-cons (λ list. StandsInOrder list (first ∷ woven)) (first ∷ rest) back (inl (refl, All-head (λ list. StandsInOrder list woven) rest back stand))
+    (All-weaker (λ list. StandsInOrder list woven) (λ list. StandsInOrder list (first ∷ woven)) (λ list stands. in-order-behind list first woven stands) back (All-tail (λ list. StandsInOrder list woven) rest back stand))
+in-order-all (list ∷ front) first rest back woven stand =
+    All-cons (λ list. StandsInOrder list (first ∷ woven)) list (front ++ (first ∷ rest) ∷ back)
+    (in-order-behind list first woven (All-head (λ list. StandsInOrder list woven) list (front ++ rest ∷ back) stand))
+    (in-order-all front first rest back woven (All-tail (λ list. StandsInOrder list woven) list (front ++ rest ∷ back) stand))
+
+-- each list keeps its order in an interleaving
+pub interleaving-order : {A : Type 0} (lists : List (List A)) (woven : List A) → IsInterleaving lists woven → All (λ list. StandsInOrder list woven) lists
+interleaving-order lists [] empty = All-weaker (λ list. list ≡ []) (λ list. StandsInOrder list []) (λ list none. subst (λ l. StandsInOrder l []) (sym none) tt) lists empty
+interleaving-order lists (first ∷ woven) (front, rest, back, are, then) =
+    subst (All (λ list. StandsInOrder list (first ∷ woven))) (sym are) (in-order-all front first rest back woven (interleaving-order (front ++ rest ∷ back) woven then))

@@ -1,5 +1,5 @@
 -- Lists of amendments, and several desks' lists woven into one.
-use Rattle.std.specs.Prelude.{◌≡◌, List, [], ◌∷◌, ◌++◌, Option, None, Some, All}
+use Rattle.std.specs.Prelude.{◌≡◌, ◌⊎◌, ⊤, List, [], ◌∷◌, ◌++◌, Option, None, Some, All}
 use Rattle.sc_papers.specs.Market.{Market}
 use Rattle.sc_papers.specs.Verdict.{after, verdict}
 use Rattle.sc_papers.specs.declared.amendment.Amendment.{Amendment}
@@ -12,6 +12,12 @@ abbrev pub IsInterleaving : {A : Type 0} → List (List A) → List A → Type 0
 IsInterleaving {A} lists [] = All (λ list. list ≡ []) lists
 IsInterleaving {A} lists (first ∷ woven) =
     (front : List (List A)) × (rest : List A) × (back : List (List A)) × (lists ≡ front ++ (first ∷ rest) ∷ back) × IsInterleaving (front ++ rest ∷ back) woven
+
+-- the members of a list stand in another one in the same order, maybe with others between them
+abbrev pub StandsInOrder : {A : Type 0} → List A → List A → Type 0
+StandsInOrder [] others = ⊤
+StandsInOrder (x ∷ xs) [] = ⊥
+StandsInOrder (x ∷ xs) (other ∷ others) = ((x ≡ other) × StandsInOrder xs others) ⊎ StandsInOrder (x ∷ xs) others
 
 -- the papers after an amendment of this verdict: a refused one changes nothing
 abbrev pub after_verdict : Market → Amendment → Option Refusal → Market

@@ -1,9 +1,9 @@
 //! The laws of the mechanism. Each function does nothing: its contract is the law.
-ghost use Rattle.std.specs.Prelude.{◌≡◌, ◌↔◌, ℕ, ◌+◌, ◌≤◌, Bool, List, [], ◌∷◌, ◌++◌, length, take, slice_get, Some, None, true, false, Contains, flat_map};
+ghost use Rattle.std.specs.Prelude.{◌≡◌, ◌↔◌, ℕ, ◌+◌, ◌≤◌, Bool, List, [], ◌∷◌, ◌++◌, length, take, slice_get, Some, None, true, false, All, Contains, flat_map};
 ghost use Rattle.std.specs.List.Sorted.{IsPermutation};
 ghost use Rattle.std.specs.Option.{option_map};
 ghost use Rattle.sc_papers.specs.Chain.{and_one, InChain, PutsOut, Ends, IsChain};
-ghost use Rattle.sc_papers.specs.Interleaving.{IsInterleaving, after_list, verdicts};
+ghost use Rattle.sc_papers.specs.Interleaving.{IsInterleaving, StandsInOrder, after_list, verdicts};
 ghost use Rattle.sc_papers.specs.Key.{IsStrictOrder, is_ahead, is_before, key_cmp};
 ghost use Rattle.sc_papers.specs.Log.{is_rejected, next_choice, matching_of, IsValidEntry, IsValidLog, IsSettled};
 ghost use Rattle.sc_papers.specs.Market.{Market, students_of, choices_of, seats_of, zone_at};
@@ -169,9 +169,11 @@ pub fn amendments_are_answered_in_turn()
     ensures well_formed { (m : Market) (list : List Amendment) → WellFormed m → WellFormed (after_list m list) }
 {}
 
-/// An interleaving of several desks' lists has all their members, each once.
-pub fn interleaving_has_each_member_once()
-    ensures { (desks : List (List Amendment)) (woven : List Amendment) → IsInterleaving desks woven → IsPermutation (flat_map (λ list. list) desks) woven }
+/// An interleaving of several desks' lists has all their members, each once, and each list keeps its order
+/// in it.
+pub fn interleaving_has_each_member_once_in_order()
+    ensures members { (desks : List (List Amendment)) (woven : List Amendment) → IsInterleaving desks woven → IsPermutation (flat_map (λ list. list) desks) woven }
+    ensures order { (desks : List (List Amendment)) (woven : List Amendment) → IsInterleaving desks woven → All (λ list. StandsInOrder list woven) desks }
 {}
 
 /// The order of amendments decides nothing either, where it leaves the same papers: two lists of
