@@ -4,6 +4,7 @@ use crate::markets::{
     Dice, list_of, papers_of, random_families, random_schools, school_no, some_schools, student_no,
     zone,
 };
+use crate::plain::School;
 use sc_engine::{Settled, settle};
 use sc_papers::{Amendment, Count, SchoolList, SchoolNo, StudentNo};
 use sc_repair::Clearing;
@@ -154,28 +155,40 @@ fn amend(
     stands_as_settled(rt, alloc, clearing)
 }
 
-/// The clearing of a random market, and how many schools it has.
-fn random_clearing(
+/// Amends the clearing of a random market many times.
+fn amend_often(
     rt: &impl Abort,
     alloc: Global,
     dice: &mut Dice,
-) -> Result<(Clearing, u32), Fail> {
-    let schools = random_schools(dice, alloc)?;
-    let count = (schools.len() % 1_000) as u32;
-    let families = random_families(dice, alloc, count)?;
-    let papers = papers_of(rt, alloc, schools.as_slice(), families.as_slice())?;
-    let clearing = Clearing::open(alloc, papers).ok().expect(rt, "memory");
-    Ok((clearing, count))
-}
-
-/// Amends the clearing of a random market many times.
-fn one_market(rt: &impl Abort, alloc: Global, dice: &mut Dice) -> Result<(), Fail> {
-    let (mut clearing, schools) = random_clearing(rt, alloc, dice)?;
+    clearing: &mut Clearing,
+    schools: u32,
+) -> Result<(), Fail> {
     for _amendment in 0..20 {
         let amendment = random_amendment(rt, alloc, dice, schools)?;
-        amend(rt, alloc, &mut clearing, amendment)?;
+        amend(rt, alloc, clearing, amendment)?;
     }
     Ok(())
+}
+
+/// Opens the clearing of a market of so many schools, and amends it.
+fn amend_market(
+    rt: &impl Abort,
+    alloc: Global,
+    dice: &mut Dice,
+    schools: &[School],
+    count: u32,
+) -> Result<(), Fail> {
+    let families = random_families(dice, alloc, count)?;
+    let papers = papers_of(rt, alloc, schools, families.as_slice())?;
+    let mut clearing = Clearing::open(alloc, papers).ok().expect(rt, "memory");
+    amend_often(rt, alloc, dice, &mut clearing, count)
+}
+
+/// Amends a random market many times.
+fn one_market(rt: &impl Abort, alloc: Global, dice: &mut Dice) -> Result<(), Fail> {
+    let schools = random_schools(dice, alloc)?;
+    let count = (schools.len() % 1_000) as u32;
+    amend_market(rt, alloc, dice, schools.as_slice(), count)
 }
 
 #[test]

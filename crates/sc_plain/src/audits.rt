@@ -1,10 +1,10 @@
 //! The auditor's verdicts beside those of the plain program: on the logs and the assignments of random
 //! markets, and on all that comes of a single change of one.
 use crate::markets::{
-    Dice, papers_of, plain_log, plain_students, random_families, random_schools, school_no,
+    Dice, Family, papers_of, plain_log, plain_students, random_families, random_schools, school_no,
     student_no,
 };
-use crate::plain::{Market, Student};
+use crate::plain::{Market, School, Student};
 use sc_audit::{Stability, Verdict, audit, check_stable};
 use sc_engine::{Settled, settle};
 use sc_papers::{Assignment, Papers, Rejection};
@@ -296,19 +296,51 @@ fn judge_assignments(
     judge_matchings(rt, alloc, market, papers)
 }
 
+/// Compares the auditor's verdicts on a settling of the papers with those of the plain program.
+fn judge_settled(
+    rt: &impl Abort,
+    alloc: Global,
+    market: &Market<'_>,
+    papers: &Papers,
+    settled: &Settled,
+) -> Result<(), Fail> {
+    judge_settled_log(rt, alloc, market, papers, settled)?;
+    judge_assignments(rt, alloc, market, papers, settled)
+}
+
+/// Settles the papers of a market, and compares the auditor's verdicts.
+fn judge_papers(
+    rt: &impl Abort,
+    alloc: Global,
+    schools: &[School],
+    families: &[Family],
+    papers: &Papers,
+) -> Result<(), Fail> {
+    let students = plain_students(alloc, families)?;
+    let market = Market {
+        schools,
+        students: students.as_slice(),
+    };
+    let settled = settle(alloc, papers)?;
+    judge_settled(rt, alloc, &market, papers, &settled)
+}
+
+/// Settles the market of these schools and families, and compares the auditor's verdicts.
+fn judge_market(
+    rt: &impl Abort,
+    alloc: Global,
+    schools: &[School],
+    families: &[Family],
+) -> Result<(), Fail> {
+    let papers = papers_of(rt, alloc, schools, families)?;
+    judge_papers(rt, alloc, schools, families, &papers)
+}
+
 /// Settles a random market, and compares the auditor's verdicts with those of the plain program.
 fn one_market(rt: &impl Abort, alloc: Global, dice: &mut Dice) -> Result<(), Fail> {
     let schools = random_schools(dice, alloc)?;
     let families = random_families(dice, alloc, (schools.len() % 1_000) as u32)?;
-    let papers = papers_of(rt, alloc, schools.as_slice(), families.as_slice())?;
-    let students = plain_students(alloc, families.as_slice())?;
-    let market = Market {
-        schools: schools.as_slice(),
-        students: students.as_slice(),
-    };
-    let settled = settle(alloc, &papers)?;
-    judge_settled_log(rt, alloc, &market, &papers, &settled)?;
-    judge_assignments(rt, alloc, &market, &papers, &settled)
+    judge_market(rt, alloc, schools.as_slice(), families.as_slice())
 }
 
 #[test]

@@ -120,6 +120,39 @@ pub fn list_of(rt: &impl Abort, alloc: Global, numbers: &[u32]) -> Result<School
     Ok(SchoolList::from_vec(schools))
 }
 
+/// Adds the schools to papers without students.
+fn add_schools(rt: &impl Abort, papers: &mut Papers, schools: &[School]) -> Result<(), Fail> {
+    for school in schools {
+        let seats = Seats::new((school.seats % 10_001) as u32).expect(rt, "seats");
+        papers.add_school(school_no(rt, school.number), zone(rt, school.zone), seats)?;
+    }
+    Ok(())
+}
+
+/// The amendment by which a family enters.
+fn entry_of(rt: &impl Abort, alloc: Global, family: &Family) -> Result<Amendment, AllocError> {
+    Ok(Amendment::Enter {
+        student: student_no(rt, family.number),
+        zone: zone(rt, family.zone),
+        siblings: list_of(rt, alloc, family.siblings.as_slice())?,
+        choices: list_of(rt, alloc, family.choices.as_slice())?,
+    })
+}
+
+fn fill(
+    rt: &impl Abort,
+    alloc: Global,
+    papers: &mut Papers,
+    schools: &[School],
+    families: &[Family],
+) -> Result<(), Fail> {
+    add_schools(rt, papers, schools)?;
+    for family in families {
+        papers.apply(entry_of(rt, alloc, family)?)?;
+    }
+    Ok(())
+}
+
 /// The market as papers under the zero seed.
 pub fn papers_of(
     rt: &impl Abort,
@@ -128,20 +161,7 @@ pub fn papers_of(
     families: &[Family],
 ) -> Result<Papers, Fail> {
     let mut papers = Papers::new(alloc, Seed::from_hex(&[b'0'; 64])?);
-    for school in schools {
-        let seats = Seats::new((school.seats % 10_001) as u32).expect(rt, "seats");
-        papers.add_school(school_no(rt, school.number), zone(rt, school.zone), seats)?;
-    }
-    for family in families {
-        let siblings = list_of(rt, alloc, family.siblings.as_slice())?;
-        let choices = list_of(rt, alloc, family.choices.as_slice())?;
-        papers.apply(Amendment::Enter {
-            student: student_no(rt, family.number),
-            zone: zone(rt, family.zone),
-            siblings,
-            choices,
-        })?;
-    }
+    fill(rt, alloc, &mut papers, schools, families)?;
     Ok(papers)
 }
 

@@ -1,8 +1,9 @@
 use crate::markets::{
-    Dice, papers_of, plain_log, plain_students, random_families, random_schools, student_no,
+    Dice, Family, papers_of, plain_log, plain_students, random_families, random_schools, student_no,
 };
-use crate::plain::Market;
+use crate::plain::{Market, School};
 use sc_engine::{Settled, settle};
+use sc_papers::Papers;
 use std::alloc::{AllocError, Global};
 use std::process::Abort;
 use std::test::Fail;
@@ -33,22 +34,53 @@ fn gives(
     })
 }
 
+/// Compares a settling of a market with the plain program.
+fn compare_settled(
+    rt: &impl Abort,
+    alloc: Global,
+    market: &Market<'_>,
+    settled: &Settled,
+) -> Result<(), Fail> {
+    assert!(rt; agrees(alloc, market, settled)?);
+    let log = plain_log(alloc, settled)?;
+    let matching = market.matching_of(alloc, &log)?;
+    assert!(rt; gives(rt, market, settled, &matching));
+    Ok(())
+}
+
+/// Settles the papers of a market, and compares them with the plain program.
+fn compare_papers(
+    rt: &impl Abort,
+    alloc: Global,
+    schools: &[School],
+    families: &[Family],
+    papers: &Papers,
+) -> Result<(), Fail> {
+    let students = plain_students(alloc, families)?;
+    let market = Market {
+        schools,
+        students: students.as_slice(),
+    };
+    let settled = settle(alloc, papers)?;
+    compare_settled(rt, alloc, &market, &settled)
+}
+
+/// Settles the market of these schools and families, and compares it with the plain program.
+fn compare_market(
+    rt: &impl Abort,
+    alloc: Global,
+    schools: &[School],
+    families: &[Family],
+) -> Result<(), Fail> {
+    let papers = papers_of(rt, alloc, schools, families)?;
+    compare_papers(rt, alloc, schools, families, &papers)
+}
+
 /// Settles a random market, and compares it with the plain program.
 fn one_market(rt: &impl Abort, alloc: Global, dice: &mut Dice) -> Result<(), Fail> {
     let schools = random_schools(dice, alloc)?;
     let families = random_families(dice, alloc, (schools.len() % 1_000) as u32)?;
-    let papers = papers_of(rt, alloc, schools.as_slice(), families.as_slice())?;
-    let students = plain_students(alloc, families.as_slice())?;
-    let market = Market {
-        schools: schools.as_slice(),
-        students: students.as_slice(),
-    };
-    let settled = settle(alloc, &papers)?;
-    assert!(rt; agrees(alloc, &market, &settled)?);
-    let log = plain_log(alloc, &settled)?;
-    let matching = market.matching_of(alloc, &log)?;
-    assert!(rt; gives(rt, &market, &settled, &matching));
-    Ok(())
+    compare_market(rt, alloc, schools.as_slice(), families.as_slice())
 }
 
 #[test]
