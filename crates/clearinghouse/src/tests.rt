@@ -2,8 +2,8 @@ use crate::perform::perform;
 use sc_report::devices::{Ending, FailingWriter};
 use sc_words::Word;
 use std::alloc::{AllocError, Global};
-use std::fs;
-use std::test::Fail;
+use std::process::Abort;
+use std::{fs, io};
 
 const ZEROS: &str = "0000000000000000000000000000000000000000000000000000000000000000";
 
@@ -16,20 +16,13 @@ fn words(alloc: Global, texts: &[&str]) -> Result<Vec<Word>, AllocError> {
     Ok(words)
 }
 
-/// What the program writes under a subcommand, the files of an opening and other options: the whole
-/// output, the errors and the status.
-fn ordered(rt: &HostRuntime, subcommand: &str, options: &[&str]) -> Result<String, AllocError> {
-    ordered_of(rt, subcommand, "schools", options)
-}
-
-/// The same with this file of schools.
-fn ordered_of(
-    rt: &HostRuntime,
+/// The words of a subcommand, the seed of zeros, the files of an opening and other options.
+fn ordering(
+    alloc: Global,
     subcommand: &str,
     schools: &str,
     options: &[&str],
-) -> Result<String, AllocError> {
-    let alloc = rt.alloc();
+) -> Result<Vec<Word>, AllocError> {
     let mut words = words(
         alloc,
         &[
@@ -47,26 +40,52 @@ fn ordered_of(
     for option in options {
         words.push(Word::from_text(String::from_str(alloc, *option)?))?;
     }
+    Ok(words)
+}
+
+/// What the program does on words and this input: the whole output, the errors and the status.
+fn performed(rt: &HostRuntime, words: &[Word], input: &str) -> Result<String, AllocError> {
+    let alloc = rt.alloc();
     let mut output = Vec::new(alloc);
     let mut errors = Vec::new(alloc);
-    let status = perform(
-        rt,
-        words.as_slice(),
-        b"".as_slice(),
-        &mut output,
-        &mut errors,
-    );
+    let status = perform(rt, words, input.as_bytes(), &mut output, &mut errors);
     let output = String::from_utf8_lossy(alloc, output.as_slice())?;
     let errors = String::from_utf8_lossy(alloc, errors.as_slice())?;
     format!(in alloc; "{output}{errors}{status}")
 }
 
+/// What it does under a subcommand, the files of an opening and other options.
+fn ordered(rt: &HostRuntime, subcommand: &str, options: &[&str]) -> io::Result<String> {
+    let words = ordering(rt.alloc(), subcommand, "schools", options)?;
+    Ok(performed(rt, words.as_slice(), "")?)
+}
+
+/// The same after a file was written.
+fn ordered_after(
+    rt: &HostRuntime,
+    (file, text): (&str, &str),
+    subcommand: &str,
+    options: &[&str],
+) -> io::Result<String> {
+    fs::write(rt, file, text)?;
+    ordered(rt, subcommand, options)
+}
+
+/// The program wrote the report, or nothing of it, and then what is wanted.
+fn expect(rt: &impl Abort, told: io::Result<String>, report: &str, want: &str) {
+    match told {
+        Ok(told) => {
+            assert!(rt; told.as_str().strip_prefix(report) == Some(want), "{told}");
+        }
+        Err(error) => panic!(rt; "{error}"),
+    }
+}
+
 /// Writes Market B's files into the test's own folder.
-fn write_files(rt: &HostRuntime) -> Result<(), Fail> {
+fn write_files(rt: &HostRuntime) -> io::Result<()> {
     fs::write(rt, "schools", "school,zone,seats\n10,1,1\n20,0,1\n")?;
     fs::write(rt, "roster", "student,zone,siblings\n1,0,20\n2,0,10\n")?;
-    fs::write(rt, "lists", "student,choices\n1,10 20\n2,20 10\n")?;
-    Ok(())
+    fs::write(rt, "lists", "student,choices\n1,10 20\n2,20 10\n")
 }
 
 const REPORT: &str =
@@ -75,182 +94,174 @@ const REPORT: &str =
 const NEWCOMER: &str =
     "student,school\n1,20\n2,-\n3,10\nschool,seats,held,class,draw,student\n10,1,1,0,ccef36a8c70d778b,3\n20,1,1,1,e56a5d4028bd8653,1\nstudent,school,reason\n1,10,class\n2,20,class\n2,10,class\n";
 
+/// Logs of Market B after its newcomer, and what an audit says of each.
+const AUDITS: &[(&str, &str)] = &[
+    ("1,10\n2,20\n2,10\n", "certified\n0"),
+    ("2,10\n1,10\n2,20\n", "bad entry 1\n1"),
+    ("1,10\n2,10\n2,20\n", "bad entry 2\n1"),
+    ("", "over 10\n1"),
+    ("1,10\n9,10\n", "bad entry 2\n1"),
+    ("1\n", "clearinghouse: log row 1: Fields\n3"),
+];
+
 #[test]
-fn a_match_and_its_log(rt: HostRuntime) -> Result<(), Fail> {
+fn a_match_and_its_log(rt: HostRuntime) -> io::Result<()> {
     write_files(&rt)?;
-    let told = ordered(&rt, "match", &[])?;
-    let want = format!(in rt.alloc(); "{REPORT}0")?;
-    assert!(rt; told.as_str() == want.as_str(), "{told}");
+    expect(&rt, ordered(&rt, "match", &[]), REPORT, "0");
     fs::write(
         &rt,
         "roster",
         "student,zone,siblings\n1,0,20\n2,0,10\n3,1,10\n",
     )?;
     fs::write(&rt, "lists", "student,choices\n1,10 20\n2,20 10\n3,10\n")?;
-    let log = ordered(&rt, "match", &["--print-log"])?;
-    assert!(rt; log.as_str() == "1,10\n2,20\n2,10\n0", "{log}");
-    for (log, want) in [
-        ("1,10\n2,20\n2,10\n", "certified\n0"),
-        ("2,10\n1,10\n2,20\n", "bad entry 1\n1"),
-        ("1,10\n2,10\n2,20\n", "bad entry 2\n1"),
-        ("", "over 10\n1"),
-        ("1,10\n9,10\n", "bad entry 2\n1"),
-        ("1\n", "clearinghouse: log row 1: Fields\n3"),
-    ] {
-        fs::write(&rt, "log", log)?;
-        let told = ordered(&rt, "audit", &["--log", "log"])?;
-        assert!(rt; told.as_str() == want, "{told}");
+    let log = ordered(&rt, "match", &["--print-log"]);
+    expect(&rt, log, "", "1,10\n2,20\n2,10\n0");
+    for (log, want) in AUDITS {
+        let told = ordered_after(&rt, ("log", log), "audit", &["--log", "log"]);
+        expect(&rt, told, "", want);
     }
     Ok(())
+}
+
+/// Journals over Market B, and the report and the end of the replay of each.
+const REPLAYS: &[(&str, &str, &str)] = &[
+    ("1,enter,3,1,10,10\n2,withdraw,3\n", REPORT, "0"),
+    (
+        "1,enter,3,1,10,10\n2,withdraw,3",
+        NEWCOMER,
+        "clearinghouse: journal torn\n0",
+    ),
+    ("", REPORT, "0"),
+    (
+        "1,enter,3,1,10,10\n3,withdraw,3\n",
+        "",
+        "clearinghouse: journal line 2: Number\n3",
+    ),
+    (
+        "1,enter,3,1,10,10\nnonsense\n",
+        "",
+        "clearinghouse: journal line 2: Shape\n3",
+    ),
+    (
+        "1,enter,3,1,10,10\n2,withdraw,3\r\n",
+        "",
+        "clearinghouse: journal line 2: Shape\n3",
+    ),
+    (
+        "1,enter,3,1,10,10\n2,withdraw,9\n",
+        "",
+        "clearinghouse: journal line 2: Refused 2 UnknownStudent\n3",
+    ),
+];
+
+const RUN: &[&str] = &["--script", "script", "--journal", "journal"];
+
+/// What a run of a script gives, and then the journal.
+fn journaled(rt: &HostRuntime, script: &str) -> io::Result<String> {
+    let told = ordered_after(rt, ("script", script), "run", RUN)?;
+    let journal = fs::read(rt, "journal")?;
+    let journal = String::from_utf8_lossy(rt.alloc(), journal.as_slice())?;
+    Ok(format!(in rt.alloc(); "{told}|{journal}")?)
 }
 
 #[test]
-fn a_run_and_its_replay(rt: HostRuntime) -> Result<(), Fail> {
+fn a_run_and_its_replay(rt: HostRuntime) -> io::Result<()> {
     write_files(&rt)?;
-    fs::write(&rt, "script", "enter,3,1,10,10\nnonsense\nwithdraw,3\n")?;
-    let told = ordered(&rt, "run", &["--script", "script", "--journal", "journal"])?;
-    let want = format!(in rt.alloc(); "1,ok\n2,refused,1,Shape\n3,ok\n{REPORT}0")?;
-    assert!(rt; told.as_str() == want.as_str(), "{told}");
-    let journal = fs::read(&rt, "journal")?;
-    assert!(rt; journal.as_slice() == b"1,enter,3,1,10,10\n2,withdraw,3\n".as_slice());
-    for (journal, report, end) in [
-        ("1,enter,3,1,10,10\n2,withdraw,3\n", REPORT, "0"),
-        (
-            "1,enter,3,1,10,10\n2,withdraw,3",
-            NEWCOMER,
-            "clearinghouse: journal torn\n0",
-        ),
-        ("", REPORT, "0"),
-        (
-            "1,enter,3,1,10,10\n3,withdraw,3\n",
-            "",
-            "clearinghouse: journal line 2: Number\n3",
-        ),
-        (
-            "1,enter,3,1,10,10\nnonsense\n",
-            "",
-            "clearinghouse: journal line 2: Shape\n3",
-        ),
-        (
-            "1,enter,3,1,10,10\n2,withdraw,3\r\n",
-            "",
-            "clearinghouse: journal line 2: Shape\n3",
-        ),
-        (
-            "1,enter,3,1,10,10\n2,withdraw,9\n",
-            "",
-            "clearinghouse: journal line 2: Refused 2 UnknownStudent\n3",
-        ),
-    ] {
-        fs::write(&rt, "journal", journal)?;
-        let told = ordered(&rt, "replay", &["--journal", "journal"])?;
-        let want = format!(in rt.alloc(); "{report}{end}")?;
-        assert!(rt; told.as_str() == want.as_str(), "{told}");
+    let told = journaled(&rt, "enter,3,1,10,10\nnonsense\nwithdraw,3\n");
+    let want =
+        "1,ok\n2,refused,1,Shape\n3,ok\nstudent,school\n1,10\n2,20\nschool,seats,held,class,draw,student\n10,1,1,3,e56a5d4028bd8653,1\n20,1,1,3,b819d2bd1aed8da0,2\nstudent,school,reason\n0|1,enter,3,1,10,10\n2,withdraw,3\n";
+    expect(&rt, told, "", want);
+    for (journal, report, end) in REPLAYS {
+        let told = ordered_after(
+            &rt,
+            ("journal", journal),
+            "replay",
+            &["--journal", "journal"],
+        );
+        expect(&rt, told, report, end);
     }
     Ok(())
 }
 
-/// The status of a run of the script whose output takes so many bytes and then fails.
-fn stopped(rt: &HostRuntime, room: usize) -> Result<u8, AllocError> {
+/// The status of a run whose output takes so many bytes and then fails, and the journal that it leaves.
+fn stopped(rt: &HostRuntime, room: usize) -> io::Result<String> {
     let alloc = rt.alloc();
-    let words = words(
-        alloc,
-        &[
-            "run",
-            "--seed",
-            ZEROS,
-            "--schools",
-            "schools",
-            "--roster",
-            "roster",
-            "--lists",
-            "lists",
-            "--script",
-            "script",
-            "--journal",
-            "journal",
-        ],
-    )?;
+    fs::write(rt, "script", "enter,3,1,10,10\nwithdraw,3\n")?;
+    let words = ordering(alloc, "run", "schools", RUN)?;
     let output = FailingWriter::new(Vec::with_capacity(alloc, room)?, room, 99, Ending::Fails);
     let mut errors = Vec::new(alloc);
-    Ok(perform(rt, words.as_slice(), b"".as_slice(), output, &mut errors))
+    let status = perform(rt, words.as_slice(), b"".as_slice(), output, &mut errors);
+    let journal = fs::read(rt, "journal")?;
+    let journal = String::from_utf8_lossy(alloc, journal.as_slice())?;
+    Ok(format!(in alloc; "{status}|{journal}")?)
 }
 
+const WHOLE_RUN: &str =
+    "1,ok\n2,ok\nstudent,school\n1,10\n2,20\nschool,seats,held,class,draw,student\n10,1,1,3,e56a5d4028bd8653,1\n20,1,1,3,b819d2bd1aed8da0,2\nstudent,school,reason\n0";
+
+/// How many bytes the output takes, what a run then leaves, and the script of the run that goes on: the
+/// journal's records, and then those of the old script that are left.
+const STOPS: &[(usize, &str, &str)] = &[
+    // Between the first line and its reply: that record is not taken again.
+    (0, "4|1,enter,3,1,10,10\n", "enter,3,1,10,10\nwithdraw,3\n"),
+    // Between the second line and its reply.
+    (
+        5,
+        "4|1,enter,3,1,10,10\n2,withdraw,3\n",
+        "enter,3,1,10,10\nwithdraw,3\n",
+    ),
+];
+
 #[test]
-fn a_stopped_run_goes_on(rt: HostRuntime) -> Result<(), Fail> {
-    let run = ["--script", "script", "--journal", "journal"];
+fn a_stopped_run_goes_on(rt: HostRuntime) -> io::Result<()> {
     write_files(&rt)?;
-    fs::write(&rt, "script", "enter,3,1,10,10\nwithdraw,3\n")?;
-    let whole = ordered(&rt, "run", &run)?;
-    for (room, journal, rest) in [
-        // Between the first line and its reply: that record is not taken again.
-        (0, "1,enter,3,1,10,10\n", "enter,3,1,10,10\nwithdraw,3\n"),
-        // Between the second line and its reply.
-        (
-            5,
-            "1,enter,3,1,10,10\n2,withdraw,3\n",
-            "enter,3,1,10,10\nwithdraw,3\n",
-        ),
-    ] {
-        fs::write(&rt, "script", "enter,3,1,10,10\nwithdraw,3\n")?;
-        assert!(rt; stopped(&rt, room)? == 4);
-        let kept = fs::read(&rt, "journal")?;
-        assert!(rt; kept.as_slice() == journal.as_bytes());
-        // The journal's records, and then those of the script that are left, over the same opening.
-        fs::write(&rt, "script", rest)?;
-        let resumed = ordered(&rt, "run", &run)?;
-        assert!(rt; resumed.as_str() == whole.as_str(), "{resumed}");
-        let replayed = ordered(&rt, "replay", &["--journal", "journal"])?;
-        let want = format!(in rt.alloc(); "{REPORT}0")?;
-        assert!(rt; replayed.as_str() == want.as_str(), "{replayed}");
+    let script = "enter,3,1,10,10\nwithdraw,3\n";
+    expect(
+        &rt,
+        ordered_after(&rt, ("script", script), "run", RUN),
+        "",
+        WHOLE_RUN,
+    );
+    for (room, left, rest) in STOPS {
+        expect(&rt, stopped(&rt, *room), "", left);
+        expect(
+            &rt,
+            ordered_after(&rt, ("script", rest), "run", RUN),
+            "",
+            WHOLE_RUN,
+        );
+        let replayed = ordered(&rt, "replay", &["--journal", "journal"]);
+        expect(&rt, replayed, REPORT, "0");
     }
     Ok(())
 }
 
+/// The same as `ordered` for a match of another file of schools.
+fn matched(rt: &HostRuntime, schools: &str) -> io::Result<String> {
+    let words = ordering(rt.alloc(), "match", schools, &[])?;
+    Ok(performed(rt, words.as_slice(), "")?)
+}
+
 #[test]
-fn files_that_are_not_there(rt: HostRuntime) -> Result<(), Fail> {
+fn files_that_are_not_there(rt: HostRuntime) -> io::Result<()> {
     write_files(&rt)?;
-    let told = ordered_of(&rt, "match", "absent", &[])?;
-    assert!(rt;
-        told.as_str() == "clearinghouse: cannot read schools\n4",
-        "{told}"
-    );
-    let told = ordered(&rt, "audit", &["--log", "absent"])?;
-    assert!(rt;
-        told.as_str() == "clearinghouse: cannot read log\n4",
-        "{told}"
-    );
-    let told = ordered(&rt, "replay", &["--journal", "absent"])?;
-    assert!(rt;
-        told.as_str() == "clearinghouse: cannot read journal\n4",
-        "{told}"
-    );
+    let told = matched(&rt, "absent");
+    expect(&rt, told, "", "clearinghouse: cannot read schools\n4");
+    let told = ordered(&rt, "audit", &["--log", "absent"]);
+    expect(&rt, told, "", "clearinghouse: cannot read log\n4");
+    let told = ordered(&rt, "replay", &["--journal", "absent"]);
+    expect(&rt, told, "", "clearinghouse: cannot read journal\n4");
     let told = ordered(&rt, "match", &["--seed", "00"])?;
     assert!(rt; told.ends_with("2"), "{told}");
     Ok(())
 }
 
 #[test]
-fn a_bundle(rt: HostRuntime) -> Result<(), Fail> {
-    let alloc = rt.alloc();
-    let input = format!(in alloc;
-        "%seed\n{ZEROS}\n%schools\nschool,zone,seats\n%roster\nstudent,zone,siblings\n%lists\nstudent,choices\n"
-    )?;
-    let mut output = Vec::new(alloc);
-    let mut errors = Vec::new(alloc);
-    let words = words(alloc, &[])?;
-    let status = perform(
-        &rt,
-        words.as_slice(),
-        input.as_bytes(),
-        &mut output,
-        &mut errors,
-    );
-    assert!(rt; status == 0);
-    assert!(rt;
-        output.as_slice()
-            == b"student,school\nschool,seats,held,class,draw,student\nstudent,school,reason\n".as_slice()
-    );
-    assert!(rt; errors.is_empty());
+fn a_bundle(rt: HostRuntime) -> Result<(), AllocError> {
+    let input =
+        "%seed\n0000000000000000000000000000000000000000000000000000000000000000\n%schools\nschool,zone,seats\n%roster\nstudent,zone,siblings\n%lists\nstudent,choices\n";
+    let told = performed(&rt, &[], input)?;
+    let want = "student,school\nschool,seats,held,class,draw,student\nstudent,school,reason\n0";
+    assert!(rt; told.as_str() == want, "{told}");
     Ok(())
 }

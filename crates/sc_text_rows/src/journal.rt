@@ -43,7 +43,11 @@ fn told(
     replayed: Result<(Clearing, Tail), JournalFault>,
 ) -> Result<String, AllocError> {
     match replayed {
-        Ok((clearing, tail)) => standing(alloc, &clearing, tail),
+        Ok((clearing, tail)) => {
+            let text = standing(alloc, &clearing, tail);
+            drop(clearing);
+            text
+        }
         Err(fault) => format!(in alloc; "{} {:?}", fault.line, fault.cause),
     }
 }

@@ -68,7 +68,9 @@ fn expect(
     table: &[(View, &str)],
 ) -> Result<(), AllocError> {
     let clearing = clearing(alloc, schools, roster, lists).expect(rt, "a clearing");
-    expect_told(rt, alloc, &clearing, table)
+    let told = expect_told(rt, alloc, &clearing, table);
+    drop(clearing);
+    told
 }
 
 #[test]

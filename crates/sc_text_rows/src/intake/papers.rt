@@ -83,7 +83,11 @@ fn opened(
 /// The papers of three files as a text, or the line of their fault.
 fn told(alloc: Global, opened: Result<Papers, IntakeFault>) -> Result<String, AllocError> {
     match opened {
-        Ok(papers) => papers_text(alloc, &papers),
+        Ok(papers) => {
+            let text = papers_text(alloc, &papers);
+            drop(papers);
+            text
+        }
         Err(fault) => format!(in alloc; "{fault}"),
     }
 }
