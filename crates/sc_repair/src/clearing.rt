@@ -165,8 +165,8 @@ impl Clearing {
         &self.places
     }
 
-    /// The standing assignment as a value of its own: each placed student with its school, in order
-    /// of entry. The only error is want of memory.
+    /// The standing assignment as a value of its own: each placed student with their school. The only
+    /// error is want of memory.
     pub fn assignment(&self) -> Result<Assignment, AllocError>
         ensures { IfOk result (λ assignment. assignment ≡ self.now.places) }
     {
