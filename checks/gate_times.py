@@ -3,8 +3,9 @@
 
     gate_times.py [COMMAND ..]
 
-Without a command it runs `rt ci`. It looks at the processes of the toolchain twice a second, so a figure may lack half a second a
-process; the totals of the whole run, user and system, are exact. It prints a table in the form of docs/GATE.md.
+Without a command it runs `rt ci`. It looks at the processes of the toolchain twice a second, and counts the time of their children
+with them too once these have ended, so the table is a tenth or so off; the totals of the whole run, user and system, are exact.
+It prints a table in the form of docs/GATE.md.
 """
 import collections
 import os
