@@ -1,5 +1,5 @@
 #!/usr/bin/env python3
-"""A second reading of the rules, in plain Python, written from docs/ alone. It shares nothing with the crates.
+"""A second reading of the rules, in plain Python, by what docs/ says. It shares no code with the crates.
 
 It is slow and simple on purpose: `compare.py` runs it beside the built program on random inputs.
 
