@@ -35,7 +35,7 @@ fn line_end(bytes: &[u8], start: usize) -> Option<usize>
 }
 
 /// The amendment of the line of this number.
-pub(crate) fn numbered(alloc: Global, number: u64, text: &[u8]) -> Result<Amendment, JournalCause>
+fn numbered(alloc: Global, number: u64, text: &[u8]) -> Result<Amendment, JournalCause>
     ensures { MatchResult result (IsLineOf text.now number) (IsReadCause number text.now) }
 {
     let Ok(line) = read_line(alloc, text) else {

@@ -19,6 +19,3 @@ pub use journal::{Tail, replay};
 pub use line_no::LineNo;
 pub use lines::line;
 pub use reading::{JournalLine, read_line};
-
-#[cfg(test)]
-mod tests;

@@ -11,6 +11,3 @@ mod seed;
 pub use draws::draw;
 pub use number::StudentNumber;
 pub use seed::{Seed, SeedError};
-
-#[cfg(test)]
-mod tests;
