@@ -1,7 +1,6 @@
 pub mod Cutting
 pub mod Places
 pub mod Blanks
-pub mod Numbers
 pub mod Words
 pub mod Giving
 pub mod RowLemmas

@@ -1,7 +1,7 @@
 -- What the fields of a record read as.
-use Rattle.std.specs.Prelude.{ℕ, ◌+◌, ◌-◌, ◌*◌, ◌==◌, Bool, ◌&&◌, ◌||◌, nat_le, List, [], ◌∷◌, ◌++◌, length, reverse, fold, if◌then◌else◌, Result, Ok, Err}
-use Rattle.std.specs.Char.{is_ascii_digit}
+use Rattle.std.specs.Prelude.{ℕ, ◌==◌, Bool, ◌&&◌, ◌||◌, nat_le, List, [], ◌∷◌, ◌++◌, reverse, if◌then◌else◌, ok_or, Result, Ok, Err}
 use Rattle.std.specs.List.{list_all}
+use Rattle.sc_decimal.specs.Number.{read_number}
 use Rattle.sc_intake.specs.Fault.{◌>>=◌}
 use Rattle.sc_intake.specs.declared.fault.Cause.{Cause}
 use Rattle.sc_intake.specs.declared.fault.Cause.TheVariants.{Number, Range}
@@ -23,17 +23,9 @@ without_back text = reverse (without_front (reverse text))
 abbrev pub trimmed : List ℕ → List ℕ
 trimmed text = without_back (without_front text)
 
--- a number is written as 1 to 9 decimal digits
-unfoldable pub is_number : List ℕ → Bool
-is_number text = nat_le 1 (length text) && nat_le (length text) 9 && list_all is_ascii_digit text
-
--- the number that decimal digits write
-unfoldable pub decimal_of : List ℕ → ℕ
-decimal_of text = fold (λ n c. n * 10 + (c - 48)) 0 text
-
--- the number that a text writes
+-- the number that a text of 1 to 9 decimal digits writes
 unfoldable pub number_of : List ℕ → Result ℕ Cause
-number_of text = if is_number text then Ok (decimal_of text) else Err Number
+number_of text = ok_or (read_number text) Number
 
 -- a piece of a text as a word, where it has a byte
 abbrev pub word_of : List ℕ → List (List ℕ)

@@ -1,17 +1,13 @@
 //! The fields of a record: the blanks around them, numbers, and lists of numbers.
 
-ghost use Rattle.std.specs.Prelude.{◌≡◌, ℕ, ◌+◌, ◌≤◌, true, ◌++◌, length, drop, slice_range};
-ghost use Rattle.std.specs.Char.{is_ascii_digit};
-ghost use Rattle.std.specs.List.{list_all};
+ghost use Rattle.std.specs.Prelude.{◌≡◌, ◌+◌, ◌≤◌, ◌++◌, length, drop, slice_range};
 ghost use Rattle.sc_intake.specs.Fault.{Gives};
-ghost use Rattle.sc_intake.specs.Field.{decimal_of, is_blank, is_number, list_of, number_of, trimmed, without_back, without_front, word_of, words};
+ghost use Rattle.sc_intake.specs.Field.{is_blank, list_of, number_of, trimmed, without_back, without_front, word_of, words};
 ghost use Rattle.sc_intake.specs.declared.fault.Cause.TheVariants.{OutOfMemory};
 
 use crate::fault::Cause;
+use sc_decimal::read_number;
 use std::alloc::Global;
-
-/// The most digits that a number has.
-const MOST_DIGITS: usize = 9;
 
 fn is_blank(byte: u8) -> bool
     ensures { result ≡ is_blank byte }
@@ -51,42 +47,16 @@ pub(crate) fn trimmed(field: &[u8]) -> &[u8]
     without_back(without_front(field))
 }
 
-fn are_digits(text: &[u8]) -> bool
-    ensures { result ≡ list_all is_ascii_digit text.now }
-{
-    text.iter().all(|byte| byte.is_ascii_digit())
-}
-
-#[tactic(auto, unfolding(crate::specs::Field::is_number))]
-fn is_number(text: &[u8]) -> bool
-    ensures { result ≡ is_number text.now }
-{
-    let digits = text.len();
-    1 <= digits && digits <= MOST_DIGITS && are_digits(text)
-}
-
-/// The number that 1 to 9 digits write.
-fn decimal(text: &[u8]) -> u32
-    requires { is_number text.now ≡ true }
-    ensures { result ≡ decimal_of text.now }
-{
-    let mut value = 0;
-    for digit in text {
-        value = value * 10 + u32::from(*digit - b'0');
-    }
-    value
-}
-
 /// The number that a field without blanks writes, or `Number` where it is not 1 to 9 decimal
 /// digits.
 #[tactic(auto, unfolding(crate::specs::Field::number_of))]
 pub(crate) fn number(text: &[u8]) -> Result<u32, Cause>
     ensures { result ≡ number_of text.now }
 {
-    if !is_number(text) {
-        return Err(Cause::Number);
+    match read_number(text) {
+        Some(number) => Ok(number),
+        None => Err(Cause::Number),
     }
-    Ok(decimal(text))
 }
 
 /// Where the piece that begins at a place ends: at the next space, or at the end of the text.

@@ -1,13 +1,15 @@
 -- Readings that are made of several, one after another.
 use Rattle.std.proofs.Common.{◌≡◌, ℕ, ◌≤◌, Bool, true, false, refl, ◌∙◌, ap, List, arith, inl}
-use Rattle.std.specs.Prelude.{Result, Ok, Err, nat_le, ◌&&◌, if◌then◌else◌}
+use Rattle.std.specs.Prelude.{Result, Ok, Err, Option, Some, None, ok_or, nat_le, ◌&&◌, if◌then◌else◌}
 use Rattle.std.specs.Fmt.{decimal}
 use Rattle.std.specs.Int.{IsInRange}
+use Rattle.std.proofs.lemmas.Bool.{and_parts}
 use Rattle.std.proofs.lemmas.Bool.Decides.{nat_tests}
+use Rattle.sc_decimal.specs.Number.{read_plain_number}
+use Rattle.sc_decimal.proofs.Spelling as digits
 use Rattle.sc_journal.specs.Reading.{◌>>=◌, Gives, number_in, ranged_in, within}
 use Rattle.sc_journal.specs.declared.unread.Unread.{Unread}
 use Rattle.sc_journal.specs.declared.unread.Unread.TheVariants.{NoLine}
-use Rattle.sc_journal.proofs.Digits.{and-left, and-right, decimal-number, number-decimal}
 
 -- what a first step gave, and what the second gave of it
 pub record IsSecond {A B : Type 0} (r : Result A Unread) (f : A → Result B Unread) (y : B) : Type 0 where
@@ -40,6 +42,20 @@ within-range least greatest n range =
     let high : nat_le n greatest ≡ true = grind (arith, nat_tests, range.1) in
     rw (low, high) refl
 
+-- the digits of a number read as that number
+number-decimal : (n : ℕ) → n ≤ 999999999 → number_in (decimal n) ≡ Ok n
+unfolding number_in
+number-decimal n small = ap (λ (found : Option ℕ). ok_or found NoLine) (digits.number-decimal n small)
+
+ok_or-ok : (found : Option ℕ) (n : ℕ) → ok_or found NoLine ≡ Ok n → found ≡ Some n
+ok_or-ok None n e = cc e
+ok_or-ok (Some m) n e = cc e
+
+-- what reads as a number is its digits
+decimal-number : (text : List ℕ) (n : ℕ) → number_in text ≡ Ok n → text ≡ decimal n
+unfolding number_in
+decimal-number text n reads = digits.decimal-number text n (ok_or-ok (read_plain_number text) n reads)
+
 -- the digits of a number of a range read as that number
 pub ranged-decimal : (least greatest n : ℕ) → greatest ≤ 999999999 → IsInRange least greatest n → ranged_in least greatest (decimal n) ≡ Ok n
 ranged-decimal least greatest n small range =
@@ -56,8 +72,9 @@ decimal-ranged least greatest n text reads =
     let step = second (number_in text) (within least greatest) n reads in
     let m = step.first in
     let test = passed (nat_le least m && nat_le m greatest) (Ok m) n step.next in
-    let low : nat_le least m ≡ true = and-left (nat_le least m) (nat_le m greatest) test.holds in
-    let high : nat_le m greatest ≡ true = and-right (nat_le least m) (nat_le m greatest) test.holds in
+    let both = and_parts (nat_le least m) (nat_le m greatest) test.holds in
+    let low : nat_le least m ≡ true = both.0 in
+    let high : nat_le m greatest ≡ true = both.1 in
     let same : m ≡ n = cc test.gave in
     let least-m : least ≤ m = grind (arith, nat_tests) in
     let m-greatest : m ≤ greatest = grind (arith, nat_tests) in

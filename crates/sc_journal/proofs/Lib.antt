@@ -1,4 +1,3 @@
-pub mod Digits
 pub mod Giving
 pub mod Words
 pub mod Records

@@ -4,17 +4,18 @@ use Rattle.std.specs.Prelude.{◌==◌, nat_le, not, flat_map, Result, Ok, Err}
 use Rattle.std.specs.Char.{is_ascii_digit}
 use Rattle.std.specs.Fmt.{decimal}
 use Rattle.std.specs.List.{All, join_with_byte, list_all, slice_split}
+use Rattle.std.proofs.lemmas.Bool.{and_parts, not-true}
 use Rattle.std.proofs.lemmas.Bool.Decides.{nat_tests}
 use Rattle.std.proofs.lemmas.Fmt.{decimal_nonempty, digits_decimal}
 use Rattle.std.proofs.lemmas.List.{append-nil, at_drop_all, at_drop_more, length-append}
 use Rattle.std.proofs.lemmas.List.Elements.{All-append, All-cons, All-from_get_or, All-head, All-nil, All-tail, All-weaker}
 use Rattle.std.proofs.lemmas.List.Splits.{join_with_byte-slice_split, slice_split_at, slice_split_none}
 use Rattle.std.proofs.lemmas.List.Sums.{AllPass-from_list_all}
+use Rattle.sc_decimal.proofs.Spelling.{own}
 use Rattle.sc_journal.specs.Line.{further_text, list_text}
 use Rattle.sc_journal.specs.Reading.{◌>>=◌, list_in, school_in, schools_after}
 use Rattle.sc_journal.specs.Spelling.{IsSchool}
 use Rattle.sc_journal.specs.declared.unread.Unread.{Unread}
-use Rattle.sc_journal.proofs.Digits.{and-left, not-true, own}
 use Rattle.sc_journal.proofs.Giving.{decimal-ranged, ranged-decimal, second}
 
 -- no byte of a text is this one
@@ -36,7 +37,7 @@ pub decimal-free : (c n : ℕ) → c < 48 → n < 2 ^ 64 → IsFree c (decimal n
 decimal-free c n low small =
     All-from_get_or (λ b. (b == c) ≡ false) (decimal n) 0 (λ i inside.
     let digit : is_ascii_digit (get_or (decimal n) i 0) ≡ true = AllPass-from_list_all is_ascii_digit (decimal n) (digits_decimal own n small) i 0 inside in
-    let least : nat_le 48 (get_or (decimal n) i 0) ≡ true = and-left (nat_le 48 (get_or (decimal n) i 0)) (nat_le (get_or (decimal n) i 0) 57) digit in
+    let least : nat_le 48 (get_or (decimal n) i 0) ≡ true = (and_parts (nat_le 48 (get_or (decimal n) i 0)) (nat_le (get_or (decimal n) i 0) 57) digit).0 in
     grind (arith, nat_tests))
 
 -- a school's number is small

@@ -1,8 +1,8 @@
 -- How a line is read. Public contracts do not cite it: they say what text a line is the spelling of.
-use Rattle.std.specs.Prelude.{◌≡◌, ◌⊎◌, ℕ, ◌+◌, ◌-◌, ◌*◌, ◌==◌, Bool, not, ◌&&◌, nat_le, nat_lt, List, [], ◌∷◌, ◌++◌, length, fold, slice_index, slice_get, unwrap_or, codes, if◌then◌else◌, Result, Ok, Err}
-use Rattle.std.specs.Char.{is_ascii_digit}
-use Rattle.std.specs.List.{list_all, slice_split}
+use Rattle.std.specs.Prelude.{◌≡◌, ◌⊎◌, ℕ, ◌==◌, Bool, ◌&&◌, nat_le, List, [], ◌∷◌, ◌++◌, length, slice_get, unwrap_or, ok_or, codes, if◌then◌else◌, Result, Ok, Err}
+use Rattle.std.specs.List.{slice_split}
 use Rattle.std.specs.Str.{bytes_eq}
+use Rattle.sc_decimal.specs.Number.{read_plain_number}
 use Rattle.sc_papers.specs.declared.amendment.Amendment.{Amendment}
 use Rattle.sc_papers.specs.declared.amendment.Amendment.TheVariants.{Enter, Withdraw, Rerank, Add, Close, Correct}
 use Rattle.sc_journal.specs.declared.unread.Unread.{Unread}
@@ -20,17 +20,9 @@ abbrev pub Gives : {A : Type 0} → Result A Unread → Result A Unread → Type
 Gives reading (Ok x) = reading ≡ Ok x
 Gives reading (Err e) = (reading ≡ Err e) ⊎ (e ≡ OutOfMemory)
 
--- a number is written in 1 to 9 digits, the first of which is 0 only where it is the only one
-unfoldable pub is_number : List ℕ → Bool
-is_number text = nat_le 1 (length text) && nat_le (length text) 9 && list_all is_ascii_digit text && not (nat_lt 1 (length text) && slice_index text 0 == 48)
-
--- the number that digits write
-unfoldable pub decimal_of : List ℕ → ℕ
-decimal_of text = fold (λ n c. n * 10 + (c - 48)) 0 text
-
--- the number that a text writes
+-- the number that a text of 1 to 9 digits writes, the first of which is 0 only where it is the only one
 unfoldable pub number_in : List ℕ → Result ℕ Unread
-number_in text = if is_number text then Ok (decimal_of text) else Err NoLine
+number_in text = ok_or (read_plain_number text) NoLine
 
 -- a number of a range
 abbrev pub within : ℕ → ℕ → ℕ → Result ℕ Unread

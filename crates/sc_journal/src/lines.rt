@@ -3,17 +3,9 @@ ghost use Rattle.std.specs.Prelude.{◌≡◌, ◌++◌, IfOk, OnOk, codes, deci
 ghost use Rattle.sc_journal.specs.Line.{amendment_text, further_text, line_text, list_text};
 
 use crate::line_no::LineNo;
-use itoa::Buffer;
+use sc_decimal::push_number;
 use sc_papers::{Amendment, SchoolList, SchoolNo, Zone};
 use std::alloc::{AllocError, Global};
-
-/// Adds a number in decimal digits.
-fn push_number(text: &mut Vec<u8>, number: u32) -> Result<(), AllocError>
-    ensures { OnOk result (text.new.items ≡ text.old.items ++ decimal number) }
-{
-    let mut buffer = Buffer::new();
-    text.extend_from_slice(buffer.format(number).as_bytes())
-}
 
 /// Adds the schools that follow the first of a list.
 fn push_further(text: &mut Vec<u8>, schools: &[SchoolNo]) -> Result<(), AllocError>
@@ -21,7 +13,7 @@ fn push_further(text: &mut Vec<u8>, schools: &[SchoolNo]) -> Result<(), AllocErr
 {
     for school in schools {
         text.extend_from_slice(b" ")?;
-        push_number(text, school.get())?;
+        push_number(text, u64::from(school.get()))?;
     }
     Ok(())
 }
@@ -33,7 +25,7 @@ fn push_list(text: &mut Vec<u8>, schools: &[SchoolNo]) -> Result<(), AllocError>
     match schools {
         [] => Ok(()),
         [first, further @ ..] => {
-            push_number(text, first.get())?;
+            push_number(text, u64::from(first.get()))?;
             push_further(text, further)
         }
     }
@@ -44,7 +36,7 @@ fn push_number_field(text: &mut Vec<u8>, number: u32) -> Result<(), AllocError>
     ensures { OnOk result (text.new.items ≡ text.old.items ++ codes "," ++ decimal number) }
 {
     text.extend_from_slice(b",")?;
-    push_number(text, number)
+    push_number(text, u64::from(number))
 }
 
 /// Adds a comma and a list of schools.
@@ -119,7 +111,7 @@ pub(crate) fn spelling(
     ensures { IfOk result (λ text. text.items ≡ line_text number amendment.now) }
 {
     let mut text = Vec::new(alloc);
-    push_number(&mut text, number.get())?;
+    push_number(&mut text, u64::from(number.get()))?;
     text.extend_from_slice(b",")?;
     push_amendment(&mut text, amendment)?;
     Ok(text)

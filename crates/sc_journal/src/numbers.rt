@@ -1,60 +1,21 @@
 //! Numbers and lists of schools as a line spells them.
 
-ghost use Rattle.std.specs.Prelude.{◌≡◌, ◌==◌, ◌&&◌, IfOk, [], length, map, nat_lt, slice_index, true};
-ghost use Rattle.std.specs.Char.{is_ascii_digit};
-ghost use Rattle.std.specs.List.{list_all, slice_split};
-ghost use Rattle.sc_journal.specs.Reading.{count_in, decimal_of, is_number, list_in, number_in, ranged_in, school_in, schools_after, student_in, zone_in, Gives};
+ghost use Rattle.std.specs.Prelude.{◌≡◌, ◌==◌, IfOk, [], map};
+ghost use Rattle.std.specs.List.{slice_split};
+ghost use Rattle.sc_journal.specs.Reading.{count_in, list_in, number_in, ranged_in, school_in, schools_after, student_in, zone_in, Gives};
 
 use crate::line_no::LineNo;
 use crate::unread::Unread;
+use sc_decimal::read_plain_number;
 use sc_papers::{Count, SchoolList, SchoolNo, StudentNo, Zone};
 use std::alloc::{AllocError, Global};
-
-/// The most digits that a number has.
-const MOST_DIGITS: usize = 9;
-
-fn are_digits(text: &[u8]) -> bool
-    ensures { result ≡ list_all is_ascii_digit text.now }
-{
-    text.iter().all(|byte| byte.is_ascii_digit())
-}
-
-/// Whether a text of several digits begins with a zero.
-fn has_leading_zero(text: &[u8]) -> bool
-    ensures { result ≡ (nat_lt 1 (length text.now) && slice_index text.now 0 == 48) }
-{
-    text.len() > 1 && text[0] == b'0'
-}
-
-#[tactic(auto, unfolding(crate::specs::Reading::is_number))]
-fn is_number(text: &[u8]) -> bool
-    ensures { result ≡ is_number text.now }
-{
-    let digits = text.len();
-    1 <= digits && digits <= MOST_DIGITS && are_digits(text) && !has_leading_zero(text)
-}
-
-/// The number that 1 to 9 digits write.
-fn decimal(text: &[u8]) -> u32
-    requires { is_number text.now ≡ true }
-    ensures { result ≡ decimal_of text.now }
-{
-    let mut value = 0;
-    for digit in text {
-        value = value * 10 + u32::from(*digit - b'0');
-    }
-    value
-}
 
 /// The number that a text writes: 1 to 9 decimal digits without leading zeros.
 #[tactic(auto, unfolding(crate::specs::Reading::number_in))]
 fn number(text: &[u8]) -> Result<u32, Unread>
     ensures { result ≡ number_in text.now }
 {
-    if !is_number(text) {
-        return Err(Unread::NoLine);
-    }
-    Ok(decimal(text))
+    read_plain_number(text).ok_or(Unread::NoLine)
 }
 
 /// The number of a line that a text writes.

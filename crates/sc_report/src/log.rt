@@ -2,7 +2,7 @@
 ghost use Rattle.std.specs.Prelude.{◌≡◌, ◌++◌, IfOk, OnOk};
 ghost use Rattle.sc_report.specs.LogText.{log_line, log_text};
 
-use crate::lines::push_number;
+use sc_decimal::push_number;
 use sc_papers::Rejection;
 use std::alloc::{AllocError, Global};
 

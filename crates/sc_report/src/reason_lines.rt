@@ -3,8 +3,8 @@ ghost use Rattle.std.specs.Prelude.{◌≡◌, ◌++◌, IfOk, OnOk};
 ghost use Rattle.sc_repair.specs.Standing.{matching_of};
 ghost use Rattle.sc_report.specs.ReasonText.{reason_line, reason_lines, reason_text, reason_word};
 
-use crate::lines::push_number;
 use crate::reason::{Reason, ReasonRow, reasons};
+use sc_decimal::push_number;
 use sc_repair::Clearing;
 use std::alloc::{AllocError, Global};
 

@@ -2,7 +2,7 @@
 ghost use Rattle.std.specs.Prelude.{◌≡◌, ◌++◌, IfOk, OnOk, codes, decimal};
 ghost use Rattle.sc_report.specs.Reply.{name_of, named_school, named_text, refusal_text, reply_text};
 
-use crate::lines::push_number;
+use sc_decimal::push_number;
 use sc_papers::{Refusal, SchoolNo};
 use std::alloc::{AllocError, Global};
 

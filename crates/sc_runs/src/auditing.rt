@@ -1,7 +1,6 @@
 //! From three files and a log to a verdict.
 
-ghost use Rattle.std.specs.Prelude.{◌≡◌, ◌||◌, ◌++◌, ◌∷◌, [], All, IfOk, MatchResult, OnOk, Ok};
-ghost use Rattle.std.specs.Fmt.{decimal};
+ghost use Rattle.std.specs.Prelude.{◌≡◌, ◌||◌, ◌++◌, ◌∷◌, [], All, IfOk, MatchResult, Ok};
 ghost use Rattle.sc_audit.specs.Verdict.{IsVerdict};
 ghost use Rattle.sc_intake.specs.Log.{log_in};
 ghost use Rattle.sc_intake.specs.declared.fault.Source.TheVariants as input;
@@ -13,21 +12,13 @@ ghost use Rattle.sc_runs.specs.Opening.{is_output_fault, papers_in, IsOpeningFau
 use crate::fault::RunFault;
 use crate::inputs::{Files, Opening, read_input, read_opening};
 use crate::matching::{read_papers, write_text};
-use itoa::Buffer;
 use sc_audit::{Verdict, audit};
+use sc_decimal::push_number;
 use sc_intake::{Source, read_log};
 use sc_papers::{Papers, Rejection, Seed};
 use sc_report::Watched;
 use std::alloc::{AllocError, Global};
 use std::io::{Read, Write};
-
-/// Adds a number in decimal digits.
-fn push_number(text: &mut Vec<u8>, number: u64) -> Result<(), AllocError>
-    ensures { OnOk result (text.new.items ≡ text.old.items ++ decimal number) }
-{
-    let mut buffer = Buffer::new();
-    text.extend_from_slice(buffer.format(number).as_bytes())
-}
 
 /// The line that tells a verdict, with its newline. The only error is want of memory.
 fn verdict_line(alloc: Global, verdict: &Verdict) -> Result<Vec<u8>, AllocError>

@@ -1,10 +1,10 @@
 use Rattle.std.proofs.Common.{◌≡◌, ◌-◌, get_or, refl, arith}
-use Rattle.sc_intake.specs.Field.{decimal_of}
-use Rattle.sc_intake.proofs.Numbers.{decimal_of-more, is_number-digit, is_number-short, pow-next, pow-room}
-use Rattle.sc_intake.proofs.field.decimal.Goals as goal
+use Rattle.sc_decimal.specs.Number.{value_of}
+use Rattle.sc_decimal.proofs.Digits.{value_of-more, is_number-digit, is_number-short, pow-next, pow-room}
+use Rattle.sc_decimal.proofs.reading.value_of.Goals as goal
 
 pub loop-digit-init : goal.loop-digit-init
-unfolding decimal_of
+unfolding value_of
 loop-digit-init c = record { value = refl; below = omega arith }
 
 pub overflow_mul-value : goal.overflow_mul-value
@@ -35,7 +35,7 @@ loop-digit-preserved c =
     let digit = is_number-digit c.args.text.now i 0 c.requires (omega arith) in
     let high = digit.greatest in
     let is : c.from.result ≡ get_or c.args.text.now i 0 - 48 = c.from.ensures in
-    let more = decimal_of-more c.args.text.now i 0 (omega arith) in
+    let more = value_of-more c.args.text.now i 0 (omega arith) in
     let value = c.loop-digit.invariant.value in
     record {
       value = rw (more, ← value, is) refl;

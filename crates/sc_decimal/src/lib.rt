@@ -1,0 +1,8 @@
+//! Numbers as decimal digits, both ways.
+#![tactic(auto)]
+
+mod reading;
+mod writing;
+
+pub use reading::{read_number, read_plain_number};
+pub use writing::push_number;
