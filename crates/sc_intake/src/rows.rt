@@ -1,0 +1,154 @@
+//! The rows of a file that has a header.
+
+ghost use Rattle.std.specs.Prelude.{◌≡◌, ℕ, ◌+◌, ◌≤◌, Bool, List, [], length, IfOk, OnOk, Result as Reading};
+ghost use Rattle.sc_intake.specs.Fault.{Gives, no_memory};
+ghost use Rattle.sc_intake.specs.File.{after_header, rows_after, rows_in};
+ghost use Rattle.sc_intake.specs.Rows.{added, next_row, AreNumbers, AreRows};
+ghost use Rattle.sc_intake.specs.declared.fault.Cause.{Cause as Why};
+ghost use Rattle.sc_intake.specs.declared.fault.Cause.TheVariants.{OutOfMemory};
+ghost use Rattle.sc_intake.specs.declared.fault.Source.{Source as Input};
+
+use crate::fault::{Cause, IntakeFault, Source};
+use crate::opening::open;
+use crate::records::Records;
+use std::alloc::Global;
+use std::collections::HashSet;
+use std::marker::Model;
+
+/// A row with a number. No two rows of a file have the same one.
+pub trait Numbered: Drop {
+    // The most rows that a file may have.
+    ghost MOST: { ℕ };
+
+    // The row's number.
+    ghost number: { Self → ℕ };
+
+    /// The most rows that a file may have.
+    const MOST: usize;
+
+    /// The row's number.
+    fn number(&self) -> u32
+        ensures { result ≡ number self.now };
+}
+
+/// How the rows of a file are read: the file's header, and a record as a row.
+pub(crate) trait Row: Numbered {
+    // Which file it is.
+    ghost source: { Input };
+
+    // Whether these fields are the header.
+    ghost is_header: { List (List ℕ) → Bool };
+
+    // What these fields read as in this row.
+    ghost reading: { ℕ → List (List ℕ) → Reading Self Why };
+
+    /// Which file it is.
+    fn source() -> Source
+        ensures { result ≡ source };
+
+    /// Whether the record read last is the header.
+    fn is_header(fields: &Records) -> bool
+        ensures { result ≡ is_header fields.now.current };
+
+    /// The row that the record read last is, under the record's number, or why it is none.
+    fn read(alloc: Global, row: u64, fields: &Records) -> Result<Self, Cause>
+        ensures { Gives (λ found. found) OutOfMemory (reading row fields.now.current) result };
+}
+
+/// The rows of a file, in order. Their numbers are all different, and there are no more than there
+/// may be.
+#[derive(Debug, Drop)]
+pub struct Rows<R: Numbered> {
+    rows: Vec<R>,
+}
+
+impl<R: Numbered> Model for Rows<R> {
+    ghost use Rattle.std.specs.Prelude.{List};
+    ghost use Rattle.sc_intake.specs.Rows.{AreRows};
+
+    ghost Value = { List R };
+
+    ghost view = { λ r. r.rows.items };
+
+    ghost invariant = { λ r. AreRows R.number R.MOST r.rows.items };
+}
+
+impl<R: Numbered> Rows<R> {
+    /// The rows, in order.
+    pub fn as_slice(&self) -> &[R]
+        ensures value { result.now ≡ self.now }
+        ensures rows { AreRows R.number R.MOST self.now }
+    {
+        self.rows.as_slice()
+    }
+
+    /// How many rows there are.
+    pub fn len(&self) -> usize
+        ensures value { result ≡ length self.now }
+        ensures few { result ≤ R.MOST }
+    {
+        self.rows.len()
+    }
+}
+
+/// Takes the header.
+#[tactic(auto, unfolding(crate::specs::File::after_header))]
+fn take_header<R: Row>(records: &mut Records) -> Result<(), IntakeFault>
+    ensures { Gives (λ _. records.new.left) (no_memory R.source) (after_header R.source R.is_header records.old.left) result }
+{
+    if records.advance(R::source())? && R::is_header(records) {
+        return Ok(());
+    }
+    Err(IntakeFault::at(R::source(), 1, Cause::Header))
+}
+
+/// Adds the row that the record read last is to the rows before it, whose numbers were seen.
+fn add_row<R: Row>(
+    alloc: Global,
+    fields: &Records,
+    rows: &mut Vec<R>,
+    seen: &mut HashSet<u32>,
+) -> Result<(), Cause>
+    requires rows { AreRows R.number R.MOST rows.old.items }
+    requires seen { AreNumbers R.number rows.old.items seen.old.keys }
+    ensures gives { Gives (λ _. rows.new.items) OutOfMemory (added rows.old.items (next_row R.MOST R.number R.reading rows.old.items fields.now.current)) result }
+    ensures rows { OnOk result (AreRows R.number R.MOST rows.new.items) }
+    ensures seen { OnOk result (AreNumbers R.number rows.new.items seen.new.keys) }
+    ensures more { OnOk result (length rows.new.items ≡ length rows.old.items + 1) }
+{
+    if rows.len() >= R::MOST {
+        return Err(Cause::TooLong);
+    }
+    let found = R::read(alloc, rows.len() as u64 + 2, fields)?;
+    if !seen.insert(found.number())? {
+        return Err(Cause::Twice);
+    }
+    rows.push(found)?;
+    Ok(())
+}
+
+/// The rows after the header.
+fn take_rows<R: Row>(alloc: Global, records: &mut Records) -> Result<Vec<R>, IntakeFault>
+    ensures gives { Gives (λ rows. rows.items) (no_memory R.source) (rows_after 2 R.source (next_row R.MOST R.number R.reading) [] records.old.left) result }
+    ensures rows { IfOk result (λ rows. AreRows R.number R.MOST rows.items) }
+{
+    let mut rows = Vec::new(alloc);
+    let mut seen = HashSet::new(alloc);
+    'rows: while records.advance(R::source())? {
+        let row = rows.len() as u64 + 2;
+        if let Err(cause) = add_row(alloc, records, &mut rows, &mut seen) {
+            return Err(IntakeFault::at(R::source(), row, cause));
+        }
+    }
+    Ok(rows)
+}
+
+/// The rows of a file, or the first fault of the first faulty row.
+pub(crate) fn read_rows<R: Row>(alloc: Global, bytes: &[u8]) -> Result<Rows<R>, IntakeFault>
+    ensures { Gives (λ rows. rows) (no_memory R.source) (rows_in R.source R.is_header (next_row R.MOST R.number R.reading) bytes.now) result }
+{
+    let mut records = open(alloc, R::source(), bytes)?;
+    take_header::<R>(&mut records)?;
+    let rows = take_rows(alloc, &mut records)?;
+    Ok(Rows { rows })
+}
