@@ -12,6 +12,7 @@ use Rattle.sc_papers.specs.Market.{Market, student_of, students_of, schools_of, 
 use Rattle.sc_papers.specs.WellFormed.{WellFormed, WithinLimits, IsShort, IsProper}
 use Rattle.sc_papers.specs.declared.key.Key.{Key}
 use Rattle.sc_papers.specs.declared.records.Student.{Student}
+use Rattle.sc_papers.specs.declared.limits.TheConstants.{LONGEST_LIST}
 use Rattle.sc_papers.proofs.Choices.{contains-at, place-of}
 use Rattle.sc_audit.specs.Offers.{Offers}
 use Rattle.sc_audit.specs.Ledger.{Ledger, stand_of, next_of, is_kept, set_aside, keys_at, KeepsBest, Fits, Comes}
@@ -31,12 +32,12 @@ choice-known m well i place s at = go (student_of m i) (All-lookup (IsProper m) 
     go None proper none = absurd (none-some s none)
     go (Some student) proper here = All-contains (λ t. is_school m t ≡ true) student.choices s proper.choices_known (contains-at student.choices place s here)
 
--- a place of a student's choices is below 20
-pub place-short : (m : Market) → WithinLimits m → (i place s : ℕ) → slice_get (choices_of m i) place ≡ Some s → place < 20
+-- a place of a student's choices is below the length of the longest list
+pub place-short : (m : Market) → WithinLimits m → (i place s : ℕ) → slice_get (choices_of m i) place ≡ Some s → place < LONGEST_LIST
 unfolding choices_of
 place-short m within i place s at = go (student_of m i) (All-lookup IsShort (nat_eq i) m.students within.lists) at
   where
-    go : (found : Option Student) → IfSome found IsShort → slice_get (option_map_or (λ student. student.choices) found []) place ≡ Some s → place < 20
+    go : (found : Option Student) → IfSome found IsShort → slice_get (option_map_or (λ student. student.choices) found []) place ≡ Some s → place < LONGEST_LIST
     go None short none = absurd (none-some s none)
     go (Some student) short here = omega (arith, short.choices, slice_get_within student.choices place s here)
 

@@ -10,7 +10,7 @@ ghost use Rattle.sc_audit.specs.Tallies.{no_tally, or_later, over_at, tally_at, 
 use crate::keys::key_at;
 use crate::least::lesser;
 use crate::tally::Tally;
-use sc_papers::{Assignment, Key, Papers, SchoolNo};
+use sc_papers::{Assignment, Key, MOST_STUDENTS, Papers, SchoolNo};
 use std::alloc::{AllocError, Global};
 
 /// The later of a key and the last one so far.
@@ -45,7 +45,7 @@ fn no_tallies(alloc: Global, count: usize) -> Result<Vec<Tally>, AllocError>
 /// Counts one more key for the school at the position.
 fn count(tallies: &mut Vec<Tally>, at: usize, key: Key)
     requires within { at < length tallies.old.items }
-    requires few { (slice_index_or tallies.old.items at no_tally).held < 200000 }
+    requires few { (slice_index_or tallies.old.items at no_tally).held < MOST_STUDENTS }
     ensures { tallies.new.items ≡ slice_set tallies.old.items at (with_key (slice_index_or tallies.old.items at no_tally) key) }
 {
     let before = tallies[at];
@@ -63,7 +63,7 @@ fn count_student(
     position: usize,
 )
     requires within { position < length papers.now.students }
-    requires limit { length papers.now.students ≤ 200000 }
+    requires limit { length papers.now.students ≤ MOST_STUDENTS }
     requires well_formed { WellFormed papers.now }
     requires matching { IsMatching papers.now (assigned assignment.now) }
     requires before { AreTallies papers.now (assigned assignment.now) (take position (students_of papers.now)) tallies.old.items }

@@ -13,6 +13,7 @@ use Rattle.sc_papers.specs.WellFormed.{WellFormed, WithinLimits, IsShort}
 use Rattle.sc_papers.specs.Log.{is_rejected}
 use Rattle.sc_papers.specs.declared.records.Student.{Student}
 use Rattle.sc_papers.specs.declared.rejection.Rejection.{Rejection}
+use Rattle.sc_papers.specs.declared.limits.TheConstants.{LONGEST_LIST}
 use Rattle.sc_papers.proofs.Choices.{one-place}
 use Rattle.sc_papers.proofs.Rejections.{is_of, rejected-push}
 use Rattle.sc_papers.proofs.Students.{choices-differ}
@@ -39,11 +40,11 @@ position-none test xs k x none here =
           ∙ fails_before_first test xs k x (omega (arith, over, slice_get_within xs k x here))
     ]
 
--- no student lists more than 20 choices
-pub record-short : (m : Market) → WithinLimits m → (at : ℕ) (held : Student) → Some held ≡ option_and_then (student_of m) (slice_get (students_of m) at) → length held.choices ≤ 20
+-- no student lists more choices than a list may name
+pub record-short : (m : Market) → WithinLimits m → (at : ℕ) (held : Student) → Some held ≡ option_and_then (student_of m) (slice_get (students_of m) at) → length held.choices ≤ LONGEST_LIST
 record-short m limits at held is = go (slice_get (students_of m) at) is
   where
-    go : (found : Option ℕ) → Some held ≡ option_and_then (student_of m) found → length held.choices ≤ 20
+    go : (found : Option ℕ) → Some held ≡ option_and_then (student_of m) found → length held.choices ≤ LONGEST_LIST
     go None none = absurd (none-some held (sym none))
     go (Some i) known =
         let short : IsShort held = subst (λ found. IfSome found IsShort) (sym known) (All-lookup IsShort (nat_eq i) m.students limits.lists) in

@@ -9,11 +9,8 @@ ghost use Rattle.sc_checkpoint.specs.Standings.{standings_after};
 
 use crate::place_set::PlaceSet;
 use crate::standing::Standing;
-use sc_papers::{Papers, Rejection, SchoolNo, StudentNo};
+use sc_papers::{LONGEST_LIST, MOST_STUDENTS, Papers, Rejection, SchoolNo, StudentNo};
 use std::alloc::{AllocError, Global};
-
-/// How many students there may be.
-const MOST_STUDENTS: usize = 200_000;
 
 /// Where the first `k` students of the papers stand after the log. The only error is a refused
 /// growth.
@@ -85,7 +82,7 @@ fn place_in(choices: &[SchoolNo], school: SchoolNo) -> Option<usize>
 /// The choices of the student at the position, best first: none where nobody is there.
 fn choices_at(papers: &Papers, at: usize) -> &[SchoolNo]
     ensures value { (i : ℕ) → slice_get (students_of papers.now) at ≡ Some i → result.now ≡ choices_of papers.now i }
-    ensures short { length result.now ≤ 20 }
+    ensures short { length result.now ≤ LONGEST_LIST }
 {
     // This call tells that the papers are within their limits, and so are their lists.
     prove!(papers.students_len() <= MOST_STUDENTS);
@@ -109,7 +106,7 @@ fn standing_of(papers: &Papers, student: StudentNo, at: usize, rejected: PlaceSe
 
 /// The first of the choices whose place is not in the set.
 fn first_outside(choices: &[SchoolNo], places: PlaceSet) -> Option<SchoolNo>
-    requires { length choices.now ≤ 20 }
+    requires { length choices.now ≤ LONGEST_LIST }
     ensures { (test : ℕ → Bool) → ((place s : ℕ) → slice_get choices.now place ≡ Some s → has_place places place ≡ test s) → result ≡ find (λ s. not (test s)) choices.now }
 {
     for (place, school) in choices.iter().enumerate() {

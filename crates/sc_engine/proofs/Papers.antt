@@ -8,6 +8,7 @@ use Rattle.std.proofs.lemmas.Option.{slice_get_within}
 use Rattle.sc_papers.specs.Market.{Market, is_school, is_student, schools_of, choices_of, student_of}
 use Rattle.sc_papers.specs.WellFormed.{WellFormed, WithinLimits, IsProper, IsShort}
 use Rattle.sc_papers.specs.declared.records.Student.{Student}
+use Rattle.sc_papers.specs.declared.limits.TheConstants.{LONGEST_LIST}
 use Rattle.sc_papers.proofs.Choices.{contains-at}
 use Rattle.sc_papers.proofs.Positions.{any-among, among-student}
 use Rattle.sc_engine.specs.Standing.{next_of, place_of}
@@ -22,12 +23,12 @@ choice-known m well i s listed = go (student_of m i) (All-lookup (IsProper m) (n
     go None proper (k, low, at) = absurd (omega (arith, low))
     go (Some student) proper among = All-contains (λ t. is_school m t ≡ true) student.choices s proper.choices_known among
 
--- a student has at most 20 choices
-pub choices-short : (m : Market) → WithinLimits m → (i : ℕ) → length (choices_of m i) ≤ 20
+-- a student has no more choices than a list may name
+pub choices-short : (m : Market) → WithinLimits m → (i : ℕ) → length (choices_of m i) ≤ LONGEST_LIST
 unfolding choices_of
 choices-short m within i = go (student_of m i) (All-lookup IsShort (nat_eq i) m.students within.lists)
   where
-    go : (found : Option Student) → IfSome found IsShort → length (option_map_or (λ student. student.choices) found []) ≤ 20
+    go : (found : Option Student) → IfSome found IsShort → length (option_map_or (λ student. student.choices) found []) ≤ LONGEST_LIST
     go None short = omega arith
     go (Some student) short = short.choices
 
@@ -39,8 +40,8 @@ pub stander-school : (m : Market) (places : List (Option ℕ)) (i s : ℕ) → W
 stander-school m places i s well next =
     let at = stands-at m places i s next in choice-known m well i s (contains-at (choices_of m i) at.place s at.choice)
 
--- and its place is below 20
-pub stander-short : (m : Market) (places : List (Option ℕ)) (i s place : ℕ) → WithinLimits m → next_of m places i ≡ Some s → place_of m places i ≡ Some place → place < 20
+-- and its place is below the length of the longest list
+pub stander-short : (m : Market) (places : List (Option ℕ)) (i s place : ℕ) → WithinLimits m → next_of m places i ≡ Some s → place_of m places i ≡ Some place → place < LONGEST_LIST
 stander-short m places i s place within next is =
     omega (arith, slice_get_within (choices_of m i) place s (sym (next-by m places i place is) ∙ next), choices-short m within i)
 

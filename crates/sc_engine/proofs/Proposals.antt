@@ -12,6 +12,7 @@ use Rattle.std.proofs.lemmas.List.Sums.{count_by-le-length}
 use Rattle.sc_papers.specs.declared.records.Student.{Student}
 use Rattle.sc_papers.specs.declared.key.Key.{Key}
 use Rattle.sc_papers.specs.declared.rejection.Rejection.{Rejection}
+use Rattle.sc_papers.specs.declared.limits.TheConstants.{MOST_STUDENTS}
 use Rattle.sc_papers.proofs.Chain.{how_many-split}
 use Rattle.sc_papers.proofs.Counting.{contains-cons, contains-head, contains-tail}
 use Rattle.sc_papers.proofs.Rejections.{has-true, has-some}
@@ -79,7 +80,7 @@ standing-split m well places i s stands =
     ∙ how_many-split m well (λ j. is_some (next_of m places j)) i (next-among m places i s stands) (ap is_some stands)
 
 -- no more stand at a choice than there are students
-pub standing-most : (m : Market) (places : List (Option ℕ)) (away : ℕ → Bool) → WithinLimits m → standing_but m places away ≤ 200000
+pub standing-most : (m : Market) (places : List (Option ℕ)) (away : ℕ → Bool) → WithinLimits m → standing_but m places away ≤ MOST_STUDENTS
 unfolding standing_but how_many
 standing-most m places away within =
     omega (arith, within.students, length-mapped (λ (e : ℕ × Student). e.0) m.students, count_by-le-length (λ i. is_some (next_of m places i) && not (away i)) (students_of m))

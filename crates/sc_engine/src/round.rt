@@ -11,7 +11,7 @@ ghost use Rattle.sc_engine.specs.Rolls.{rolls_of};
 mod resume;
 
 use crate::settled::Settled;
-use sc_papers::{Assignment, Key, Papers, Rejection, SchoolNo, Seats, StudentNo};
+use sc_papers::{Assignment, Key, LONGEST_LIST, Papers, Rejection, SchoolNo, Seats, StudentNo};
 use sc_seats::Roll;
 use std::alloc::{AllocError, Global};
 
@@ -196,7 +196,7 @@ fn offer_to<R: Roll>(rolls: &mut Vec<R>, at: usize, key: Key) -> Result<Option<K
 
 /// The student at the position moves on to the next place of its choices.
 fn move_on(places: &mut Vec<Option<usize>>, at: usize)
-    requires { (place : ℕ) → slice_index_or places.old.items at None ≡ Some place → place < 20 }
+    requires { (place : ℕ) → slice_index_or places.old.items at None ≡ Some place → place < LONGEST_LIST }
     ensures { (place : ℕ) → slice_index_or places.old.items at None ≡ Some place → places.new.items ≡ slice_set places.old.items at (Some (place + 1)) }
 {
     if let Some(place) = place_at(places.as_slice(), at) {
@@ -224,7 +224,7 @@ impl<R: Roll> Round<R> {
 
     /// Notes that the school rejects the student at the position, who moves on to the next choice.
     fn reject(&mut self, at: usize, entry: Rejection) -> Result<(), AllocError>
-        requires { (place : ℕ) → slice_index_or self.old.places.items at None ≡ Some place → place < 20 }
+        requires { (place : ℕ) → slice_index_or self.old.places.items at None ≡ Some place → place < LONGEST_LIST }
         ensures log { OnOk result (self.new.log.items ≡ self.old.log.items ++ entry ∷ []) }
         ensures moved { OnOk result ((place : ℕ) → slice_index_or self.old.places.items at None ≡ Some place → self.new.places.items ≡ slice_set self.old.places.items at (Some (place + 1))) }
         ensures rolls { self.new.rolls.items ≡ self.old.rolls.items }

@@ -18,6 +18,7 @@ use Rattle.sc_papers.specs.declared.records.Student.{Student}
 use Rattle.sc_papers.specs.declared.amendment.Refusal.TheVariants.{EmptyList}
 use Rattle.sc_papers.proofs.Objections.{first_of-none, refuse_if-none, too_long-none, twice_in-none, unknown_in-none}
 use Rattle.sc_papers.proofs.Entering.{IsProper-known}
+use Rattle.sc_papers.specs.declared.seats.TheConstants.Seats.{GREATEST}
 
 -- what holds of each entry, and of the new value, holds of each entry after a change
 pub All-set_value : {X : Type 0} (P : ℕ × X → Type 0) (test : ℕ → Bool) (w : X) → ((k : ℕ) → P (k, w))
@@ -173,10 +174,10 @@ WellFormed-put_school m s school formed = record {
 }
 
 -- and within the limits
-pub WithinLimits-put_school : (m : Market) (s : ℕ) (school : School) → WithinLimits m → school.seats ≤ 10000 → WithinLimits (put_school m s school)
+pub WithinLimits-put_school : (m : Market) (s : ℕ) (school : School) → WithinLimits m → school.seats ≤ GREATEST → WithinLimits (put_school m s school)
 WithinLimits-put_school m s school within seats = record {
   schools = rw (length-set_value (nat_eq s) m.schools school) within.schools;
-  seats = All-set_value (λ (entry : ℕ × School). entry.1.seats ≤ 10000) (nat_eq s) school (λ k. seats) m.schools within.seats;
+  seats = All-set_value (λ (entry : ℕ × School). entry.1.seats ≤ GREATEST) (nat_eq s) school (λ k. seats) m.schools within.seats;
   students = within.students;
   lists = within.lists;
 }

@@ -11,6 +11,7 @@ use Rattle.sc_papers.specs.declared.papers.Papers.TheInside.{Inside}
 use Rattle.sc_papers.specs.declared.records.School.{School}
 use Rattle.sc_papers.specs.declared.records.Student.{Student}
 use Rattle.sc_papers.proofs.Changing.{put_school, put_student, remove-found, WellFormed-put_school, WellFormed-put_student, WellFormed-without_student, WithinLimits-put_school, WithinLimits-put_student, WithinLimits-without_student}
+use Rattle.sc_papers.specs.declared.seats.TheConstants.Seats.{GREATEST}
 
 -- a student goes, and the draw at the student's place
 pub IsSound-withdrawn : (old new : Inside) (i place : ℕ) → IsSound old
@@ -42,7 +43,7 @@ IsSound-put_student old new i student sound proper short seed schools put draws 
     }
 
 -- what the papers hold of a school changes
-pub IsSound-put_school : (old new : Inside) (s : ℕ) (school : School) → IsSound old → school.seats ≤ 10000
+pub IsSound-put_school : (old new : Inside) (s : ℕ) (school : School) → IsSound old → school.seats ≤ GREATEST
     → new.seed ≡ old.seed → new.students ≡ old.students → new.schools.entries ≡ set_value (nat_eq s) old.schools.entries school
     → new.draws ≡ old.draws
     → IsSound new

@@ -14,11 +14,12 @@ use Rattle.sc_papers.specs.WellFormed.{WellFormed, WithinLimits, IsProper, IsSho
 use Rattle.sc_papers.specs.declared.records.Student.{Student}
 use Rattle.sc_papers.specs.declared.amendment.Refusal.TheVariants.{StudentExists, EmptyList, RosterFull}
 use Rattle.sc_papers.proofs.Objections.{first_of-none, refuse_if-none, too_long-none, twice_in-none, unknown_in-none}
+use Rattle.sc_papers.specs.declared.limits.TheConstants.{MOST_STUDENTS}
 
 -- what it takes to enter
 pub record MayEnter (m : Market) (i : ℕ) (student : Student) : Type 0 where
   pub new : lookup (nat_eq i) m.students ≡ None
-  pub room : length m.students < 200000
+  pub room : length m.students < MOST_STUDENTS
   pub lists : IsProper m student
   pub short : IsShort student
 
@@ -36,7 +37,7 @@ MayEnter-allowed m i student allowed =
     let rest = none.1.1 in
     let named = rest.1.1.1.1 in
     let some : (length choices == 0) ≡ false = refuse_if-none (length choices == 0) EmptyList none.1.0 in
-    let room : nat_le 200000 (length m.students) ≡ false = refuse_if-none (nat_le 200000 (length m.students)) RosterFull named.1.1.0 in
+    let room : nat_le MOST_STUDENTS (length m.students) ≡ false = refuse_if-none (nat_le MOST_STUDENTS (length m.students)) RosterFull named.1.1.0 in
     record {
       new = is_some-false (lookup (nat_eq i) m.students) (refuse_if-none (is_student m i) StudentExists none.0);
       room = grind (arith, nat_tests);

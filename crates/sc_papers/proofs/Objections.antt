@@ -10,6 +10,7 @@ use Rattle.std.proofs.lemmas.List.Folds.{list_any-append}
 use Rattle.sc_papers.specs.Market.{Market, is_school}
 use Rattle.sc_papers.specs.Verdict.{refuse_if, first_of, first_repeat, too_long, twice_in, unknown_in}
 use Rattle.sc_papers.specs.declared.amendment.Refusal.TheVariants.{ListTooLong, SchoolTwice, UnknownSchool}
+use Rattle.sc_papers.specs.declared.limits.TheConstants.{LONGEST_LIST}
 
 -- where no objection is the first that applies, none applies
 pub first_of-none : {R : Type 0} (objections : List (Option R)) → first_of objections ≡ None → AllByRecursion (λ o. o ≡ None) objections
@@ -72,5 +73,5 @@ pub unknown_in-none : (m : Market) (xs : List ℕ) → unknown_in m xs ≡ None 
 unknown_in-none m xs none = find_not-none (is_school m) xs (option_map-none UnknownSchool (find (λ s. not (is_school m s)) xs) none)
 
 -- one to which nothing is objected for its length is short
-pub too_long-none : (xs : List ℕ) → too_long xs ≡ None → length xs ≤ 20
-too_long-none xs none = let short = refuse_if-none (nat_lt 20 (length xs)) ListTooLong none in grind (arith, nat_tests)
+pub too_long-none : (xs : List ℕ) → too_long xs ≡ None → length xs ≤ LONGEST_LIST
+too_long-none xs none = let short = refuse_if-none (nat_lt LONGEST_LIST (length xs)) ListTooLong none in grind (arith, nat_tests)

@@ -17,11 +17,13 @@ use Rattle.sc_papers.specs.declared.records.School.{School}
 use Rattle.sc_papers.specs.declared.school_refusal.SchoolRefusal.TheVariants.{SchoolExists, TooManySchools, SchoolsClosed}
 use Rattle.sc_papers.proofs.Objections.{first_of-none, refuse_if-none}
 use Rattle.sc_papers.proofs.Entering.{is_some-false, keys_of-push, list_any-keys}
+use Rattle.sc_papers.specs.declared.limits.TheConstants.{MOST_SCHOOLS}
+use Rattle.sc_papers.specs.declared.seats.TheConstants.Seats.{GREATEST}
 
 -- what it takes to be added
 pub record MayOpen (m : Market) (s : ℕ) : Type 0 where
   pub new : lookup (nat_eq s) m.schools ≡ None
-  pub room : length m.schools < 5000
+  pub room : length m.schools < MOST_SCHOOLS
   pub early : length m.students ≡ 0
 
 -- nothing said against it, the school may
@@ -29,12 +31,12 @@ pub MayOpen-allowed : (m : Market) (s : ℕ) → school_verdict m s ≡ None →
 MayOpen-allowed m s allowed =
     let objections =
     refuse_if (is_school m s) SchoolExists
-    ∷ refuse_if (nat_le 5000 (length m.schools)) TooManySchools
+    ∷ refuse_if (nat_le MOST_SCHOOLS (length m.schools)) TooManySchools
     ∷ refuse_if (nat_lt 0 (length m.students)) SchoolsClosed
     ∷ []
     in
     let none = first_of-none objections allowed in
-    let room : nat_le 5000 (length m.schools) ≡ false = refuse_if-none (nat_le 5000 (length m.schools)) TooManySchools none.1.0 in
+    let room : nat_le MOST_SCHOOLS (length m.schools) ≡ false = refuse_if-none (nat_le MOST_SCHOOLS (length m.schools)) TooManySchools none.1.0 in
     let early : nat_lt 0 (length m.students) ≡ false = refuse_if-none (nat_lt 0 (length m.students)) SchoolsClosed none.1.1.0 in
     record {
       new = is_some-false (lookup (nat_eq s) m.schools) (refuse_if-none (is_school m s) SchoolExists none.0);
@@ -51,10 +53,10 @@ WellFormed-with_school m s school formed may = record {
 }
 
 -- and within the limits
-pub WithinLimits-with_school : (m : Market) (s : ℕ) (school : School) → WithinLimits m → MayOpen m s → school.seats ≤ 10000 → WithinLimits (with_school m s school)
+pub WithinLimits-with_school : (m : Market) (s : ℕ) (school : School) → WithinLimits m → MayOpen m s → school.seats ≤ GREATEST → WithinLimits (with_school m s school)
 WithinLimits-with_school m s school within may seats = record {
   schools = let room = may.room in omega (arith, length-append m.schools ((s, school) ∷ []));
-  seats = All-push (λ (entry : ℕ × School). entry.1.seats ≤ 10000) m.schools (s, school) within.seats seats;
+  seats = All-push (λ (entry : ℕ × School). entry.1.seats ≤ GREATEST) m.schools (s, school) within.seats seats;
   students = within.students;
   lists = within.lists;
 }
@@ -68,7 +70,7 @@ market_of-opened old new s school may seed students inserted =
     rw (seed, students, last) refl
 
 -- the fields stay sound
-pub IsSound-opened : (old new : Inside) (s : ℕ) (school : School) → IsSound old → MayOpen (market_of old) s → school.seats ≤ 10000
+pub IsSound-opened : (old new : Inside) (s : ℕ) (school : School) → IsSound old → MayOpen (market_of old) s → school.seats ≤ GREATEST
     → new.seed ≡ old.seed → new.students ≡ old.students → new.schools.entries ≡ insert_entry nat_eq old.schools.entries s school
     → new.draws ≡ old.draws
     → IsSound new

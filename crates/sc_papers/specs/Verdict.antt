@@ -4,6 +4,8 @@ use Rattle.std.specs.Option.{option_map, option_map_or}
 use Rattle.std.specs.List.{list_any}
 use Rattle.std.specs.Map.{remove_entry, set_value}
 use Rattle.sc_papers.specs.Market.{Market, is_school, is_student, school_of, student_of, seats_of}
+use Rattle.sc_papers.specs.declared.limits.TheConstants.{LONGEST_LIST, MOST_SCHOOLS, MOST_STUDENTS}
+use Rattle.sc_papers.specs.declared.seats.TheConstants.Seats.{GREATEST}
 use Rattle.sc_papers.specs.declared.records.School.{School}
 use Rattle.sc_papers.specs.declared.records.Student.{Student}
 use Rattle.sc_papers.specs.declared.school_refusal.SchoolRefusal.{SchoolRefusal}
@@ -17,9 +19,9 @@ use Rattle.sc_papers.specs.declared.amendment.Refusal.TheVariants.{UnknownStuden
 abbrev pub refuse_if : {R : Type 0} → Bool → R → Option R
 refuse_if test r = if test then Some r else None
 
--- a list of schools may have at most 20
+-- a list of schools may not be longer than the longest
 abbrev pub too_long : List ℕ → Option Refusal
-too_long xs = refuse_if (nat_lt 20 (length xs)) ListTooLong
+too_long xs = refuse_if (nat_lt LONGEST_LIST (length xs)) ListTooLong
 
 -- the first school of the list that is not in the papers
 abbrev pub unknown_in : Market → List ℕ → Option Refusal
@@ -47,7 +49,7 @@ objections_to_enter m i siblings choices =
     ∷ too_long choices ∷ too_long siblings
     ∷ unknown_in m choices ∷ unknown_in m siblings
     ∷ twice_in choices ∷ twice_in siblings
-    ∷ refuse_if (nat_le 200000 (length m.students)) RosterFull
+    ∷ refuse_if (nat_le MOST_STUDENTS (length m.students)) RosterFull
     ∷ []
 
 -- the student has to be in the papers
@@ -73,7 +75,7 @@ objections_to_rerank m i choices =
 abbrev pub objections_to_add : Market → ℕ → ℕ → List (Option Refusal)
 objections_to_add m s count =
     unknown_in m (s ∷ [])
-    ∷ refuse_if (nat_lt 10000 (seats_of m s + count)) TooManySeats
+    ∷ refuse_if (nat_lt GREATEST (seats_of m s + count)) TooManySeats
     ∷ []
 
 -- what can be said against fewer seats, in the order of the refusals' codes
@@ -152,7 +154,7 @@ abbrev pub school_verdict : Market → ℕ → Option SchoolRefusal
 school_verdict m s =
     first_of
     (refuse_if (is_school m s) SchoolExists
-    ∷ refuse_if (nat_le 5000 (length m.schools)) TooManySchools
+    ∷ refuse_if (nat_le MOST_SCHOOLS (length m.schools)) TooManySchools
     ∷ refuse_if (nat_lt 0 (length m.students)) SchoolsClosed
     ∷ [])
 

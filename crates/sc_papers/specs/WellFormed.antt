@@ -2,7 +2,9 @@
 use Rattle.std.specs.Prelude.{◌≤◌, ◌<◌, nat_eq, length, All}
 use Rattle.std.specs.List.{IsDistinct, AllPass}
 use Rattle.sc_papers.specs.Market.{Market, schools_of, students_of, is_school}
+use Rattle.sc_papers.specs.declared.limits.TheConstants.{LONGEST_LIST, MOST_SCHOOLS, MOST_STUDENTS}
 use Rattle.sc_papers.specs.declared.records.Student.{Student}
+use Rattle.sc_papers.specs.declared.seats.TheConstants.Seats.{GREATEST}
 
 -- a student's lists name schools of the papers, each once, and the choices are some
 pub record IsProper (m : Market) (student : Student) : Type 0 where
@@ -18,14 +20,14 @@ pub record WellFormed (m : Market) : Type 0 where
   pub students_differ : IsDistinct nat_eq (students_of m)
   pub students_proper : All (λ entry. IsProper m entry.1) m.students
 
--- at most 20 choices and 20 siblings
+-- a student lists no more choices and no more siblings than a list may name
 pub record IsShort (student : Student) : Type 0 where
-  pub choices : length student.choices ≤ 20
-  pub siblings : length student.siblings ≤ 20
+  pub choices : length student.choices ≤ LONGEST_LIST
+  pub siblings : length student.siblings ≤ LONGEST_LIST
 
--- at most 5,000 schools of at most 10,000 seats, and 200,000 students with short lists
+-- no more schools, seats of a school and students than there may be, and short lists
 pub record WithinLimits (m : Market) : Type 0 where
-  pub schools : length m.schools ≤ 5000
-  pub seats : All (λ entry. entry.1.seats ≤ 10000) m.schools
-  pub students : length m.students ≤ 200000
+  pub schools : length m.schools ≤ MOST_SCHOOLS
+  pub seats : All (λ entry. entry.1.seats ≤ GREATEST) m.schools
+  pub students : length m.students ≤ MOST_STUDENTS
   pub lists : All (λ entry. IsShort entry.1) m.students

@@ -6,16 +6,11 @@ ghost use Rattle.sc_papers.specs.Verdict.{first_of, first_repeat, no_choices, ob
 
 use crate::amendment::{Amendment, Refusal};
 use crate::count::Count;
+use crate::limits::{LONGEST_LIST, MOST_STUDENTS};
 use crate::papers::Papers;
 use crate::school_no::SchoolNo;
 use crate::seats::Seats;
 use sc_lottery::StudentNumber;
-
-/// How many schools a list may have.
-const LONGEST_LIST: usize = 20;
-
-/// How many students there may be.
-const MOST_STUDENTS: usize = 200_000;
 
 /// The first school of the list that equals an earlier one.
 fn find_repeat(list: &[SchoolNo]) -> Option<SchoolNo>

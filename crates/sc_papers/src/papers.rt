@@ -5,6 +5,7 @@ ghost use Rattle.sc_papers.specs.Key.{class_by, same_zone};
 
 use crate::count::Count;
 use crate::key::Key;
+use crate::limits::MOST_SCHOOLS;
 use crate::records::{School, Student};
 use crate::school_list::SchoolList;
 use crate::school_no::SchoolNo;
@@ -15,9 +16,6 @@ use indexmap::IndexMap;
 use sc_lottery::{Seed, StudentNumber, draw};
 use std::alloc::{AllocError, Global};
 use std::marker::Model;
-
-/// How many schools there may be.
-const MOST_SCHOOLS: usize = 5_000;
 
 /// The schools and the students of one school choice, and the seed of its lottery.
 ///
@@ -110,7 +108,7 @@ impl Papers {
     /// Puts a school that may be added last in the order of entry.
     fn put_school(&mut self, number: SchoolNo, school: School) -> Result<(), AllocError>
         requires allowed { school_verdict self.old number ≡ None }
-        requires seats { school.seats ≤ 10000 }
+        requires seats { school.seats ≤ Seats.GREATEST }
         ensures added { OnOk result (self.new ≡ with_school self.old number school) }
         ensures unchanged { OnErr result (self.new ≡ self.old) }
     {
@@ -286,7 +284,7 @@ impl Papers {
 
     /// Gives a school these seats.
     fn put_seats(&mut self, number: SchoolNo, seats: Seats)
-        requires { seats ≤ 10000 }
+        requires { seats ≤ Seats.GREATEST }
         ensures { self.new ≡ with_seats self.old number seats }
     {
         if let Some(school) = self.schools.get_mut(&number) {
@@ -321,7 +319,7 @@ impl Papers {
     #[tactic(auto, unfolding(crate::specs::Market::seats_of))]
     fn seats_at(&self, number: SchoolNo) -> u32
         ensures value { result ≡ seats_of self.now number }
-        ensures greatest { result ≤ 10000 }
+        ensures greatest { result ≤ Seats.GREATEST }
     {
         self.school(number).map_or(0, |school| school.seats.get())
     }

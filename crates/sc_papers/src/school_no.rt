@@ -1,4 +1,5 @@
 ghost use Rattle.std.specs.Prelude.{◌≡◌, ℕ, ◌≤◌, SomeIff};
+ghost use Rattle.sc_papers.specs.declared.school_no.TheConstants.SchoolNo.{GREATEST};
 
 use std::marker::Model;
 
@@ -13,7 +14,7 @@ impl Model for SchoolNo {
 
     ghost view = { λ n. n.number };
 
-    ghost invariant = { λ n. (1 ≤ n.number) × (n.number ≤ 99999) };
+    ghost invariant = { λ n. (1 ≤ n.number) × (n.number ≤ GREATEST) };
 
     ghost inverse = { λ n. record { number = n } };
 }
@@ -24,7 +25,7 @@ impl SchoolNo {
 
     /// The number as a `SchoolNo`, or `None` outside 1 to 99,999.
     pub fn new(number: u32) -> Option<Self>
-        ensures { SomeIff result ((1 ≤ number) × (number ≤ 99999)) number }
+        ensures { SomeIff result ((1 ≤ number) × (number ≤ Self.GREATEST)) number }
     {
         if 1 <= number && number <= Self::GREATEST {
             Some(SchoolNo { number })
@@ -37,7 +38,7 @@ impl SchoolNo {
     pub fn get(self) -> u32
         ensures value { result ≡ self }
         ensures least { 1 ≤ result }
-        ensures greatest { result ≤ 99999 }
+        ensures greatest { result ≤ Self.GREATEST }
     {
         self.number
     }

@@ -1,4 +1,5 @@
 ghost use Rattle.std.specs.Prelude.{◌≡◌, ℕ, ◌≤◌, SomeIff};
+ghost use Rattle.sc_papers.specs.declared.zone.TheConstants.Zone.{GREATEST};
 
 use std::marker::Model;
 
@@ -13,7 +14,7 @@ impl Model for Zone {
 
     ghost view = { λ n. n.number };
 
-    ghost invariant = { λ n. n.number ≤ 9999 };
+    ghost invariant = { λ n. n.number ≤ GREATEST };
 
     ghost inverse = { λ n. record { number = n } };
 }
@@ -24,7 +25,7 @@ impl Zone {
 
     /// The number as a `Zone`, or `None` outside 0 to 9,999.
     pub fn new(number: u32) -> Option<Self>
-        ensures { SomeIff result (number ≤ 9999) number }
+        ensures { SomeIff result (number ≤ Self.GREATEST) number }
     {
         if number <= Self::GREATEST {
             Some(Zone { number })
@@ -36,7 +37,7 @@ impl Zone {
     /// The number, from 0 to 9,999.
     pub fn get(self) -> u32
         ensures value { result ≡ self }
-        ensures greatest { result ≤ 9999 }
+        ensures greatest { result ≤ Self.GREATEST }
     {
         self.number
     }

@@ -6,7 +6,7 @@ ghost use Rattle.sc_papers.specs.WellFormed.{WellFormed, WithinLimits};
 ghost use Rattle.sc_report.specs.Cutoff.{or_later};
 ghost use Rattle.sc_report.specs.Tally.{held_at, no_tally, tally, with_key};
 
-use sc_papers::{Assignment, Key, Papers, SchoolNo, StudentNo};
+use sc_papers::{Assignment, Key, MOST_STUDENTS, Papers, SchoolNo, StudentNo};
 use std::alloc::{AllocError, Global};
 
 /// How many students have a school, and the last key among them, if they are any.
@@ -28,7 +28,7 @@ fn later(last: Option<Key>, key: Key) -> Option<Key>
 
 /// The tally with a student of this key.
 fn with_student(tally: Tally, key: Key) -> Tally
-    requires { tally.held < 200000 }
+    requires { tally.held < MOST_STUDENTS }
     ensures { result ≡ with_key tally key }
 {
     Tally {

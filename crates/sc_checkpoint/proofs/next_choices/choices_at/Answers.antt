@@ -1,4 +1,5 @@
 use Rattle.std.proofs.Common.{◌≤◌, None, Some, ap, length, ◌∙◌, arith}
+use Rattle.sc_papers.specs.declared.limits.TheConstants.{LONGEST_LIST}
 use Rattle.sc_checkpoint.proofs.Marking.{choices-here, record-short}
 use Rattle.sc_checkpoint.proofs.next_choices.choices_at.Goals as goal
 
@@ -10,5 +11,5 @@ returns-in-Some-clause-value c = λ i here. c.as_slice.ensures ∙ choices-here 
 
 pub returns-in-Some-clause-short : goal.returns-in-Some-clause-short
 returns-in-Some-clause-short c =
-    let short : length c.in-Some.record.now.choices ≤ 20 = record-short c.args.papers.now c.students_len.ensures.within_limits c.args.at c.in-Some.record.now c.in-Some.ensures in
+    let short : length c.in-Some.record.now.choices ≤ LONGEST_LIST = record-short c.args.papers.now c.students_len.ensures.within_limits c.args.at c.in-Some.record.now c.in-Some.ensures in
     omega (arith, short, ap length c.as_slice.ensures)

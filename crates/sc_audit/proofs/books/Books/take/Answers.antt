@@ -1,5 +1,6 @@
 use Rattle.std.proofs.Common.{◌+◌, ◌<◌, ◌∙◌, sym, ap, subst, arith, refl, set, None}
 use Rattle.std.proofs.lemmas.List.{length-set}
+use Rattle.sc_papers.specs.declared.limits.TheConstants.{LONGEST_LIST}
 use Rattle.sc_audit.specs.Books.{ledger_of}
 use Rattle.sc_audit.specs.Ledger.{Ledger, Comes, stand_of}
 use Rattle.sc_audit.proofs.Ledgers.{place-short}
@@ -16,7 +17,7 @@ index_mut-requires c = omega (arith, position-low c.args.papers.now c.args.entry
 
 pub overflow_add-place : goal.overflow_add-place
 overflow_add-place c =
-    let short : c.in-Some.place < 20 =
+    let short : c.in-Some.place < LONGEST_LIST =
     place-short c.args.papers.now c.requires.fits.within_limits c.args.entry.student c.in-Some.place c.args.entry.school
     (waits-placed (waits-from c.args.papers.now (ledger_of c.args.self.now) c.args.entry.student c.args.entry.school c.in-Some.place (sym c.in-Some.ensures.place)) c.requires.fits) in
     omega arith
