@@ -22,6 +22,7 @@ use Rattle.sc_intake.specs.File.{in_row}
 use Rattle.sc_intake.specs.Lists.{list_number}
 use Rattle.sc_intake.specs.Rows.{AreRows}
 use Rattle.sc_intake.specs.Schools.{school_number}
+use Rattle.sc_papers.specs.declared.limits.TheConstants.{MOST_SCHOOLS}
 use Rattle.sc_papers.specs.declared.school_refusal.SchoolRefusal.{SchoolRefusal}
 use Rattle.sc_papers.specs.declared.school_refusal.SchoolRefusal.TheVariants.{OutOfMemory as no_memory_there}
 use Rattle.sc_intake.specs.Papers.{all_entered, amended, cause_of, entered_by, filled, list_of, opening, stranger, unless_refused, is_in_roster, unknown_list}
@@ -224,11 +225,11 @@ length-opening : (seed : List ℕ) (schools : List SchoolRow) → length (openin
 length-opening seed [] = refl
 length-opening seed (school ∷ rest) = ap suc (length-opening seed rest)
 
-has-room : (n : ℕ) → n < 5000 → nat_le 5000 n ≡ false
+has-room : (n : ℕ) → n < MOST_SCHOOLS → nat_le MOST_SCHOOLS n ≡ false
 has-room n few = grind (arith, nat_tests)
 
 -- so the papers refuse it for memory alone
-pub school-refused : (seed : List ℕ) (schools : List SchoolRow) (i : ℕ) (row : SchoolRow) (r : SchoolRefusal) → AreRows school_number 5000 schools
+pub school-refused : (seed : List ℕ) (schools : List SchoolRow) (i : ℕ) (row : SchoolRow) (r : SchoolRefusal) → AreRows school_number MOST_SCHOOLS schools
     → i < length schools → row ≡ get_or schools i row
     → IsSchoolRefusal (school_verdict (opening seed (take i schools)) row.number) r → r ≡ no_memory_there
 school-refused seed schools i row r are within at refused =

@@ -2,6 +2,11 @@
 use Rattle.std.specs.Prelude.{ℕ, ◌==◌, Bool, ◌&&◌, ◌||◌, nat_le, List, [], ◌∷◌, ◌++◌, reverse, if◌then◌else◌, ok_or, Result, Ok, Err}
 use Rattle.std.specs.List.{list_all}
 use Rattle.sc_decimal.specs.Number.{read_number}
+use Rattle.sc_lottery.specs.declared.number.TheConstants.StudentNumber.{GREATEST as greatest_student}
+use Rattle.sc_papers.specs.declared.count.TheConstants.Count.{GREATEST as greatest_count}
+use Rattle.sc_papers.specs.declared.school_no.TheConstants.SchoolNo.{GREATEST as greatest_school}
+use Rattle.sc_papers.specs.declared.seats.TheConstants.Seats.{GREATEST as greatest_seats}
+use Rattle.sc_papers.specs.declared.zone.TheConstants.Zone.{GREATEST as greatest_zone}
 use Rattle.sc_intake.specs.Fault.{◌>>=◌}
 use Rattle.sc_intake.specs.declared.fault.Cause.{Cause}
 use Rattle.sc_intake.specs.declared.fault.Cause.TheVariants.{Number, Range}
@@ -58,6 +63,26 @@ is_within least greatest n = nat_le least n && nat_le n greatest
 abbrev pub within : ℕ → ℕ → ℕ → Result ℕ Cause
 within least greatest n = if is_within least greatest n then Ok n else Err Range
 
+-- a student's number
+abbrev pub as_student : ℕ → Result ℕ Cause
+as_student = within 1 greatest_student
+
+-- a zone, 0 where there is none
+abbrev pub as_zone : ℕ → Result ℕ Cause
+as_zone = within 0 greatest_zone
+
+-- a school's number
+abbrev pub as_school : ℕ → Result ℕ Cause
+as_school = within 1 greatest_school
+
+-- how many seats a school has
+abbrev pub as_seats : ℕ → Result ℕ Cause
+as_seats = within 0 greatest_seats
+
+-- how many seats are added or closed
+abbrev pub as_count : ℕ → Result ℕ Cause
+as_count = within 1 greatest_count
+
 -- the numbers of a list of schools
 abbrev pub all_schools : List ℕ → Result (List ℕ) Cause
-all_schools ns = if list_all (is_within 1 99999) ns then Ok ns else Err Range
+all_schools ns = if list_all (is_within 1 greatest_school) ns then Ok ns else Err Range

@@ -1,8 +1,9 @@
 -- What the rank-order lists read as.
 use Rattle.std.specs.Prelude.{ℕ, ◌==◌, Bool, ◌&&◌, List, length, codes, if◌then◌else◌, Result, Ok, Err}
 use Rattle.std.specs.Str.{bytes_eq}
+use Rattle.sc_papers.specs.declared.limits.TheConstants.{MOST_STUDENTS}
 use Rattle.sc_intake.specs.Fault.{◌>>=◌}
-use Rattle.sc_intake.specs.Field.{all_schools, list_of, number_of, within}
+use Rattle.sc_intake.specs.Field.{all_schools, as_student, list_of, number_of}
 use Rattle.sc_intake.specs.File.{rows_in, text_at}
 use Rattle.sc_intake.specs.Rows.{next_row}
 use Rattle.sc_intake.specs.declared.fault.Cause.{Cause}
@@ -21,7 +22,7 @@ abbrev pub choices_of : ℕ → List (List ℕ) → Result ListRow Cause
 choices_of row fields = if length fields == 2 then (do
   a ← number_of (text_at fields 0)
   b ← list_of (text_at fields 1)
-  student ← within 1 999999999 a
+  student ← as_student a
   choices ← all_schools b
   Ok (record { row = row; student = student; choices = choices })) else Err Fields
 
@@ -31,7 +32,7 @@ list_number row = row.student
 
 -- the row after earlier ones
 abbrev pub next_list : List ListRow → List (List ℕ) → Result ListRow Cause
-next_list = next_row 200000 list_number choices_of
+next_list = next_row MOST_STUDENTS list_number choices_of
 
 -- the rows of the lists
 abbrev pub lists_in : List ℕ → Result (List ListRow) IntakeFault

@@ -2,7 +2,7 @@
 use Rattle.std.specs.Prelude.{ℕ, ◌==◌, List, [], length, if◌then◌else◌, Result, Ok, Err}
 use Rattle.sc_papers.specs.declared.rejection.Rejection.{Rejection}
 use Rattle.sc_intake.specs.Fault.{◌>>=◌}
-use Rattle.sc_intake.specs.Field.{number_of, within}
+use Rattle.sc_intake.specs.Field.{as_school, as_student, number_of}
 use Rattle.sc_intake.specs.File.{records_in, rows_after, text_at}
 use Rattle.sc_intake.specs.declared.fault.Cause.{Cause}
 use Rattle.sc_intake.specs.declared.fault.Cause.TheVariants.{Fields}
@@ -14,8 +14,8 @@ abbrev pub rejection_of : List (List ℕ) → Result Rejection Cause
 rejection_of fields = if length fields == 2 then (do
   a ← number_of (text_at fields 0)
   b ← number_of (text_at fields 1)
-  student ← within 1 999999999 a
-  school ← within 1 99999 b
+  student ← as_student a
+  school ← as_school b
   Ok (record { student = student; school = school })) else Err Fields
 
 -- the rejection after earlier ones, whatever they are

@@ -1,8 +1,9 @@
 -- What the roster reads as.
 use Rattle.std.specs.Prelude.{ℕ, ◌==◌, Bool, ◌&&◌, List, length, codes, if◌then◌else◌, Result, Ok, Err}
 use Rattle.std.specs.Str.{bytes_eq}
+use Rattle.sc_papers.specs.declared.limits.TheConstants.{MOST_STUDENTS}
 use Rattle.sc_intake.specs.Fault.{◌>>=◌}
-use Rattle.sc_intake.specs.Field.{all_schools, list_of, number_of, within}
+use Rattle.sc_intake.specs.Field.{all_schools, as_student, as_zone, list_of, number_of}
 use Rattle.sc_intake.specs.File.{rows_in, text_at}
 use Rattle.sc_intake.specs.Rows.{next_row}
 use Rattle.sc_intake.specs.declared.fault.Cause.{Cause}
@@ -23,8 +24,8 @@ student_of row fields = if length fields == 3 then (do
   a ← number_of (text_at fields 0)
   b ← number_of (text_at fields 1)
   c ← list_of (text_at fields 2)
-  student ← within 1 999999999 a
-  zone ← within 0 9999 b
+  student ← as_student a
+  zone ← as_zone b
   siblings ← all_schools c
   Ok (record { row = row; student = student; zone = zone; siblings = siblings })) else Err Fields
 
@@ -34,7 +35,7 @@ roster_number row = row.student
 
 -- the row after earlier ones
 abbrev pub next_student : List RosterRow → List (List ℕ) → Result RosterRow Cause
-next_student = next_row 200000 roster_number student_of
+next_student = next_row MOST_STUDENTS roster_number student_of
 
 -- the rows of the roster
 abbrev pub roster_in : List ℕ → Result (List RosterRow) IntakeFault

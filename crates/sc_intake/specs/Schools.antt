@@ -1,8 +1,9 @@
 -- What the file of the schools reads as.
 use Rattle.std.specs.Prelude.{ℕ, ◌==◌, Bool, ◌&&◌, List, length, codes, if◌then◌else◌, Result, Ok, Err}
 use Rattle.std.specs.Str.{bytes_eq}
+use Rattle.sc_papers.specs.declared.limits.TheConstants.{MOST_SCHOOLS}
 use Rattle.sc_intake.specs.Fault.{◌>>=◌}
-use Rattle.sc_intake.specs.Field.{number_of, within}
+use Rattle.sc_intake.specs.Field.{as_school, as_seats, as_zone, number_of}
 use Rattle.sc_intake.specs.File.{rows_in, text_at}
 use Rattle.sc_intake.specs.Rows.{next_row}
 use Rattle.sc_intake.specs.declared.fault.Cause.{Cause}
@@ -23,9 +24,9 @@ school_of row fields = if length fields == 3 then (do
   a ← number_of (text_at fields 0)
   b ← number_of (text_at fields 1)
   c ← number_of (text_at fields 2)
-  number ← within 1 99999 a
-  zone ← within 0 9999 b
-  seats ← within 0 10000 c
+  number ← as_school a
+  zone ← as_zone b
+  seats ← as_seats c
   Ok (record { row = row; number = number; zone = zone; seats = seats })) else Err Fields
 
 -- a school's number
@@ -34,7 +35,7 @@ school_number row = row.number
 
 -- the row after earlier ones
 abbrev pub next_school : List SchoolRow → List (List ℕ) → Result SchoolRow Cause
-next_school = next_row 5000 school_number school_of
+next_school = next_row MOST_SCHOOLS school_number school_of
 
 -- the rows of the file of the schools
 abbrev pub schools_in : List ℕ → Result (List SchoolRow) IntakeFault

@@ -1,10 +1,14 @@
 -- What a script reads as: each of its records is an amendment, or `Shape`.
 use Rattle.std.specs.Prelude.{ℕ, ◌==◌, Bool, List, length, map, codes, if◌then◌else◌, Result, Ok, Err}
 use Rattle.std.specs.Str.{bytes_eq}
+use Rattle.sc_lottery.specs.declared.number.TheConstants.StudentNumber.{GREATEST as greatest_student}
 use Rattle.sc_papers.specs.declared.amendment.Amendment.{Amendment}
 use Rattle.sc_papers.specs.declared.amendment.Amendment.TheVariants.{Enter, Withdraw, Rerank, Add, Close, Correct}
 use Rattle.sc_papers.specs.declared.amendment.Refusal.{Refusal}
 use Rattle.sc_papers.specs.declared.amendment.Refusal.TheVariants.{Shape}
+use Rattle.sc_papers.specs.declared.count.TheConstants.Count.{GREATEST as greatest_count}
+use Rattle.sc_papers.specs.declared.school_no.TheConstants.SchoolNo.{GREATEST as greatest_school}
+use Rattle.sc_papers.specs.declared.zone.TheConstants.Zone.{GREATEST as greatest_zone}
 use Rattle.sc_intake.specs.Fault.{◌>>=◌}
 use Rattle.sc_intake.specs.Field.{all_schools, list_of, number_of, within}
 use Rattle.sc_intake.specs.File.{records_in, text_at}
@@ -19,19 +23,19 @@ number_at least greatest fields place = number_of (text_at fields place) >>= wit
 
 -- the student's number that a field writes
 abbrev pub student_at : List (List ℕ) → ℕ → Result ℕ Cause
-student_at = number_at 1 999999999
+student_at = number_at 1 greatest_student
 
 -- the zone that a field writes
 abbrev pub zone_at : List (List ℕ) → ℕ → Result ℕ Cause
-zone_at = number_at 0 9999
+zone_at = number_at 0 greatest_zone
 
 -- the school's number that a field writes
 abbrev pub school_at : List (List ℕ) → ℕ → Result ℕ Cause
-school_at = number_at 1 99999
+school_at = number_at 1 greatest_school
 
 -- how many seats a field adds or closes
 abbrev pub count_at : List (List ℕ) → ℕ → Result ℕ Cause
-count_at = number_at 1 10000
+count_at = number_at 1 greatest_count
 
 -- the list of schools that a field writes, of any length
 unfoldable pub list_at : List (List ℕ) → ℕ → Result (List ℕ) Cause

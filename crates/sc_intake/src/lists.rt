@@ -11,7 +11,7 @@ use crate::ranges;
 use crate::records::Records;
 use crate::rows::{Numbered, Row, Rows, read_rows};
 use crate::school_list::school_list;
-use sc_papers::{SchoolList, StudentNo};
+use sc_papers::{MOST_STUDENTS, SchoolList, StudentNo};
 use std::alloc::Global;
 
 /// A row of the lists.
@@ -29,13 +29,14 @@ pub struct ListRow {
 pub type ListRows = Rows<ListRow>;
 
 impl Numbered for ListRow {
+    ghost use Rattle.sc_papers.specs.declared.limits.TheConstants.{MOST_STUDENTS};
     ghost use Rattle.sc_intake.specs.Lists.{list_number};
 
-    ghost MOST = { 200000 };
+    ghost MOST = { MOST_STUDENTS };
 
     ghost number = { list_number };
 
-    const MOST: usize = 200_000;
+    const MOST: usize = MOST_STUDENTS;
 
     fn number(&self) -> u32 {
         self.student.get()

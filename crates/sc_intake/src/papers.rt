@@ -14,13 +14,13 @@ use crate::fault::{Cause, IntakeFault, Source};
 use crate::lists::{ListRow, ListRows};
 use crate::roster::{RosterRow, RosterRows};
 use crate::schools::{SchoolRow, SchoolRows};
-use sc_papers::{Amendment, Papers, Refusal, SchoolRefusal, Seed, StudentNo};
+use sc_papers::{Amendment, MOST_SCHOOLS, MOST_STUDENTS, Papers, Refusal, SchoolRefusal, Seed, StudentNo};
 use std::alloc::{AllocError, Global};
 use std::collections::HashMap;
 
 /// The papers with these schools, before any student.
 fn open_papers(alloc: Global, seed: Seed, schools: &[SchoolRow]) -> Result<Papers, AllocError>
-    requires { AreRows school_number 5000 schools.now }
+    requires { AreRows school_number MOST_SCHOOLS schools.now }
     ensures { IfOk result (λ papers. papers ≡ opening seed schools.now) }
 {
     let mut papers = Papers::new(alloc, seed);
@@ -36,7 +36,7 @@ fn open_papers(alloc: Global, seed: Seed, schools: &[SchoolRow]) -> Result<Paper
 
 /// Where each student's list stands.
 fn list_places(alloc: Global, lists: &[ListRow]) -> Result<HashMap<StudentNo, usize>, AllocError>
-    requires { AreRows list_number 200000 lists.now }
+    requires { AreRows list_number MOST_STUDENTS lists.now }
     ensures { IfOk result (λ places. ArePlaces places lists.now lists.now) }
 {
     let mut places = HashMap::new(alloc);
@@ -129,7 +129,7 @@ fn fill_papers(
     roster: &[RosterRow],
     lists: &[ListRow],
 ) -> Result<(), IntakeFault>
-    requires lists { AreRows list_number 200000 lists.now }
+    requires lists { AreRows list_number MOST_STUDENTS lists.now }
     requires fresh { papers.old.students ≡ [] }
     ensures { Gives (λ _. papers.new) (no_memory Roster) (filled papers.old roster.now lists.now) result }
 {

@@ -1,13 +1,13 @@
 //! Numbers of fields as the numbers of the papers.
 
 ghost use Rattle.std.specs.Prelude.{◌≡◌};
-ghost use Rattle.sc_intake.specs.Field.{within};
+ghost use Rattle.sc_intake.specs.Field.{as_count, as_school, as_seats, as_student, as_zone};
 
 use crate::fault::Cause;
 use sc_papers::{Count, SchoolNo, Seats, StudentNo, Zone};
 
 pub(crate) fn school(number: u32) -> Result<SchoolNo, Cause>
-    ensures { result ≡ within 1 99999 number }
+    ensures { result ≡ as_school number }
 {
     match SchoolNo::new(number) {
         Some(school) => Ok(school),
@@ -16,7 +16,7 @@ pub(crate) fn school(number: u32) -> Result<SchoolNo, Cause>
 }
 
 pub(crate) fn student(number: u32) -> Result<StudentNo, Cause>
-    ensures { result ≡ within 1 999999999 number }
+    ensures { result ≡ as_student number }
 {
     match StudentNo::new(number) {
         Some(student) => Ok(student),
@@ -25,7 +25,7 @@ pub(crate) fn student(number: u32) -> Result<StudentNo, Cause>
 }
 
 pub(crate) fn zone(number: u32) -> Result<Zone, Cause>
-    ensures { result ≡ within 0 9999 number }
+    ensures { result ≡ as_zone number }
 {
     match Zone::new(number) {
         Some(zone) => Ok(zone),
@@ -34,7 +34,7 @@ pub(crate) fn zone(number: u32) -> Result<Zone, Cause>
 }
 
 pub(crate) fn seats(number: u32) -> Result<Seats, Cause>
-    ensures { result ≡ within 0 10000 number }
+    ensures { result ≡ as_seats number }
 {
     match Seats::new(number) {
         Some(seats) => Ok(seats),
@@ -43,7 +43,7 @@ pub(crate) fn seats(number: u32) -> Result<Seats, Cause>
 }
 
 pub(crate) fn count(number: u32) -> Result<Count, Cause>
-    ensures { result ≡ within 1 10000 number }
+    ensures { result ≡ as_count number }
 {
     match Count::new(number) {
         Some(count) => Ok(count),

@@ -11,7 +11,7 @@ use crate::ranges;
 use crate::records::Records;
 use crate::rows::{Numbered, Row, Rows, read_rows};
 use crate::school_list::school_list;
-use sc_papers::{SchoolList, StudentNo, Zone};
+use sc_papers::{MOST_STUDENTS, SchoolList, StudentNo, Zone};
 use std::alloc::Global;
 
 /// A row of the roster.
@@ -30,13 +30,14 @@ pub struct RosterRow {
 pub type RosterRows = Rows<RosterRow>;
 
 impl Numbered for RosterRow {
+    ghost use Rattle.sc_papers.specs.declared.limits.TheConstants.{MOST_STUDENTS};
     ghost use Rattle.sc_intake.specs.Roster.{roster_number};
 
-    ghost MOST = { 200000 };
+    ghost MOST = { MOST_STUDENTS };
 
     ghost number = { roster_number };
 
-    const MOST: usize = 200_000;
+    const MOST: usize = MOST_STUDENTS;
 
     fn number(&self) -> u32 {
         self.student.get()

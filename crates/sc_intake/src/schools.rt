@@ -10,7 +10,7 @@ use crate::field::number;
 use crate::ranges;
 use crate::records::Records;
 use crate::rows::{Numbered, Row, Rows, read_rows};
-use sc_papers::{SchoolNo, Seats, Zone};
+use sc_papers::{MOST_SCHOOLS, SchoolNo, Seats, Zone};
 use std::alloc::Global;
 
 /// A row of the file of the schools.
@@ -28,13 +28,14 @@ pub struct SchoolRow {
 pub type SchoolRows = Rows<SchoolRow>;
 
 impl Numbered for SchoolRow {
+    ghost use Rattle.sc_papers.specs.declared.limits.TheConstants.{MOST_SCHOOLS};
     ghost use Rattle.sc_intake.specs.Schools.{school_number};
 
-    ghost MOST = { 5000 };
+    ghost MOST = { MOST_SCHOOLS };
 
     ghost number = { school_number };
 
-    const MOST: usize = 5_000;
+    const MOST: usize = MOST_SCHOOLS;
 
     fn number(&self) -> u32 {
         self.number.get()

@@ -10,6 +10,7 @@ use Rattle.sc_journal.specs.declared.fault.JournalCause.{JournalCause}
 use Rattle.sc_journal.specs.declared.fault.JournalCause.TheVariants.{Shape, Number, JournalFull, Refused, OutOfMemory}
 use Rattle.sc_journal.specs.declared.fault.JournalFault.{JournalFault}
 use Rattle.sc_journal.specs.declared.journal.Tail.{Tail}
+use Rattle.sc_journal.specs.declared.line_no.TheConstants.LineNo.{GREATEST as greatest_line}
 use Rattle.sc_journal.specs.declared.journal.Tail.TheVariants.{Whole, Torn}
 
 -- the lines of amendments, each with its newline, the first of which has this number
@@ -36,7 +37,7 @@ IsUnbroken text = All (λ byte. byte ≢ 10) text
 pub record IsReplayed (before now : Market) (bytes rest : List ℕ) : Type 0 where
   pub amendments : List Amendment
   pub ranges : All IsInRanges amendments
-  pub count : length amendments ≤ 999999999
+  pub count : length amendments ≤ greatest_line
   pub text : bytes ≡ journal_text 1 amendments ++ rest
   pub accepted : AreAccepted before amendments
   pub papers : now ≡ after_all before amendments
@@ -58,8 +59,8 @@ pub record IsReplay (before now : Market) (bytes : List ℕ) (tail : Tail) : Typ
 -- number, and this before the amendment
 abbrev pub IsCause : Market → ℕ → List ℕ → JournalCause → Type 0
 IsCause m number text Shape = (n : ℕ) (amendment : Amendment) → IsLineOf text n amendment → ⊥
-IsCause m number text Number = (number ≤ 999999999) × ((n : ℕ) × (amendment : Amendment) × IsLineOf text n amendment × (n ≢ number))
-IsCause m number text JournalFull = (999999999 < number) × ((n : ℕ) × (amendment : Amendment) × IsLineOf text n amendment)
+IsCause m number text Number = (number ≤ greatest_line) × ((n : ℕ) × (amendment : Amendment) × IsLineOf text n amendment × (n ≢ number))
+IsCause m number text JournalFull = (greatest_line < number) × ((n : ℕ) × (amendment : Amendment) × IsLineOf text n amendment)
 IsCause m number text (Refused refusal) = (amendment : Amendment) × IsLineOf text number amendment × (verdict m amendment ≡ Some refusal)
 IsCause m number text OutOfMemory = ⊥
 

@@ -3,8 +3,13 @@ use Rattle.std.specs.Prelude.{◌≡◌, ◌⊎◌, ℕ, ◌==◌, Bool, ◌&&�
 use Rattle.std.specs.List.{slice_split}
 use Rattle.std.specs.Str.{bytes_eq}
 use Rattle.sc_decimal.specs.Number.{read_plain_number}
+use Rattle.sc_lottery.specs.declared.number.TheConstants.StudentNumber.{GREATEST as greatest_student}
+use Rattle.sc_papers.specs.declared.count.TheConstants.Count.{GREATEST as greatest_count}
+use Rattle.sc_papers.specs.declared.school_no.TheConstants.SchoolNo.{GREATEST as greatest_school}
+use Rattle.sc_papers.specs.declared.zone.TheConstants.Zone.{GREATEST as greatest_zone}
 use Rattle.sc_papers.specs.declared.amendment.Amendment.{Amendment}
 use Rattle.sc_papers.specs.declared.amendment.Amendment.TheVariants.{Enter, Withdraw, Rerank, Add, Close, Correct}
+use Rattle.sc_journal.specs.declared.line_no.TheConstants.LineNo.{GREATEST as greatest_line}
 use Rattle.sc_journal.specs.declared.unread.Unread.{Unread}
 use Rattle.sc_journal.specs.declared.unread.Unread.TheVariants.{NoLine, OutOfMemory}
 use Rattle.sc_journal.specs.declared.reading.JournalLine.{JournalLine}
@@ -34,19 +39,19 @@ ranged_in least greatest text = number_in text >>= within least greatest
 
 -- the student's number that a text writes
 abbrev pub student_in : List ℕ → Result ℕ Unread
-student_in text = ranged_in 1 999999999 text
+student_in text = ranged_in 1 greatest_student text
 
 -- the zone that a text writes
 abbrev pub zone_in : List ℕ → Result ℕ Unread
-zone_in text = ranged_in 0 9999 text
+zone_in text = ranged_in 0 greatest_zone text
 
 -- the school's number that a text writes
 abbrev pub school_in : List ℕ → Result ℕ Unread
-school_in text = ranged_in 1 99999 text
+school_in text = ranged_in 1 greatest_school text
 
 -- how many seats a text adds or closes
 abbrev pub count_in : List ℕ → Result ℕ Unread
-count_in text = ranged_in 1 10000 text
+count_in text = ranged_in 1 greatest_count text
 
 -- the schools that texts write, after earlier ones
 unfoldable pub schools_after : List ℕ → List (List ℕ) → Result (List ℕ) Unread
@@ -123,7 +128,7 @@ amendment_in fields =
 -- the line that fields read as
 unfoldable pub line_of : List (List ℕ) → Result JournalLine Unread
 line_of fields = do
-  number ← ranged_in 1 999999999 (field_at fields 0)
+  number ← ranged_in 1 greatest_line (field_at fields 0)
   amendment ← amendment_in fields
   Ok (record { number = number; amendment = amendment })
 

@@ -11,16 +11,18 @@ ghost use Rattle.sc_journal.specs.declared.fault.JournalFault.{JournalFault};
 ghost use Rattle.sc_journal.specs.declared.journal.Tail.{Tail};
 ghost use Rattle.sc_journal.specs.declared.journal.Tail.TheVariants.{Whole};
 
+use crate::line_no::LineNo;
+
 /// Two lines are spelled alike only where they are of the same number and the same amendment.
 pub fn spellings_differ()
-    ensures number { (n k : ℕ) (a b : Amendment) → IsInRange 1 999999999 n → IsInRange 1 999999999 k → IsInRanges a → IsInRanges b → line_text n a ≡ line_text k b → n ≡ k }
-    ensures amendment { (n k : ℕ) (a b : Amendment) → IsInRange 1 999999999 n → IsInRange 1 999999999 k → IsInRanges a → IsInRanges b → line_text n a ≡ line_text k b → a ≡ b }
+    ensures number { (n k : ℕ) (a b : Amendment) → IsInRange 1 LineNo.GREATEST n → IsInRange 1 LineNo.GREATEST k → IsInRanges a → IsInRanges b → line_text n a ≡ line_text k b → n ≡ k }
+    ensures amendment { (n k : ℕ) (a b : Amendment) → IsInRange 1 LineNo.GREATEST n → IsInRange 1 LineNo.GREATEST k → IsInRanges a → IsInRanges b → line_text n a ≡ line_text k b → a ≡ b }
 {}
 
 /// The journal of amendments that papers accept in turn is replayed to the papers after them, order
 /// of entry included.
 pub fn journal_is_replayed()
-    ensures { (m : Market) (amendments : List Amendment) → All IsInRanges amendments → length amendments ≤ 999999999 → AreAccepted m amendments → IsReplay m (after_all m amendments) (journal_text 1 amendments) Whole }
+    ensures { (m : Market) (amendments : List Amendment) → All IsInRanges amendments → length amendments ≤ LineNo.GREATEST → AreAccepted m amendments → IsReplay m (after_all m amendments) (journal_text 1 amendments) Whole }
 {}
 
 /// The same papers and the same bytes have one answer: the same papers and tail, or the same first

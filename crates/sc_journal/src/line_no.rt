@@ -1,4 +1,5 @@
 ghost use Rattle.std.specs.Prelude.{◌≡◌, ℕ, ◌+◌, ◌<◌, ◌≤◌, SomeIff};
+ghost use Rattle.sc_journal.specs.declared.line_no.TheConstants.LineNo.{GREATEST};
 
 use std::marker::Model;
 
@@ -13,7 +14,7 @@ impl Model for LineNo {
 
     ghost view = { λ n. n.number };
 
-    ghost invariant = { λ n. (1 ≤ n.number) × (n.number ≤ 999999999) };
+    ghost invariant = { λ n. (1 ≤ n.number) × (n.number ≤ GREATEST) };
 
     ghost inverse = { λ n. record { number = n } };
 }
@@ -24,7 +25,7 @@ impl LineNo {
 
     /// The number as a `LineNo`, or `None` outside 1 to 999,999,999.
     pub fn new(number: u32) -> Option<Self>
-        ensures { SomeIff result ((1 ≤ number) × (number ≤ 999999999)) number }
+        ensures { SomeIff result ((1 ≤ number) × (number ≤ Self.GREATEST)) number }
     {
         if 1 <= number && number <= Self::GREATEST {
             Some(LineNo { number })
@@ -37,14 +38,14 @@ impl LineNo {
     pub fn get(self) -> u32
         ensures value { result ≡ self }
         ensures least { 1 ≤ result }
-        ensures greatest { result ≤ 999999999 }
+        ensures greatest { result ≤ Self.GREATEST }
     {
         self.number
     }
 
     /// The number of the next line, or `None` after line 999,999,999.
     pub fn next(self) -> Option<Self>
-        ensures { SomeIff result (self < 999999999) (self + 1) }
+        ensures { SomeIff result (self < Self.GREATEST) (self + 1) }
     {
         LineNo::new(self.number + 1)
     }

@@ -20,7 +20,7 @@ fn number(text: &[u8]) -> Result<u32, Unread>
 
 /// The number of a line that a text writes.
 pub(crate) fn line_no(text: &[u8]) -> Result<LineNo, Unread>
-    ensures { result ≡ ranged_in 1 999999999 text.now }
+    ensures { result ≡ ranged_in 1 LineNo.GREATEST text.now }
 {
     LineNo::new(number(text)?).ok_or(Unread::NoLine)
 }
