@@ -1,5 +1,5 @@
 pub mod Cutting
-pub mod Places
+pub mod CursorMoves
 pub mod Blanks
 pub mod Words
 pub mod Giving

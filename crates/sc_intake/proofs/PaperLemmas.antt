@@ -25,7 +25,7 @@ use Rattle.sc_intake.specs.Schools.{school_number}
 use Rattle.sc_papers.specs.declared.limits.TheConstants.{MOST_SCHOOLS}
 use Rattle.sc_papers.specs.declared.school_refusal.SchoolRefusal.{SchoolRefusal}
 use Rattle.sc_papers.specs.declared.school_refusal.SchoolRefusal.TheVariants.{OutOfMemory as no_memory_there}
-use Rattle.sc_intake.specs.Papers.{all_entered, amended, cause_of, entered_by, filled, list_of, opening, stranger, unless_refused, is_in_roster, unknown_list}
+use Rattle.sc_intake.specs.Papers.{all_entered, amended, cause_of, entered_by, filled, list_of, opening, first_not_in_roster, unless_refused, is_in_roster, unknown_list}
 use Rattle.sc_intake.specs.declared.fault.Cause.{Cause}
 use Rattle.sc_intake.specs.declared.fault.Cause.TheVariants.{NotInRoster, OutOfMemory, Refused}
 use Rattle.sc_intake.specs.declared.fault.IntakeFault.{IntakeFault}
@@ -55,13 +55,13 @@ or-none : {X : Type 0} (o : Option X) → option_or o None ≡ o
 or-none None = refl
 or-none (Some x) = refl
 
--- a place more
-pub places-more : (lists : List ListRow) (i : ℕ) (row : ListRow) (before after : ℕ → Option ℕ) → IsDistinct nat_eq (map list_number lists)
+-- a position more
+pub positions-more : (lists : List ListRow) (i : ℕ) (row : ListRow) (before after : ℕ → Option ℕ) → IsDistinct nat_eq (map list_number lists)
     → i < length lists → row ≡ get_or lists i row
     → ((q : ℕ) → option_and_then (slice_get lists) (before q) ≡ list_of (take i lists) q)
     → ((q : ℕ) → after q ≡ cond (nat_eq row.student q) (Some i) (before q))
     → (q : ℕ) → option_and_then (slice_get lists) (after q) ≡ list_of (take (i + 1) lists) q
-places-more lists i row before after differ within at places put q =
+positions-more lists i row before after differ within at positions put q =
     let more : list_of (take (i + 1) lists) q ≡ option_or (list_of (take i lists) q) (cond (nat_eq q row.student) (Some row) None) =
     ap (λ (part : List ListRow). list_of part q) (take_more lists i row within ∙ ap (λ (r : ListRow). take i lists ++ r ∷ []) (sym at)) ∙ find-append (λ (r : ListRow). nat_eq q r.student) (take i lists) (row ∷ []) in
     let turned = nat_eq_equiv.symm q row.student in
@@ -76,7 +76,7 @@ places-more lists i row before after differ within at places put q =
       | inr other ↦
           let missing : cond (nat_eq q row.student) (Some row) None ≡ None = rw (turned, other) refl in
           let now : after q ≡ before q = put q ∙ rw other refl in
-          ap (option_and_then (slice_get lists)) now ∙ places q ∙ sym (more ∙ rw missing (or-none (list_of (take i lists) q)))
+          ap (option_and_then (slice_get lists)) now ∙ positions q ∙ sym (more ∙ rw missing (or-none (list_of (take i lists) q)))
     ]
 
 all_entered-more : (lists : List ListRow) (m n : Market) (row : RosterRow) (rest : List RosterRow) → entered_by m row (list_of lists row.student) ≡ Ok n
@@ -185,22 +185,22 @@ find-same p q same [] = refl
 find-same p q same (list ∷ rest) = rw (same list, find-same p q same rest) refl
 
 -- nobody else is in them
-pub strangers : (lists : List ListRow) (m n : Market) (roster : List RosterRow) → m.students ≡ [] → all_entered lists m roster ≡ Ok n
-    → unknown_list n lists ≡ stranger roster lists
-strangers lists m n roster fresh entered =
+pub same-unknown : (lists : List ListRow) (m n : Market) (roster : List RosterRow) → m.students ≡ [] → all_entered lists m roster ≡ Ok n
+    → unknown_list n lists ≡ first_not_in_roster roster lists
+same-unknown lists m n roster fresh entered =
     let none : (i : ℕ) → is_student m i ≡ false = λ i. rw fresh refl in
     find-same (λ list. not (is_student n list.student)) (λ list. not (is_in_roster roster list.student))
     (λ list. ap not (all-students lists m n roster entered list.student ∙ ap (λ (b : Bool). b || is_in_roster roster list.student) (none list.student))) lists
 
 -- a list of nobody in the roster
-pub filled-stranger : (m n : Market) (roster : List RosterRow) (lists : List ListRow) (list : ListRow) → all_entered lists m roster ≡ Ok n
-    → stranger roster lists ≡ Some list → filled m roster lists ≡ Err (fault_at Lists list.row NotInRoster)
+pub filled-not-in-roster : (m n : Market) (roster : List RosterRow) (lists : List ListRow) (list : ListRow) → all_entered lists m roster ≡ Ok n
+    → first_not_in_roster roster lists ≡ Some list → filled m roster lists ≡ Err (fault_at Lists list.row NotInRoster)
 unfolding filled
-filled-stranger m n roster lists list entered found = rw (entered, found) refl
+filled-not-in-roster m n roster lists list entered found = rw (entered, found) refl
 
 -- each list is of a student of the roster
 pub filled-all : (m n : Market) (roster : List RosterRow) (lists : List ListRow) → all_entered lists m roster ≡ Ok n
-    → stranger roster lists ≡ None → filled m roster lists ≡ Ok n
+    → first_not_in_roster roster lists ≡ None → filled m roster lists ≡ Ok n
 unfolding filled
 filled-all m n roster lists entered none = rw (entered, none) refl
 

@@ -10,8 +10,8 @@ pub slice_range-more : (text : List ℕ) (start i d : ℕ) → start ≤ i → i
     → slice_range text start (i + 1) ≡ slice_range text start i ++ get_or text i d ∷ []
 slice_range-more text start i d from within =
     let span : i + 1 - start ≡ i - start + 1 = omega arith in
-    let place : start + (i - start) ≡ i = omega arith in
-    rw (span, take_more (drop start text) (i - start) d (omega (arith, length-drop start text)), get_or-drop start text (i - start) d, place) refl
+    let index : start + (i - start) ≡ i = omega arith in
+    rw (span, take_more (drop start text) (i - start) d (omega (arith, length-drop start text)), get_or-drop start text (i - start) d, index) refl
 
 -- a space ends the piece
 pub words-space : (piece text : List ℕ) (i d : ℕ) → i < length text → get_or text i d ≡ 32

@@ -16,17 +16,17 @@ abbrev pub is_blank : ℕ → Bool
 is_blank c = c == 32 || c == 9
 
 -- a text from its first byte that is no blank
-unfoldable pub without_front : List ℕ → List ℕ
-without_front [] = []
-without_front (c ∷ cs) = if is_blank c then without_front cs else c ∷ cs
+unfoldable pub trim_start : List ℕ → List ℕ
+trim_start [] = []
+trim_start (c ∷ cs) = if is_blank c then trim_start cs else c ∷ cs
 
 -- a text up to its last byte that is no blank
-unfoldable pub without_back : List ℕ → List ℕ
-without_back text = reverse (without_front (reverse text))
+unfoldable pub trim_end : List ℕ → List ℕ
+trim_end text = reverse (trim_start (reverse text))
 
 -- a field without the blanks at both ends
 abbrev pub trimmed : List ℕ → List ℕ
-trimmed text = without_back (without_front text)
+trimmed text = trim_end (trim_start text)
 
 -- the number that a text of 1 to 9 decimal digits writes
 unfoldable pub number_of : List ℕ → Result ℕ Cause

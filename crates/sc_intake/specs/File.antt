@@ -11,7 +11,7 @@ use Rattle.sc_intake.specs.declared.fault.Source.{Source}
 
 -- a field of a record without the blanks around it; one past the last is empty
 abbrev pub text_at : List (List ℕ) → ℕ → List ℕ
-text_at fields place = trimmed (unwrap_or (field_at fields place) [])
+text_at fields index = trimmed (unwrap_or (field_at fields index) [])
 
 -- a text begins with a byte order mark
 abbrev pub is_marked : List ℕ → Bool

@@ -1,9 +1,9 @@
 pub mod Fault
 pub mod Field
 pub mod File
-pub mod Place
+pub mod Cursor
 pub mod Reading
-pub mod Inside
+pub mod Representation
 pub mod Rows
 pub mod Schools
 pub mod Roster

@@ -62,17 +62,17 @@ all_entered lists m (row ∷ rest) =
     in_row Roster row.row (entered_by m row (list_of lists row.student)) >>= λ n. all_entered lists n rest
 
 -- the papers, unless this list is of a student who is not in the roster
-abbrev pub unless_stranger : Market → Option ListRow → Result Market IntakeFault
-unless_stranger m None = Ok m
-unless_stranger m (Some list) = Err (fault_at Lists list.row NotInRoster)
+abbrev pub unless_not_in_roster : Market → Option ListRow → Result Market IntakeFault
+unless_not_in_roster m None = Ok m
+unless_not_in_roster m (Some list) = Err (fault_at Lists list.row NotInRoster)
 
 -- a student is in the roster
 abbrev pub is_in_roster : List RosterRow → ℕ → Bool
 is_in_roster roster i = list_any (λ row. nat_eq i row.student) roster
 
 -- the first list whose student is not in the roster
-abbrev pub stranger : List RosterRow → List ListRow → Option ListRow
-stranger roster lists = find (λ list. not (is_in_roster roster list.student)) lists
+abbrev pub first_not_in_roster : List RosterRow → List ListRow → Option ListRow
+first_not_in_roster roster lists = find (λ list. not (is_in_roster roster list.student)) lists
 
 -- the first list whose student is not in the papers
 abbrev pub unknown_list : Market → List ListRow → Option ListRow
@@ -81,12 +81,12 @@ unknown_list m lists = find (λ list. not (is_student m list.student)) lists
 -- papers with schools alone after the students of the roster have entered, unless a list is of nobody
 -- in the roster
 unfoldable pub filled : Market → List RosterRow → List ListRow → Result Market IntakeFault
-filled m roster lists = all_entered lists m roster >>= λ n. unless_stranger n (stranger roster lists)
+filled m roster lists = all_entered lists m roster >>= λ n. unless_not_in_roster n (first_not_in_roster roster lists)
 
 -- the papers that the rows make
 abbrev pub papers_of : List ℕ → List SchoolRow → List RosterRow → List ListRow → Result Market IntakeFault
 papers_of seed schools roster lists = filled (opening seed schools) roster lists
 
--- the map gives the place of each student's row of the lists
-abbrev pub ArePlaces : {S : Type 0} → HashMap ℕ ℕ S → List ListRow → List ListRow → Type 0
-ArePlaces places lists part = (i : ℕ) → option_and_then (slice_get lists) (get nat_eq places i) ≡ list_of part i
+-- the map gives the position of each student's row of the lists
+abbrev pub ArePositions : {S : Type 0} → HashMap ℕ ℕ S → List ListRow → List ListRow → Type 0
+ArePositions positions lists part = (i : ℕ) → option_and_then (slice_get lists) (get nat_eq positions i) ≡ list_of part i

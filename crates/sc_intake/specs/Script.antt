@@ -19,7 +19,7 @@ use Rattle.sc_intake.specs.declared.fault.Source.TheVariants.{Script}
 
 -- the number of a range that a field writes
 abbrev pub number_at : ℕ → ℕ → List (List ℕ) → ℕ → Result ℕ Cause
-number_at least greatest fields place = number_of (text_at fields place) >>= within least greatest
+number_at least greatest fields index = number_of (text_at fields index) >>= within least greatest
 
 -- the student's number that a field writes
 abbrev pub student_at : List (List ℕ) → ℕ → Result ℕ Cause
@@ -39,7 +39,7 @@ count_at = number_at 1 greatest_count
 
 -- the list of schools that a field writes, of any length
 unfoldable pub list_at : List (List ℕ) → ℕ → Result (List ℕ) Cause
-list_at fields place = list_of (text_at fields place) >>= all_schools
+list_at fields index = list_of (text_at fields index) >>= all_schools
 
 -- `enter,STUDENT,ZONE,SIBLINGS,CHOICES`
 unfoldable pub enter_of : List (List ℕ) → Result Amendment Cause

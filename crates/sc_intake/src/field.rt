@@ -2,7 +2,7 @@
 
 ghost use Rattle.std.specs.Prelude.{◌≡◌, ◌+◌, ◌≤◌, ◌++◌, length, drop, slice_range};
 ghost use Rattle.sc_intake.specs.Fault.{Gives};
-ghost use Rattle.sc_intake.specs.Field.{is_blank, list_of, number_of, trimmed, without_back, without_front, word_of, words};
+ghost use Rattle.sc_intake.specs.Field.{is_blank, list_of, number_of, trimmed, trim_end, trim_start, word_of, words};
 ghost use Rattle.sc_intake.specs.declared.fault.Cause.TheVariants.{OutOfMemory};
 
 use crate::fault::Cause;
@@ -16,20 +16,20 @@ fn is_blank(byte: u8) -> bool
 }
 
 /// The text from its first byte that is no blank.
-fn without_front(text: &[u8]) -> &[u8]
-    ensures { result.now ≡ without_front text.now }
+fn trim_start(text: &[u8]) -> &[u8]
+    ensures { result.now ≡ trim_start text.now }
 {
-    for (place, byte) in text.iter().enumerate() {
+    for (index, byte) in text.iter().enumerate() {
         if !is_blank(*byte) {
-            return &text[place..];
+            return &text[index..];
         }
     }
     &[]
 }
 
 /// The text up to its last byte that is no blank.
-fn without_back(text: &[u8]) -> &[u8]
-    ensures { result.now ≡ without_back text.now }
+fn trim_end(text: &[u8]) -> &[u8]
+    ensures { result.now ≡ trim_end text.now }
 {
     for passed in 0..text.len() {
         let end = text.len() - passed;
@@ -44,7 +44,7 @@ fn without_back(text: &[u8]) -> &[u8]
 pub(crate) fn trimmed(field: &[u8]) -> &[u8]
     ensures { result.now ≡ trimmed field.now }
 {
-    without_back(without_front(field))
+    trim_end(trim_start(field))
 }
 
 /// The number that a field without blanks writes, or `Number` where it is not 1 to 9 decimal
@@ -59,16 +59,16 @@ pub(crate) fn number(text: &[u8]) -> Result<u32, Cause>
     }
 }
 
-/// Where the piece that begins at a place ends: at the next space, or at the end of the text.
+/// Where the piece that begins at an index ends: at the next space, or at the end of the text.
 fn piece_end(text: &[u8], start: usize) -> usize
     requires { start ≤ length text.now }
     ensures least { start ≤ result }
     ensures greatest { result ≤ length text.now }
     ensures words { words (drop start text.now) ≡ word_of (slice_range text.now start result) ++ words (drop (result + 1) text.now) }
 {
-    for place in start..text.len() {
-        if text[place] == b' ' {
-            return place;
+    for index in start..text.len() {
+        if text[index] == b' ' {
+            return index;
         }
     }
     text.len()

@@ -7,9 +7,9 @@
 
 mod fault;
 mod field;
+mod input;
 mod lists;
 mod log;
-mod opening;
 mod papers;
 mod ranges;
 mod records;
@@ -20,9 +20,9 @@ mod schools;
 mod script;
 
 pub use fault::{Cause, IntakeFault, Source};
+pub use input::MOST_BYTES;
 pub use lists::{ListRow, ListRows, read_lists};
 pub use log::read_log;
-pub use opening::MOST_BYTES;
 pub use papers::papers_of;
 pub use roster::{RosterRow, RosterRows, read_roster};
 pub use rows::{Numbered, Rows};

@@ -10,7 +10,7 @@ ghost use Rattle.sc_intake.specs.declared.fault.Source.TheVariants.{Log};
 
 use crate::fault::{Cause, IntakeFault, Source};
 use crate::field::number;
-use crate::opening::open;
+use crate::input::records_in;
 use crate::ranges;
 use crate::records::Records;
 use sc_papers::Rejection;
@@ -53,7 +53,7 @@ fn take_log(alloc: Global, records: &mut Records) -> Result<Vec<Rejection>, Inta
 pub fn read_log(alloc: Global, bytes: &[u8]) -> Result<Vec<Rejection>, IntakeFault>
     ensures { Gives (λ log. log.items) (no_memory Log) (log_in bytes.now) result }
 {
-    let mut records = open(alloc, Source::Log, bytes)?;
+    let mut records = records_in(alloc, Source::Log, bytes)?;
     let log = take_log(alloc, &mut records)?;
     Ok(log)
 }

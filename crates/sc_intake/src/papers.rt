@@ -4,7 +4,7 @@ ghost use Rattle.std.specs.Prelude.{◌≡◌, [], IfOk};
 ghost use Rattle.std.specs.Option.{option_copied};
 ghost use Rattle.sc_intake.specs.Fault.{Gives, no_memory};
 ghost use Rattle.sc_intake.specs.Lists.{list_number};
-ghost use Rattle.sc_intake.specs.Papers.{all_entered, ArePlaces, cause_of, entered_by, filled, list_of, opening, papers_of, unknown_list};
+ghost use Rattle.sc_intake.specs.Papers.{all_entered, ArePositions, cause_of, entered_by, filled, list_of, opening, papers_of, unknown_list};
 ghost use Rattle.sc_intake.specs.Rows.{AreRows};
 ghost use Rattle.sc_intake.specs.Schools.{school_number};
 ghost use Rattle.sc_intake.specs.declared.fault.Cause.TheVariants.{OutOfMemory};
@@ -14,7 +14,9 @@ use crate::fault::{Cause, IntakeFault, Source};
 use crate::lists::{ListRow, ListRows};
 use crate::roster::{RosterRow, RosterRows};
 use crate::schools::{SchoolRow, SchoolRows};
-use sc_papers::{Amendment, MOST_SCHOOLS, MOST_STUDENTS, Papers, Refusal, SchoolRefusal, Seed, StudentNo};
+use sc_papers::{
+    Amendment, MOST_SCHOOLS, MOST_STUDENTS, Papers, Refusal, SchoolRefusal, Seed, StudentNo,
+};
 use std::alloc::{AllocError, Global};
 use std::collections::HashMap;
 
@@ -35,28 +37,28 @@ fn open_papers(alloc: Global, seed: Seed, schools: &[SchoolRow]) -> Result<Paper
 }
 
 /// Where each student's list stands.
-fn list_places(alloc: Global, lists: &[ListRow]) -> Result<HashMap<StudentNo, usize>, AllocError>
+fn list_positions(alloc: Global, lists: &[ListRow]) -> Result<HashMap<StudentNo, usize>, AllocError>
     requires { AreRows list_number MOST_STUDENTS lists.now }
-    ensures { IfOk result (λ places. ArePlaces places lists.now lists.now) }
+    ensures { IfOk result (λ positions. ArePositions positions lists.now lists.now) }
 {
-    let mut places = HashMap::new(alloc);
-    for (place, list) in lists.iter().enumerate() {
-        places.insert(list.student, place)?;
+    let mut positions = HashMap::new(alloc);
+    for (position, list) in lists.iter().enumerate() {
+        positions.insert(list.student, position)?;
     }
-    Ok(places)
+    Ok(positions)
 }
 
 /// The student's list.
 fn find_list<'a>(
-    places: &HashMap<StudentNo, usize>,
+    positions: &HashMap<StudentNo, usize>,
     lists: &'a [ListRow],
     student: StudentNo,
 ) -> Option<&'a ListRow>
-    requires { ArePlaces places.now lists.now lists.now }
+    requires { ArePositions positions.now lists.now lists.now }
     ensures { option_copied result ≡ list_of lists.now student }
 {
-    let place = places.get(&student)?;
-    lists.get(*place)
+    let position = positions.get(&student)?;
+    lists.get(*position)
 }
 
 /// The cause of a student whom the papers refuse.
@@ -98,14 +100,14 @@ fn enter_all(
     alloc: Global,
     papers: &mut Papers,
     roster: &[RosterRow],
-    places: &HashMap<StudentNo, usize>,
+    positions: &HashMap<StudentNo, usize>,
     lists: &[ListRow],
 ) -> Result<(), IntakeFault>
-    requires { ArePlaces places.now lists.now lists.now }
+    requires { ArePositions positions.now lists.now lists.now }
     ensures { Gives (λ _. papers.new) (no_memory Roster) (all_entered lists.now papers.old roster.now) result }
 {
     for row in roster {
-        let list = find_list(places, lists, row.student);
+        let list = find_list(positions, lists, row.student);
         if let Err(cause) = enter(alloc, papers, row, list) {
             return Err(IntakeFault::at(Source::Roster, row.row, cause));
         }
@@ -114,7 +116,7 @@ fn enter_all(
 }
 
 /// The first list of a student who is not in the papers.
-fn find_stranger<'a>(papers: &Papers, lists: &'a [ListRow]) -> Option<&'a ListRow>
+fn find_unknown_list<'a>(papers: &Papers, lists: &'a [ListRow]) -> Option<&'a ListRow>
     ensures { option_copied result ≡ unknown_list papers.now lists.now }
 {
     lists
@@ -133,11 +135,11 @@ fn fill_papers(
     requires fresh { papers.old.students ≡ [] }
     ensures { Gives (λ _. papers.new) (no_memory Roster) (filled papers.old roster.now lists.now) result }
 {
-    let places = list_places(alloc, lists).map_err(|_refused| IntakeFault::no_memory(
+    let positions = list_positions(alloc, lists).map_err(|_refused| IntakeFault::no_memory(
         Source::Roster,
     ))?;
-    enter_all(alloc, papers, roster, &places, lists)?;
-    match find_stranger(papers, lists) {
+    enter_all(alloc, papers, roster, &positions, lists)?;
+    match find_unknown_list(papers, lists) {
         Some(list) => Err(IntakeFault::at(Source::Lists, list.row, Cause::NotInRoster)),
         None => Ok(()),
     }

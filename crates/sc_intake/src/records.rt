@@ -24,13 +24,13 @@ pub(crate) struct Records<'a> {
 }
 
 impl<'a> Model for Records<'a> {
-    ghost use Rattle.sc_intake.specs.Place.{Place};
+    ghost use Rattle.sc_intake.specs.Cursor.{Cursor};
 
-    ghost Value = { Place };
+    ghost Value = { Cursor };
 
-    ghost use Rattle.sc_intake.specs.Inside.{place_of, IsSound};
+    ghost use Rattle.sc_intake.specs.Representation.{cursor_of, IsSound};
 
-    ghost view = { place_of };
+    ghost view = { cursor_of };
 
     ghost invariant = { IsSound };
 }
@@ -100,15 +100,15 @@ impl<'a> Records<'a> {
     }
 
     /// A field of the record read last without the blanks around it; one past the last is empty.
-    pub(crate) fn field(&self, place: usize) -> &[u8]
-        ensures { result.now ≡ text_at self.now.current place }
+    pub(crate) fn field(&self, index: usize) -> &[u8]
+        ensures { result.now ≡ text_at self.now.current index }
     {
-        trimmed(self.fields.get(place).unwrap_or(&[]))
+        trimmed(self.fields.get(index).unwrap_or(&[]))
     }
     /// Whether a field of the record read last, without the blanks around it, is this text.
-    pub(crate) fn reads(&self, place: usize, text: &[u8]) -> bool
-        ensures { result ≡ bytes_eq (text_at self.now.current place) text.now }
+    pub(crate) fn reads(&self, index: usize, text: &[u8]) -> bool
+        ensures { result ≡ bytes_eq (text_at self.now.current index) text.now }
     {
-        self.field(place) == text
+        self.field(index) == text
     }
 }

@@ -9,7 +9,7 @@ ghost use Rattle.sc_intake.specs.declared.fault.Cause.TheVariants.{OutOfMemory};
 ghost use Rattle.sc_intake.specs.declared.fault.Source.{Source as Input};
 
 use crate::fault::{Cause, IntakeFault, Source};
-use crate::opening::open;
+use crate::input::records_in;
 use crate::records::Records;
 use std::alloc::Global;
 use std::collections::HashSet;
@@ -147,7 +147,7 @@ fn take_rows<R: Row>(alloc: Global, records: &mut Records) -> Result<Vec<R>, Int
 pub(crate) fn read_rows<R: Row>(alloc: Global, bytes: &[u8]) -> Result<Rows<R>, IntakeFault>
     ensures { Gives (λ rows. rows) (no_memory R.source) (rows_in R.source R.is_header (next_row R.MOST R.number R.reading) bytes.now) result }
 {
-    let mut records = open(alloc, R::source(), bytes)?;
+    let mut records = records_in(alloc, R::source(), bytes)?;
     take_header::<R>(&mut records)?;
     let rows = take_rows(alloc, &mut records)?;
     Ok(Rows { rows })

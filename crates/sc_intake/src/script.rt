@@ -9,7 +9,7 @@ ghost use Rattle.sc_intake.specs.declared.fault.Source.TheVariants.{Script};
 
 use crate::fault::{Cause, IntakeFault, Source};
 use crate::field::{list, number};
-use crate::opening::open;
+use crate::input::records_in;
 use crate::ranges;
 use crate::records::Records;
 use crate::school_list::school_list;
@@ -18,10 +18,10 @@ use std::alloc::{AllocError, Global};
 
 /// The list of schools that a field writes.
 #[tactic(auto, unfolding(crate::specs::Script::list_at))]
-fn list_at(alloc: Global, fields: &Records, place: usize) -> Result<SchoolList, Cause>
-    ensures { Gives (λ schools. schools) OutOfMemory (list_at fields.now.current place) result }
+fn list_at(alloc: Global, fields: &Records, index: usize) -> Result<SchoolList, Cause>
+    ensures { Gives (λ schools. schools) OutOfMemory (list_at fields.now.current index) result }
 {
-    let numbers = list(alloc, fields.field(place))?;
+    let numbers = list(alloc, fields.field(index))?;
     Ok(school_list(alloc, &numbers)?)
 }
 
@@ -198,7 +198,7 @@ pub fn read_script(
 ) -> Result<Vec<Result<Amendment, Refusal>>, IntakeFault>
     ensures { Gives (λ script. script.items) (no_memory Script) (script_in bytes.now) result }
 {
-    let mut records = open(alloc, Source::Script, bytes)?;
+    let mut records = records_in(alloc, Source::Script, bytes)?;
     let script = take_script(alloc, &mut records)?;
     Ok(script)
 }

@@ -48,7 +48,7 @@ line-unbroken text n a is =
     let free : IsFree 10 text = rw is.spelled (line-free n a range.1 is.amendment_in_ranges) in
     λ k d inside. (let other : (get_or text k d == 10) ≡ false = free k d inside in grind (arith, nat_tests))
 
--- no whole line at the front of what is left is taken under this number
+-- no whole line at the start of what is left is taken under this number
 abbrev Stops : Market → ℕ → List ℕ → Type 0
 Stops m number left = (text : List ℕ) (a : Amendment) (rest : List ℕ) → IsLineOf text number a → verdict m a ≡ None → left ≡ text ++ 10 ∷ rest → ⊥
 
@@ -86,17 +86,17 @@ same-replay : (m : Market) (first p q : ℕ) (xs ys : List Amendment) (rest more
     → Stops (after_all m xs) p rest → Stops (after_all m ys) q more → AreReplays xs ys rest more
 same-replay m first p q [] [] rest more least ep eq sp sq rx ry ax ay e stops halts = record { amendments = refl; left = e }
 same-replay m first p q [] (y ∷ ys) rest more least ep eq sp sq rx ry ax ay e stops halts =
-    let place : p ≡ first = omega arith in
+    let number : p ≡ first = omega arith in
     let line = is-line first y least (omega arith) (All-head IsInRanges y ys ry) in
     let cut : rest ≡ line_text first y ++ 10 ∷ (journal_text (first + 1) ys ++ more) =
     e ∙ append_assoc (line_text first y ++ codes "\n") (journal_text (first + 1) ys) more ∙ append_assoc (line_text first y) (codes "\n") (journal_text (first + 1) ys ++ more) in
-    absurd (stops (line_text first y) y (journal_text (first + 1) ys ++ more) (rw place line) ay.0 cut)
+    absurd (stops (line_text first y) y (journal_text (first + 1) ys ++ more) (rw number line) ay.0 cut)
 same-replay m first p q (x ∷ xs) [] rest more least ep eq sp sq rx ry ax ay e stops halts =
-    let place : q ≡ first = omega arith in
+    let number : q ≡ first = omega arith in
     let line = is-line first x least (omega arith) (All-head IsInRanges x xs rx) in
     let cut : more ≡ line_text first x ++ 10 ∷ (journal_text (first + 1) xs ++ rest) =
     sym e ∙ append_assoc (line_text first x ++ codes "\n") (journal_text (first + 1) xs) rest ∙ append_assoc (line_text first x) (codes "\n") (journal_text (first + 1) xs ++ rest) in
-    absurd (halts (line_text first x) x (journal_text (first + 1) xs ++ rest) (rw place line) ax.0 cut)
+    absurd (halts (line_text first x) x (journal_text (first + 1) xs ++ rest) (rw number line) ax.0 cut)
 same-replay m first p q (x ∷ xs) (y ∷ ys) rest more least ep eq sp sq rx ry ax ay e stops halts =
     let line-x = is-line first x least (omega arith) (All-head IsInRanges x xs rx) in
     let line-y = is-line first y least (omega arith) (All-head IsInRanges y ys ry) in
@@ -124,8 +124,8 @@ replay-stops m now bytes tail number a = stops-end now number a.rest a.unbroken
 
 fault-stops : (m : Market) (bytes : List ℕ) (fault : JournalFault) (a : IsFirstFault m bytes fault) → Stops a.now (1 + length a.replayed.amendments) (a.line ++ codes "\n" ++ a.rest)
 fault-stops m bytes fault a =
-    let place : 1 + length a.replayed.amendments ≡ fault.line = omega (arith, a.number) in
-    rw place (stops-fault a.now fault.line a.line a.rest fault.cause a.unbroken a.cause)
+    let number : 1 + length a.replayed.amendments ≡ fault.line = omega (arith, a.number) in
+    rw number (stops-fault a.now fault.line a.line a.rest fault.cause a.unbroken a.cause)
 
 pub one-papers : (m now other : Market) (bytes : List ℕ) (tail last : Tail) → IsReplay m now bytes tail → IsReplay m other bytes last → now ≡ other
 one-papers m now other bytes tail last a b =
@@ -179,11 +179,11 @@ pub one-fault : (m : Market) (bytes : List ℕ) (f g : JournalFault) → IsFirst
 one-fault m bytes f g a b =
     let same = both m a.now b.now bytes (a.line ++ codes "\n" ++ a.rest) (b.line ++ codes "\n" ++ b.rest) a.replayed b.replayed (fault-stops m bytes f a) (fault-stops m bytes g b) in
     let cut = cut-one a.line b.line a.rest b.rest a.unbroken b.unbroken (sym (append_assoc a.line (codes "\n") a.rest) ∙ same.left ∙ append_assoc b.line (codes "\n") b.rest) in
-    let place : f.line ≡ g.line = a.number ∙ ap (λ (xs : List Amendment). length xs + 1) same.amendments ∙ sym b.number in
+    let number : f.line ≡ g.line = a.number ∙ ap (λ (xs : List Amendment). length xs + 1) same.amendments ∙ sym b.number in
     let papers : a.now ≡ b.now = a.replayed.papers ∙ ap (after_all m) same.amendments ∙ sym b.replayed.papers in
-    let why : IsCause a.now f.line a.line g.cause = rw (papers, place, cut.before) b.cause in
+    let why : IsCause a.now f.line a.line g.cause = rw (papers, number, cut.before) b.cause in
     let cause = one-cause a.now f.line a.line f.cause g.cause a.cause why in
-    same-fault f g place cause
+    same-fault f g number cause
 
 -- the texts of two lines are the same only for one number and one amendment
 pub line-injective : (n k : ℕ) (a b : Amendment) → IsInRange 1 999999999 n → IsInRange 1 999999999 k → IsInRanges a → IsInRanges b → line_text n a ≡ line_text k b → AreSame n k a b

@@ -21,10 +21,10 @@ accepted-more m (x ∷ xs) a ok next = (ok.0, accepted-more (after m x) xs a ok.
 -- the journal with one line more
 pub journal-more : (first : ℕ) (xs : List Amendment) (a : Amendment) → journal_text first (xs ++ a ∷ []) ≡ journal_text first xs ++ (line_text (first + length xs) a ++ codes "\n")
 journal-more first [] a =
-    let place : first ≡ first + 0 = omega arith in
-    append-nil (line_text first a ++ codes "\n") ∙ ap (λ n. line_text n a ++ codes "\n") place
+    let number : first ≡ first + 0 = omega arith in
+    append-nil (line_text first a ++ codes "\n") ∙ ap (λ n. line_text n a ++ codes "\n") number
 journal-more first (x ∷ xs) a =
-    let place : first + 1 + length xs ≡ first + length (x ∷ xs) = omega arith in
+    let number : first + 1 + length xs ≡ first + length (x ∷ xs) = omega arith in
     ap (λ (text : List ℕ). line_text first x ++ codes "\n" ++ text) (journal-more (first + 1) xs a)
     ∙ sym (append_assoc (line_text first x ++ codes "\n") (journal_text (first + 1) xs) (line_text (first + 1 + length xs) a ++ codes "\n"))
-    ∙ ap (λ n. line_text first x ++ codes "\n" ++ journal_text (first + 1) xs ++ (line_text n a ++ codes "\n")) place
+    ∙ ap (λ n. line_text first x ++ codes "\n" ++ journal_text (first + 1) xs ++ (line_text n a ++ codes "\n")) number

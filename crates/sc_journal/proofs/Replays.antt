@@ -20,8 +20,8 @@ slice_range-more : (text : List ℕ) (start i d : ℕ) → start ≤ i → i < l
     → slice_range text start (i + 1) ≡ slice_range text start i ++ get_or text i d ∷ []
 slice_range-more text start i d from inside =
     let span : i + 1 - start ≡ i - start + 1 = omega arith in
-    let place : start + (i - start) ≡ i = omega arith in
-    rw (span, take_more (drop start text) (i - start) d (omega (arith, length-drop start text)), get_or-drop start text (i - start) d, place) refl
+    let index : start + (i - start) ≡ i = omega arith in
+    rw (span, take_more (drop start text) (i - start) d (omega (arith, length-drop start text)), get_or-drop start text (i - start) d, index) refl
 
 -- no byte of a line that has not begun
 pub unbroken-start : (bytes : List ℕ) (start : ℕ) → IsUnbroken (slice_range bytes start start)
@@ -40,8 +40,8 @@ unbroken-end bytes start i from past free =
 -- the bytes from a line on, cut at its newline
 pub line-cut : (bytes : List ℕ) (start i : ℕ) → start ≤ i → i < length bytes → get_or bytes i 0 ≡ 10 → drop start bytes ≡ slice_range bytes start i ++ 10 ∷ drop (i + 1) bytes
 line-cut bytes start i from inside newline =
-    let place : start + (i - start) ≡ i = omega arith in
-    let rest : drop (i - start) (drop start bytes) ≡ drop i bytes = drop-drop (i - start) start bytes ∙ ap (λ n. drop n bytes) place in
+    let index : start + (i - start) ≡ i = omega arith in
+    let rest : drop (i - start) (drop start bytes) ≡ drop i bytes = drop-drop (i - start) start bytes ∙ ap (λ n. drop n bytes) index in
     let next : drop i bytes ≡ 10 ∷ drop (i + 1) bytes = at_drop_more (λ (bs : List ℕ). bs) bytes i 0 inside ∙ ap (λ (b : ℕ). b ∷ drop (i + 1) bytes) newline in
     sym (take-append-drop (i - start) (drop start bytes)) ∙ ap (λ (bs : List ℕ). slice_range bytes start i ++ bs) (rest ∙ next)
 
@@ -52,7 +52,7 @@ tail-torn bytes i inside = sym (ap tail_of (at_drop_more (λ (bs : List ℕ). bs
 pub tail-whole : (bytes : List ℕ) (i : ℕ) → length bytes ≤ i → Whole ≡ tail_of (drop i bytes)
 tail-whole bytes i past = sym (ap tail_of (at_drop_all (λ (bs : List ℕ). bs) bytes i past))
 
--- where a replay stands: the whole lines before a place are taken, so many of them
+-- where a replay stands: the whole lines before an index are taken, so many of them
 pub record IsGoing (before now : Market) (bytes : List ℕ) (start number : ℕ) : Type 0 where
   pub inside : start ≤ length bytes
   pub replayed : IsReplayed before now bytes (drop start bytes)
@@ -73,10 +73,10 @@ going-more before now next bytes start number end at line taken =
     let xs = r.amendments in
     let rest = drop (end + 1) bytes in
     let size : length (xs ++ a ∷ []) ≡ number + 1 = omega (arith, at.count, length-append xs (a ∷ [])) in
-    let place : 1 + length xs ≡ number + 1 = omega (arith, at.count) in
+    let counted : 1 + length xs ≡ number + 1 = omega (arith, at.count) in
     let number-range = taken.spelled.number_in_range in
     let high : number + 1 ≤ 999999999 = number-range.1 in
-    let line-is : slice_range bytes start end ≡ line_text (1 + length xs) a = taken.spelled.spelled ∙ ap (λ n. line_text n a) (sym place) in
+    let line-is : slice_range bytes start end ≡ line_text (1 + length xs) a = taken.spelled.spelled ∙ ap (λ n. line_text n a) (sym counted) in
     let left : drop start bytes ≡ line_text (1 + length xs) a ++ codes "\n" ++ rest =
     line.cut ∙ ap (λ (bs : List ℕ). bs ++ 10 ∷ rest) line-is ∙ sym (append_assoc (line_text (1 + length xs) a) (codes "\n") rest) in
     let text : bytes ≡ journal_text 1 (xs ++ a ∷ []) ++ rest =
@@ -97,7 +97,7 @@ going-more before now next bytes start number end at line taken =
       count = sym size;
     }
 
--- the line that follows a place, which is not taken for this cause, is the first
+-- the line that follows an index, which is not taken for this cause, is the first
 pub is-first : (before now : Market) (bytes : List ℕ) (start number end : ℕ) (fault : JournalFault) → IsGoing before now bytes start number
     → IsLineEnd bytes start end → fault.line ≡ number + 1 → IsCause now (number + 1) (slice_range bytes start end) fault.cause → IsFirstFault before bytes fault
 is-first before now bytes start number end fault at line is why =

@@ -3,4 +3,4 @@ pub mod Spelling
 pub mod Journal
 pub mod Reading
 pub mod Replaying
-pub mod Inside
+pub mod Representation

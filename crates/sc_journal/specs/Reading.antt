@@ -64,7 +64,7 @@ list_in text = if length text == 0 then Ok [] else schools_after [] (slice_split
 
 -- a field of a line; one past the last is empty
 abbrev pub field_at : List (List ℕ) → ℕ → List ℕ
-field_at fields place = unwrap_or (slice_get fields place) []
+field_at fields index = unwrap_or (slice_get fields index) []
 
 -- `N,enter,STUDENT,ZONE,SIBLINGS,CHOICES`
 unfoldable pub enter_in : List (List ℕ) → Result Amendment Unread

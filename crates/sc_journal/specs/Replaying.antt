@@ -8,7 +8,7 @@ use Rattle.sc_journal.specs.Spelling.{IsLineOf}
 use Rattle.sc_journal.specs.declared.fault.JournalCause.{JournalCause}
 use Rattle.sc_journal.specs.declared.fault.JournalCause.TheVariants.{Shape, Number, JournalFull, Refused, OutOfMemory}
 
--- the line that begins at a place ends at the next newline
+-- the line that begins at an index ends at the next newline
 pub record IsLineEnd (bytes : List ℕ) (start end : ℕ) : Type 0 where
   pub least : start ≤ end
   pub inside : end < length bytes
@@ -38,7 +38,7 @@ line_of line JournalFull = line
 line_of line (Refused refusal) = line
 line_of line OutOfMemory = 0
 
--- the whole lines before a place are taken, and no whole line follows it
+-- the whole lines before an index are taken, and no whole line follows it
 pub record IsEnd (before now : Market) (bytes : List ℕ) (end : ℕ) : Type 0 where
   pub inside : end ≤ length bytes
   pub replayed : IsReplayed before now bytes (drop end bytes)

@@ -15,7 +15,7 @@ impl<'a> Model for Fields<'a> {
 
     ghost Value = { List (List ℕ) };
 
-    ghost use Rattle.sc_journal.specs.Inside.{fields_of};
+    ghost use Rattle.sc_journal.specs.Representation.{fields_of};
 
     ghost view = { fields_of };
 }
@@ -49,10 +49,10 @@ impl<'a> Fields<'a> {
     }
 
     /// A field, counted from 0; one past the last is empty.
-    pub(crate) fn at(&self, place: usize) -> &'a [u8]
-        ensures { result.now ≡ field_at self.now place }
+    pub(crate) fn at(&self, index: usize) -> &'a [u8]
+        ensures { result.now ≡ field_at self.now index }
     {
-        self.fields.get(place).copied().unwrap_or(&[])
+        self.fields.get(index).copied().unwrap_or(&[])
     }
 
     /// Whether the second field, which names the amendment, is this word.

@@ -21,14 +21,14 @@ pub enum Tail {
     Torn,
 }
 
-/// Where the line that begins at a place ends: at the next newline, if there is one.
+/// Where the line that begins at an index ends: at the next newline, if there is one.
 fn line_end(bytes: &[u8], start: usize) -> Option<usize>
     requires { start ≤ length bytes.now }
     ensures { MatchOption result (IsUnbroken (drop start bytes.now)) (IsLineEnd bytes.now start) }
 {
-    for place in start..bytes.len() {
-        if bytes[place] == b'\n' {
-            return Some(place);
+    for index in start..bytes.len() {
+        if bytes[index] == b'\n' {
+            return Some(index);
         }
     }
     None
@@ -89,7 +89,7 @@ fn apply_lines(alloc: Global, papers: &mut Papers, bytes: &[u8]) -> Result<usize
     Ok(start)
 }
 
-/// How a journal ends whose last newline stands before a place.
+/// How a journal ends whose last newline stands before an index.
 fn tail_after(bytes: &[u8], end: usize) -> Tail
     ensures { result ≡ tail_of (drop end bytes.now) }
 {

@@ -4,24 +4,24 @@ use Rattle.sc_intake.specs.Field.{words_after}
 use Rattle.sc_intake.proofs.Words.{slice_range-more, words-byte, words-end, words-space, words-start}
 use Rattle.sc_intake.proofs.field.piece_end.Goals as goal
 
-pub loop-place-init : goal.loop-place-init
-loop-place-init c = words-start c.args.text.now c.args.start
+pub loop-index-init : goal.loop-index-init
+loop-index-init c = words-start c.args.text.now c.args.start
 
-pub returns-then-text-place-eq32-clause-words : goal.returns-then-text-place-eq32-clause-words
-returns-then-text-place-eq32-clause-words c =
-    let place = c.loop-place.place in
-    c.loop-place.invariant ∙ words-space (slice_range c.args.text.now c.args.start place) c.args.text.now place 0 (omega arith) (search rules)
+pub returns-then-text-index-eq32-clause-words : goal.returns-then-text-index-eq32-clause-words
+returns-then-text-index-eq32-clause-words c =
+    let index = c.loop-index.index in
+    c.loop-index.invariant ∙ words-space (slice_range c.args.text.now c.args.start index) c.args.text.now index 0 (omega arith) (search rules)
 
-pub loop-place-preserved : goal.loop-place-preserved
-loop-place-preserved c =
-    let place = c.loop-place.place in
+pub loop-index-preserved : goal.loop-index-preserved
+loop-index-preserved c =
+    let index = c.loop-index.index in
     let text = c.args.text.now in
-    c.loop-place.invariant ∙ words-byte (slice_range text c.args.start place) text place 0 (omega arith) (search rules)
-    ∙ ap (λ (piece : List ℕ). words_after piece (drop (place + 1) text)) (sym (slice_range-more text c.args.start place 0 (omega arith) (omega arith)))
+    c.loop-index.invariant ∙ words-byte (slice_range text c.args.start index) text index 0 (omega arith) (search rules)
+    ∙ ap (λ (piece : List ℕ). words_after piece (drop (index + 1) text)) (sym (slice_range-more text c.args.start index 0 (omega arith) (omega arith)))
 
 pub returns-clause-words : goal.returns-clause-words
 returns-clause-words c =
-    let place = c.loop-place.place in
+    let index = c.loop-index.index in
     let text = c.args.text.now in
-    let last : place ≡ length text = omega arith in
-    rw last at (c.loop-place.invariant ∙ words-end (slice_range text c.args.start place) text place (omega arith))
+    let last : index ≡ length text = omega arith in
+    rw last at (c.loop-index.invariant ∙ words-end (slice_range text c.args.start index) text index (omega arith))

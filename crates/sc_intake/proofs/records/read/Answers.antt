@@ -1,5 +1,5 @@
 use Rattle.csv.specs.Reading.{error_kind}
-use Rattle.sc_intake.proofs.Places.{explains-stops, read-answers}
+use Rattle.sc_intake.proofs.CursorMoves.{explains-stops, read-answers}
 use Rattle.sc_intake.proofs.records.read.Goals as goal
 
 pub want_of_memory-requires : goal.want_of_memory-requires

@@ -32,7 +32,7 @@ fn without_mark(text: &[u8]) -> &[u8]
 /// The records of an input. It is refused where it is too long, and where a second byte order mark
 /// follows the first.
 #[tactic(auto, unfolding(crate::specs::File::records_in))]
-pub(crate) fn open<'a>(
+pub(crate) fn records_in<'a>(
     alloc: Global,
     source: Source,
     text: &'a [u8],

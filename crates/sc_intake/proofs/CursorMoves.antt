@@ -1,4 +1,4 @@
--- How a read of `csv` moves the place in a text.
+-- How a read of `csv` moves the cursor in a text.
 use Rattle.std.proofs.Common.{◌≡◌, ℕ, ◌+◌, true, false, List, [], ◌∷◌, length, Option, Some, inl, refl, sym, ap, ◌∙◌}
 use Rattle.std.specs.Prelude.{Bool, MatchBool}
 use Rattle.std.specs.Borrow.{Bor}

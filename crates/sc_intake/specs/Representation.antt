@@ -1,14 +1,14 @@
--- How the type `Records` keeps its place in a text. Other contracts see the place alone.
+-- How the type `Records` keeps where it stands in a text. Other contracts see the cursor alone.
 use Rattle.std.specs.Prelude.{◌≡◌, true, false, []}
 use Rattle.csv.specs.Reading.{reader_state}
 use Rattle.csv.specs.Records.{fields_of}
-use Rattle.sc_intake.specs.Place.{Place}
+use Rattle.sc_intake.specs.Cursor.{Cursor}
 use Rattle.sc_intake.specs.Reading.{IsReading, records_of, unread}
 use Rattle.sc_intake.specs.declared.records.Records.TheInside.{Inside}
 
--- the place: the record read last, and the records that are left
-abbrev pub place_of : Inside → Place
-place_of i = record {
+-- the cursor: the record read last, and the records that are left
+abbrev pub cursor_of : Inside → Cursor
+cursor_of i = record {
   current = fields_of i.fields;
   left = elim i.stopped [ true ↦ [] | false ↦ records_of (reader_state i.reader) (unread i.reader) ];
 }
