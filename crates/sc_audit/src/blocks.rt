@@ -8,7 +8,6 @@ ghost use Rattle.sc_papers.specs.WellFormed.{WellFormed};
 ghost use Rattle.sc_audit.specs.Stability.{IsEarliestBlock, IsFirstBlock};
 ghost use Rattle.sc_audit.specs.Tallies.{earlier_of, end_at, AreTallies};
 
-use crate::choices::choices_at;
 use crate::tallies::would_take;
 use crate::tally::Tally;
 use sc_papers::{Assignment, Papers, SchoolNo, StudentNo};
@@ -69,7 +68,7 @@ fn earliest_block(
     ensures block { IfSome result (IsEarliestBlock papers.now (assigned assignment.now) (student_at papers.now position)) }
     ensures none { IfNone result ((s : ℕ) → ¬ Blocks papers.now (assigned assignment.now) (student_at papers.now position) s) }
 {
-    let choices = choices_at(papers, position);
+    let choices = papers.choices_at(position);
     for place in 0..choices.len() {
         if let Some(end) = end_at(tallies, papers, assignment, position, choices[place]) {
             return end;

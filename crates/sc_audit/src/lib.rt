@@ -7,7 +7,6 @@ mod blocks;
 mod books;
 mod checker;
 mod choices;
-mod keys;
 pub mod laws;
 mod least;
 mod membership;

@@ -7,7 +7,6 @@ ghost use Rattle.sc_papers.specs.WellFormed.{WellFormed};
 ghost use Rattle.sc_audit.specs.Least.{LeastOf};
 ghost use Rattle.sc_audit.specs.Tallies.{no_tally, or_later, over_at, tally_at, with_key, would_take, AreTallies};
 
-use crate::keys::key_at;
 use crate::least::lesser;
 use crate::tally::Tally;
 use sc_papers::{Assignment, Key, MOST_STUDENTS, Papers, SchoolNo};
@@ -73,7 +72,7 @@ fn count_student(
         unreachable!()
     };
     if let Some(school) = assignment.get(student) {
-        let (at, _, key) = key_at(papers, position, school);
+        let (at, key) = papers.position_and_key(position, school);
         count(tallies, at, key);
     }
 }
@@ -105,10 +104,7 @@ fn over_at(tallies: &[Tally], papers: &Papers, position: usize) -> Option<School
     let Some(school) = papers.school_at(position) else {
         unreachable!()
     };
-    let Some(found) = papers.school(school) else {
-        unreachable!()
-    };
-    if found.seats.get() < tallies[position].held {
+    if papers.seats_of(school).get() < tallies[position].held {
         Some(school)
     } else {
         None
@@ -141,9 +137,9 @@ pub(crate) fn would_take(
     requires tallies { length tallies.now ≡ length papers.now.schools }
     ensures { result ≡ would_take papers.now tallies.now (student_at papers.now student) school }
 {
-    let (at, seats, key) = key_at(papers, student, school);
+    let (at, key) = papers.position_and_key(student, school);
     let tally = tallies[at];
-    if tally.held < seats.get() {
+    if tally.held < papers.seats_of(school).get() {
         return true;
     }
     match tally.last {

@@ -15,7 +15,7 @@ end_at-requires-clause-school c =
     let i : ℕ = student_at m c.args.position in
     let xs : List ℕ = c.choices_at-choices.result.now in
     let here : slice_get (choices_of m i) c.loop-place.place ≡ Some c.index-choices-place.result =
-    ap (λ (choices : List ℕ). slice_get choices c.loop-place.place) (sym c.choices_at-choices.ensures) ∙ slice_get_read xs (length xs) c.loop-place.place c.index-choices-place.result refl c.loop-place-test.true c.index-choices-place.is in
+    ap (λ (choices : List ℕ). slice_get choices c.loop-place.place) (sym c.choices_at-choices.ensures.choices) ∙ slice_get_read xs (length xs) c.loop-place.place c.index-choices-place.result refl c.loop-place-test.true c.index-choices-place.is in
     choice-known m c.requires.well_formed i c.loop-place.place c.index-choices-place.result here
 
 pub returns-in-Some-clause-block : goal.returns-in-Some-clause-block
@@ -25,7 +25,7 @@ returns-in-Some-clause-block c =
     let i : ℕ = student_at m c.args.position in
     let xs : List ℕ = c.choices_at-choices.result.now in
     let here : slice_get (choices_of m i) c.loop-place.place ≡ Some c.index-choices-place.result =
-    ap (λ (choices : List ℕ). slice_get choices c.loop-place.place) (sym c.choices_at-choices.ensures) ∙ slice_get_read xs (length xs) c.loop-place.place c.index-choices-place.result refl c.loop-place-test.true c.index-choices-place.is in
+    ap (λ (choices : List ℕ). slice_get choices c.loop-place.place) (sym c.choices_at-choices.ensures.choices) ∙ slice_get_read xs (length xs) c.loop-place.place c.index-choices-place.result refl c.loop-place-test.true c.index-choices-place.is in
     end-block m a c.args.tallies.now c.requires.well_formed c.requires.matching c.requires.tallies i c.loop-place.place c.loop-place.invariant c.index-choices-place.result c.in-Some.end here
     (sym c.end_at.ensures ∙ c.in-Some.is)
 
@@ -36,7 +36,7 @@ returns-in-Some-clause-none c =
     let i : ℕ = student_at m c.args.position in
     let xs : List ℕ = c.choices_at-choices.result.now in
     let here : slice_get (choices_of m i) c.loop-place.place ≡ Some c.index-choices-place.result =
-    ap (λ (choices : List ℕ). slice_get choices c.loop-place.place) (sym c.choices_at-choices.ensures) ∙ slice_get_read xs (length xs) c.loop-place.place c.index-choices-place.result refl c.loop-place-test.true c.index-choices-place.is in
+    ap (λ (choices : List ℕ). slice_get choices c.loop-place.place) (sym c.choices_at-choices.ensures.choices) ∙ slice_get_read xs (length xs) c.loop-place.place c.index-choices-place.result refl c.loop-place-test.true c.index-choices-place.is in
     end-none m a c.args.tallies.now c.requires.well_formed c.requires.matching c.requires.tallies i c.loop-place.place c.loop-place.invariant c.index-choices-place.result c.in-Some.end here
     (sym c.end_at.ensures ∙ c.in-Some.is)
 
@@ -47,12 +47,12 @@ loop-place-preserved c =
     let i : ℕ = student_at m c.args.position in
     let xs : List ℕ = c.choices_at-choices.result.now in
     let here : slice_get (choices_of m i) c.loop-place.place ≡ Some c.index-choices-place.result =
-    ap (λ (choices : List ℕ). slice_get choices c.loop-place.place) (sym c.choices_at-choices.ensures) ∙ slice_get_read xs (length xs) c.loop-place.place c.index-choices-place.result refl c.loop-place-test.true c.index-choices-place.is in
+    ap (λ (choices : List ℕ). slice_get choices c.loop-place.place) (sym c.choices_at-choices.ensures.choices) ∙ slice_get_read xs (length xs) c.loop-place.place c.index-choices-place.result refl c.loop-place-test.true c.index-choices-place.is in
     passed-more m a c.args.tallies.now i c.loop-place.place c.index-choices-place.result here (sym c.end_at.ensures ∙ c.in_default.is) c.loop-place.invariant
 
 pub returns-clause-none : goal.returns-clause-none
 returns-clause-none c =
     let m = c.args.papers.now in
     let i : ℕ = student_at m c.args.position in
-    let all : length (choices_of m i) ≤ c.loop-place.place = omega (arith, c.loop-place-test.false, ap length c.choices_at-choices.ensures) in
+    let all : length (choices_of m i) ≤ c.loop-place.place = omega (arith, c.loop-place-test.false, ap length c.choices_at-choices.ensures.choices) in
     all-none m (assigned c.args.assignment.now) c.args.tallies.now c.requires.well_formed c.requires.matching c.requires.tallies i c.loop-place.place c.loop-place.invariant all

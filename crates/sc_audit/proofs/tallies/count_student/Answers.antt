@@ -9,12 +9,12 @@ use Rattle.sc_papers.proofs.Hands.{hand-is}
 use Rattle.sc_audit.proofs.Tallying.{tallies-same, tallies-more, tally-counted, tally-few, tally-low, tally-there}
 use Rattle.sc_audit.proofs.tallies.count_student.Goals as goal
 
-pub key_at-at-requires-clause-school : goal.key_at-at-requires-clause-school
-key_at-at-requires-clause-school c =
+pub position_and_key-at-requires-clause-school : goal.position_and_key-at-requires-clause-school
+position_and_key-at-requires-clause-school c =
     listed-known c.args.papers.now c.requires.well_formed c.in-Some.student c.in-Some-get.school (c.requires.matching c.in-Some.student c.in-Some-get.school (sym c.in-Some-get.ensures))
 
 pub count-requires-clause-within : goal.count-requires-clause-within
-count-requires-clause-within c = tally-low c.args.papers.now c.args.tallies.now.items c.in-Some-get.school c.key_at-at.result.0 c.requires.before.schools c.key_at-at.ensures.position
+count-requires-clause-within c = tally-low c.args.papers.now c.args.tallies.now.items c.in-Some-get.school c.position_and_key-at.result.0 c.requires.before.schools c.position_and_key-at.ensures.position
 
 pub count-requires-clause-few : goal.count-requires-clause-few
 count-requires-clause-few c =
@@ -22,7 +22,7 @@ count-requires-clause-few c =
     omega (
       arith,
       tally-few c.args.papers.now (assigned c.args.assignment.now) c.args.position c.in-Some-get.school c.args.tallies.now.items known c.requires.within c.requires.before,
-      ap (λ (t : Tally). t.held) (tally-there c.args.papers.now c.args.tallies.now.items c.in-Some-get.school c.key_at-at.result.0 c.key_at-at.ensures.position),
+      ap (λ (t : Tally). t.held) (tally-there c.args.papers.now c.args.tallies.now.items c.in-Some-get.school c.position_and_key-at.result.0 c.position_and_key-at.ensures.position),
       c.requires.within,
       c.requires.limit,
     )
@@ -31,11 +31,11 @@ pub returns-in-Some-get : goal.returns-in-Some-get
 returns-in-Some-get c =
     let m = c.args.papers.now in
     let old = c.args.tallies.now.items in
-    tallies-more m (assigned c.args.assignment.now) c.args.position c.in-Some.student c.in-Some-get.school c.key_at-at.result.2 old c.count.new.tallies.items
+    tallies-more m (assigned c.args.assignment.now) c.args.position c.in-Some.student c.in-Some-get.school c.position_and_key-at.result.1 old c.count.new.tallies.items
     (sym c.in-Some.ensures) (sym c.in-Some-get.ensures)
-    (c.key_at-at.ensures.key ∙ ap (λ i. key_of m i c.in-Some-get.school) (hand-is m c.args.position c.in-Some.student (sym c.in-Some.ensures)))
-    (ap length c.count.ensures ∙ length-set old c.key_at-at.result.0 (with_key (get_or old c.key_at-at.result.0 no_tally) c.key_at-at.result.2))
-    (tally-counted m old c.count.new.tallies.items c.in-Some-get.school c.key_at-at.result.0 c.key_at-at.result.2 c.requires.before.schools c.key_at-at.ensures.position c.count.ensures)
+    (c.position_and_key-at.ensures.key ∙ ap (λ i. key_of m i c.in-Some-get.school) (hand-is m c.args.position c.in-Some.student (sym c.in-Some.ensures)))
+    (ap length c.count.ensures ∙ length-set old c.position_and_key-at.result.0 (with_key (get_or old c.position_and_key-at.result.0 no_tally) c.position_and_key-at.result.1))
+    (tally-counted m old c.count.new.tallies.items c.in-Some-get.school c.position_and_key-at.result.0 c.position_and_key-at.result.1 c.requires.before.schools c.position_and_key-at.ensures.position c.count.ensures)
     c.requires.before
 
 pub returns-in_default-get : goal.returns-in_default-get
