@@ -15,7 +15,6 @@ mod stability;
 mod stand;
 mod stands;
 mod tallies;
-mod tally;
 mod verdict;
 
 pub use auditor::audit;

@@ -19,13 +19,14 @@ use Rattle.sc_papers.specs.declared.key.Key.{Key}
 use Rattle.sc_papers.proofs.Reordering.{optimal-reordered}
 use Rattle.sc_papers.proofs.Rewinding.{key_by, key-by}
 use Rattle.sc_papers.proofs.Uniqueness.{optimal-unique}
-use Rattle.sc_report.specs.Cutoff.{cutoff, cutoff_by, cutoff_row, keys_among, last_key}
+use Rattle.sc_report.specs.Cutoff.{cutoff, cutoff_by, cutoff_row}
+use Rattle.sc_tallies.specs.LastKey.{keys_among, last_key}
 use Rattle.sc_report.specs.CutoffText.{cutoff_lines, cutoff_text}
 use Rattle.sc_report.specs.Reason.{reason, reason_by, reasons_of}
 use Rattle.sc_report.specs.ReasonText.{reason_lines, reason_text}
 use Rattle.sc_report.specs.Rising.{rising}
 use Rattle.sc_report.specs.Text.{assignment_lines, assignment_text, report_text}
-use Rattle.sc_report.proofs.LastKeys.{key-among, keyed, last-same}
+use Rattle.sc_tallies.proofs.LastKeys.{key-among, keyed, last-same}
 use Rattle.sc_report.proofs.RisingLemmas.{rising-same}
 
 -- a look-up in entries that change places

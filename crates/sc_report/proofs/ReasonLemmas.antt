@@ -63,11 +63,6 @@ choice-known m well i s listed = go (student_of m i) (All-lookup (IsProper m) (n
     go None proper (k, low, at) = absurd (omega (arith, low))
     go (Some student) proper among = All-contains (λ t. is_school m t ≡ true) student.choices s proper.choices_known among
 
--- the choices that the papers hold of a student
-pub choices-read : (m : Market) (i : ℕ) (student : Student) → Some student ≡ student_of m i → student.choices ≡ choices_of m i
-unfolding choices_of
-choices-read m i student is = ap (λ found. option_map_or (λ student. student.choices) found []) is
-
 -- whether what a student has is a school
 pub held-test : (a : Matching) (i s : ℕ) (held : Option ℕ) (r b : Bool) → held ≡ a i → r ≡ option_map_or (λ t. t == s) held false → r ≡ b → has a s i ≡ b
 held-test a i s held r b held_is r_is is = ap (λ o. option_map_or (λ t. t == s) o false) (sym held_is) ∙ sym r_is ∙ is

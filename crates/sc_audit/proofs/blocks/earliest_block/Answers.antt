@@ -7,7 +7,7 @@ use Rattle.sc_audit.proofs.Ledgers.{choice-known}
 use Rattle.sc_audit.proofs.blocks.earliest_block.Goals as goal
 
 pub loop-place-init : goal.loop-place-init
-loop-place-init c = passed-none c.args.papers.now (assigned c.args.assignment.now) c.args.tallies.now (student_at c.args.papers.now c.args.position)
+loop-place-init c = passed-none c.args.papers.now (assigned c.args.assignment.now) (student_at c.args.papers.now c.args.position)
 
 pub end_at-requires-clause-school : goal.end_at-requires-clause-school
 end_at-requires-clause-school c =
@@ -26,7 +26,7 @@ returns-in-Some-clause-block c =
     let xs : List ℕ = c.choices_at-choices.result.now in
     let here : slice_get (choices_of m i) c.loop-place.place ≡ Some c.index-choices-place.result =
     ap (λ (choices : List ℕ). slice_get choices c.loop-place.place) (sym c.choices_at-choices.ensures.choices) ∙ slice_get_read xs (length xs) c.loop-place.place c.index-choices-place.result refl c.loop-place-test.true c.index-choices-place.is in
-    end-block m a c.args.tallies.now c.requires.well_formed c.requires.matching c.requires.tallies i c.loop-place.place c.loop-place.invariant c.index-choices-place.result c.in-Some.end here
+    end-block m a c.requires.well_formed c.requires.matching i c.loop-place.place c.loop-place.invariant c.index-choices-place.result c.in-Some.end here
     (sym c.end_at.ensures ∙ c.in-Some.is)
 
 pub returns-in-Some-clause-none : goal.returns-in-Some-clause-none
@@ -37,7 +37,7 @@ returns-in-Some-clause-none c =
     let xs : List ℕ = c.choices_at-choices.result.now in
     let here : slice_get (choices_of m i) c.loop-place.place ≡ Some c.index-choices-place.result =
     ap (λ (choices : List ℕ). slice_get choices c.loop-place.place) (sym c.choices_at-choices.ensures.choices) ∙ slice_get_read xs (length xs) c.loop-place.place c.index-choices-place.result refl c.loop-place-test.true c.index-choices-place.is in
-    end-none m a c.args.tallies.now c.requires.well_formed c.requires.matching c.requires.tallies i c.loop-place.place c.loop-place.invariant c.index-choices-place.result c.in-Some.end here
+    end-none m a c.requires.well_formed c.requires.matching i c.loop-place.place c.loop-place.invariant c.index-choices-place.result c.in-Some.end here
     (sym c.end_at.ensures ∙ c.in-Some.is)
 
 pub loop-place-preserved : goal.loop-place-preserved
@@ -48,11 +48,11 @@ loop-place-preserved c =
     let xs : List ℕ = c.choices_at-choices.result.now in
     let here : slice_get (choices_of m i) c.loop-place.place ≡ Some c.index-choices-place.result =
     ap (λ (choices : List ℕ). slice_get choices c.loop-place.place) (sym c.choices_at-choices.ensures.choices) ∙ slice_get_read xs (length xs) c.loop-place.place c.index-choices-place.result refl c.loop-place-test.true c.index-choices-place.is in
-    passed-more m a c.args.tallies.now i c.loop-place.place c.index-choices-place.result here (sym c.end_at.ensures ∙ c.in_default.is) c.loop-place.invariant
+    passed-more m a i c.loop-place.place c.index-choices-place.result here (sym c.end_at.ensures ∙ c.in_default.is) c.loop-place.invariant
 
 pub returns-clause-none : goal.returns-clause-none
 returns-clause-none c =
     let m = c.args.papers.now in
     let i : ℕ = student_at m c.args.position in
     let all : length (choices_of m i) ≤ c.loop-place.place = omega (arith, c.loop-place-test.false, ap length c.choices_at-choices.ensures.choices) in
-    all-none m (assigned c.args.assignment.now) c.args.tallies.now c.requires.well_formed c.requires.matching c.requires.tallies i c.loop-place.place c.loop-place.invariant all
+    all-none m (assigned c.args.assignment.now) c.requires.well_formed c.requires.matching i c.loop-place.place c.loop-place.invariant all

@@ -2,13 +2,12 @@
 use Rattle.std.proofs.Common.{◌≡◌, inl, inr, refl, sym, ◌∙◌, ap, subst, ℕ, ◌<◌, Bool, true, false, List, [], ◌∷◌, length, map, filter, fold, None, Some, Contains, arith}
 use Rattle.std.proofs.lemmas.Bool.{cases_Bool, cond-true, cond-false}
 use Rattle.std.proofs.lemmas.Bool.Decides.{nat_tests}
-use Rattle.std.proofs.lemmas.Option.{none-some}
+use Rattle.std.proofs.lemmas.Option.{none-some, same_Some}
 use Rattle.sc_papers.specs.Key.{is_before}
 use Rattle.sc_papers.specs.declared.key.Key.{Key}
 use Rattle.sc_papers.proofs.Counting.{contains-cons, contains-head, contains-tail}
 use Rattle.sc_papers.proofs.Priority.{before-asymm, before-irrefl}
-use Rattle.sc_report.specs.Cutoff.{last_key, or_later}
-use Rattle.sc_report.proofs.Places.{some-one}
+use Rattle.sc_tallies.specs.LastKey.{last_key, or_later}
 
 -- of a key and some more the last is one of them
 pub last-from : (first : Key) (keys : List Key) → (last : Key) × (fold or_later (Some first) keys ≡ Some last) × Contains (first ∷ keys) last
@@ -45,14 +44,14 @@ unfolding last_key
 last-contained [] last is = absurd (none-some last is)
 last-contained (key ∷ keys) last is =
     let (found, found_is, among) = last-from key keys in
-    subst (Contains (key ∷ keys)) (some-one found last (sym found_is ∙ is)) among
+    subst (Contains (key ∷ keys)) (same_Some found last (sym found_is ∙ is)) among
 
 not_before-trans : (a b c : Key) → is_before a b ≡ false → is_before b c ≡ false → is_before a c ≡ false
 not_before-trans a b c first second = grind (arith, nat_tests)
 
 last-after_from : (first : Key) (keys : List Key) (last : Key) → fold or_later (Some first) keys ≡ Some last → (key : Key) → Contains (first ∷ keys) key → is_before last key ≡ false
 last-after_from first [] last is key among = elim (contains-cons first [] key among) [
-  | inl same ↦ subst (λ k. is_before last k ≡ false) (sym (some-one first last is) ∙ same) (before-irrefl last)
+  | inl same ↦ subst (λ k. is_before last k ≡ false) (sym (same_Some first last is) ∙ same) (before-irrefl last)
   | inr (k, low, at) ↦ absurd (omega (arith, low))
 ]
 last-after_from first (next ∷ keys) last is key among = elim (cases_Bool (is_before next first)) [

@@ -1,7 +1,7 @@
 use Rattle.std.proofs.Common.{◌∙◌, ◌++◌, ◌∷◌, [], ap}
 use Rattle.std.proofs.lemmas.List.{replicate-append-replicate}
-use Rattle.sc_report.specs.Tally.{no_tally}
-use Rattle.sc_report.proofs.tally.no_tallies.Goals as goal
+use Rattle.sc_tallies.specs.Tally.{no_tally}
+use Rattle.sc_tallies.proofs.tally.no_tallies.Goals as goal
 
 pub loop-added-preserved : goal.loop-added-preserved
 loop-added-preserved c =

@@ -4,24 +4,22 @@ use Rattle.std.specs.List.{IsDistinct}
 use Rattle.std.specs.Option.{option_and_then, option_map, option_map_or}
 use Rattle.std.proofs.lemmas.Bool.{cases_Bool, cond-true, cond-false, eq-eqb, ne_eqb, false≢true}
 use Rattle.std.proofs.Math.Seq.{take-suc}
-use Rattle.std.proofs.lemmas.Option.{none-some, get_or_from_slice_get, slice_get_within}
-use Rattle.std.proofs.lemmas.List.{append-nil, get_or-map, map-append}
+use Rattle.std.proofs.lemmas.Option.{none-some, same_Some, get_or_from_slice_get, slice_get_within}
+use Rattle.std.proofs.lemmas.List.{append-nil, get_or-map, length-map, map-append}
 use Rattle.std.proofs.lemmas.List.Elements.{All-from_recursion, All-contains, filter-append}
 use Rattle.std.proofs.lemmas.List.Sums.{count_by-le-length, fold-append, sum_by-append}
+use Rattle.std.proofs.lemmas.Map.Entries.{length-keys_of}
 use Rattle.std.proofs.lemmas.Map.Keys.{IsDistinct-head, IsDistinct-tail}
-use Rattle.sc_papers.specs.Key.{key_of}
-use Rattle.sc_papers.specs.Market.{Market, schools_of, seats_of, students_of}
+use Rattle.sc_papers.specs.Key.{key_at, key_of}
+use Rattle.sc_papers.specs.Market.{Market, schools_of, students_of}
 use Rattle.sc_papers.specs.Matching.{Matching, has, held, how_many}
 use Rattle.sc_papers.specs.declared.key.Key.{Key}
 use Rattle.sc_papers.proofs.Counting.{contains-head, contains-tail, count-cons_fails, count-cons_passes}
 use Rattle.sc_papers.proofs.Rejections.{has-some, has-true}
-use Rattle.sc_report.proofs.Places.{some-one}
-use Rattle.sc_papers.proofs.Positions.{among-school, position-at, school-position}
-use Rattle.sc_report.specs.Cutoff.{cutoff, cutoff_by, cutoff_row, keys_among, last_key, or_later}
-use Rattle.sc_report.specs.Tally.{held_at, no_tally, tally, with_key}
-use Rattle.sc_report.specs.declared.cutoff.Cutoff.{Cutoff}
-use Rattle.sc_report.specs.declared.cutoff.CutoffRow.{CutoffRow}
-use Rattle.sc_report.specs.declared.tally.Tally.{Tally}
+use Rattle.sc_papers.proofs.Positions.{among-school, position-at, position-there, school-position}
+use Rattle.sc_tallies.specs.LastKey.{keys_among, last_key, or_later}
+use Rattle.sc_tallies.specs.Tally.{held_at, no_tally, tally, with_key, AreTallies}
+use Rattle.sc_tallies.specs.declared.tally.Tally.{Tally}
 
 -- two functions that agree at each element map a list alike
 pub map-agree : {X Y : Type 0} (f g : X → Y) (xs : List X) → ((x : X) → Contains xs x → g x ≡ f x) → map g xs ≡ map f xs
@@ -91,6 +89,10 @@ pub tally-none : (m : Market) (a : Matching) (s : ℕ) → tally m a [] s ≡ no
 unfolding tally last_key
 tally-none m a s = refl
 
+-- the key of the student at a position at a school of the papers
+pub key-here : (m : Market) (i s p q : ℕ) → slice_get (students_of m) p ≡ Some i → position (nat_eq s) (schools_of m) ≡ Some q → key_at m p q ≡ Some (key_of m i s)
+key-here m i s p q student school = rw (student, position-there (schools_of m) s q school) refl
+
 -- a student has a school of the papers
 record HasAt (m : Market) (a : Matching) (i at : ℕ) (key : Key) : Type 0 where
   pub school : ℕ
@@ -122,7 +124,7 @@ module _ (m : Market) (a : Matching) (i : ℕ) where
       at_school : (s : ℕ) (o : Option ℕ) → a i ≡ Some s → position (nat_eq s) (schools_of m) ≡ o → option_map {U = ℕ × Key} (λ (k : ℕ). (k, key_of m i s)) o ≡ Some (at, key) → HasAt m a i at key
       at_school s None is away e = absurd (none-some (at, key) e)
       at_school s (Some k) is found e =
-          let same : (k, key_of m i s) ≡ (at, key) = some-one (k, key_of m i s) (at, key) e in
+          let same : (k, key_of m i s) ≡ (at, key) = same_Some (k, key_of m i s) (at, key) e in
           record { school = s; given = is; found = found ∙ ap Some (ap (λ p. p.0) same); key_is = ap (λ p. p.1) same }
 
       go : (o : Option ℕ) → a i ≡ o → option_and_then (λ (s : ℕ). option_map {U = ℕ × Key} (λ (k : ℕ). (k, key_of m i s)) (position (nat_eq s) (schools_of m))) o ≡ Some (at, key) → HasAt m a i at key
@@ -178,28 +180,20 @@ pub take-one : (xs : List ℕ) (k x : ℕ) → slice_get xs k ≡ Some x → tak
 take-one xs k x here =
     rw (add-one, take-suc xs k x (slice_get_within xs k x here)) (ap (λ y. take k xs ++ y ∷ []) (get_or_from_slice_get xs k x x here))
 
--- a school's tally has how many students have it, and the last of their keys
+-- there is a tally for each school
+pub tallies-length : (m : Market) (a : Matching) (tallies : List Tally) → AreTallies m a tallies → length tallies ≡ length m.schools
+tallies-length m a tallies are = ap length are ∙ length-map (schools_of m) (tally m a (students_of m)) ∙ length-keys_of m.schools
+
+-- what is read at a school's position is its tally
+pub tally-placed : (m : Market) (a : Matching) (tallies : List Tally) (s at : ℕ) (t : Tally) → AreTallies m a tallies → slice_get (schools_of m) at ≡ Some s → t ≡ get_or tallies at t → t ≡ tally m a (students_of m) s
+tally-placed m a tallies s at t are here is =
+    is ∙ ap (λ all. get_or all at t) are ∙ get_or-map (tally m a (students_of m)) (schools_of m) at s t (slice_get_within (schools_of m) at s here)
+    ∙ ap (tally m a (students_of m)) (get_or_from_slice_get (schools_of m) at s s here)
+
+pub tally-read : (m : Market) (a : Matching) (tallies : List Tally) (s at : ℕ) (t : Tally) → AreTallies m a tallies → position (nat_eq s) (schools_of m) ≡ Some at → t ≡ get_or tallies at t → t ≡ tally m a (students_of m) s
+tally-read m a tallies s at t are found = tally-placed m a tallies s at t are (position-there (schools_of m) s at found)
+
+-- a school's tally has how many students have it
 pub held-tally : (m : Market) (a : Matching) (s : ℕ) (t : Tally) → t ≡ tally m a (students_of m) s → t.held ≡ held m a s
 unfolding tally how_many
 held-tally m a s t is = ap (λ u. u.held) is
-
-pub cutoff-tally : (m : Market) (a : Matching) (s seats : ℕ) (t : Tally) → seats ≡ seats_of m s → t ≡ tally m a (students_of m) s → cutoff_by seats t.held t.last ≡ cutoff m a s
-unfolding tally cutoff how_many
-cutoff-tally m a s seats t seats_is is = λ i. cutoff_by (seats_is i) (is i).held (is i).last
-
--- a row of these parts
-abbrev row_with : ℕ → ℕ → ℕ → Cutoff → CutoffRow
-row_with s seats count made = record { school = s; seats = seats; held = count; cutoff = made }
-
--- the row that is made of a school's tally
-pub row-tally : (m : Market) (a : Matching) (s seats number : ℕ) (t : Tally) (made : Cutoff) → seats ≡ seats_of m s → number ≡ seats → t ≡ tally m a (students_of m) s
-    → made ≡ cutoff_by number t.held t.last → row_with s seats t.held made ≡ cutoff_row m a s
-row-tally m a s seats number t made seats_is number_is is made_is =
-    let count = held-tally m a s t is in
-    let last = made_is ∙ cutoff-tally m a s number t (number_is ∙ seats_is) is in
-    λ i. row_with s (seats_is i) (count i) (last i)
-
--- what a mapped list gains by one more element
-pub map-take_one : {Y : Type 0} (f : ℕ → Y) (xs : List ℕ) (k x : ℕ) → k < length xs → x ≡ get_or xs k x → map f (take (k + 1) xs) ≡ map f (take k xs) ++ f x ∷ []
-map-take_one f xs k x low is =
-    ap (map f) (rw (add-one, take-suc xs k x low) (ap (λ y. take k xs ++ y ∷ []) (sym is))) ∙ map-append f (take k xs) (x ∷ [])
