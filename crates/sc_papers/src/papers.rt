@@ -121,11 +121,15 @@ impl Papers {
     pub fn copy(&self) -> Result<Self, AllocError>
         ensures { IfOk result (λ copy. copy ≡ self.now) }
     {
+        // The students come last, so that no error has to let them go.
+        let draws = self.draws.clone()?;
+        let schools = self.schools.clone()?;
+        let students = self.students.clone()?;
         Ok(Papers {
             seed: self.seed,
-            schools: self.schools.clone()?,
-            students: self.students.clone()?,
-            draws: self.draws.clone()?,
+            schools,
+            students,
+            draws,
         })
     }
 
