@@ -1,12 +1,11 @@
 -- The last of some keys: it is one of them, it is ahead of none, and their order does not decide it.
 use Rattle.std.proofs.Common.{◌≡◌, inl, inr, refl, sym, ◌∙◌, ap, subst, ℕ, ◌<◌, Bool, true, false, List, [], ◌∷◌, length, map, filter, fold, None, Some, Contains, arith}
 use Rattle.std.proofs.lemmas.Bool.{cases_Bool, cond-true, cond-false}
-use Rattle.std.proofs.lemmas.Bool.Decides.{nat_tests}
 use Rattle.std.proofs.lemmas.Option.{none-some, same_Some}
 use Rattle.sc_papers.specs.Key.{is_before}
 use Rattle.sc_papers.specs.declared.key.Key.{Key}
 use Rattle.sc_papers.proofs.Counting.{contains-cons, contains-head, contains-tail}
-use Rattle.sc_papers.proofs.Priority.{before-asymm, before-irrefl}
+use Rattle.sc_papers.proofs.Priority.{before-asymm, before-irrefl, behind-trans, one-key}
 use Rattle.sc_tallies.specs.LastKey.{last_key, or_later}
 
 -- of a key and some more the last is one of them
@@ -46,9 +45,6 @@ last-contained (key ∷ keys) last is =
     let (found, found_is, among) = last-from key keys in
     subst (Contains (key ∷ keys)) (same_Some found last (sym found_is ∙ is)) among
 
-not_before-trans : (a b c : Key) → is_before a b ≡ false → is_before b c ≡ false → is_before a c ≡ false
-not_before-trans a b c first second = grind (arith, nat_tests)
-
 last-after_from : (first : Key) (keys : List Key) (last : Key) → fold or_later (Some first) keys ≡ Some last → (key : Key) → Contains (first ∷ keys) key → is_before last key ≡ false
 last-after_from first [] last is key among = elim (contains-cons first [] key among) [
   | inl same ↦ subst (λ k. is_before last k ≡ false) (sym (same_Some first last is) ∙ same) (before-irrefl last)
@@ -61,14 +57,14 @@ last-after_from first (next ∷ keys) last is key among = elim (cases_Bool (is_b
       elim (contains-cons first (next ∷ keys) key among) [
         | inl same ↦ subst (λ k. is_before last k ≡ false) same past
         | inr later ↦ elim (contains-cons next keys key later) [
-          | inl same ↦ subst (λ k. is_before last k ≡ false) same (not_before-trans last first next past (before-asymm next first ahead))
+          | inl same ↦ subst (λ k. is_before last k ≡ false) same (behind-trans last first next past (before-asymm next first ahead))
           | inr in_rest ↦ last-after_from first keys last rest key (contains-tail first keys key in_rest)
         ]
       ]
   | inr behind ↦
       let rest : fold or_later (Some next) keys ≡ Some last = sym (ap (λ k. fold or_later (Some k) keys) (cond-false (is_before next first) first next behind)) ∙ is in
       elim (contains-cons first (next ∷ keys) key among) [
-        | inl same ↦ subst (λ k. is_before last k ≡ false) same (not_before-trans last next first (last-after_from next keys last rest next (contains-head next keys)) behind)
+        | inl same ↦ subst (λ k. is_before last k ≡ false) same (behind-trans last next first (last-after_from next keys last rest next (contains-head next keys)) behind)
         | inr later ↦ last-after_from next keys last rest key later
       ]
 ]
@@ -79,19 +75,6 @@ unfolding last_key
 last-after [] last is key (k, low, at) = absurd (omega (arith, low))
 last-after (first ∷ keys) last is key among = last-after_from first keys last is key among
 
--- two keys of which neither is ahead are one
-same-class : (a b : Key) → is_before a b ≡ false → is_before b a ≡ false → a.class ≡ b.class
-same-class a b first second = grind (arith, nat_tests)
-
-same-draw : (a b : Key) → is_before a b ≡ false → is_before b a ≡ false → a.draw ≡ b.draw
-same-draw a b first second = grind (arith, nat_tests)
-
-same-student : (a b : Key) → is_before a b ≡ false → is_before b a ≡ false → a.student ≡ b.student
-same-student a b first second = grind (arith, nat_tests)
-
-same-key : (a b : Key) → is_before a b ≡ false → is_before b a ≡ false → a ≡ b
-same-key a b first second = λ t. record { class = same-class a b first second t; draw = same-draw a b first second t; student = same-student a b first second t }
-
 -- the same keys in another order, or more often, have the same last key
 pub last-same : (keys others : List Key) → ((key : Key) → Contains keys key → Contains others key) → ((key : Key) → Contains others key → Contains keys key) → last_key keys ≡ last_key others
 unfolding last_key
@@ -101,7 +84,7 @@ last-same (key ∷ keys) [] to from = let (k, low, at) = to key (contains-head k
 last-same (x ∷ xs) (y ∷ ys) to from =
     let (last, is, among) = last-from x xs in
     let (other, other_is, other_among) = last-from y ys in
-    is ∙ ap Some (same-key last other (last-after_from x xs last is other (from other other_among)) (last-after_from y ys other other_is last (to last among))) ∙ sym other_is
+    is ∙ ap Some (one-key last other (last-after_from x xs last is other (from other other_among)) (last-after_from y ys other other_is last (to last among))) ∙ sym other_is
 
 -- each key is the key of a number that passes, and each number that passes has its key there
 pub keyed : (p : ℕ → Bool) (f : ℕ → Key) (xs : List ℕ) (key : Key) → Contains (map f (filter p xs)) key → (j : ℕ) × Contains xs j × (p j ≡ true) × (f j ≡ key)

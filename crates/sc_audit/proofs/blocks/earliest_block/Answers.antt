@@ -3,7 +3,8 @@ use Rattle.std.proofs.lemmas.Option.{slice_get_read}
 use Rattle.sc_papers.specs.Assignment.{assigned}
 use Rattle.sc_papers.specs.Market.{choices_of, student_at}
 use Rattle.sc_audit.proofs.Blocking.{passed-none, passed-more, end-block, end-none, all-none}
-use Rattle.sc_audit.proofs.Ledgers.{choice-known}
+use Rattle.sc_papers.proofs.Choices.{contains-at}
+use Rattle.sc_papers.proofs.Students.{choice-known}
 use Rattle.sc_audit.proofs.blocks.earliest_block.Goals as goal
 
 pub loop-place-init : goal.loop-place-init
@@ -16,7 +17,7 @@ end_at-requires-clause-school c =
     let xs : List ℕ = c.choices_at-choices.result.now in
     let here : slice_get (choices_of m i) c.loop-place.place ≡ Some c.index-choices-place.result =
     ap (λ (choices : List ℕ). slice_get choices c.loop-place.place) (sym c.choices_at-choices.ensures.choices) ∙ slice_get_read xs (length xs) c.loop-place.place c.index-choices-place.result refl c.loop-place-test.true c.index-choices-place.is in
-    choice-known m c.requires.well_formed i c.loop-place.place c.index-choices-place.result here
+    choice-known m c.requires.well_formed i c.index-choices-place.result (contains-at (choices_of m i) c.loop-place.place c.index-choices-place.result here)
 
 pub returns-in-Some-clause-block : goal.returns-in-Some-clause-block
 returns-in-Some-clause-block c =

@@ -2,7 +2,8 @@ use Rattle.std.proofs.Common.{◌∙◌, ◌++◌, ◌∷◌, [], ap, append-nil
 use Rattle.sc_papers.specs.Assignment.{assigned}
 use Rattle.sc_papers.specs.Matching.{has}
 use Rattle.sc_report.specs.Reason.{reason_row}
-use Rattle.sc_report.proofs.ReasonLemmas.{choice-known, held-test, passed-more, passed-stop, passed-end, reasons-are, reasons-none, row-reason}
+use Rattle.sc_papers.proofs.Students.{choice-known}
+use Rattle.sc_report.proofs.ReasonLemmas.{held-test, passed-more, passed-stop, passed-end, reasons-are, reasons-none, row-reason}
 use Rattle.sc_papers.specs.Market.{choices_of}
 use Rattle.sc_papers.proofs.Hands.{position-low, student-there}
 use Rattle.sc_report.proofs.Places.{no-record}

@@ -1,19 +1,24 @@
-use Rattle.std.proofs.Common.{◌∙◌, sym, ap, subst, cond, nat_eq, true, [], length, Some, None, arith}
+use Rattle.std.proofs.Common.{ℕ, ◌∙◌, sym, ap, subst, cond, nat_eq, true, [], length, Some, None, arith}
 use Rattle.std.proofs.lemmas.List.{length-set}
 use Rattle.std.specs.BinaryHeap.{heap_items, IsHeap}
 use Rattle.std.specs.Option.{option_map}
 use Rattle.sc_audit.specs.Ledger.{set_aside}
-use Rattle.sc_papers.specs.Market.{student_at}
+use Rattle.sc_papers.specs.Market.{student_at, choices_of}
 use Rattle.sc_audit.specs.Books.{ledger_of}
 use Rattle.sc_papers.specs.Key.{key_cmp}
 use Rattle.sc_audit.specs.Offers.{Offers}
 use Rattle.sc_audit.proofs.Tables.{read-mapped, map-set, stand-put}
-use Rattle.sc_audit.proofs.Ledgers.{choice-known, school-low, keys-within, offer-seen, out-known, placing-comes}
+use Rattle.sc_audit.proofs.Ledgers.{school-low, keys-within, offer-seen, out-known, placing-comes}
+use Rattle.sc_papers.proofs.Choices.{contains-at}
+use Rattle.sc_papers.proofs.Students.{choice-known}
 use Rattle.sc_papers.proofs.Hands.{hand-student, hand-position}
 use Rattle.sc_audit.proofs.books.Books.come.Goals as goal
 
 pub position_and_key-at-requires-clause-school : goal.position_and_key-at-requires-clause-school
-position_and_key-at-requires-clause-school c = choice-known c.args.papers.now c.requires.fits.well_formed (student_at c.args.papers.now c.args.student) c.args.place c.in-Some.school (sym c.in-Some.ensures)
+position_and_key-at-requires-clause-school c =
+    let m = c.args.papers.now in
+    let i : ℕ = student_at m c.args.student in
+    choice-known m c.requires.fits.well_formed i c.in-Some.school (contains-at (choices_of m i) c.args.place c.in-Some.school (sym c.in-Some.ensures))
 
 pub offer-requires-clause-heap : goal.offer-requires-clause-heap
 offer-requires-clause-heap c =
