@@ -1,4 +1,4 @@
--- Who blocks a matching, by the schools' tallies.
+-- Who blocks a matching, by who has each school.
 use Rattle.std.proofs.Common.{◌≡◌, ◌⊎◌, inl, inr, refl, ap, sym, subst, ◌∙◌, ℕ, ◌+◌, ◌<◌, ◌≤◌, Bool, true, false, cond, List, length, Option, Some, None, Contains, IfSome, slice_get, arith}
 use Rattle.std.specs.Prelude.{nat_lt, IfNone}
 use Rattle.std.specs.Option.{option_map_or}
@@ -7,7 +7,7 @@ use Rattle.std.proofs.lemmas.Bool.Decides.{nat_tests}
 use Rattle.std.proofs.lemmas.Map.Entries.{length-keys_of}
 use Rattle.std.proofs.lemmas.Option.{none-some, same_Some, slice_get_within}
 use Rattle.sc_papers.specs.Key.{is_ahead, is_before, key_of}
-use Rattle.sc_papers.specs.Market.{Market, choices_of, is_school, seats_of, students_of}
+use Rattle.sc_papers.specs.Market.{Market, choices_of, seats_of, students_of}
 use Rattle.sc_papers.specs.Matching.{Matching, has, held, IsMatching, Prefers, Blocks}
 use Rattle.sc_papers.specs.WellFormed.{WellFormed}
 use Rattle.sc_papers.specs.declared.key.Key.{Key}
@@ -15,10 +15,9 @@ use Rattle.sc_papers.proofs.Choices.{contains-at, place-of, one-place}
 use Rattle.sc_papers.proofs.Rejections.{has-some, has-true}
 use Rattle.sc_papers.proofs.Students.{choices-differ, lister-among}
 use Rattle.sc_audit.specs.Stability.{IsEarliestBlock, IsFirstBlock}
-use Rattle.sc_audit.specs.Tallies.{tally_at, would_take, end_at, earlier_of, AreTallies}
-use Rattle.sc_audit.specs.declared.tally.Tally.{Tally}
-use Rattle.sc_audit.proofs.Ledgers.{listed-known}
-use Rattle.sc_audit.proofs.Tallying.{tally-held}
+use Rattle.sc_tallies.specs.LastKey.{keys_among, last_key}
+use Rattle.sc_tallies.proofs.LastKeys.{key-among, keyed, last-after, last-among, last-contained}
+use Rattle.sc_audit.specs.Tallies.{would_take, end_at, earlier_of}
 
 -- a school has a free seat, or a student is ahead there of one who has it
 abbrev Better : Market → Matching → ℕ → ℕ → Type 0
@@ -65,52 +64,58 @@ ends-given false true s is = absurd (none-some s (sym (inner (Some s) None is)))
 ends-given false false s is = absurd (none-some None is)
 
 -- the student's preferred choices don't end before a place
-pub record PassedOver (m : Market) (a : Matching) (tallies : List Tally) (i k : ℕ) : Type 0 where
-  pub none : (j t : ℕ) → j < k → slice_get (choices_of m i) j ≡ Some t → end_at m tallies (a i) i t ≡ None
+pub record PassedOver (m : Market) (a : Matching) (i k : ℕ) : Type 0 where
+  pub none : (j t : ℕ) → j < k → slice_get (choices_of m i) j ≡ Some t → end_at m a i t ≡ None
 
-pub passed-none : (m : Market) (a : Matching) (tallies : List Tally) (i : ℕ) → PassedOver m a tallies i 0
-passed-none m a tallies i = record { none = λ j t low here. absurd (omega (arith, low)) }
+pub passed-none : (m : Market) (a : Matching) (i : ℕ) → PassedOver m a i 0
+passed-none m a i = record { none = λ j t low here. absurd (omega (arith, low)) }
 
-pub passed-more : (m : Market) (a : Matching) (tallies : List Tally) (i k s : ℕ) → slice_get (choices_of m i) k ≡ Some s → end_at m tallies (a i) i s ≡ None → PassedOver m a tallies i k → PassedOver m a tallies i (k + 1)
-passed-more m a tallies i k s here none before = record {
+pub passed-more : (m : Market) (a : Matching) (i k s : ℕ) → slice_get (choices_of m i) k ≡ Some s → end_at m a i s ≡ None → PassedOver m a i k → PassedOver m a i (k + 1)
+passed-more m a i k s here none before = record {
   none = λ j t low there. elim (cases_lt j k) [
     | inl under ↦ before.none j t under there
-    | inr past ↦ ap (end_at m tallies (a i) i) (same_Some t s (sym there ∙ ap (slice_get (choices_of m i)) (omega (arith, low, past)) ∙ here)) ∙ none
+    | inr past ↦ ap (end_at m a i) (same_Some t s (sym there ∙ ap (slice_get (choices_of m i)) (omega (arith, low, past)) ∙ here)) ∙ none
   ];
 }
 
-module _ (m : Market) (a : Matching) (tallies : List Tally) (well : WellFormed m) (matching : IsMatching m a) (are : AreTallies m a (students_of m) tallies) where
-  take-better : (i s : ℕ) → is_school m s ≡ true → would_take m tallies i s ≡ true → Better m a i s
-  take-better i s known takes = elim (or_cases (nat_lt (tally_at m tallies s).held (seats_of m s)) (option_map_or (λ last. is_before (key_of m i s) last) (tally_at m tallies s).last false) takes) [
-    | inl free ↦ inl (omega (arith, ltb-true (tally_at m tallies s).held (seats_of m s) free, tally-held m a s tallies known are))
-    | inr ahead ↦ inr (go (tally_at m tallies s).last refl ahead)
+module _ (m : Market) (a : Matching) (well : WellFormed m) (matching : IsMatching m a) where
+  -- the keys of those who have a school
+  abbrev keys : ℕ → List Key
+  keys s = keys_among m a (students_of m) s
+
+  take-better : (i s : ℕ) → would_take m a i s ≡ true → Better m a i s
+  take-better i s takes = elim (or_cases (nat_lt (held m a s) (seats_of m s)) (option_map_or (is_before (key_of m i s)) (last_key (keys s)) false) takes) [
+    | inl free ↦ inl (ltb-true (held m a s) (seats_of m s) free)
+    | inr ahead ↦ inr (go (last_key (keys s)) refl ahead)
   ]
     where
-      go : (o : Option Key) → (tally_at m tallies s).last ≡ o → option_map_or (λ last. is_before (key_of m i s) last) o false ≡ true → (j : ℕ) × (a j ≡ Some s) × (is_ahead m s i j ≡ true)
+      go : (o : Option Key) → last_key (keys s) ≡ o → option_map_or (is_before (key_of m i s)) o false ≡ true → (j : ℕ) × (a j ≡ Some s) × (is_ahead m s i j ≡ true)
       go None is no_key = absurd (false≢true no_key)
       go (Some last) is ahead =
-          let (j, given, key) = (are.each s known).reached last is in
-          (j, given, sym (ahead-keys m s i j) ∙ ap (is_before (key_of m i s)) (sym key) ∙ ahead)
+          let (j, among, has_s, key) = keyed (has a s) (λ j. key_of m j s) (students_of m) last (last-contained (keys s) last is) in
+          (j, has-true a s j has_s, sym (ahead-keys m s i j) ∙ ap (is_before (key_of m i s)) key ∙ ahead)
 
-  better-takes : (i s : ℕ) → is_school m s ≡ true → would_take m tallies i s ≡ false → Better m a i s → ⊥
-  better-takes i s known fails better = false≢true (sym fails ∙ elim better [
-    | inl free ↦ or_left (nat_lt (tally_at m tallies s).held (seats_of m s)) (option_map_or (λ last. is_before (key_of m i s) last) (tally_at m tallies s).last false)
-        (lt-ltb (tally_at m tallies s).held (seats_of m s) (omega (arith, free, tally-held m a s tallies known are)))
+  better-takes : (i s : ℕ) → would_take m a i s ≡ false → Better m a i s → ⊥
+  better-takes i s fails better = false≢true (sym fails ∙ elim better [
+    | inl free ↦ or_left (nat_lt (held m a s) (seats_of m s)) (option_map_or (is_before (key_of m i s)) (last_key (keys s)) false) (lt-ltb (held m a s) (seats_of m s) free)
     | inr (j, given, ahead) ↦
-        let (key, last, le) = (are.each s known).last j (lister-among m j s (matching j s given)) given in
-        or_right (nat_lt (tally_at m tallies s).held (seats_of m s)) (option_map_or (λ last. is_before (key_of m i s) last) (tally_at m tallies s).last false)
-        (ap (λ o. option_map_or (λ last. is_before (key_of m i s) last) o false) last ∙ before-over (key_of m i s) key (key_of m j s) (ahead-keys m s i j ∙ ahead) le)
+        let among : Contains (keys s) (key_of m j s) =
+        key-among (has a s) (λ j. key_of m j s) (students_of m) j (lister-among m j s (matching j s given)) (has-some a s j given) in
+        let (last, is, there) = last-among (keys s) (let (k, low, at) = among in omega (arith, low)) in
+        or_right (nat_lt (held m a s) (seats_of m s)) (option_map_or (is_before (key_of m i s)) (last_key (keys s)) false)
+        (ap (λ o. option_map_or (is_before (key_of m i s)) o false) is
+        ∙ before-over (key_of m i s) last (key_of m j s) (ahead-keys m s i j ∙ ahead) (last-after (keys s) last is (key_of m j s) among))
   ])
 
-  module _ (i k : ℕ) (passed : PassedOver m a tallies i k) where
+  module _ (i k : ℕ) (passed : PassedOver m a i k) where
     -- a choice before the place doesn't block
     passed-block : (j t : ℕ) → j < k → slice_get (choices_of m i) j ≡ Some t → Blocks m a i t → ⊥
     passed-block j t low here blocks =
-        better-takes i t (listed-known m well i t (contains-at (choices_of m i) j t here)) (ends-none (has a t i) (would_take m tallies i t) t (passed.none j t low here)).1 blocks.better
+        better-takes i t (ends-none (has a t i) (would_take m a i t) t (passed.none j t low here)).1 blocks.better
 
     -- and isn't what the student has
     passed-given : (j t : ℕ) → j < k → slice_get (choices_of m i) j ≡ Some t → a i ≡ Some t → ⊥
-    passed-given j t low here given = false≢true (sym (ends-none (has a t i) (would_take m tallies i t) t (passed.none j t low here)).0 ∙ has-some a t i given)
+    passed-given j t low here given = false≢true (sym (ends-none (has a t i) (would_take m a i t) t (passed.none j t low here)).0 ∙ has-some a t i given)
 
     preferred : (s : ℕ) → slice_get (choices_of m i) k ≡ Some s → has a s i ≡ false → Prefers m i s (a i)
     preferred s here other = go (a i) refl
@@ -125,23 +130,23 @@ module _ (m : Market) (a : Matching) (tallies : List Tally) (well : WellFormed m
               | inr (inr above) ↦ (k, n, above, here, there)
             ]
 
-    pub end-block : (s : ℕ) (end : Option ℕ) → slice_get (choices_of m i) k ≡ Some s → end_at m tallies (a i) i s ≡ Some end → IfSome end (IsEarliestBlock m a i)
+    pub end-block : (s : ℕ) (end : Option ℕ) → slice_get (choices_of m i) k ≡ Some s → end_at m a i s ≡ Some end → IfSome end (IsEarliestBlock m a i)
     end-block s None here is = tt
     end-block s (Some t) here is =
-        let (other, takes, same) = ends-some (has a s i) (would_take m tallies i s) s t is in
+        let (other, takes, same) = ends-some (has a s i) (would_take m a i s) s t is in
         subst (IsEarliestBlock m a i) same (record {
           blocks = record {
             preferred = preferred s here other;
-            better = take-better i s (listed-known m well i s (contains-at (choices_of m i) k s here)) takes;
+            better = take-better i s takes;
           };
           earliest = λ u (j, n, low, at_j, at_n).
               passed-block j u (omega (arith, low, one-place (choices_of m i) n k s (choices-differ m well i) at_n here)) at_j;
         })
 
-    pub end-none : (s : ℕ) (end : Option ℕ) → slice_get (choices_of m i) k ≡ Some s → end_at m tallies (a i) i s ≡ Some end → IfNone end ((t : ℕ) → Blocks m a i t → ⊥)
+    pub end-none : (s : ℕ) (end : Option ℕ) → slice_get (choices_of m i) k ≡ Some s → end_at m a i s ≡ Some end → IfNone end ((t : ℕ) → Blocks m a i t → ⊥)
     end-none s (Some t) here is = tt
     end-none s None here is =
-        let given : a i ≡ Some s = has-true a s i (ends-given (has a s i) (would_take m tallies i s) s is) in
+        let given : a i ≡ Some s = has-true a s i (ends-given (has a s i) (would_take m a i s) s is) in
         λ t blocks.
         let (j, n, low, at_j, at_n) = subst (Prefers m i t) given blocks.preferred in
         passed-block j t (omega (arith, low, one-place (choices_of m i) n k s (choices-differ m well i) at_n here)) at_j blocks

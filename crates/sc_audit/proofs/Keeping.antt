@@ -1,8 +1,8 @@
 -- Schools keep the best: what an offer of a seat changes.
-use Rattle.std.proofs.Common.{◌≡◌, ◌⊎◌, inl, inr, refl, ap, sym, subst, ◌∙◌, ℕ, ◌+◌, ◌<◌, ◌==◌, nat_eq, Bool, true, false, cond, not, ◌&&◌, ◌||◌, List, ◌∷◌, ◌++◌, length, Option, Some, None, Contains, count_by, arith}
+use Rattle.std.proofs.Common.{◌≡◌, inl, inr, refl, ap, sym, subst, ◌∙◌, ℕ, ◌<◌, ◌==◌, nat_eq, Bool, true, false, cond, not, ◌&&◌, ◌||◌, List, ◌∷◌, ◌++◌, length, Option, Some, None, Contains, count_by, arith}
 use Rattle.std.specs.List.Sorted.{IsPermutation}
 use Rattle.std.specs.Option.{option_to_list}
-use Rattle.std.proofs.lemmas.Bool.{cases_Bool, cases_eq, eqb-true, eq-eqb, ne_eqb, false≢true, true≢false, cond-true, cond-false, and_parts, and_from, and_left, and_right, not-true, or_right}
+use Rattle.std.proofs.lemmas.Bool.{cases_Bool, cases_eq, eqb-true, eq-eqb, ne_eqb, false≢true, true≢false, and_parts, and_from, and_right, not-true, or_right}
 use Rattle.std.proofs.lemmas.List.Elements.{All-contains, All-cons, All-tail}
 use Rattle.std.proofs.lemmas.List.Sorted.{sum_by-IsPermutation, All-permutation, length_permutation}
 use Rattle.std.proofs.lemmas.List.Sums.{sum_by-cons}
@@ -12,10 +12,10 @@ use Rattle.sc_papers.specs.Key.{key_of, is_ahead, is_before}
 use Rattle.sc_papers.specs.Matching.{Matching, how_many, has}
 use Rattle.sc_papers.specs.WellFormed.{WellFormed}
 use Rattle.sc_papers.specs.declared.key.Key.{Key}
-use Rattle.sc_papers.proofs.Counting.{contains-head, count-lt, count-none, one_passes}
+use Rattle.sc_papers.proofs.Counting.{contains-head, count-some, some-counted}
 use Rattle.sc_papers.proofs.Sums.{count-all}
-use Rattle.sc_papers.proofs.Students.{how_many-agree}
-use Rattle.sc_papers.proofs.Chain.{how_many-split}
+use Rattle.sc_papers.proofs.Students.{how_many-agree, how_many-some, some-of_many}
+use Rattle.sc_papers.proofs.Chain.{how_many-split_both}
 use Rattle.sc_papers.proofs.Priority.{ahead-total, ahead-trans}
 use Rattle.sc_papers.proofs.Rejections.{has-true, has-some, has-agree}
 use Rattle.sc_audit.specs.Offers.{Offers}
@@ -26,55 +26,6 @@ pub both-ways : (a b : Bool) → (a ≡ true → b ≡ true) → (b ≡ true →
 both-ways true b forward back = sym (forward refl)
 both-ways false true forward back = back refl
 both-ways false false forward back = refl
-
--- a member that passes counts, and where some count one passes
-count-some : {X : Type 0} (p : X → Bool) (xs : List X) (x : X) → Contains xs x → p x ≡ true → 0 < count_by p xs
-count-some p xs x among passes = omega (arith, count-lt (λ y. false) p xs (λ y in_list holds. absurd (false≢true holds)) x among refl passes)
-
-some-counted : {X : Type 0} (p : X → Bool) (xs : List X) → 0 < count_by p xs → (x : X) × Contains xs x × (p x ≡ true)
-some-counted p xs some =
-    elim (one_passes p xs) [
-      | inl found ↦ found
-      | inr none ↦ absurd (omega (arith, some, count-none p xs none))
-    ]
-
-how_many-some : (m : Market) (p : ℕ → Bool) (i : ℕ) → Contains (students_of m) i → p i ≡ true → 0 < how_many m p
-unfolding how_many
-how_many-some m p i among passes = count-some p (students_of m) i among passes
-
-some-of_many : (m : Market) (p : ℕ → Bool) → 0 < how_many m p → (i : ℕ) × Contains (students_of m) i × (p i ≡ true)
-unfolding how_many
-some-of_many m p some = some-counted p (students_of m) some
-
--- those who pass, by one of them and the others
-split-one : (m : Market) → WellFormed m → (p q : ℕ → Bool) (y : ℕ) → Contains (students_of m) y → q y ≡ true → how_many m (λ j. p j && q j) ≡ cond (p y) 1 0 + how_many m (λ j. p j && (q j && not (j == y)))
-split-one m well p q y among stands =
-    elim (cases_Bool (p y)) [
-      | inl passes ↦ omega (
-        arith,
-        cond-true {A = ℕ} (p y) 1 0 passes,
-        how_many-split m well (λ j. p j && q j) y among (and_from (p y) (q y) passes stands),
-        how_many-agree m (λ j. (p j && q j) && not (j == y)) (λ j. p j && (q j && not (j == y))) (λ j. and-assoc (p j) (q j) (not (j == y))),
-      )
-      | inr fails ↦ omega (
-        arith,
-        cond-false {A = ℕ} (p y) 1 0 fails,
-        how_many-agree m (λ j. p j && q j) (λ j. p j && (q j && not (j == y))) (λ j. without j (cases_eq j y) fails),
-      )
-    ]
-  where
-    and-assoc : (a b c : Bool) → ((a && b) && c) ≡ (a && (b && c))
-    and-assoc true b c = refl
-    and-assoc false b c = refl
-
-    with-true : (a b c : Bool) → c ≡ true → (a && b) ≡ (a && (b && c))
-    with-true a true true holds = refl
-    with-true a true false holds = absurd (false≢true holds)
-    with-true a false c holds = refl
-
-    without : (j : ℕ) → (j ≡ y) ⊎ (j ≡ y → ⊥) → p y ≡ false → (p j && q j) ≡ (p j && (q j && not (j == y)))
-    without j (inl same) fails = and_left (p j) (q j) (ap p same ∙ fails) ∙ sym (and_left (p j) (q j && not (j == y)) (ap p same ∙ fails))
-    without j (inr apart) fails = with-true (p j) (q j) (not (j == y)) (ap not (ne_eqb j y apart))
 
 pub key-student : (m : Market) (i s : ℕ) → (key_of m i s).student ≡ i
 unfolding key_of
@@ -132,7 +83,7 @@ keys-join m well s i test keys among fails are = record {
     sum_by-cons (λ (k : Key). cond (p k.student) 1 0) (key_of m i s) keys,
     ap {B = ℕ} (λ j. cond (p j) 1 0) (key-student m i s),
     are.exact p,
-    split-one m well p (λ j. test j || j == i) i among (or_right (test i) (i == i) (eq-eqb i i refl)),
+    how_many-split_both m well p (λ j. test j || j == i) i among (or_right (test i) (i == i) (eq-eqb i i refl)),
     how_many-agree m (λ j. p j && ((test j || j == i) && not (j == i))) (λ j. p j && test j) (λ j. ap (λ b. p j && b) (join-apart j i test fails)),
   );
 }
@@ -147,7 +98,7 @@ keys-leave m well s test out keys are =
         arith,
         sum_by-cons (λ (k : Key). cond (p k.student) 1 0) out keys,
         are.exact p,
-        split-one m well p test out.student own.0 own.1,
+        how_many-split_both m well p test out.student own.0 own.1,
       );
     }
 

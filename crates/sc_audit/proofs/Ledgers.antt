@@ -1,19 +1,15 @@
 -- What the steps of an audit keep of the ledger.
-use Rattle.std.proofs.Common.{◌≡◌, inl, inr, refl, ap, sym, subst, ◌∙◌, ℕ, ◌<◌, ◌≤◌, nat_eq, Bool, true, false, cond, not, ◌&&◌, List, [], ◌∷◌, length, get_or, set, map, Option, Some, None, Contains, All, IfSome, position, slice_get, arith}
+use Rattle.std.proofs.Common.{◌≡◌, inl, inr, refl, ap, sym, subst, ◌∙◌, ℕ, ◌<◌, ◌≤◌, nat_eq, Bool, true, false, cond, not, ◌&&◌, List, [], ◌∷◌, length, get_or, set, map, Option, Some, None, Contains, All, position, slice_get, arith}
 use Rattle.std.specs.BinaryHeap.{IsHeap}
 use Rattle.std.specs.Option.{option_map, option_map_or}
 use Rattle.std.proofs.lemmas.Bool.{cases_eq, eq-eqb, ne_eqb, cond-true, cond-false}
-use Rattle.std.proofs.lemmas.Option.{none-some, slice_get_within}
+use Rattle.std.proofs.lemmas.Option.{none-some}
 use Rattle.std.proofs.lemmas.List.{length-set}
-use Rattle.std.proofs.lemmas.List.Elements.{All-set, All-contains}
-use Rattle.std.proofs.lemmas.Map.Entries.{All-lookup, length-keys_of}
+use Rattle.std.proofs.lemmas.List.Elements.{All-set}
+use Rattle.std.proofs.lemmas.Map.Entries.{length-keys_of}
 use Rattle.sc_papers.specs.Key.{key_of, key_cmp}
-use Rattle.sc_papers.specs.Market.{Market, student_of, students_of, schools_of, choices_of, seats_of, is_student, is_school}
-use Rattle.sc_papers.specs.WellFormed.{WellFormed, WithinLimits, IsShort, IsProper}
+use Rattle.sc_papers.specs.Market.{Market, students_of, schools_of, choices_of, seats_of, is_student}
 use Rattle.sc_papers.specs.declared.key.Key.{Key}
-use Rattle.sc_papers.specs.declared.records.Student.{Student}
-use Rattle.sc_papers.specs.declared.limits.TheConstants.{LONGEST_LIST}
-use Rattle.sc_papers.proofs.Choices.{contains-at, place-of}
 use Rattle.sc_audit.specs.Offers.{Offers}
 use Rattle.sc_audit.specs.Ledger.{Ledger, stand_of, next_of, is_kept, set_aside, keys_at, KeepsBest, Fits, Comes}
 use Rattle.sc_audit.specs.declared.stand.Stand.{Stand}
@@ -22,24 +18,6 @@ use Rattle.sc_papers.proofs.Positions.{among-student, position-at, student-among
 use Rattle.sc_audit.proofs.Keeping.{is_out, Came, keeps-more, keeps-others, keys-own, key-student}
 use Rattle.std.proofs.lemmas.List.Sorted.{Contains-permutation, IsPermutation-sym}
 use Rattle.sc_papers.proofs.Counting.{contains-cons, contains-head}
-
--- a school of a student's choices is a school of the papers
-pub choice-known : (m : Market) → WellFormed m → (i place s : ℕ) → slice_get (choices_of m i) place ≡ Some s → is_school m s ≡ true
-unfolding choices_of
-choice-known m well i place s at = go (student_of m i) (All-lookup (IsProper m) (nat_eq i) m.students well.students_proper) at
-  where
-    go : (found : Option Student) → IfSome found (IsProper m) → slice_get (option_map_or (λ student. student.choices) found []) place ≡ Some s → is_school m s ≡ true
-    go None proper none = absurd (none-some s none)
-    go (Some student) proper here = All-contains (λ t. is_school m t ≡ true) student.choices s proper.choices_known (contains-at student.choices place s here)
-
--- a place of a student's choices is below the length of the longest list
-pub place-short : (m : Market) → WithinLimits m → (i place s : ℕ) → slice_get (choices_of m i) place ≡ Some s → place < LONGEST_LIST
-unfolding choices_of
-place-short m within i place s at = go (student_of m i) (All-lookup IsShort (nat_eq i) m.students within.lists) at
-  where
-    go : (found : Option Student) → IfSome found IsShort → slice_get (option_map_or (λ student. student.choices) found []) place ≡ Some s → place < LONGEST_LIST
-    go None short none = absurd (none-some s none)
-    go (Some student) short here = omega (arith, short.choices, slice_get_within student.choices place s here)
 
 -- the stand of a student, once one is put out
 abbrev pub aside : Option Key → ℕ → Option Stand → Option Stand
@@ -217,7 +195,3 @@ pub offer-seen : {X : Type 0} (f : X → List Key) (m : Market) (xs : List X) (i
 offer-seen f m xs i s at now seats key keys out low is seats_is key_is made =
     subst (λ old. Offers old (seats_of m s) (key_of m i s) keys out) (sym (read-mapped f xs at now [] low is))
     (subst (λ n. Offers (f now) n (key_of m i s) keys out) seats_is (subst (λ k. Offers (f now) seats k keys out) key_is made))
-
--- a listed school is a school of the papers
-pub listed-known : (m : Market) → WellFormed m → (i s : ℕ) → Contains (choices_of m i) s → is_school m s ≡ true
-listed-known m well i s listed = let (k, at) = place-of (choices_of m i) s listed in choice-known m well i k s at

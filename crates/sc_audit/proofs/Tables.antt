@@ -5,17 +5,11 @@ use Rattle.std.proofs.lemmas.Bool.{cases_eq, eq-eqb, ne_eqb, cond-true, cond-fal
 use Rattle.std.proofs.lemmas.Option.{none-some}
 use Rattle.std.proofs.lemmas.List.{get_or_read, length-map}
 use Rattle.std.proofs.lemmas.Map.Entries.{length-keys_of}
-use Rattle.sc_papers.specs.Market.{Market, schools_of, seats_of, school_of, students_of}
-use Rattle.sc_papers.specs.declared.records.School.{School}
+use Rattle.sc_papers.specs.Market.{Market, schools_of, students_of}
 use Rattle.sc_papers.proofs.Positions.{position-among, position-at, position-one}
 use Rattle.sc_audit.specs.Ledger.{looked_up, set_aside, stand_of, keys_at}
 use Rattle.sc_audit.specs.declared.stand.Stand.{Stand}
 use Rattle.sc_papers.specs.declared.key.Key.{Key}
-
--- the seats of a school of the papers
-pub seats-known : (m : Market) (s : ℕ) (school : School) → school_of m s ≡ Some school → seats_of m s ≡ school.seats
-unfolding seats_of
-seats-known m s school known = ap (λ found. option_map_or (λ (school : School). school.seats) found 0) known
 
 -- what is looked up at a known position
 pub looked-at : {X : Type 0} (xs : List ℕ) (table : List X) (d : X) (i at : ℕ) → position (nat_eq i) xs ≡ Some at → looked_up xs table d i ≡ get_or table at d

@@ -2,16 +2,16 @@
 ghost use Rattle.std.specs.Prelude.{◌≡◌, ◌==◌, ℕ, ◌<◌, true, false, length, IfSome, IfNone};
 ghost use Rattle.std.specs.Option.{option_map_or};
 ghost use Rattle.sc_papers.specs.Assignment.{assigned};
-ghost use Rattle.sc_papers.specs.Market.{is_school, students_of, student_at};
+ghost use Rattle.sc_papers.specs.Market.{is_school, student_at};
 ghost use Rattle.sc_papers.specs.Matching.{IsMatching, Blocks};
 ghost use Rattle.sc_papers.specs.WellFormed.{WellFormed};
 ghost use Rattle.sc_audit.specs.Stability.{IsEarliestBlock, IsFirstBlock};
-ghost use Rattle.sc_audit.specs.Tallies.{earlier_of, end_at, AreTallies};
+ghost use Rattle.sc_tallies.specs.Tally.{AreTallies};
+ghost use Rattle.sc_audit.specs.Tallies.{earlier_of, end_at};
 
-use crate::choices::choices_at;
 use crate::tallies::would_take;
-use crate::tally::Tally;
 use sc_papers::{Assignment, Papers, SchoolNo, StudentNo};
+use sc_tallies::Tally;
 
 /// Whether what is given is this school.
 fn is_given(given: Option<SchoolNo>, school: SchoolNo) -> bool
@@ -42,8 +42,8 @@ fn end_at(
 ) -> Option<Option<SchoolNo>>
     requires within { position < length papers.now.students }
     requires school { is_school papers.now school ≡ true }
-    requires tallies { length tallies.now ≡ length papers.now.schools }
-    ensures { result ≡ end_at papers.now tallies.now (assigned assignment.now (student_at papers.now position)) (student_at papers.now position) school }
+    requires tallies { AreTallies papers.now (assigned assignment.now) tallies.now }
+    ensures { result ≡ end_at papers.now (assigned assignment.now) (student_at papers.now position) school }
 {
     if is_given(given_at(papers, assignment, position), school) {
         return Some(None);
@@ -65,11 +65,11 @@ fn earliest_block(
     requires well_formed { WellFormed papers.now }
     requires within { position < length papers.now.students }
     requires matching { IsMatching papers.now (assigned assignment.now) }
-    requires tallies { AreTallies papers.now (assigned assignment.now) (students_of papers.now) tallies.now }
+    requires tallies { AreTallies papers.now (assigned assignment.now) tallies.now }
     ensures block { IfSome result (IsEarliestBlock papers.now (assigned assignment.now) (student_at papers.now position)) }
     ensures none { IfNone result ((s : ℕ) → ¬ Blocks papers.now (assigned assignment.now) (student_at papers.now position) s) }
 {
-    let choices = choices_at(papers, position);
+    let choices = papers.choices_at(position);
     for place in 0..choices.len() {
         if let Some(end) = end_at(tallies, papers, assignment, position, choices[place]) {
             return end;
@@ -107,7 +107,7 @@ pub(crate) fn first_block(
     assignment: &Assignment,
 ) -> Option<(StudentNo, SchoolNo)>
     requires matching { IsMatching papers.now (assigned assignment.now) }
-    requires tallies { AreTallies papers.now (assigned assignment.now) (students_of papers.now) tallies.now }
+    requires tallies { AreTallies papers.now (assigned assignment.now) tallies.now }
     ensures block { IfSome result (λ block. IsFirstBlock papers.now (assigned assignment.now) block.0 block.1) }
     ensures none { IfNone result ((i s : ℕ) → ¬ Blocks papers.now (assigned assignment.now) i s) }
 {

@@ -9,7 +9,6 @@ ghost use Rattle.sc_papers.specs.Key.{key_cmp};
 ghost use Rattle.sc_audit.specs.Over.{IsFirstOver};
 
 use crate::choices::choice_at;
-use crate::keys::key_at;
 use crate::least::lesser;
 use crate::offers::offer;
 use crate::stand::Stand;
@@ -55,8 +54,8 @@ impl Books {
         let Some(school) = choice_at(papers, student, place) else {
             return Ok(());
         };
-        let (at, seats, key) = key_at(papers, student, school);
-        let out = offer(&mut self.kept[at], seats, key)?;
+        let (at, key) = papers.position_and_key(student, school);
+        let out = offer(&mut self.kept[at], papers.seats_of(school), key)?;
         self.stands[student] = Some(Stand {
             place,
             school,

@@ -1,17 +1,16 @@
 ghost use Rattle.std.specs.Prelude.{IfOk};
 ghost use Rattle.sc_papers.specs.Assignment.{assigned};
-ghost use Rattle.sc_papers.specs.Market.{students_of};
 ghost use Rattle.sc_papers.specs.Matching.{IsMatching};
 ghost use Rattle.sc_papers.specs.WellFormed.{WellFormed};
+ghost use Rattle.sc_tallies.specs.Tally.{AreTallies};
 ghost use Rattle.sc_audit.specs.Stability.{IsStability};
-ghost use Rattle.sc_audit.specs.Tallies.{AreTallies};
 
 use crate::blocks::first_block;
 use crate::membership::is_matching;
 use crate::stability::Stability;
-use crate::tallies::{least_over, tallies};
-use crate::tally::Tally;
+use crate::tallies::least_over;
 use sc_papers::{Assignment, Papers};
+use sc_tallies::{Tally, tallies};
 use std::alloc::{AllocError, Global};
 
 /// Whether an assignment, whoever made it, is a stable matching of the papers (Gale and Shapley 1962),
@@ -39,7 +38,7 @@ pub fn check_stable(
 fn judge(tallies: &[Tally], papers: &Papers, assignment: &Assignment) -> Stability
     requires well_formed { WellFormed papers.now }
     requires matching { IsMatching papers.now (assigned assignment.now) }
-    requires tallies { AreTallies papers.now (assigned assignment.now) (students_of papers.now) tallies.now }
+    requires tallies { AreTallies papers.now (assigned assignment.now) tallies.now }
     ensures { IsStability papers.now (assigned assignment.now) result }
 {
     if let Some(school) = least_over(tallies, papers) {

@@ -4,21 +4,10 @@ ghost use Rattle.sc_papers.specs.Market.{choices_of, student_at};
 
 use sc_papers::{Papers, SchoolNo};
 
-/// The choices of the student at the position.
-pub(crate) fn choices_at(papers: &Papers, student: usize) -> &[SchoolNo]
-    requires { student < length papers.now.students }
-    ensures { result.now ≡ choices_of papers.now (student_at papers.now student) }
-{
-    let Some(record) = papers.record_at(student) else {
-        unreachable!()
-    };
-    record.choices.as_slice()
-}
-
 /// The choice at a place, from 0, of the student at the position.
 pub(crate) fn choice_at(papers: &Papers, student: usize, place: usize) -> Option<SchoolNo>
     requires { student < length papers.now.students }
     ensures { result ≡ slice_get (choices_of papers.now (student_at papers.now student)) place }
 {
-    choices_at(papers, student).get(place).copied()
+    papers.choices_at(student).get(place).copied()
 }

@@ -7,7 +7,6 @@ mod blocks;
 mod books;
 mod checker;
 mod choices;
-mod keys;
 pub mod laws;
 mod least;
 mod membership;
@@ -16,7 +15,6 @@ mod stability;
 mod stand;
 mod stands;
 mod tallies;
-mod tally;
 mod verdict;
 
 pub use auditor::audit;

@@ -1,5 +1,5 @@
 -- One more entry of a log, put into a table of places.
-use Rattle.std.proofs.Common.{◌≡◌, inl, inr, refl, ap, sym, subst, ◌∙◌, ℕ, ◌<◌, ◌≤◌, ◌==◌, nat_eq, nat_lt, Bool, true, false, ◌&&◌, ◌||◌, List, [], ◌∷◌, ◌++◌, length, get_or, set, replicate, Option, Some, None, IfSome, slice_get, position, arith, length-set}
+use Rattle.std.proofs.Common.{◌≡◌, inl, inr, refl, ap, sym, ◌∙◌, ℕ, ◌<◌, ◌≤◌, ◌==◌, nat_eq, nat_lt, Bool, true, false, ◌&&◌, ◌||◌, List, [], ◌∷◌, ◌++◌, length, get_or, set, replicate, Option, Some, None, slice_get, position, arith, length-set}
 use Rattle.std.specs.List.{position_or_len}
 use Rattle.std.specs.Option.{option_and_then, option_map_or}
 use Rattle.std.proofs.lemmas.Bool.{cases_eq, cases_lt, cond-true, lt-ltb, eqb-true, eq-eqb, ne_eqb, false≢true, false_from_ne_true, and_parts}
@@ -7,13 +7,11 @@ use Rattle.std.proofs.lemmas.List.{get_or-set_same, get_or-set_other, get_or-rep
 use Rattle.std.proofs.lemmas.List.Quantifiers.{position-Some}
 use Rattle.std.proofs.lemmas.List.Sums.{fails_before_first}
 use Rattle.std.proofs.lemmas.Option.{none-some, same_Some, slice_get_within, slice_get-get_or, get_or_from_slice_get}
-use Rattle.std.proofs.lemmas.Map.Entries.{All-lookup}
 use Rattle.sc_papers.specs.Market.{Market, student_of, students_of, choices_of}
-use Rattle.sc_papers.specs.WellFormed.{WellFormed, WithinLimits, IsShort}
+use Rattle.sc_papers.specs.WellFormed.{WellFormed}
 use Rattle.sc_papers.specs.Log.{is_rejected}
 use Rattle.sc_papers.specs.declared.records.Student.{Student}
 use Rattle.sc_papers.specs.declared.rejection.Rejection.{Rejection}
-use Rattle.sc_papers.specs.declared.limits.TheConstants.{LONGEST_LIST}
 use Rattle.sc_papers.proofs.Choices.{one-place}
 use Rattle.sc_papers.proofs.Rejections.{is_of, rejected-push}
 use Rattle.sc_papers.proofs.Students.{choices-differ}
@@ -39,16 +37,6 @@ position-none test xs k x none here =
           ap test (sym (get_or_from_slice_get xs k x x here))
           ∙ fails_before_first test xs k x (omega (arith, over, slice_get_within xs k x here))
     ]
-
--- no student lists more choices than a list may name
-pub record-short : (m : Market) → WithinLimits m → (at : ℕ) (held : Student) → Some held ≡ option_and_then (student_of m) (slice_get (students_of m) at) → length held.choices ≤ LONGEST_LIST
-record-short m limits at held is = go (slice_get (students_of m) at) is
-  where
-    go : (found : Option ℕ) → Some held ≡ option_and_then (student_of m) found → length held.choices ≤ LONGEST_LIST
-    go None none = absurd (none-some held (sym none))
-    go (Some i) known =
-        let short : IsShort held = subst (λ found. IfSome found IsShort) (sym known) (All-lookup IsShort (nat_eq i) m.students limits.lists) in
-        short.choices
 
 -- what the papers hold at a student's position has its choices
 pub choices-here : (m : Market) (i at : ℕ) (held : Option Student) → slice_get (students_of m) at ≡ Some i → held ≡ option_and_then (student_of m) (slice_get (students_of m) at)

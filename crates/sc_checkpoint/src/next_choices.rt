@@ -9,7 +9,7 @@ ghost use Rattle.sc_checkpoint.specs.Standings.{standings_after};
 
 use crate::place_set::PlaceSet;
 use crate::standing::Standing;
-use sc_papers::{LONGEST_LIST, MOST_STUDENTS, Papers, Rejection, SchoolNo, StudentNo};
+use sc_papers::{LONGEST_LIST, Papers, Rejection, SchoolNo, StudentNo};
 use std::alloc::{AllocError, Global};
 
 /// Where the first `k` students of the papers stand after the log. The only error is a refused
@@ -62,7 +62,7 @@ fn mark(papers: &Papers, table: &mut [PlaceSet], entry: Rejection)
     let Some(position) = papers.student_position(entry.student) else {
         return;
     };
-    let Some(place) = place_in(choices_at(papers, position), entry.school) else {
+    let Some(place) = place_in(papers.choices_at(position), entry.school) else {
         return;
     };
     // This call tells that the papers are well-formed: no number and no choice stands twice.
@@ -79,19 +79,6 @@ fn place_in(choices: &[SchoolNo], school: SchoolNo) -> Option<usize>
     choices.iter().position(|choice| *choice == school)
 }
 
-/// The choices of the student at the position, best first: none where nobody is there.
-fn choices_at(papers: &Papers, at: usize) -> &[SchoolNo]
-    ensures value { (i : ℕ) → slice_get (students_of papers.now) at ≡ Some i → result.now ≡ choices_of papers.now i }
-    ensures short { length result.now ≤ LONGEST_LIST }
-{
-    // This call tells that the papers are within their limits, and so are their lists.
-    prove!(papers.students_len() <= MOST_STUDENTS);
-    match papers.record_at(at) {
-        Some(record) => record.choices.as_slice(),
-        None => &[],
-    }
-}
-
 /// Where the student at the position stands, by the places of the choices that rejected it.
 #[tactic(auto, unfolding(sc_papers::specs::Log::next_choice))]
 fn standing_of(papers: &Papers, student: StudentNo, at: usize, rejected: PlaceSet) -> Standing
@@ -100,7 +87,7 @@ fn standing_of(papers: &Papers, student: StudentNo, at: usize, rejected: PlaceSe
 {
     Standing {
         student,
-        next: first_outside(choices_at(papers, at), rejected),
+        next: first_outside(papers.choices_at(at), rejected),
     }
 }
 

@@ -13,14 +13,14 @@ use Rattle.sc_papers.specs.declared.records.Student.{Student}
 use Rattle.sc_papers.specs.declared.key.Key.{Key}
 use Rattle.sc_papers.specs.declared.rejection.Rejection.{Rejection}
 use Rattle.sc_papers.specs.declared.limits.TheConstants.{MOST_STUDENTS}
-use Rattle.sc_papers.proofs.Chain.{how_many-split}
+use Rattle.sc_papers.proofs.Chain.{how_many-split, how_many-split_both}
 use Rattle.sc_papers.proofs.Counting.{contains-cons, contains-head, contains-tail}
 use Rattle.sc_papers.proofs.Rejections.{has-true, has-some}
 use Rattle.sc_papers.proofs.Students.{how_many-agree}
 use Rattle.sc_seats.specs.Roll.{Held}
 use Rattle.sc_engine.specs.Standing.{Standings, next_of, roll_of, roll_at, RollFits, FitsBut, Fits, only, nobody, standing_but, CountsProposals, OffersAt}
 use Rattle.sc_engine.proofs.Tables.{length-mapped, next-among, roll-at, roll-kept}
-use Rattle.sc_engine.proofs.Rolls.{on-roll, roll-holds, roll-fits_still, stands-split, counts-held}
+use Rattle.sc_engine.proofs.Rolls.{on-roll, roll-holds, roll-fits_still, counts-held}
 
 -- who has a school that is not s has not s
 pub has-not : (a : Matching) (s t i : ℕ) → a i ≡ Some s → (t ≡ s → ⊥) → has a t i ≡ false
@@ -139,7 +139,7 @@ fits-held m r r' hand s at done same counted = record {
       exact = λ p.
           let now : count_by (λ (k : Key). p k.student) (roll_at r'.rolls at).keys ≡ cond (p hand) 1 0 + count_by (λ (k : Key). p k.student) (roll_at r.rolls at).keys =
           counts-held p (key_of m hand s) (roll_at r.rolls at).keys (roll_at r'.rolls at).keys done.offered.together ∙ ap (λ i. cond (p i) 1 0 + count_by (λ (k : Key). p k.student) (roll_at r.rolls at).keys) (key-student m hand s) in
-          let split = stands-split m done.fits.well_formed p (has next s) hand (next-among m r.places hand s done.stands) (has-some next s hand done.stands) in
+          let split = how_many-split_both m done.fits.well_formed p (has next s) hand (next-among m r.places hand s done.stands) (has-some next s hand done.stands) in
           let still : how_many m (λ j. p j && has next s j) ≡ how_many m (λ j. p j && (has next s j && not false)) =
           how_many-agree m (λ j. p j && has next s j) (λ j. p j && (has next s j && not false)) (λ j. ap (λ b. p j && b) (sym (stays (has next s j)))) in
           omega (arith, now, split, still, (roll-before done).exact p);

@@ -7,7 +7,7 @@ use Rattle.sc_papers.proofs.Students.{how_many-agree}
 use Rattle.sc_engine.specs.Standing.{Standings, place_of, next_of, Fits, nobody, roll_at, RollFits, StandsToo}
 use Rattle.sc_engine.proofs.Tables.{roll-at, next-by}
 use Rattle.sc_engine.proofs.Rolls.{roll-length}
-use Rattle.sc_engine.proofs.Papers.{choice-known}
+use Rattle.sc_papers.proofs.Students.{choice-known}
 use Rattle.sc_engine.proofs.Proposals.{Proposed, stays, fits-held, fits-ended, counted-held}
 use Rattle.sc_engine.proofs.Beginning.{Begun, place-begun, next-others, entered-begun, fits-begun}
 

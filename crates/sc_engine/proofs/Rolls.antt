@@ -1,42 +1,20 @@
 -- Who is on a roll that fits: exactly the students who stand at the school, but for those away.
-use Rattle.std.proofs.Common.{◌≡◌, ◌⊎◌, inl, inr, refl, ap, sym, subst, ◌∙◌, ℕ, ◌+◌, ◌<◌, ◌==◌, Bool, true, false, cond, not, ◌&&◌, List, ◌∷◌, length, Some, Contains, count_by, arith}
+use Rattle.std.proofs.Common.{◌≡◌, refl, ap, sym, subst, ◌∙◌, ℕ, ◌+◌, ◌<◌, ◌==◌, Bool, true, false, cond, not, ◌&&◌, List, ◌∷◌, length, Some, Contains, count_by}
 use Rattle.std.specs.List.Sorted.{IsPermutation}
-use Rattle.std.proofs.lemmas.Bool.{cases_Bool, cases_eq, eqb-true, eq-eqb, ne_eqb, false≢true, cond-true, cond-false, and_parts, and_from, and_left, not-true}
+use Rattle.std.proofs.lemmas.Bool.{eqb-true, eq-eqb, false≢true, and_parts, and_from, not-true}
 use Rattle.std.proofs.lemmas.List.Elements.{All-contains}
 use Rattle.std.proofs.lemmas.List.Sorted.{sum_by-IsPermutation}
 use Rattle.std.proofs.lemmas.List.Sums.{sum_by-cons}
 use Rattle.sc_papers.specs.Market.{Market, students_of}
 use Rattle.sc_papers.specs.Key.{key_of}
 use Rattle.sc_papers.specs.Matching.{Matching, how_many, has}
-use Rattle.sc_papers.specs.WellFormed.{WellFormed}
 use Rattle.sc_papers.specs.declared.key.Key.{Key}
-use Rattle.sc_papers.proofs.Counting.{count-lt, count-none, one_passes}
+use Rattle.sc_papers.proofs.Counting.{count-some, some-counted}
 use Rattle.sc_papers.proofs.Sums.{count-all}
-use Rattle.sc_papers.proofs.Students.{how_many-agree}
-use Rattle.sc_papers.proofs.Chain.{how_many-split}
+use Rattle.sc_papers.proofs.Students.{how_many-agree, how_many-some, some-of_many}
 use Rattle.sc_papers.proofs.Rejections.{has-true, has-some}
 use Rattle.sc_seats.specs.Roll.{Held}
 use Rattle.sc_engine.specs.Standing.{RollFits}
-
--- a member that passes counts
-pub count-some : {X : Type 0} (p : X → Bool) (xs : List X) (x : X) → Contains xs x → p x ≡ true → 0 < count_by p xs
-count-some p xs x among passes = omega (arith, count-lt (λ y. false) p xs (λ y in_list holds. absurd (false≢true holds)) x among refl passes)
-
--- where some count, one passes
-pub some-counted : {X : Type 0} (p : X → Bool) (xs : List X) → 0 < count_by p xs → (x : X) × Contains xs x × (p x ≡ true)
-some-counted p xs some =
-    elim (one_passes p xs) [
-      | inl found ↦ found
-      | inr none ↦ absurd (omega (arith, some, count-none p xs none))
-    ]
-
-pub how_many-some : (m : Market) (p : ℕ → Bool) (i : ℕ) → Contains (students_of m) i → p i ≡ true → 0 < how_many m p
-unfolding how_many
-how_many-some m p i among passes = count-some p (students_of m) i among passes
-
-pub some-of_many : (m : Market) (p : ℕ → Bool) → 0 < how_many m p → (i : ℕ) × Contains (students_of m) i × (p i ≡ true)
-unfolding how_many
-some-of_many m p some = some-counted p (students_of m) some
 
 -- who is on the roll stands at the school and is not away, and the key is its own
 pub record OnRoll (m : Market) (next : Matching) (away : ℕ → Bool) (s : ℕ) (key : Key) : Type 0 where
@@ -92,36 +70,6 @@ roll-fits_still m next next' away away' s roll agree fits = record {
   keyed = fits.keyed;
   exact = λ p. fits.exact p ∙ how_many-agree m (λ j. p j && (has next s j && not (away j))) (λ j. p j && (has next' s j && not (away' j))) (λ j. ap (λ b. p j && b) (agree j));
 }
-
--- those who stand at the school, by one of them and the others
-pub stands-split : (m : Market) → WellFormed m → (p q : ℕ → Bool) (y : ℕ) → Contains (students_of m) y → q y ≡ true → how_many m (λ j. p j && q j) ≡ cond (p y) 1 0 + how_many m (λ j. p j && (q j && not (j == y)))
-stands-split m well p q y among stands =
-    elim (cases_Bool (p y)) [
-      | inl passes ↦ omega (
-        arith,
-        cond-true {A = ℕ} (p y) 1 0 passes,
-        how_many-split m well (λ j. p j && q j) y among (and_from (p y) (q y) passes stands),
-        how_many-agree m (λ j. (p j && q j) && not (j == y)) (λ j. p j && (q j && not (j == y))) (λ j. and-assoc (p j) (q j) (not (j == y))),
-      )
-      | inr fails ↦ omega (
-        arith,
-        cond-false {A = ℕ} (p y) 1 0 fails,
-        how_many-agree m (λ j. p j && q j) (λ j. p j && (q j && not (j == y))) (λ j. without j (cases_eq j y) fails),
-      )
-    ]
-  where
-    and-assoc : (a b c : Bool) → ((a && b) && c) ≡ (a && (b && c))
-    and-assoc true b c = refl
-    and-assoc false b c = refl
-
-    keeps : (a b c : Bool) → c ≡ true → (a && b) ≡ (a && (b && c))
-    keeps a true true holds = refl
-    keeps a true false holds = absurd (false≢true holds)
-    keeps a false c holds = refl
-
-    without : (j : ℕ) → (j ≡ y) ⊎ (j ≡ y → ⊥) → p y ≡ false → (p j && q j) ≡ (p j && (q j && not (j == y)))
-    without j (inl same) fails = and_left (p j) (q j) (ap p same ∙ fails) ∙ sym (and_left (p j) (q j && not (j == y)) (ap p same ∙ fails))
-    without j (inr apart) fails = keeps (p j) (q j) (not (j == y)) (ap not (ne_eqb j y apart))
 
 -- the counts of a roll after an offer
 pub counts-offered : (p : ℕ → Bool) (key out : Key) (old new : List Key) → IsPermutation (key ∷ old) (out ∷ new) → cond (p out.student) 1 0 + count_by (λ (k : Key). p k.student) new ≡ cond (p key.student) 1 0 + count_by (λ (k : Key). p k.student) old

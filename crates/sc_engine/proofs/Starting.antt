@@ -127,11 +127,6 @@ continues-start m r start =
       next = λ j. ap (λ log. next_choice (entered_papers m r.places) log j) start.log ∙ none j ∙ sym (next-none m r.places j (no-place m r.places start.places start.nowhere j));
     }
 
--- the seats of a school of the papers
-pub seats-known : (m : Market) (s : ℕ) (school : School) → school_of m s ≡ Some school → seats_of m s ≡ school.seats
-unfolding seats_of
-seats-known m s school known = ap (λ found. option_map_or (λ (school : School). school.seats) found 0) known
-
 -- the standings that the code starts with
 pub starts : {R : Type 0} (m : Market) (places : List (Option ℕ)) (rolls : List R) (see : R → Held) (log : List Rejection) (proposals : ℕ) → WellFormed m → WithinLimits m → length places ≡ length m.students → All (λ place. place ≡ None) places → length rolls ≡ length m.schools → AreEmpty m (map see rolls) (length m.schools) → log ≡ [] → proposals ≡ 0 → IsStart m (record { places = places; rolls = map see rolls; log = log; proposals = proposals })
 starts m places rolls see log proposals well within long nowhere as_many empty no_log none = record {

@@ -14,7 +14,7 @@ use Rattle.sc_papers.specs.Restriction.{restricted}
 use Rattle.sc_papers.specs.WellFormed.{WellFormed}
 use Rattle.sc_papers.specs.declared.key.Key.{Key}
 use Rattle.sc_papers.specs.declared.rejection.Rejection.{Rejection}
-use Rattle.sc_papers.proofs.Chain.{chain-puts-out, chain-ends, put-out-valid}
+use Rattle.sc_papers.proofs.Chain.{chain-puts-out, chain-ends, put-out-valid, how_many-split_both}
 use Rattle.sc_papers.proofs.Rejections.{has-agree, has-true, has-some, next-same}
 use Rattle.sc_papers.proofs.Restriction.{choices-restricted, seats-restricted, ahead-restricted, counts-restricted}
 use Rattle.sc_papers.proofs.Standings.{next-moves}
@@ -24,7 +24,7 @@ use Rattle.sc_papers.proofs.Sums.{sum-bump}
 use Rattle.sc_seats.specs.Roll.{Held}
 use Rattle.sc_engine.specs.Standing.{Standings, place_of, next_of, has_entered, roll_of, roll_at, RollFits, FitsBut, only, CountsProposals, entered_papers, Midway, Continues, choices_left, left_at}
 use Rattle.sc_engine.proofs.Tables.{place-written, place-kept, next-by, next-kept, next-among, next-entered}
-use Rattle.sc_engine.proofs.Rolls.{roll-length, roll-fits_still, stands-split, counts-offered}
+use Rattle.sc_engine.proofs.Rolls.{roll-length, roll-fits_still, counts-offered}
 use Rattle.sc_engine.proofs.Proposals.{Proposed, roll-before, roll-after, roll-after_other, has-not, not-there, key-student, Out, put-out, counted-within, standing-split, standing-others}
 
 -- the same students have entered, in the same papers
@@ -132,8 +132,8 @@ fits-put_out m r r' hand s at out place_at place done moved counted = record {
       exact = λ p.
           let now = counts-offered p (key_of m hand s) out old.keys new.keys done.offered.together in
           let hand_term = ap (λ j. one_if (p j)) hand-student in
-          let by_hand = stands-split m done.fits.well_formed p (has next s) hand (next-among m r.places hand s done.stands) (has-some next s hand done.stands) in
-          let by_out = stands-split m done.fits.well_formed p (has next s) i (next-among m r.places i s (next-stood moved)) (has-some next s i (next-stood moved)) in
+          let by_hand = how_many-split_both m done.fits.well_formed p (has next s) hand (next-among m r.places hand s done.stands) (has-some next s hand done.stands) in
+          let by_out = how_many-split_both m done.fits.well_formed p (has next s) i (next-among m r.places i s (next-stood moved)) (has-some next s i (next-stood moved)) in
           let still : how_many m (λ j. p j && (has next' s j && not (j == i))) ≡ how_many m (λ j. p j && (has next s j && not (j == i))) =
           how_many-agree m (λ j. p j && (has next' s j && not (j == i))) (λ j. p j && (has next s j && not (j == i))) (λ j. ap (λ b. p j && b) (stands-after moved s j)) in
           omega (arith, now, hand_term, by_hand, by_out, still, (roll-before done).exact p);

@@ -51,10 +51,7 @@ fn seats_at(papers: &Papers, position: usize) -> Seats
     let Some(number) = papers.school_at(position) else {
         unreachable!()
     };
-    let Some(school) = papers.school(number) else {
-        unreachable!()
-    };
-    school.seats
+    papers.seats_of(number)
 }
 
 /// A roll of its capacity for each school, on which nobody is.
@@ -106,17 +103,6 @@ fn give(
     Ok(())
 }
 
-/// The choices of the student at the position.
-fn choices_at(papers: &Papers, at: usize) -> &[SchoolNo]
-    requires { at < length papers.now.students }
-    ensures { result.now ≡ choices_of papers.now (student_at papers.now at) }
-{
-    let Some(student) = papers.record_at(at) else {
-        unreachable!()
-    };
-    student.choices.as_slice()
-}
-
 /// The place of the choices at which the student at the position stands: none past the last place.
 fn place_at(places: &[Option<usize>], at: usize) -> Option<usize>
     ensures place { result ≡ slice_index_or places.now at None }
@@ -146,7 +132,7 @@ fn choice_at(places: &[Option<usize>], papers: &Papers, at: usize) -> Option<Sch
     ensures { (i : ℕ) → position (nat_eq i) (students_of papers.now) ≡ Some at → result ≡ next_of papers.now places.now i }
 {
     let place = place_at(places, at)?;
-    choices_at(papers, at).get(place).copied()
+    papers.choices_at(at).get(place).copied()
 }
 
 /// The choice at which the student stands.
@@ -165,22 +151,6 @@ fn position_of(papers: &Papers, student: StudentNo) -> usize
         unreachable!()
     };
     at
-}
-
-/// The school's position, and the key at it of the student at a position.
-fn key_at(papers: &Papers, student: usize, school: SchoolNo) -> (usize, Key)
-    requires student { student < length papers.now.students }
-    requires school { is_school papers.now school ≡ true }
-    ensures position { position (nat_eq school) (schools_of papers.now) ≡ Some result.0 }
-    ensures key { result.1 ≡ key_of papers.now (student_at papers.now student) school }
-{
-    let Some(at) = papers.school_position(school) else {
-        unreachable!()
-    };
-    let Some(key) = papers.key_at(student, at) else {
-        unreachable!()
-    };
-    (at, key)
 }
 
 /// Offers a seat of the school at the position to the key.
@@ -246,7 +216,7 @@ impl<R: Roll> Round<R> {
         let Some(school) = choice_at(self.places.as_slice(), papers, hand) else {
             return Ok(None);
         };
-        let (at, key) = key_at(papers, hand, school);
+        let (at, key) = papers.position_and_key(hand, school);
         let Some(out) = self.offer(at, key)? else {
             return Ok(None);
         };

@@ -1,6 +1,6 @@
 -- What the steps of a chain keep.
-use Rattle.std.proofs.Common.{◌≡◌, inl, inr, ap, sym, subst, ◌∙◌, ℕ, ◌+◌, ◌≤◌, ◌==◌, Bool, true, not, ◌&&◌, List, [], ◌∷◌, ◌++◌, Some, Contains, append_assoc, append-nil, arith}
-use Rattle.std.proofs.lemmas.Bool.{cases_eq, and_parts, and_from, or_cases, or_left, false≢true, eqb-true, eq-eqb, ne_eqb}
+use Rattle.std.proofs.Common.{◌≡◌, ◌⊎◌, inl, inr, refl, ap, sym, subst, ◌∙◌, ℕ, ◌+◌, ◌≤◌, ◌==◌, Bool, true, false, cond, not, ◌&&◌, List, [], ◌∷◌, ◌++◌, Some, Contains, append_assoc, append-nil, arith}
+use Rattle.std.proofs.lemmas.Bool.{cases_Bool, cases_eq, cond-true, cond-false, and_left, and_parts, and_from, or_cases, or_left, false≢true, eqb-true, eq-eqb, ne_eqb}
 use Rattle.std.proofs.lemmas.Option.{same_Some, none-some}
 use Rattle.sc_papers.specs.Market.{Market, students_of, seats_of}
 use Rattle.sc_papers.specs.Key.{is_ahead}
@@ -12,7 +12,7 @@ use Rattle.sc_papers.specs.Chain.{and_one, held_by_others, InChain, PutsOut, End
 use Rattle.sc_papers.specs.declared.rejection.Rejection.{Rejection}
 use Rattle.sc_papers.proofs.Counting.{count-split}
 use Rattle.sc_papers.proofs.Rejections.{next-same, has-true, has-some, has-agree}
-use Rattle.sc_papers.proofs.Students.{how_many-le}
+use Rattle.sc_papers.proofs.Students.{how_many-agree, how_many-le}
 use Rattle.sc_papers.proofs.Restriction.{Restricts, restricted-restricts, next-kept}
 use Rattle.sc_papers.proofs.Validity.{valid-push, next-among}
 use Rattle.sc_papers.proofs.Subsets.{well-restricted, valid-grows}
@@ -20,6 +20,36 @@ use Rattle.sc_papers.proofs.Subsets.{well-restricted, valid-grows}
 pub how_many-split : (m : Market) → WellFormed m → (p : ℕ → Bool) (y : ℕ) → Contains (students_of m) y → p y ≡ true → how_many m p ≡ 1 + how_many m (λ x. p x && not (x == y))
 unfolding how_many
 how_many-split m well p y among passes = count-split p (students_of m) y well.students_differ among passes
+
+-- those who pass two tests, by one who passes the second and the others
+pub how_many-split_both : (m : Market) → WellFormed m → (p q : ℕ → Bool) (y : ℕ) → Contains (students_of m) y → q y ≡ true → how_many m (λ j. p j && q j) ≡ cond (p y) 1 0 + how_many m (λ j. p j && (q j && not (j == y)))
+how_many-split_both m well p q y among stands =
+    elim (cases_Bool (p y)) [
+      | inl passes ↦ omega (
+        arith,
+        cond-true {A = ℕ} (p y) 1 0 passes,
+        how_many-split m well (λ j. p j && q j) y among (and_from (p y) (q y) passes stands),
+        how_many-agree m (λ j. (p j && q j) && not (j == y)) (λ j. p j && (q j && not (j == y))) (λ j. and-assoc (p j) (q j) (not (j == y))),
+      )
+      | inr fails ↦ omega (
+        arith,
+        cond-false {A = ℕ} (p y) 1 0 fails,
+        how_many-agree m (λ j. p j && q j) (λ j. p j && (q j && not (j == y))) (λ j. without j (cases_eq j y) fails),
+      )
+    ]
+  where
+    and-assoc : (a b c : Bool) → ((a && b) && c) ≡ (a && (b && c))
+    and-assoc true b c = refl
+    and-assoc false b c = refl
+
+    same : (a b c : Bool) → c ≡ true → (a && b) ≡ (a && (b && c))
+    same a true true holds = refl
+    same a true false holds = absurd (false≢true holds)
+    same a false c holds = refl
+
+    without : (j : ℕ) → (j ≡ y) ⊎ (j ≡ y → ⊥) → p y ≡ false → (p j && q j) ≡ (p j && (q j && not (j == y)))
+    without j (inl same) fails = and_left (p j) (q j) (ap p same ∙ fails) ∙ sym (and_left (p j) (q j && not (j == y)) (ap p same ∙ fails))
+    without j (inr apart) fails = same (p j) (q j) (not (j == y)) (ap not (ne_eqb j y apart))
 
 -- a member that stands apart passes a test that leaves one out
 apart-passes : (j hand : ℕ) → (j ≡ hand → ⊥) → not (j == hand) ≡ true

@@ -126,3 +126,15 @@ count-split p (x ∷ xs) y distinct among passes =
 pub count-none : {X : Type 0} (p : X → Bool) (xs : List X) → ((x : X) → Contains xs x → p x ≡ false) → count_by p xs ≡ 0
 count-none p [] none = refl
 count-none p (x ∷ xs) none = count-cons_fails p x xs (none x (contains-head x xs)) ∙ count-none p xs (λ y in_rest. none y (contains-tail x xs y in_rest))
+
+-- a member that passes counts
+pub count-some : {X : Type 0} (p : X → Bool) (xs : List X) (x : X) → Contains xs x → p x ≡ true → 0 < count_by p xs
+count-some p xs x among passes = omega (arith, count-lt (λ y. false) p xs (λ y in_list holds. absurd (false≢true holds)) x among refl passes)
+
+-- where some count, one passes
+pub some-counted : {X : Type 0} (p : X → Bool) (xs : List X) → 0 < count_by p xs → (x : X) × Contains xs x × (p x ≡ true)
+some-counted p xs some =
+    elim (one_passes p xs) [
+      | inl found ↦ found
+      | inr none ↦ absurd (omega (arith, some, count-none p xs none))
+    ]

@@ -1,13 +1,14 @@
 -- Students by their positions in the order of entry.
-use Rattle.std.proofs.Common.{◌≡◌, refl, ap, sym, ◌∙◌, ℕ, ◌<◌, nat_eq, true, List, [], length, get_or, Option, Some, None, Bor, IfSome, is_some, position, slice_get, arith}
+use Rattle.std.proofs.Common.{◌≡◌, refl, ap, sym, subst, ◌∙◌, ℕ, ◌<◌, ◌≤◌, nat_eq, true, List, [], length, get_or, Option, Some, None, Bor, IfSome, is_some, position, slice_get, arith}
 use Rattle.std.specs.Prelude.{nat_lt}
 use Rattle.std.specs.Option.{option_and_then, option_copied, option_map_or}
 use Rattle.std.proofs.lemmas.Bool.{false≢true, ltb-false, ltb-true}
-use Rattle.std.proofs.lemmas.Map.Entries.{length-keys_of}
+use Rattle.std.proofs.lemmas.Map.Entries.{All-lookup, length-keys_of}
 use Rattle.std.proofs.lemmas.Option.{get_or_from_slice_get, slice_get-get_or, slice_get_past, slice_get_read, none-some}
 use Rattle.sc_papers.specs.Key.{key_of, key_at}
 use Rattle.sc_papers.specs.Market.{Market, is_school, is_student, choices_of, schools_of, student_at, student_of, students_of}
-use Rattle.sc_papers.specs.WellFormed.{WellFormed}
+use Rattle.sc_papers.specs.WellFormed.{WellFormed, WithinLimits, IsShort}
+use Rattle.sc_papers.specs.declared.limits.TheConstants.{LONGEST_LIST}
 use Rattle.sc_papers.specs.declared.records.Student.{Student}
 use Rattle.sc_papers.proofs.Choices.{contains-at}
 use Rattle.sc_papers.proofs.Positions.{among-student, place-position, position-at, position-there, school-position, student-position}
@@ -56,6 +57,16 @@ hand-recorded m at low none = false≢true (ap is_some (none ∙ hand-record m a
 pub hand-choices : (m : Market) (at : ℕ) (held : Student) → at < length m.students → Some held ≡ option_and_then (student_of m) (slice_get (students_of m) at) → held.choices ≡ choices_of m (student_at m at)
 unfolding choices_of
 hand-choices m at held low is = ap (λ o. option_map_or (λ student. student.choices) o []) (is ∙ hand-record m at low)
+
+-- no student lists more choices than a list may name
+pub record-short : (m : Market) → WithinLimits m → (at : ℕ) (held : Student) → Some held ≡ option_and_then (student_of m) (slice_get (students_of m) at) → length held.choices ≤ LONGEST_LIST
+record-short m limits at held is = go (slice_get (students_of m) at) is
+  where
+    go : (found : Option ℕ) → Some held ≡ option_and_then (student_of m) found → length held.choices ≤ LONGEST_LIST
+    go None none = absurd (none-some held (sym none))
+    go (Some i) known =
+        let short : IsShort held = subst (λ found. IfSome found IsShort) (sym known) (All-lookup IsShort (nat_eq i) m.students limits.lists) in
+        short.choices
 
 -- what a read of a list gives
 pub copied-read : {X : Type 0} (found : Option (Bor X)) (xs : List X) (k : ℕ) → is_some found ≡ nat_lt k (length xs) → IfSome found (λ x. x.now ≡ get_or xs k x.now) → option_copied found ≡ slice_get xs k

@@ -16,7 +16,18 @@ before-trans a b c first second = grind (arith, nat_tests)
 pub before-asymm : (a b : Key) → is_before a b ≡ true → is_before b a ≡ false
 before-asymm a b first = grind (arith, nat_tests)
 
--- nobody is ahead of itself
+pub behind-trans : (a b c : Key) → is_before a b ≡ false → is_before b c ≡ false → is_before a c ≡ false
+behind-trans a b c first second = grind (arith, nat_tests)
+
+-- two keys of which neither is ahead are one
+pub one-key : (a b : Key) → is_before a b ≡ false → is_before b a ≡ false → a ≡ b
+one-key a b first second =
+    let class : a.class ≡ b.class = grind (arith, nat_tests) in
+    let draw : a.draw ≡ b.draw = grind (arith, nat_tests) in
+    let student : a.student ≡ b.student = grind (arith, nat_tests) in
+    λ t. let key : Key = record { class = class t; draw = draw t; student = student t } in key
+
+-- nobody is ahead of themselves
 pub ahead-irrefl : (m : Market) (s i : ℕ) → is_ahead m s i i ≡ false
 unfolding is_ahead
 ahead-irrefl m s i = before-irrefl (key_of m i s)
@@ -57,8 +68,4 @@ cmp-equal a b = (λ equal. one_key equal, λ same. subst (λ key. key_cmp a key 
     tied_itself key = grind (arith, nat_tests)
 
     one_key : key_cmp a b ≡ Equal → a ≡ b
-    one_key equal =
-        let class : a.class ≡ b.class = grind (arith, nat_tests) in
-        let draw : a.draw ≡ b.draw = grind (arith, nat_tests) in
-        let student : a.student ≡ b.student = grind (arith, nat_tests) in
-        λ t. let key : Key = record { class = class t; draw = draw t; student = student t } in key
+    one_key equal = one-key a b (grind (arith, nat_tests)) (grind (arith, nat_tests))

@@ -63,23 +63,23 @@ lookup-reordered es fs moved distinct i =
     (λ x y same. ap (λ j. nat_eq j y) (eqb-true i x same))
 
 module _ (m n : Market) (well : WellFormed m) (moved : IsReordering m n) where
-  student-moved : (i : ℕ) → student_of n i ≡ student_of m i
+  pub student-moved : (i : ℕ) → student_of n i ≡ student_of m i
   student-moved = lookup-reordered m.students n.students moved.students well.students_differ
 
-  school-moved : (s : ℕ) → school_of n s ≡ school_of m s
+  pub school-moved : (s : ℕ) → school_of n s ≡ school_of m s
   school-moved = lookup-reordered m.schools n.schools moved.schools well.schools_differ
 
   zone-moved : (s : ℕ) → zone_at n s ≡ zone_at m s
   zone-moved s = ap (λ found. option_map_or (λ school. school.zone) found 0) (school-moved s)
 
-  key-moved : (i s : ℕ) → key_of n i s ≡ key_of m i s
+  pub key-moved : (i s : ℕ) → key_of n i s ≡ key_of m i s
   key-moved i s = key-by n i s ∙ (λ t. key_by (moved.seed t) (zone-moved s t) (student-moved i t) i s) ∙ sym (key-by m i s)
 
-  choices-moved : (i : ℕ) → choices_of n i ≡ choices_of m i
+  pub choices-moved : (i : ℕ) → choices_of n i ≡ choices_of m i
   unfolding choices_of
   choices-moved i = ap (λ found. option_map_or (λ student. student.choices) found []) (student-moved i)
 
-  seats-moved : (s : ℕ) → seats_of n s ≡ seats_of m s
+  pub seats-moved : (s : ℕ) → seats_of n s ≡ seats_of m s
   unfolding seats_of
   seats-moved s = ap (λ found. option_map_or (λ school. school.seats) found 0) (school-moved s)
 
@@ -87,7 +87,7 @@ module _ (m n : Market) (well : WellFormed m) (moved : IsReordering m n) where
   unfolding is_ahead
   ahead-moved s i j = λ t. is_before (key-moved i s t) (key-moved j s t)
 
-  counts-moved : (p : ℕ → Bool) → how_many n p ≡ how_many m p
+  pub counts-moved : (p : ℕ → Bool) → how_many n p ≡ how_many m p
   unfolding how_many
   counts-moved p = sum_by-IsPermutation (λ i. cond (p i) 1 0) (students_of m) (students_of n) (IsPermutation-map (λ e. e.0) m.students n.students moved.students)
 

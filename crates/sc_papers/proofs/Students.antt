@@ -1,16 +1,18 @@
 -- Counts of the students of the papers, and what the papers hold of one student.
-use Rattle.std.proofs.Common.{◌≡◌, ◌⊎◌, inl, inr, refl, sym, ◌∙◌, ℕ, ◌<◌, ◌≤◌, nat_eq, Bool, true, false, List, [], ◌∷◌, Option, Some, None, Contains, IfSome, arith}
+use Rattle.std.proofs.Common.{◌≡◌, ◌⊎◌, inl, inr, refl, sym, ◌∙◌, ℕ, ◌<◌, ◌≤◌, nat_eq, Bool, true, false, List, [], ◌∷◌, length, Option, Some, None, Contains, IfSome, arith}
 use Rattle.std.specs.List.{IsDistinct}
 use Rattle.std.specs.Map.{lookup, keys_of}
 use Rattle.std.specs.Option.{option_map_or}
 use Rattle.std.proofs.lemmas.Bool.{cases_Bool, eqb-true, cond-false}
+use Rattle.std.proofs.lemmas.List.Elements.{All-contains}
 use Rattle.std.proofs.lemmas.Option.{none-some}
 use Rattle.std.proofs.lemmas.Map.Entries.{All-lookup}
-use Rattle.sc_papers.specs.Market.{Market, student_of, students_of, choices_of}
+use Rattle.sc_papers.specs.Market.{Market, is_school, student_of, students_of, choices_of}
 use Rattle.sc_papers.specs.Matching.{how_many}
-use Rattle.sc_papers.specs.WellFormed.{WellFormed, IsProper}
+use Rattle.sc_papers.specs.WellFormed.{WellFormed, WithinLimits, IsProper, IsShort}
+use Rattle.sc_papers.specs.declared.limits.TheConstants.{LONGEST_LIST}
 use Rattle.sc_papers.specs.declared.records.Student.{Student}
-use Rattle.sc_papers.proofs.Counting.{contains-tail, count-le, count-lt, count-none, one_passes, pigeonhole}
+use Rattle.sc_papers.proofs.Counting.{contains-tail, count-le, count-lt, count-none, count-some, one_passes, pigeonhole, some-counted}
 
 pub how_many-le : (m : Market) (p q : ℕ → Bool) → ((i : ℕ) → p i ≡ true → q i ≡ true) → how_many m p ≤ how_many m q
 unfolding how_many
@@ -67,3 +69,29 @@ some-student m p = one_passes p (students_of m)
 pub how_many-none : (m : Market) (p : ℕ → Bool) → ((i : ℕ) → Contains (students_of m) i → p i ≡ false) → how_many m p ≡ 0
 unfolding how_many
 how_many-none m p none = count-none p (students_of m) none
+
+pub how_many-some : (m : Market) (p : ℕ → Bool) (i : ℕ) → Contains (students_of m) i → p i ≡ true → 0 < how_many m p
+unfolding how_many
+how_many-some m p i among passes = count-some p (students_of m) i among passes
+
+pub some-of_many : (m : Market) (p : ℕ → Bool) → 0 < how_many m p → (i : ℕ) × Contains (students_of m) i × (p i ≡ true)
+unfolding how_many
+some-of_many m p some = some-counted p (students_of m) some
+
+-- a school that a student lists is a school of the papers
+pub choice-known : (m : Market) → WellFormed m → (i s : ℕ) → Contains (choices_of m i) s → is_school m s ≡ true
+unfolding choices_of
+choice-known m well i s listed = go (student_of m i) (All-lookup (IsProper m) (nat_eq i) m.students well.students_proper) listed
+  where
+    go : (found : Option Student) → IfSome found (IsProper m) → Contains (option_map_or (λ student. student.choices) found []) s → is_school m s ≡ true
+    go None proper (k, low, at) = absurd (omega (arith, low))
+    go (Some student) proper among = All-contains (λ t. is_school m t ≡ true) student.choices s proper.choices_known among
+
+-- a student has no more choices than a list may name
+pub choices-short : (m : Market) → WithinLimits m → (i : ℕ) → length (choices_of m i) ≤ LONGEST_LIST
+unfolding choices_of
+choices-short m within i = go (student_of m i) (All-lookup IsShort (nat_eq i) m.students within.lists)
+  where
+    go : (found : Option Student) → IfSome found IsShort → length (option_map_or (λ student. student.choices) found []) ≤ LONGEST_LIST
+    go None short = omega arith
+    go (Some student) short = short.choices

@@ -11,6 +11,7 @@ mod assignment;
 mod check;
 mod count;
 mod key;
+mod known;
 pub mod laws;
 mod limits;
 mod papers;

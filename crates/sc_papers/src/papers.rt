@@ -121,11 +121,15 @@ impl Papers {
     pub fn copy(&self) -> Result<Self, AllocError>
         ensures { IfOk result (λ copy. copy ≡ self.now) }
     {
+        // The students come last, so that no error has to let them go.
+        let draws = self.draws.clone()?;
+        let schools = self.schools.clone()?;
+        let students = self.students.clone()?;
         Ok(Papers {
             seed: self.seed,
-            schools: self.schools.clone()?,
-            students: self.students.clone()?,
-            draws: self.draws.clone()?,
+            schools,
+            students,
+            draws,
         })
     }
 
@@ -158,6 +162,14 @@ impl Papers {
         ensures { result ≡ school_of self.now school }
     {
         self.schools.get(&school).copied()
+    }
+
+    /// How many seats a school has: none where it is not in the papers. In constant time.
+    #[tactic(auto, unfolding(crate::specs::Market::seats_of))]
+    pub fn seats_of(&self, school: SchoolNo) -> Seats
+        ensures { result ≡ seats_of self.now school }
+    {
+        self.school(school).map_or(Seats::NONE, |found| found.seats)
     }
 
     /// What the papers hold of a student, or `None` where the student is not in them. In constant
@@ -298,8 +310,8 @@ impl Papers {
         requires { first_of (objections_to_add self.old number count) ≡ None }
         ensures { self.new ≡ with_seats self.old number (seats_of self.old number + count) }
     {
-        let before = self.seats_at(number);
-        if let Some(seats) = Seats::new(before + count.get()) {
+        let before = self.seats_of(number);
+        if let Some(seats) = Seats::new(before.get() + count.get()) {
             self.put_seats(number, seats);
         }
     }
@@ -309,18 +321,9 @@ impl Papers {
         requires { first_of (objections_to_close self.old number count) ≡ None }
         ensures { self.new ≡ with_seats self.old number (seats_of self.old number - count) }
     {
-        let before = self.seats_at(number);
-        if let Some(seats) = Seats::new(before - count.get()) {
+        let before = self.seats_of(number);
+        if let Some(seats) = Seats::new(before.get() - count.get()) {
             self.put_seats(number, seats);
         }
-    }
-
-    /// How many seats a school has, 0 where it is not in the papers.
-    #[tactic(auto, unfolding(crate::specs::Market::seats_of))]
-    fn seats_at(&self, number: SchoolNo) -> u32
-        ensures value { result ≡ seats_of self.now number }
-        ensures greatest { result ≤ Seats.GREATEST }
-    {
-        self.school(number).map_or(0, |school| school.seats.get())
     }
 }

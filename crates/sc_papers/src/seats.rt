@@ -20,6 +20,9 @@ impl Model for Seats {
 }
 
 impl Seats {
+    /// No seats.
+    pub const NONE: Seats = Seats { number: 0 };
+
     /// The greatest of its range.
     pub const GREATEST: u32 = 10_000;
 

@@ -10,15 +10,11 @@ ghost use Rattle.sc_repair.specs.Rewinding.{first_to_list, lists, position_of, r
 use sc_papers::{Amendment, Papers, Refusal, SchoolNo, StudentNo};
 
 /// Whether the student at the position lists the school.
-#[tactic(auto, unfolding(sc_papers::specs::Market::choices_of))]
 fn lists(papers: &Papers, school: SchoolNo, position: usize) -> bool
     requires { position < length papers.now.students }
     ensures { result ≡ lists papers.now school (slice_index (students_of papers.now) position) }
 {
-    match papers.record_at(position) {
-        Some(record) => record.choices.as_slice().contains(&school),
-        None => false,
-    }
+    papers.choices_at(position).contains(&school)
 }
 
 /// The position of the first student who lists the school, or the number of students where none

@@ -1,8 +1,7 @@
 pub mod KnownLemmas
 pub mod RisingLemmas
-pub mod LastKeys
 pub mod Orders
-pub mod TallyLemmas
+pub mod CutoffLemmas
 pub mod Places
 pub mod ReasonLemmas
 pub mod ReasonCounts

@@ -1,48 +1,25 @@
 -- The order of entry decides nothing about the texts.
-use Rattle.std.proofs.Common.{◌≡◌, refl, ap, sym, subst, ◌∙◌, ℕ, nat_eq, cond, Bool, List, [], ◌++◌, map, filter, Option, None, Some, Contains, IsPermutation}
+use Rattle.std.proofs.Common.{◌≡◌, ap, sym, subst, ◌∙◌, ℕ, Bool, List, ◌++◌, map, filter, Contains, IsPermutation}
 use Rattle.std.specs.Prelude.{flat_map}
-use Rattle.std.specs.List.{IsDistinct, before_first}
-use Rattle.std.specs.Map.{lookup, keys_of}
-use Rattle.std.specs.Option.{option_map_or}
-use Rattle.std.proofs.lemmas.Bool.{eqb-true}
-use Rattle.std.proofs.lemmas.Cmp.{nat_eq_equiv}
-use Rattle.std.proofs.lemmas.List.Sorted.{Contains-permutation, IsPermutation-map, IsPermutation-sym, sum_by-IsPermutation}
-use Rattle.std.proofs.lemmas.Map.Keys.{IsDistinct-IsPermutation}
-use Rattle.std.proofs.lemmas.Map.Views.{Contains-from_lookup, lookup-from_Contains}
-use Rattle.std.proofs.lemmas.Option.{none-some}
+use Rattle.std.specs.List.{before_first}
+use Rattle.std.proofs.lemmas.List.Sorted.{Contains-permutation, IsPermutation-map, IsPermutation-sym}
 use Rattle.sc_papers.specs.Key.{key_of}
-use Rattle.sc_papers.specs.Market.{Market, choices_of, school_of, schools_of, seats_of, student_of, students_of, zone_at}
-use Rattle.sc_papers.specs.Matching.{Matching, IsStudentOptimal, has, how_many}
+use Rattle.sc_papers.specs.Market.{Market, schools_of, students_of}
+use Rattle.sc_papers.specs.Matching.{Matching, IsStudentOptimal, has}
 use Rattle.sc_papers.specs.Reordering.{IsReordering}
 use Rattle.sc_papers.specs.WellFormed.{WellFormed}
 use Rattle.sc_papers.specs.declared.key.Key.{Key}
-use Rattle.sc_papers.proofs.Reordering.{optimal-reordered}
-use Rattle.sc_papers.proofs.Rewinding.{key_by, key-by}
+use Rattle.sc_papers.proofs.Reordering.{optimal-reordered, key-moved, choices-moved, seats-moved, counts-moved}
 use Rattle.sc_papers.proofs.Uniqueness.{optimal-unique}
-use Rattle.sc_report.specs.Cutoff.{cutoff, cutoff_by, cutoff_row, keys_among, last_key}
+use Rattle.sc_report.specs.Cutoff.{cutoff, cutoff_by, cutoff_row}
+use Rattle.sc_tallies.specs.LastKey.{keys_among, last_key}
 use Rattle.sc_report.specs.CutoffText.{cutoff_lines, cutoff_text}
 use Rattle.sc_report.specs.Reason.{reason, reason_by, reasons_of}
 use Rattle.sc_report.specs.ReasonText.{reason_lines, reason_text}
 use Rattle.sc_report.specs.Rising.{rising}
 use Rattle.sc_report.specs.Text.{assignment_lines, assignment_text, report_text}
-use Rattle.sc_report.proofs.LastKeys.{key-among, keyed, last-same}
+use Rattle.sc_tallies.proofs.LastKeys.{key-among, keyed, last-same}
 use Rattle.sc_report.proofs.RisingLemmas.{rising-same}
-
--- a look-up in entries that change places
-found-moved : {X : Type 0} (es fs : List (ℕ × X)) → IsPermutation es fs → IsDistinct nat_eq (keys_of fs) → (i : ℕ) (x : X) → lookup (nat_eq i) es ≡ Some x → lookup (nat_eq i) fs ≡ Some x
-found-moved es fs moved distinct i x found =
-    lookup-from_Contains nat_eq_equiv i x fs distinct (Contains-permutation es fs (i, x) moved (Contains-from_lookup eqb-true i x es found))
-
-lookup-moved : {X : Type 0} (es fs : List (ℕ × X)) → IsPermutation es fs → IsDistinct nat_eq (keys_of es) → (i : ℕ) → lookup (nat_eq i) fs ≡ lookup (nat_eq i) es
-lookup-moved {X} es fs moved distinct i = go (lookup (nat_eq i) es) (lookup (nat_eq i) fs) refl refl
-  where
-    still_distinct : IsDistinct nat_eq (keys_of fs)
-    still_distinct = IsDistinct-IsPermutation nat_eq nat_eq_equiv.symm (keys_of es) (keys_of fs) (IsPermutation-map (λ e. e.0) es fs moved) distinct
-
-    go : (first second : Option X) → lookup (nat_eq i) es ≡ first → lookup (nat_eq i) fs ≡ second → second ≡ first
-    go (Some x) second is second_is = sym second_is ∙ found-moved es fs moved still_distinct i x is
-    go None None is second_is = refl
-    go None (Some y) is second_is = absurd (none-some y (sym is ∙ found-moved fs es (IsPermutation-sym es fs moved) distinct i y second_is))
 
 -- the numbers that pass have the same keys, whatever order the numbers come in
 keys-moved : (p : ℕ → Bool) (f : ℕ → Key) (xs ys : List ℕ) → IsPermutation xs ys → (key : Key) → Contains (map f (filter p xs)) key → Contains (map f (filter p ys)) key
@@ -60,50 +37,26 @@ module _ (m n : Market) (well : WellFormed m) (moved : IsReordering m n) where
   schools-moved : rising (schools_of n) ≡ rising (schools_of m)
   schools-moved = rising-same (schools_of m) (schools_of n) (IsPermutation-map (λ e. e.0) m.schools n.schools moved.schools)
 
-  student-moved : (i : ℕ) → student_of n i ≡ student_of m i
-  student-moved = lookup-moved m.students n.students moved.students well.students_differ
-
-  school-moved : (s : ℕ) → school_of n s ≡ school_of m s
-  school-moved = lookup-moved m.schools n.schools moved.schools well.schools_differ
-
-  zone-moved : (s : ℕ) → zone_at n s ≡ zone_at m s
-  zone-moved s = ap (λ found. option_map_or (λ school. school.zone) found 0) (school-moved s)
-
-  key-moved : (i s : ℕ) → key_of n i s ≡ key_of m i s
-  key-moved i s = key-by n i s ∙ (λ t. key_by (moved.seed t) (zone-moved s t) (student-moved i t) i s) ∙ sym (key-by m i s)
-
-  choices-moved : (i : ℕ) → choices_of n i ≡ choices_of m i
-  unfolding choices_of
-  choices-moved i = ap (λ found. option_map_or (λ student. student.choices) found []) (student-moved i)
-
-  seats-moved : (s : ℕ) → seats_of n s ≡ seats_of m s
-  unfolding seats_of
-  seats-moved s = ap (λ found. option_map_or (λ school. school.seats) found 0) (school-moved s)
-
-  counts-moved : (p : ℕ → Bool) → how_many n p ≡ how_many m p
-  unfolding how_many
-  counts-moved p = sum_by-IsPermutation (λ i. cond (p i) 1 0) (students_of m) (students_of n) students-permute
-
   last-moved : (a : Matching) (s : ℕ) → last_key (keys_among n a (students_of n) s) ≡ last_key (keys_among m a (students_of m) s)
   last-moved a s =
-      ap (λ f. last_key (map f (filter (has a s) (students_of n)))) (λ t i. key-moved i s t)
+      ap (λ f. last_key (map f (filter (has a s) (students_of n)))) (λ t i. key-moved m n well moved i s t)
       ∙ last-same (keys_among m a (students_of n) s) (keys_among m a (students_of m) s)
       (keys-moved (has a s) (λ i. key_of m i s) (students_of n) (students_of m) (IsPermutation-sym (students_of m) (students_of n) students-permute))
       (keys-moved (has a s) (λ i. key_of m i s) (students_of m) (students_of n) students-permute)
 
   cutoff-moved : (a : Matching) (s : ℕ) → cutoff n a s ≡ cutoff m a s
   unfolding cutoff
-  cutoff-moved a s = λ t. cutoff_by (seats-moved s t) (counts-moved (has a s) t) (last-moved a s t)
+  cutoff-moved a s = λ t. cutoff_by (seats-moved m n well moved s t) (counts-moved m n well moved (has a s) t) (last-moved a s t)
 
   row-moved : (a : Matching) (s : ℕ) → cutoff_row n a s ≡ cutoff_row m a s
-  row-moved a s = λ t. record { school = s; seats = seats-moved s t; held = counts-moved (has a s) t; cutoff = cutoff-moved a s t }
+  row-moved a s = λ t. record { school = s; seats = seats-moved m n well moved s t; held = counts-moved m n well moved (has a s) t; cutoff = cutoff-moved a s t }
 
   reason-moved : (a : Matching) (i s : ℕ) → reason n a i s ≡ reason m a i s
-  reason-moved a i s = λ t. reason_by (cutoff-moved a s t) (key-moved i s t)
+  reason-moved a i s = λ t. reason_by (cutoff-moved a s t) (key-moved m n well moved i s t)
 
   reasons-moved : (a : Matching) (i : ℕ) → reasons_of n a i ≡ reasons_of m a i
   unfolding reasons_of
-  reasons-moved a i = λ t. map (λ s. record { student = i; school = s; reason = reason-moved a i s t }) (before_first (λ s. has a s i) (choices-moved i t))
+  reasons-moved a i = λ t. map (λ s. record { student = i; school = s; reason = reason-moved a i s t }) (before_first (λ s. has a s i) (choices-moved m n well moved i t))
 
   assignment-same : (a : Matching) → assignment_text n a ≡ assignment_text m a
   assignment-same a = ap (assignment_lines a) students-moved

@@ -1,16 +1,12 @@
 -- A student's rows, choice by choice.
-use Rattle.std.proofs.Common.{◌≡◌, refl, sym, ◌∙◌, ap, ℕ, nat_eq, suc, ◌+◌, ◌<◌, ◌≤◌, Bool, true, false, ◌==◌, not, List, [], ◌∷◌, ◌++◌, length, get_or, map, take, drop, add-one, append_assoc, append-nil, drop-cons, Option, None, Some, Contains, arith}
+use Rattle.std.proofs.Common.{◌≡◌, refl, sym, ◌∙◌, ap, ℕ, suc, ◌+◌, ◌<◌, ◌≤◌, Bool, true, false, ◌==◌, not, List, [], ◌∷◌, ◌++◌, length, get_or, map, take, drop, add-one, append_assoc, append-nil, drop-cons, Option, None, arith}
 use Rattle.std.specs.List.{before_first, position_or_len}
-use Rattle.std.specs.Option.{IfSome, option_map_or}
+use Rattle.std.specs.Option.{option_map_or}
 use Rattle.std.proofs.Math.Seq.{take-suc}
 use Rattle.std.proofs.lemmas.Bool.{cond-true, cond-false}
 use Rattle.std.proofs.lemmas.List.{drop_all}
-use Rattle.std.proofs.lemmas.List.Elements.{All-contains}
-use Rattle.std.proofs.lemmas.Map.Entries.{All-lookup}
-use Rattle.sc_papers.specs.Market.{Market, choices_of, is_school, student_of}
+use Rattle.sc_papers.specs.Market.{Market, choices_of, student_of}
 use Rattle.sc_papers.specs.Matching.{Matching, has}
-use Rattle.sc_papers.specs.WellFormed.{WellFormed, IsProper}
-use Rattle.sc_papers.specs.declared.records.Student.{Student}
 use Rattle.sc_report.specs.Reason.{reason, reason_row, reasons_of}
 use Rattle.sc_report.specs.declared.reason.Reason.{Reason}
 use Rattle.sc_report.specs.declared.reason.ReasonRow.{ReasonRow}
@@ -53,20 +49,6 @@ passed-stop p xs k x none low is passes =
 pub passed-end : (p : ℕ → Bool) (xs : List ℕ) (k : ℕ) → NonePassed p xs k → length xs ≤ k → before_first p xs ≡ take k xs
 passed-end p xs k none over =
     none.split ∙ ap (λ ys. take k xs ++ before_first p ys) (drop_all k xs over) ∙ append-nil (take k xs)
-
--- a school that a student lists is a school of the papers
-pub choice-known : (m : Market) → WellFormed m → (i s : ℕ) → Contains (choices_of m i) s → is_school m s ≡ true
-unfolding choices_of
-choice-known m well i s listed = go (student_of m i) (All-lookup (IsProper m) (nat_eq i) m.students well.students_proper) listed
-  where
-    go : (found : Option Student) → IfSome found (IsProper m) → Contains (option_map_or (λ student. student.choices) found []) s → is_school m s ≡ true
-    go None proper (k, low, at) = absurd (omega (arith, low))
-    go (Some student) proper among = All-contains (λ t. is_school m t ≡ true) student.choices s proper.choices_known among
-
--- the choices that the papers hold of a student
-pub choices-read : (m : Market) (i : ℕ) (student : Student) → Some student ≡ student_of m i → student.choices ≡ choices_of m i
-unfolding choices_of
-choices-read m i student is = ap (λ found. option_map_or (λ student. student.choices) found []) is
 
 -- whether what a student has is a school
 pub held-test : (a : Matching) (i s : ℕ) (held : Option ℕ) (r b : Bool) → held ≡ a i → r ≡ option_map_or (λ t. t == s) held false → r ≡ b → has a s i ≡ b

@@ -1,26 +1,13 @@
 -- Cutoffs: the last key that a school admits.
-use Rattle.std.specs.Prelude.{ℕ, ◌==◌, nat_lt, List, map, filter, fold, Option, None, Some, if◌then◌else◌}
-use Rattle.sc_papers.specs.Key.{is_before, key_of}
+use Rattle.std.specs.Prelude.{ℕ, ◌==◌, nat_lt, List, map, Option, None, Some, if◌then◌else◌}
 use Rattle.sc_papers.specs.Market.{Market, schools_of, seats_of, students_of}
-use Rattle.sc_papers.specs.Matching.{Matching, has, held}
+use Rattle.sc_papers.specs.Matching.{Matching, held}
 use Rattle.sc_papers.specs.declared.key.Key.{Key}
+use Rattle.sc_tallies.specs.LastKey.{keys_among, last_key}
 use Rattle.sc_report.specs.Rising.{rising}
 use Rattle.sc_report.specs.declared.cutoff.Cutoff.{Cutoff}
 use Rattle.sc_report.specs.declared.cutoff.Cutoff.TheVariants.{Closed, Free, Full}
 use Rattle.sc_report.specs.declared.cutoff.CutoffRow.{CutoffRow}
-
--- the later of a key and the last one so far
-abbrev pub or_later : Option Key → Key → Option Key
-or_later None key = Some key
-or_later (Some last) key = Some (if is_before key last then last else key)
-
--- the last of some keys, if they are any
-unfoldable pub last_key : List Key → Option Key
-last_key keys = fold or_later None keys
-
--- the keys at s of those of the students who have s
-abbrev pub keys_among : Market → Matching → List ℕ → ℕ → List Key
-keys_among m a students s = map (λ i. key_of m i s) (filter (has a s) students)
 
 -- a school without seats is closed, one that fewer students have than it has seats is free, and
 -- another is full up to the last key among those who have it

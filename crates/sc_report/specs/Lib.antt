@@ -3,7 +3,6 @@ pub mod Whole
 pub mod Devices
 pub mod Rising
 pub mod Cutoff
-pub mod Tally
 pub mod Reason
 pub mod Admission
 pub mod CutoffText

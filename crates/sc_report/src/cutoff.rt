@@ -1,15 +1,14 @@
 //! Cutoffs: the last key that each school admits.
-ghost use Rattle.std.specs.Prelude.{◌≡◌, true, map, IfOk};
+ghost use Rattle.std.specs.Prelude.{◌≡◌, IfOk};
 ghost use Rattle.sc_papers.specs.Assignment.{assigned};
-ghost use Rattle.sc_papers.specs.Market.{is_school, schools_of, seats_of, students_of};
 ghost use Rattle.sc_repair.specs.Standing.{matching_of};
+ghost use Rattle.sc_tallies.specs.Tally.{AreTallies};
 ghost use Rattle.sc_report.specs.Cutoff.{cutoff_by, cutoff_rows};
-ghost use Rattle.sc_report.specs.Tally.{tally};
 
 use crate::order::rising_schools;
-use crate::tally::{Tally, tallies, tally_of};
 use sc_papers::{Assignment, Key, Papers, SchoolNo, Seats};
 use sc_repair::Clearing;
+use sc_tallies::{Tally, tallies, tally_of};
 use std::alloc::{AllocError, Global};
 
 /// What it takes to have a school.
@@ -44,17 +43,6 @@ pub(crate) fn cutoff_by(seats: u32, held: u32, last: Option<Key>) -> Cutoff
     }
 }
 
-/// The seats of a school of the papers.
-pub(crate) fn seats_of(papers: &Papers, school: SchoolNo) -> Seats
-    requires { is_school papers.now school ≡ true }
-    ensures { result ≡ seats_of papers.now school }
-{
-    let Some(found) = papers.school(school) else {
-        unreachable!()
-    };
-    found.seats
-}
-
 /// The rows of all schools by rising number, by their tallies.
 pub(crate) fn rising_rows(
     alloc: Global,
@@ -62,14 +50,14 @@ pub(crate) fn rising_rows(
     papers: &Papers,
     places: &Assignment,
 ) -> Result<Vec<CutoffRow>, AllocError>
-    requires { tallies.now ≡ map (tally papers.now (assigned places.now) (students_of papers.now)) (schools_of papers.now) }
+    requires { AreTallies papers.now (assigned places.now) tallies.now }
     ensures { IfOk result (λ rows. rows.items ≡ cutoff_rows papers.now (assigned places.now)) }
 {
     let schools = rising_schools(alloc, papers)?;
     let mut rows = Vec::with_capacity(alloc, schools.len())?;
     for school in schools.as_slice() {
-        let seats = seats_of(papers, *school);
-        let tally = tally_of(tallies, papers, places, *school);
+        let seats = papers.seats_of(*school);
+        let tally = tally_of(tallies, papers, *school);
         let cutoff = cutoff_by(seats.get(), tally.held, tally.last);
         rows.push(CutoffRow {
             school: *school,

@@ -13,7 +13,6 @@ mod reason;
 mod reason_lines;
 mod reply;
 mod report;
-mod tally;
 mod text;
 mod watched;
 mod whole;

@@ -1,19 +1,19 @@
 //! Reasons: why a student does not have a choice that it prefers to what it has.
-ghost use Rattle.std.specs.Prelude.{◌≡◌, ℕ, ◌<◌, ◌++◌, ◌==◌, true, false, flat_map, length, map, nat_eq, position, Some, IfOk, OnOk};
+ghost use Rattle.std.specs.Prelude.{◌≡◌, ℕ, ◌<◌, ◌++◌, ◌==◌, true, false, flat_map, length, nat_eq, position, Some, IfOk, OnOk};
 ghost use Rattle.std.specs.Option.{option_map_or};
 ghost use Rattle.sc_papers.specs.Assignment.{assigned};
-ghost use Rattle.sc_papers.specs.Market.{is_school, schools_of, students_of};
+ghost use Rattle.sc_papers.specs.Market.{is_school, students_of};
 ghost use Rattle.sc_papers.specs.Matching.{Matching};
 ghost use Rattle.sc_papers.specs.WellFormed.{WellFormed};
 ghost use Rattle.sc_repair.specs.Standing.{matching_of};
 ghost use Rattle.sc_report.specs.Reason.{reason, reason_by, reason_rows, reasons_of};
-ghost use Rattle.sc_report.specs.Tally.{tally};
+ghost use Rattle.sc_tallies.specs.Tally.{AreTallies};
 
-use crate::cutoff::{Cutoff, cutoff_by, seats_of};
+use crate::cutoff::{Cutoff, cutoff_by};
 use crate::order::rising_students;
-use crate::tally::{Tally, tallies};
 use sc_papers::{Assignment, Key, Papers, SchoolNo, StudentNo};
 use sc_repair::Clearing;
+use sc_tallies::{Tally, tallies};
 use std::alloc::{AllocError, Global};
 
 /// Why a student does not have a school.
@@ -51,16 +51,11 @@ fn reason_of(tallies: &[Tally], papers: &Papers, student: usize, school: SchoolN
     requires tallies { length tallies.now ≡ length papers.now.schools }
     requires student { student < length papers.now.students }
     requires school { is_school papers.now school ≡ true }
-    ensures { (a : Matching) (i : ℕ) → tallies.now ≡ map (tally papers.now a (students_of papers.now)) (schools_of papers.now) → position (nat_eq i) (students_of papers.now) ≡ Some student → result ≡ reason papers.now a i school }
+    ensures { (a : Matching) (i : ℕ) → AreTallies papers.now a tallies.now → position (nat_eq i) (students_of papers.now) ≡ Some student → result ≡ reason papers.now a i school }
 {
-    let Some(at) = papers.school_position(school) else {
-        unreachable!()
-    };
-    let Some(key) = papers.key_at(student, at) else {
-        unreachable!()
-    };
+    let (at, key) = papers.position_and_key(student, school);
     let tally = tallies[at];
-    let cutoff = cutoff_by(seats_of(papers, school).get(), tally.held, tally.last);
+    let cutoff = cutoff_by(papers.seats_of(school).get(), tally.held, tally.last);
     reason_by(cutoff, key)
 }
 
@@ -79,18 +74,15 @@ fn push_reasons(
     places: &Assignment,
     student: StudentNo,
 ) -> Result<(), AllocError>
-    requires tallies { tallies.now ≡ map (tally papers.now (assigned places.now) (students_of papers.now)) (schools_of papers.now) }
+    requires tallies { AreTallies papers.now (assigned places.now) tallies.now }
     requires well_formed { WellFormed papers.now }
     ensures { OnOk result (rows.new.items ≡ rows.old.items ++ reasons_of papers.now (assigned places.now) student) }
 {
     let Some(at) = papers.student_position(student) else {
         return Ok(());
     };
-    let Some(record) = papers.record_at(at) else {
-        unreachable!()
-    };
     let held = places.get(student);
-    for choice in record.choices.as_slice() {
+    for choice in papers.choices_at(at) {
         if is_held(&held, *choice) {
             return Ok(());
         }
@@ -112,7 +104,7 @@ pub(crate) fn reasons_among(
     papers: &Papers,
     places: &Assignment,
 ) -> Result<Vec<ReasonRow>, AllocError>
-    requires tallies { tallies.now ≡ map (tally papers.now (assigned places.now) (students_of papers.now)) (schools_of papers.now) }
+    requires tallies { AreTallies papers.now (assigned places.now) tallies.now }
     requires well_formed { WellFormed papers.now }
     ensures { IfOk result (λ rows. rows.items ≡ flat_map (reasons_of papers.now (assigned places.now)) students.now) }
 {

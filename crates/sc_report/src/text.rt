@@ -1,9 +1,8 @@
-ghost use Rattle.std.specs.Prelude.{◌≡◌, ◌++◌, map, IfOk, OnOk};
+ghost use Rattle.std.specs.Prelude.{◌≡◌, ◌++◌, IfOk, OnOk};
 ghost use Rattle.sc_papers.specs.Assignment.{assigned};
-ghost use Rattle.sc_papers.specs.Market.{schools_of, students_of};
 ghost use Rattle.sc_papers.specs.WellFormed.{WellFormed};
 ghost use Rattle.sc_repair.specs.Standing.{matching_of};
-ghost use Rattle.sc_report.specs.Tally.{tally};
+ghost use Rattle.sc_tallies.specs.Tally.{AreTallies};
 ghost use Rattle.sc_report.specs.Text.{assignment_line, assignment_lines, assignment_text, place_text, report_text, IsReportText};
 
 use crate::cutoff::rising_rows;
@@ -11,10 +10,10 @@ use crate::cutoff_lines::push_cutoffs;
 use crate::order::rising_students;
 use crate::reason::reasons_among;
 use crate::reason_lines::push_reasons;
-use crate::tally::{Tally, tallies};
 use sc_decimal::push_number;
 use sc_papers::{Assignment, Papers, StudentNo};
 use sc_repair::Clearing;
+use sc_tallies::{Tally, tallies};
 use std::alloc::{AllocError, Global};
 
 /// The line above the assignment's lines.
@@ -75,7 +74,7 @@ fn push_report(
     papers: &Papers,
     places: &Assignment,
 ) -> Result<(), AllocError>
-    requires tallies { tallies.now ≡ map (tally papers.now (assigned places.now) (students_of papers.now)) (schools_of papers.now) }
+    requires tallies { AreTallies papers.now (assigned places.now) tallies.now }
     requires well_formed { WellFormed papers.now }
     ensures { OnOk result (text.new.items ≡ text.old.items ++ report_text papers.now (assigned places.now)) }
 {

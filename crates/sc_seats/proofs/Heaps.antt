@@ -11,7 +11,7 @@ use Rattle.sc_papers.specs.Key.{is_before}
 use Rattle.sc_papers.specs.declared.key.Key.{Key}
 use Rattle.sc_papers.proofs.Counting.{contains-cons, contains-tail}
 use Rattle.sc_seats.specs.Roll.{IsAscending, in_order}
-use Rattle.sc_seats.proofs.Order.{before-trans}
+use Rattle.sc_papers.proofs.Priority.{before-trans}
 use Rattle.sc_seats.proofs.Ordering.{ties, ties-same, behind-apart, Differ, Differ-ascending, Differ-permutation, Differ-cons, Differ-head, Differ-tail, in_order-permutes, ascending-in_order, last-of}
 
 pub length-in_order : (keys : List Key) → length (in_order keys) ≡ length keys

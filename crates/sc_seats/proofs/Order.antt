@@ -18,9 +18,6 @@ before-from_greater a b greater = grind (arith, nat_tests)
 pub index-rises : (a b x : Key) → is_before a b ≡ true → ordering_index (key_cmp a x) ≤ ordering_index (key_cmp b x)
 index-rises a b x ahead = grind (arith, nat_tests)
 
-pub before-trans : (a b c : Key) → is_before a b ≡ true → is_before b c ≡ true → is_before a c ≡ true
-before-trans a b c first second = grind (arith, nat_tests)
-
 -- of two places the first holds the key ahead
 pub ascending-places : (keys : List Key) (i j : ℕ) (d : Key) → IsAscending keys → i < j → j < length keys → is_before (get_or keys i d) (get_or keys j d) ≡ true
 ascending-places [] i j d up below here = absurd (omega (arith, here))

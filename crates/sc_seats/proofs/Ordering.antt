@@ -1,15 +1,15 @@
 -- Keys put in order.
-use Rattle.std.proofs.Common.{◌≡◌, refl, ap, sym, ◌∙◌, inl, inr, subst, suc, ◌-◌, ◌<◌, ◌≤◌, Bool, true, false, not, ◌&&◌, cond, List, [], ◌∷◌, length, Some, Contains, All, count_by, slice_get, arith}
+use Rattle.std.proofs.Common.{◌≡◌, refl, ap, sym, ◌∙◌, inl, inr, subst, suc, ◌-◌, ◌≤◌, Bool, true, false, not, ◌&&◌, cond, List, [], ◌∷◌, length, Some, Contains, All, count_by, slice_get, arith}
 use Rattle.std.specs.List.Sorted.{IsPermutation}
-use Rattle.std.proofs.lemmas.Bool.{cases_Bool, cond-true, cond-false, false≢true, true≢false}
+use Rattle.std.proofs.lemmas.Bool.{and_parts, cases_Bool, not-true, cond-true, cond-false, true≢false}
 use Rattle.std.proofs.lemmas.Bool.Decides.{nat_tests}
 use Rattle.std.proofs.lemmas.List.Elements.{All-cons, All-head, All-tail, All-nil, All-weaker, All-contains}
 use Rattle.std.proofs.lemmas.List.Sorted.{IsPermutation-refl, IsPermutation-swap, IsPermutation-cons, IsPermutation-trans, IsPermutation-sym, All-permutation, sum_by-IsPermutation, Contains-permutation}
 use Rattle.sc_papers.specs.Key.{is_before}
 use Rattle.sc_papers.specs.declared.key.Key.{Key}
-use Rattle.sc_papers.proofs.Counting.{contains-cons, contains-head, contains-tail, count-cons_passes, count-cons_fails, count-none, count-lt}
+use Rattle.sc_papers.proofs.Counting.{contains-cons, contains-head, contains-tail, count-cons_passes, count-cons_fails, count-none, count-some}
+use Rattle.sc_papers.proofs.Priority.{before-asymm, before-trans, one-key}
 use Rattle.sc_seats.specs.Roll.{IsAscending, put_in_order, in_order}
-use Rattle.sc_seats.proofs.Order.{before-trans}
 
 -- whether neither key is ahead of the other
 abbrev pub ties : Key → Key → Bool
@@ -18,10 +18,8 @@ ties a b = not (is_before a b) && not (is_before b a)
 -- then they are one key
 pub ties-same : (a b : Key) → ties a b ≡ true → a ≡ b
 ties-same a b tie =
-    let class : a.class ≡ b.class = grind (arith, nat_tests) in
-    let draw : a.draw ≡ b.draw = grind (arith, nat_tests) in
-    let student : a.student ≡ b.student = grind (arith, nat_tests) in
-    λ t. let key : Key = record { class = class t; draw = draw t; student = student t } in key
+    let neither = and_parts (not (is_before a b)) (not (is_before b a)) tie in
+    one-key a b (not-true (is_before a b) neither.0) (not-true (is_before b a) neither.1)
 
 pub ties-self : (a : Key) → ties a a ≡ true
 ties-self a = grind (arith, nat_tests)
@@ -29,15 +27,8 @@ ties-self a = grind (arith, nat_tests)
 pub before-apart : (a b : Key) → is_before a b ≡ true → ties a b ≡ false
 before-apart a b ahead = grind (arith, nat_tests)
 
-pub before-asymm : (a b : Key) → is_before a b ≡ true → is_before b a ≡ false
-before-asymm a b ahead = grind (arith, nat_tests)
-
 pub behind-apart : (a b : Key) → is_before a b ≡ false → ties a b ≡ false → is_before b a ≡ true
 behind-apart a b behind apart = grind (arith, nat_tests)
-
--- a member that passes counts
-count-some : (p : Key → Bool) (xs : List Key) (x : Key) → Contains xs x → p x ≡ true → 0 < count_by p xs
-count-some p xs x among passes = omega (arith, count-lt (λ y. false) p xs (λ y in_list holds. absurd (false≢true holds)) x among refl passes)
 
 IsPermutation-swap_first : (a b : Key) (rest : List Key) → IsPermutation (a ∷ b ∷ rest) (b ∷ a ∷ rest)
 IsPermutation-swap_first a b rest = IsPermutation-swap (a ∷ b ∷ rest) (b ∷ a ∷ rest) 0 1 (omega arith) (omega arith) refl

@@ -7,7 +7,7 @@ ghost use Rattle.sc_papers.specs.declared.rejection.Rejection.{Rejection};
 ghost use Rattle.sc_checkpoint.specs.Standings.{stands, StandAfter};
 ghost use Rattle.sc_engine.specs.Standing.{Fits, Continues, StandsToo, has_entered, next_of};
 
-use super::{Round, choices_at, key_at, make_room, offer_to, position_of};
+use super::{Round, make_room, offer_to, position_of};
 use sc_checkpoint::Standing;
 use sc_papers::{Papers, SchoolNo};
 use sc_seats::Roll;
@@ -43,11 +43,11 @@ impl<R: Roll> Round<R> {
     {
         let at = position_of(papers, standing.student);
         make_room(&mut self.places, at)?;
-        self.places[at] = Some(place_in(choices_at(papers, at), standing.next));
+        self.places[at] = Some(place_in(papers.choices_at(at), standing.next));
         let Some(school) = standing.next else {
             return Ok(());
         };
-        let (position, key) = key_at(papers, at, school);
+        let (position, key) = papers.position_and_key(at, school);
         let out = offer_to(&mut self.rolls, position, key)?;
         if out.is_some() {
             unreachable!()

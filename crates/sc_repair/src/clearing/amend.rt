@@ -35,11 +35,14 @@ impl Clearing {
         ensures certified_before { IsCertified self.now }
     {
         let point = rewind_point(&self.papers, &amendment)?;
-        let papers = amended_papers(&self.papers, amendment)?;
         let segments = self.segments.copy_prefix(point)?;
+        let papers = amended_papers(&self.papers, amendment)?;
         match Clearing::settled(self.alloc, papers, segments) {
             Ok(clearing) => Ok(clearing),
-            Err(_) => Err(Refusal::OutOfMemory),
+            Err(refused) => {
+                drop(refused);
+                Err(Refusal::OutOfMemory)
+            }
         }
     }
 

@@ -3,11 +3,12 @@ use Rattle.std.proofs.lemmas.Option.{slice_get_read}
 use Rattle.sc_papers.specs.Assignment.{assigned}
 use Rattle.sc_papers.specs.Market.{choices_of, student_at}
 use Rattle.sc_audit.proofs.Blocking.{passed-none, passed-more, end-block, end-none, all-none}
-use Rattle.sc_audit.proofs.Ledgers.{choice-known}
+use Rattle.sc_papers.proofs.Choices.{contains-at}
+use Rattle.sc_papers.proofs.Students.{choice-known}
 use Rattle.sc_audit.proofs.blocks.earliest_block.Goals as goal
 
 pub loop-place-init : goal.loop-place-init
-loop-place-init c = passed-none c.args.papers.now (assigned c.args.assignment.now) c.args.tallies.now (student_at c.args.papers.now c.args.position)
+loop-place-init c = passed-none c.args.papers.now (assigned c.args.assignment.now) (student_at c.args.papers.now c.args.position)
 
 pub end_at-requires-clause-school : goal.end_at-requires-clause-school
 end_at-requires-clause-school c =
@@ -15,8 +16,8 @@ end_at-requires-clause-school c =
     let i : ℕ = student_at m c.args.position in
     let xs : List ℕ = c.choices_at-choices.result.now in
     let here : slice_get (choices_of m i) c.loop-place.place ≡ Some c.index-choices-place.result =
-    ap (λ (choices : List ℕ). slice_get choices c.loop-place.place) (sym c.choices_at-choices.ensures) ∙ slice_get_read xs (length xs) c.loop-place.place c.index-choices-place.result refl c.loop-place-test.true c.index-choices-place.is in
-    choice-known m c.requires.well_formed i c.loop-place.place c.index-choices-place.result here
+    ap (λ (choices : List ℕ). slice_get choices c.loop-place.place) (sym c.choices_at-choices.ensures.choices) ∙ slice_get_read xs (length xs) c.loop-place.place c.index-choices-place.result refl c.loop-place-test.true c.index-choices-place.is in
+    choice-known m c.requires.well_formed i c.index-choices-place.result (contains-at (choices_of m i) c.loop-place.place c.index-choices-place.result here)
 
 pub returns-in-Some-clause-block : goal.returns-in-Some-clause-block
 returns-in-Some-clause-block c =
@@ -25,8 +26,8 @@ returns-in-Some-clause-block c =
     let i : ℕ = student_at m c.args.position in
     let xs : List ℕ = c.choices_at-choices.result.now in
     let here : slice_get (choices_of m i) c.loop-place.place ≡ Some c.index-choices-place.result =
-    ap (λ (choices : List ℕ). slice_get choices c.loop-place.place) (sym c.choices_at-choices.ensures) ∙ slice_get_read xs (length xs) c.loop-place.place c.index-choices-place.result refl c.loop-place-test.true c.index-choices-place.is in
-    end-block m a c.args.tallies.now c.requires.well_formed c.requires.matching c.requires.tallies i c.loop-place.place c.loop-place.invariant c.index-choices-place.result c.in-Some.end here
+    ap (λ (choices : List ℕ). slice_get choices c.loop-place.place) (sym c.choices_at-choices.ensures.choices) ∙ slice_get_read xs (length xs) c.loop-place.place c.index-choices-place.result refl c.loop-place-test.true c.index-choices-place.is in
+    end-block m a c.requires.well_formed c.requires.matching i c.loop-place.place c.loop-place.invariant c.index-choices-place.result c.in-Some.end here
     (sym c.end_at.ensures ∙ c.in-Some.is)
 
 pub returns-in-Some-clause-none : goal.returns-in-Some-clause-none
@@ -36,8 +37,8 @@ returns-in-Some-clause-none c =
     let i : ℕ = student_at m c.args.position in
     let xs : List ℕ = c.choices_at-choices.result.now in
     let here : slice_get (choices_of m i) c.loop-place.place ≡ Some c.index-choices-place.result =
-    ap (λ (choices : List ℕ). slice_get choices c.loop-place.place) (sym c.choices_at-choices.ensures) ∙ slice_get_read xs (length xs) c.loop-place.place c.index-choices-place.result refl c.loop-place-test.true c.index-choices-place.is in
-    end-none m a c.args.tallies.now c.requires.well_formed c.requires.matching c.requires.tallies i c.loop-place.place c.loop-place.invariant c.index-choices-place.result c.in-Some.end here
+    ap (λ (choices : List ℕ). slice_get choices c.loop-place.place) (sym c.choices_at-choices.ensures.choices) ∙ slice_get_read xs (length xs) c.loop-place.place c.index-choices-place.result refl c.loop-place-test.true c.index-choices-place.is in
+    end-none m a c.requires.well_formed c.requires.matching i c.loop-place.place c.loop-place.invariant c.index-choices-place.result c.in-Some.end here
     (sym c.end_at.ensures ∙ c.in-Some.is)
 
 pub loop-place-preserved : goal.loop-place-preserved
@@ -47,12 +48,12 @@ loop-place-preserved c =
     let i : ℕ = student_at m c.args.position in
     let xs : List ℕ = c.choices_at-choices.result.now in
     let here : slice_get (choices_of m i) c.loop-place.place ≡ Some c.index-choices-place.result =
-    ap (λ (choices : List ℕ). slice_get choices c.loop-place.place) (sym c.choices_at-choices.ensures) ∙ slice_get_read xs (length xs) c.loop-place.place c.index-choices-place.result refl c.loop-place-test.true c.index-choices-place.is in
-    passed-more m a c.args.tallies.now i c.loop-place.place c.index-choices-place.result here (sym c.end_at.ensures ∙ c.in_default.is) c.loop-place.invariant
+    ap (λ (choices : List ℕ). slice_get choices c.loop-place.place) (sym c.choices_at-choices.ensures.choices) ∙ slice_get_read xs (length xs) c.loop-place.place c.index-choices-place.result refl c.loop-place-test.true c.index-choices-place.is in
+    passed-more m a i c.loop-place.place c.index-choices-place.result here (sym c.end_at.ensures ∙ c.in_default.is) c.loop-place.invariant
 
 pub returns-clause-none : goal.returns-clause-none
 returns-clause-none c =
     let m = c.args.papers.now in
     let i : ℕ = student_at m c.args.position in
-    let all : length (choices_of m i) ≤ c.loop-place.place = omega (arith, c.loop-place-test.false, ap length c.choices_at-choices.ensures) in
-    all-none m (assigned c.args.assignment.now) c.args.tallies.now c.requires.well_formed c.requires.matching c.requires.tallies i c.loop-place.place c.loop-place.invariant all
+    let all : length (choices_of m i) ≤ c.loop-place.place = omega (arith, c.loop-place-test.false, ap length c.choices_at-choices.ensures.choices) in
+    all-none m (assigned c.args.assignment.now) c.requires.well_formed c.requires.matching i c.loop-place.place c.loop-place.invariant all

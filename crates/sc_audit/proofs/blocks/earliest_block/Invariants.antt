@@ -4,4 +4,4 @@ use Rattle.sc_audit.proofs.Blocking.{PassedOver}
 use Rattle.sc_audit.proofs.blocks.earliest_block.Given as goal
 
 abbrev pub invariant-loop-place : goal.invariant-loop-place
-invariant-loop-place l = PassedOver l.papers (assigned l.assignment) l.tallies (student_at l.papers l.position) l.place
+invariant-loop-place l = PassedOver l.papers (assigned l.assignment) (student_at l.papers l.position) l.place

@@ -1,7 +1,7 @@
 use Rattle.std.proofs.Common.{◌≡◌, ◌==◌, ap, sym, ◌∙◌, Some, None, position}
 use Rattle.std.proofs.lemmas.Option.{slice_get-get_or}
-use Rattle.sc_papers.specs.Market.{choices_of, students_of}
-use Rattle.sc_papers.proofs.Positions.{position-there}
+use Rattle.sc_papers.specs.Market.{choices_of}
+use Rattle.sc_papers.proofs.Hands.{position-low, student-there}
 use Rattle.sc_checkpoint.proofs.Marking.{table-unknown, table-unlisted, table-past, table-marked}
 use Rattle.sc_checkpoint.proofs.next_choices.mark.Goals as goal
 
@@ -9,13 +9,16 @@ pub returns-in_default : goal.returns-in_default
 returns-in_default c = λ log before.
     table-unknown c.args.papers.now log c.args.entry c.args.table.now (sym c.student_position.ensures ∙ c.in_default.is) before
 
+pub choices_at-requires : goal.choices_at-requires
+choices_at-requires c = position-low c.args.papers.now c.args.entry.student c.in-Some.position (sym c.student_position.ensures ∙ c.in-Some.is)
+
 pub returns-in_default-place_in : goal.returns-in_default-place_in
 returns-in_default-place_in c = λ log before.
     let m = c.args.papers.now in
     let e = c.args.entry in
-    let here = position-there (students_of m) e.student c.in-Some.position (sym c.student_position.ensures ∙ c.in-Some.is) in
+    let own = student-there m e.student c.in-Some.position (sym c.student_position.ensures ∙ c.in-Some.is) in
     let none : position (λ s. s == e.school) (choices_of m e.student) ≡ None =
-    ap (position (λ s. s == e.school)) (sym (c.choices_at.ensures.value e.student here)) ∙ sym c.place_in.ensures ∙ c.in_default-place_in.is in
+    ap (position (λ s. s == e.school)) (sym (c.choices_at.ensures.choices ∙ ap (choices_of m) own)) ∙ sym c.place_in.ensures ∙ c.in_default-place_in.is in
     table-unlisted m log e c.args.table.now none before
 
 pub returns-then-position-table : goal.returns-then-position-table
@@ -23,9 +26,9 @@ returns-then-position-table c = λ log before.
     let m = c.args.papers.now in
     let e = c.args.entry in
     let found = sym c.student_position.ensures ∙ c.in-Some.is in
-    let here = position-there (students_of m) e.student c.in-Some.position found in
+    let own = student-there m e.student c.in-Some.position found in
     let place : position (λ s. s == e.school) (choices_of m e.student) ≡ Some c.in-Some-place_in.place =
-    ap (position (λ s. s == e.school)) (sym (c.choices_at.ensures.value e.student here)) ∙ sym c.place_in.ensures ∙ c.in-Some-place_in.is in
+    ap (position (λ s. s == e.school)) (sym (c.choices_at.ensures.choices ∙ ap (choices_of m) own)) ∙ sym c.place_in.ensures ∙ c.in-Some-place_in.is in
     table-marked m log e c.args.table.now c.in-Some.position c.in-Some-place_in.place _ c.with.result c.students_len.ensures.well_formed
     found place (slice_get-get_or c.args.table.now c.in-Some.position _ c.if-position-table.true) c.with.ensures before
 

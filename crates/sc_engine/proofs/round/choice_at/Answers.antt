@@ -9,5 +9,5 @@ returns-in_err-place c i found = c.from_residual.ensures ∙ sym (next-absent c.
 pub returns : goal.returns
 returns c i found =
     c.copied.ensures ∙ copied-read c.get.result c.choices_at.result.now c.in_ok-place.place c.get.ensures.lookup.0 c.get.ensures.lookup.1
-    ∙ ap (λ choices. slice_get choices c.in_ok-place.place) c.choices_at.ensures
+    ∙ ap (λ choices. slice_get choices c.in_ok-place.place) c.choices_at.ensures.choices
     ∙ sym (next-chosen c.args.papers.now c.args.places.now i c.args.at c.in_ok-place.place found (sym c.place_at.ensures.place ∙ c.in_ok-place.was))

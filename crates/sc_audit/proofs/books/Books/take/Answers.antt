@@ -1,9 +1,10 @@
-use Rattle.std.proofs.Common.{◌+◌, ◌<◌, ◌∙◌, sym, ap, subst, arith, refl, set, None}
+use Rattle.std.proofs.Common.{◌+◌, ◌∙◌, sym, ap, subst, arith, refl, set, None}
 use Rattle.std.proofs.lemmas.List.{length-set}
-use Rattle.sc_papers.specs.declared.limits.TheConstants.{LONGEST_LIST}
 use Rattle.sc_audit.specs.Books.{ledger_of}
 use Rattle.sc_audit.specs.Ledger.{Ledger, Comes, stand_of}
-use Rattle.sc_audit.proofs.Ledgers.{place-short}
+use Rattle.std.proofs.lemmas.Option.{slice_get_within}
+use Rattle.sc_papers.specs.Market.{choices_of}
+use Rattle.sc_papers.proofs.Students.{choices-short}
 use Rattle.sc_papers.proofs.Hands.{position-low, student-there}
 use Rattle.sc_audit.proofs.Tables.{stand-put}
 use Rattle.sc_audit.proofs.Takings.{waits-from, waits-placed, left-fits, left-next, left-nowhere, taken-valid, taken-follows, not-taken}
@@ -17,10 +18,10 @@ index_mut-requires c = omega (arith, position-low c.args.papers.now c.args.entry
 
 pub overflow_add-place : goal.overflow_add-place
 overflow_add-place c =
-    let short : c.in-Some.place < LONGEST_LIST =
-    place-short c.args.papers.now c.requires.fits.within_limits c.args.entry.student c.in-Some.place c.args.entry.school
+    let m = c.args.papers.now in
+    let listed = slice_get_within (choices_of m c.args.entry.student) c.in-Some.place c.args.entry.school
     (waits-placed (waits-from c.args.papers.now (ledger_of c.args.self.now) c.args.entry.student c.args.entry.school c.in-Some.place (sym c.in-Some.ensures.place)) c.requires.fits) in
-    omega arith
+    omega (arith, listed, choices-short m c.requires.fits.within_limits c.args.entry.student)
 
 pub come-requires-clause-fits : goal.come-requires-clause-fits
 come-requires-clause-fits c =

@@ -18,8 +18,8 @@ returns-in_default-clause-proposes g c =
     ends-none papers (standings_of g.R.Roll.keys g.R.Roll.seats c.args.self.now) hand c.requires.fits
     (sym (c.in_default.ensures hand (hand-position papers c.requires.fits.well_formed c.args.hand c.requires.within) ∙ ap (λ places. next_of papers places hand) c.as_slice.ensures.value))
 
-pub key_at-at-requires-clause-school : goal.key_at-at-requires-clause-school
-key_at-at-requires-clause-school g c =
+pub position_and_key-at-requires-clause-school : goal.position_and_key-at-requires-clause-school
+position_and_key-at-requires-clause-school g c =
     let papers = c.args.papers.now in
     let hand : ℕ = student_at papers c.args.hand in
     let old = standings_of g.R.Roll.keys g.R.Roll.seats c.args.self.now in
@@ -29,7 +29,7 @@ key_at-at-requires-clause-school g c =
 
 pub offer-requires-clause-new : goal.offer-requires-clause-new
 offer-requires-clause-new g c =
-    roll-new c.args.papers.now (standings_of g.R.Roll.keys g.R.Roll.seats c.args.self.now) (student_at c.args.papers.now c.args.hand) c.in-Some.school c.key_at-at.result.0 c.key_at-at.result.1 c.requires.fits c.key_at-at.ensures.position c.key_at-at.ensures.key
+    roll-new c.args.papers.now (standings_of g.R.Roll.keys g.R.Roll.seats c.args.self.now) (student_at c.args.papers.now c.args.hand) c.in-Some.school c.position_and_key-at.result.0 c.position_and_key-at.result.1 c.requires.fits c.position_and_key-at.ensures.position c.position_and_key-at.ensures.key
 
 pub offer-requires-clause-count_fits : goal.offer-requires-clause-count_fits
 offer-requires-clause-count_fits g c =
@@ -43,8 +43,8 @@ returns-in_default-2-clause-proposes g c =
     let stands : next_of papers old.places hand ≡ Some c.in-Some.school =
     sym (c.in-Some.ensures hand (hand-position papers c.requires.fits.well_formed c.args.hand c.requires.within) ∙ ap (λ places. next_of papers places hand) c.as_slice.ensures.value) in
     let new = standings_of g.R.Roll.keys g.R.Roll.seats c.offer.new.self in
-    ends-held papers old new hand c.in-Some.school c.key_at-at.result.0
-    (proposed-told papers old hand c.in-Some.school c.key_at-at.result.0 c.key_at-at.result.1 new.rolls c.in_ok-out.field-0 None c.requires.fits stands c.key_at-at.ensures.position c.key_at-at.ensures.key c.in_ok-out.ensures.offered c.in_default-2.is)
+    ends-held papers old new hand c.in-Some.school c.position_and_key-at.result.0
+    (proposed-told papers old hand c.in-Some.school c.position_and_key-at.result.0 c.position_and_key-at.result.1 new.rolls c.in_ok-out.field-0 None c.requires.fits stands c.position_and_key-at.ensures.position c.position_and_key-at.ensures.key c.in_ok-out.ensures.offered c.in_default-2.is)
     c.offer.ensures.places c.offer.ensures.log c.in_ok-out.ensures.proposals
 
 pub position_of-next-requires : goal.position_of-next-requires
@@ -56,9 +56,9 @@ position_of-next-requires g c =
     sym (c.in-Some.ensures hand (hand-position papers c.requires.fits.well_formed c.args.hand c.requires.within) ∙ ap (λ places. next_of papers places hand) c.as_slice.ensures.value) in
     let rolls = rolls_of g.R.Roll.keys g.R.Roll.seats c.offer.new.self.rolls.items in
     let out : ℕ = c.in-Some-2.out.student in
-    let proposed : Proposed papers old hand c.in-Some.school c.key_at-at.result.0 rolls (Some c.in-Some-2.out) =
-    proposed-told papers old hand c.in-Some.school c.key_at-at.result.0 c.key_at-at.result.1 rolls c.in_ok-out.field-0 (Some c.in-Some-2.out) c.requires.fits stands c.key_at-at.ensures.position c.key_at-at.ensures.key c.in_ok-out.ensures.offered c.in-Some-2.is in
-    stander-student papers old.places out c.in-Some.school (put-out papers old hand c.in-Some.school c.key_at-at.result.0 rolls c.in-Some-2.out proposed).stands
+    let proposed : Proposed papers old hand c.in-Some.school c.position_and_key-at.result.0 rolls (Some c.in-Some-2.out) =
+    proposed-told papers old hand c.in-Some.school c.position_and_key-at.result.0 c.position_and_key-at.result.1 rolls c.in_ok-out.field-0 (Some c.in-Some-2.out) c.requires.fits stands c.position_and_key-at.ensures.position c.position_and_key-at.ensures.key c.in_ok-out.ensures.offered c.in-Some-2.is in
+    stander-student papers old.places out c.in-Some.school (put-out papers old hand c.in-Some.school c.position_and_key-at.result.0 rolls c.in-Some-2.out proposed).stands
 
 pub reject-requires : goal.reject-requires
 reject-requires g c place is =
@@ -69,10 +69,10 @@ reject-requires g c place is =
     sym (c.in-Some.ensures hand (hand-position papers c.requires.fits.well_formed c.args.hand c.requires.within) ∙ ap (λ places. next_of papers places hand) c.as_slice.ensures.value) in
     let rolls = rolls_of g.R.Roll.keys g.R.Roll.seats c.offer.new.self.rolls.items in
     let out : ℕ = c.in-Some-2.out.student in
-    let proposed : Proposed papers old hand c.in-Some.school c.key_at-at.result.0 rolls (Some c.in-Some-2.out) =
-    proposed-told papers old hand c.in-Some.school c.key_at-at.result.0 c.key_at-at.result.1 rolls c.in_ok-out.field-0 (Some c.in-Some-2.out) c.requires.fits stands c.key_at-at.ensures.position c.key_at-at.ensures.key c.in_ok-out.ensures.offered c.in-Some-2.is in
+    let proposed : Proposed papers old hand c.in-Some.school c.position_and_key-at.result.0 rolls (Some c.in-Some-2.out) =
+    proposed-told papers old hand c.in-Some.school c.position_and_key-at.result.0 c.position_and_key-at.result.1 rolls c.in_ok-out.field-0 (Some c.in-Some-2.out) c.requires.fits stands c.position_and_key-at.ensures.position c.position_and_key-at.ensures.key c.in_ok-out.ensures.offered c.in-Some-2.is in
     let next : ℕ = c.position_of-next.result in
-    stander-short papers old.places out c.in-Some.school place c.requires.fits.within_limits (put-out papers old hand c.in-Some.school c.key_at-at.result.0 rolls c.in-Some-2.out proposed).stands
+    stander-short papers old.places out c.in-Some.school place c.requires.fits.within_limits (put-out papers old hand c.in-Some.school c.position_and_key-at.result.0 rolls c.in-Some-2.out proposed).stands
     (place-at papers old.places out next c.position_of-next.ensures ∙ ap (λ (places : List (Option ℕ)). get_or places next None) (sym c.offer.ensures.places) ∙ is)
 
 pub returns-clause-proposes : goal.returns-clause-proposes
@@ -84,12 +84,12 @@ returns-clause-proposes g c =
     sym (c.in-Some.ensures hand (hand-position papers c.requires.fits.well_formed c.args.hand c.requires.within) ∙ ap (λ places. next_of papers places hand) c.as_slice.ensures.value) in
     let rolls = rolls_of g.R.Roll.keys g.R.Roll.seats c.offer.new.self.rolls.items in
     let out : ℕ = c.in-Some-2.out.student in
-    let proposed : Proposed papers old hand c.in-Some.school c.key_at-at.result.0 rolls (Some c.in-Some-2.out) =
-    proposed-told papers old hand c.in-Some.school c.key_at-at.result.0 c.key_at-at.result.1 rolls c.in_ok-out.field-0 (Some c.in-Some-2.out) c.requires.fits stands c.key_at-at.ensures.position c.key_at-at.ensures.key c.in_ok-out.ensures.offered c.in-Some-2.is in
+    let proposed : Proposed papers old hand c.in-Some.school c.position_and_key-at.result.0 rolls (Some c.in-Some-2.out) =
+    proposed-told papers old hand c.in-Some.school c.position_and_key-at.result.0 c.position_and_key-at.result.1 rolls c.in_ok-out.field-0 (Some c.in-Some-2.out) c.requires.fits stands c.position_and_key-at.ensures.position c.position_and_key-at.ensures.key c.in_ok-out.ensures.offered c.in-Some-2.is in
     let next : ℕ = c.position_of-next.result in
     let new = standings_of g.R.Roll.keys g.R.Roll.seats c.reject.new.self in
     subst (λ (i : ℕ). Proposes papers old new hand (Some i)) (sym (student-there papers out next c.position_of-next.ensures))
-    (goes-on papers old new hand c.in-Some.school c.key_at-at.result.0 rolls c.in-Some-2.out proposed
+    (goes-on papers old new hand c.in-Some.school c.position_and_key-at.result.0 rolls c.in-Some-2.out proposed
     (ap (rolls_of g.R.Roll.keys g.R.Roll.seats) c.reject.ensures.rolls)
     (c.in_ok-reject.ensures.log ∙ ap (λ log. log ++ record { student = out; school = c.in-Some.school } ∷ []) c.offer.ensures.log)
     (λ at place found is.

@@ -15,7 +15,7 @@ pub place_in-requires : goal.place_in-requires
 place_in-requires g c =
     let papers = c.args.papers.now in
     subst (λ (choices : List ℕ). IfSome c.args.standing.next (λ s. Contains choices s))
-    (sym (c.choices_at.ensures ∙ ap (choices_of papers) (student-there papers c.args.standing.student c.position_of-at.result c.position_of-at.ensures))) c.requires.listed
+    (sym (c.choices_at.ensures.choices ∙ ap (choices_of papers) (student-there papers c.args.standing.student c.position_of-at.result c.position_of-at.ensures))) c.requires.listed
 
 pub returns-in_default-clause-stands : goal.returns-in_default-clause-stands
 returns-in_default-clause-stands g c =
@@ -27,12 +27,12 @@ returns-in_default-clause-stands g c =
     let old = standings_of g.R.Roll.keys g.R.Roll.seats c.args.self.now in
     let there : student_at papers at ≡ student = student-there papers student at c.position_of-at.ensures in
     let here : slice_get (choices_of papers student) place ≡ c.args.standing.next =
-    ap (λ choices. slice_get choices place) (sym (c.choices_at.ensures ∙ ap (choices_of papers) there)) ∙ c.place_in.ensures in
+    ap (λ choices. slice_get choices place) (sym (c.choices_at.ensures.choices ∙ ap (choices_of papers) there)) ∙ c.place_in.ensures in
     let begun : Begun papers old (moved old room at place) student at place = begins papers old room student at place c.requires.fits c.position_of-at.ensures c.requires.absent c.in_ok-make_room.ensures.room c.in_ok-make_room.ensures.same c.in_ok-make_room.ensures.within in
     put-nowhere begun c.args.standing.next here c.in_default.is
 
-pub key_at-position-requires-clause-school : goal.key_at-position-requires-clause-school
-key_at-position-requires-clause-school g c =
+pub position_and_key-position-requires-clause-school : goal.position_and_key-position-requires-clause-school
+position_and_key-position-requires-clause-school g c =
     let papers = c.args.papers.now in
     let student = c.args.standing.student in
     let at = c.position_of-at.result in
@@ -41,7 +41,7 @@ key_at-position-requires-clause-school g c =
     let old = standings_of g.R.Roll.keys g.R.Roll.seats c.args.self.now in
     let there : student_at papers at ≡ student = student-there papers student at c.position_of-at.ensures in
     let here : slice_get (choices_of papers student) place ≡ c.args.standing.next =
-    ap (λ choices. slice_get choices place) (sym (c.choices_at.ensures ∙ ap (choices_of papers) there)) ∙ c.place_in.ensures in
+    ap (λ choices. slice_get choices place) (sym (c.choices_at.ensures.choices ∙ ap (choices_of papers) there)) ∙ c.place_in.ensures in
     let begun : Begun papers old (moved old room at place) student at place = begins papers old room student at place c.requires.fits c.position_of-at.ensures c.requires.absent c.in_ok-make_room.ensures.room c.in_ok-make_room.ensures.same c.in_ok-make_room.ensures.within in
     put-school papers old student place c.in-Some.school c.requires.fits (here ∙ c.in-Some.is)
 
@@ -55,10 +55,10 @@ offer_to-requires-clause-new g c =
     let old = standings_of g.R.Roll.keys g.R.Roll.seats c.args.self.now in
     let there : student_at papers at ≡ student = student-there papers student at c.position_of-at.ensures in
     let here : slice_get (choices_of papers student) place ≡ c.args.standing.next =
-    ap (λ choices. slice_get choices place) (sym (c.choices_at.ensures ∙ ap (choices_of papers) there)) ∙ c.place_in.ensures in
+    ap (λ choices. slice_get choices place) (sym (c.choices_at.ensures.choices ∙ ap (choices_of papers) there)) ∙ c.place_in.ensures in
     let begun : Begun papers old (moved old room at place) student at place = begins papers old room student at place c.requires.fits c.position_of-at.ensures c.requires.absent c.in_ok-make_room.ensures.room c.in_ok-make_room.ensures.same c.in_ok-make_room.ensures.within in
-    let key = c.key_at-position.ensures.key ∙ ap (λ i. key_of papers i c.in-Some.school) there in
-    roll-new papers (moved old room at place) student c.in-Some.school c.key_at-position.result.0 c.key_at-position.result.1 (fits-begun begun) c.key_at-position.ensures.position key
+    let key = c.position_and_key-position.ensures.key ∙ ap (λ i. key_of papers i c.in-Some.school) there in
+    roll-new papers (moved old room at place) student c.in-Some.school c.position_and_key-position.result.0 c.position_and_key-position.result.1 (fits-begun begun) c.position_and_key-position.ensures.position key
 
 pub unreachable-requires : goal.unreachable-requires
 unreachable-requires g c =
@@ -68,7 +68,7 @@ unreachable-requires g c =
     subst (λ (o : Option ℕ). IfSome o (λ s. held papers (next_of papers old.places) s < seats_of papers s)) c.in-Some.is c.requires.room in
     omega (
       arith,
-      roll-open papers old c.in-Some.school c.key_at-position.result.0 c.requires.fits c.key_at-position.ensures.position room,
+      roll-open papers old c.in-Some.school c.position_and_key-position.result.0 c.requires.fits c.position_and_key-position.ensures.position room,
       c.in_ok-out.ensures.full (sym c.is_some.ensures ∙ c.if-is_some.true),
     )
 
@@ -82,12 +82,12 @@ returns-clause-stands g c =
     let old = standings_of g.R.Roll.keys g.R.Roll.seats c.args.self.now in
     let there : student_at papers at ≡ student = student-there papers student at c.position_of-at.ensures in
     let here : slice_get (choices_of papers student) place ≡ c.args.standing.next =
-    ap (λ choices. slice_get choices place) (sym (c.choices_at.ensures ∙ ap (choices_of papers) there)) ∙ c.place_in.ensures in
+    ap (λ choices. slice_get choices place) (sym (c.choices_at.ensures.choices ∙ ap (choices_of papers) there)) ∙ c.place_in.ensures in
     let begun : Begun papers old (moved old room at place) student at place = begins papers old room student at place c.requires.fits c.position_of-at.ensures c.requires.absent c.in_ok-make_room.ensures.room c.in_ok-make_room.ensures.same c.in_ok-make_room.ensures.within in
-    let key = c.key_at-position.ensures.key ∙ ap (λ i. key_of papers i c.in-Some.school) there in
+    let key = c.position_and_key-position.ensures.key ∙ ap (λ i. key_of papers i c.in-Some.school) there in
     let rolls = rolls_of g.R.Roll.keys g.R.Roll.seats c.offer_to.new.rolls.items in
-    put-on_roll begun (record (moved old room at place) { rolls = rolls }) c.args.standing.next c.in-Some.school c.key_at-position.result.0 here c.in-Some.is
-    (proposed-told papers (moved old room at place) student c.in-Some.school c.key_at-position.result.0 c.key_at-position.result.1 rolls c.in_ok-out.out None
-    (fits-begun begun) (next-begun begun c.args.standing.next here ∙ c.in-Some.is) c.key_at-position.ensures.position key c.in_ok-out.ensures
+    put-on_roll begun (record (moved old room at place) { rolls = rolls }) c.args.standing.next c.in-Some.school c.position_and_key-position.result.0 here c.in-Some.is
+    (proposed-told papers (moved old room at place) student c.in-Some.school c.position_and_key-position.result.0 c.position_and_key-position.result.1 rolls c.in_ok-out.out None
+    (fits-begun begun) (next-begun begun c.args.standing.next here ∙ c.in-Some.is) c.position_and_key-position.ensures.position key c.in_ok-out.ensures
     (is_some-none c.in_ok-out.out (sym c.is_some.ensures ∙ c.if-is_some.false)))
     refl refl refl

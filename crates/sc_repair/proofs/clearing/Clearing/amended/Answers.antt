@@ -50,7 +50,7 @@ returns-in-Ok-clause-proposals c =
     subst (λ (s : Standing). CountsFrom (rewind_point s.papers c.args.amendment) c.in-Ok.clearing) c.self.view_is
     (subst (λ k. CountsFrom k c.in-Ok.clearing) (count ∙ c.in_ok-point.ensures.point) c.in-Ok.ensures.proposals)
 
-pub returns-clause-refused : goal.returns-clause-refused
-returns-clause-refused c =
+pub returns-in-Err-clause-refused : goal.returns-in-Err-clause-refused
+returns-in-Err-clause-refused c =
     subst (λ (s : Standing). IsRefusal (verdict s.papers c.args.amendment) OutOfMemory) c.self.view_is
     (subst (λ v. IsRefusal v OutOfMemory) (sym c.in_ok-point.ensures.allowed) refl)

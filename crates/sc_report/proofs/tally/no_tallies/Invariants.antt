@@ -1,6 +1,0 @@
-use Rattle.std.proofs.Common.{◌≡◌, replicate}
-use Rattle.sc_report.specs.Tally.{no_tally}
-use Rattle.sc_report.proofs.tally.no_tallies.Given as goal
-
-abbrev pub invariant-loop-added : goal.invariant-loop-added
-invariant-loop-added l = l.tallies.items ≡ replicate l._added no_tally

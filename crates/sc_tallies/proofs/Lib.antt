@@ -1,0 +1,2 @@
+pub mod LastKeys
+pub mod Tallying

@@ -1,0 +1,2 @@
+pub mod LastKey
+pub mod Tally

@@ -1,0 +1,118 @@
+ghost use Rattle.std.specs.Prelude.{◌≡◌, ◌+◌, ◌<◌, ◌≤◌, true, length, replicate, slice_get, take, Some, IfOk, OnOk};
+ghost use Rattle.sc_papers.specs.Assignment.{assigned};
+ghost use Rattle.sc_papers.specs.Market.{is_school, students_of};
+ghost use Rattle.sc_papers.specs.Matching.{Matching};
+ghost use Rattle.sc_papers.specs.WellFormed.{WellFormed, WithinLimits};
+ghost use Rattle.sc_tallies.specs.LastKey.{or_later};
+ghost use Rattle.sc_tallies.specs.Tally.{held_at, no_tally, tally, with_key, AreTallies, AreTalliesAmong};
+
+use sc_papers::{Assignment, Key, MOST_STUDENTS, Papers, SchoolNo, StudentNo};
+use std::alloc::{AllocError, Global};
+
+/// How many students have a school, and the last key among them, if they are any.
+#[derive(Clone, Copy, Debug, PartialEq, Eq)]
+pub struct Tally {
+    pub held: u32,
+    pub last: Option<Key>,
+}
+
+/// The later of a key and the last one so far.
+fn later(last: Option<Key>, key: Key) -> Option<Key>
+    ensures { result ≡ or_later last key }
+{
+    match last {
+        Some(last) if key < last => Some(last),
+        _ => Some(key),
+    }
+}
+
+/// The tally with a student of this key.
+fn with_student(tally: Tally, key: Key) -> Tally
+    requires { tally.held < MOST_STUDENTS }
+    ensures { result ≡ with_key tally key }
+{
+    Tally {
+        held: tally.held + 1,
+        last: later(tally.last, key),
+    }
+}
+
+/// The position of the school that the student at a position has, if it is one of the papers, and the
+/// student's key there.
+fn held_at(
+    papers: &Papers,
+    assignment: &Assignment,
+    student: StudentNo,
+    position: usize,
+) -> Option<(usize, Key)>
+    requires { slice_get (students_of papers.now) position ≡ Some student }
+    ensures { result ≡ held_at papers.now (assigned assignment.now) student }
+{
+    let school = assignment.get(student)?;
+    let at = papers.school_position(school)?;
+    let key = papers.key_at(position, at)?;
+    Some((at, key))
+}
+
+/// Counts the student at the position of the order of entry.
+fn count_student(tallies: &mut [Tally], papers: &Papers, assignment: &Assignment, position: usize)
+    requires within { position < length papers.now.students }
+    requires well_formed { WellFormed papers.now }
+    requires within_limits { WithinLimits papers.now }
+    requires before { AreTalliesAmong papers.now (assigned assignment.now) (take position (students_of papers.now)) tallies.old }
+    ensures { AreTalliesAmong papers.now (assigned assignment.now) (take (position + 1) (students_of papers.now)) tallies.new }
+{
+    let Some(student) = papers.student_at(position) else {
+        unreachable!()
+    };
+    if let Some((at, key)) = held_at(papers, assignment, student, position) {
+        tallies[at] = with_student(tallies[at], key);
+    }
+}
+
+/// A tally of nobody for each of so many schools.
+fn no_tallies(alloc: Global, count: usize) -> Result<Vec<Tally>, AllocError>
+    ensures { IfOk result (λ tallies. tallies.items ≡ replicate count no_tally) }
+{
+    let mut tallies = Vec::with_capacity(alloc, count)?;
+    for _added in 0..count {
+        tallies.push(Tally {
+            held: 0,
+            last: None,
+        })?;
+    }
+    Ok(tallies)
+}
+
+/// Each school's tally by the assignment, by the school's position in the order of entry. Whoever is not
+/// in the papers is not counted, and no more is a student who has a school that is not in them.
+///
+/// The only error is a refused growth; memory is taken for each school. The cost is two look-ups by
+/// number for each student. Papers are always well-formed, and this call tells its callers so.
+pub fn tallies(
+    alloc: Global,
+    papers: &Papers,
+    assignment: &Assignment,
+) -> Result<Vec<Tally>, AllocError>
+    ensures tallies { IfOk result (λ tallies. AreTallies papers.now (assigned assignment.now) tallies.items) }
+    ensures well_formed { OnOk result (WellFormed papers.now) }
+{
+    let mut tallies = no_tallies(alloc, papers.schools_len())?;
+    for position in 0..papers.students_len() {
+        count_student(tallies.as_mut_slice(), papers, assignment, position);
+    }
+    Ok(tallies)
+}
+
+/// The tally of a school of the papers, among those of all schools. In constant time.
+pub fn tally_of(tallies: &[Tally], papers: &Papers, school: SchoolNo) -> Tally
+    requires tallies { length tallies.now ≡ length papers.now.schools }
+    requires known { is_school papers.now school ≡ true }
+    // By whichever matching the tallies were counted.
+    ensures { (a : Matching) → AreTallies papers.now a tallies.now → result ≡ tally papers.now a (students_of papers.now) school }
+{
+    let Some(position) = papers.school_position(school) else {
+        unreachable!()
+    };
+    tallies[position]
+}
