@@ -99,6 +99,25 @@ fn write_log<W: Write>(
     }
 }
 
+/// Writes the report of papers that were opened, or their log, and flushes it.
+fn write_opened<W: Write>(
+    alloc: Global,
+    clearing: &Clearing,
+    show_log: bool,
+    out: &mut Watched<W>,
+) -> Result<(), RunFault>
+    requires certified { IsCertified clearing.now }
+    ensures bytes { WritesMatch show_log (Ok clearing.now.papers)
+        (W.contents (device_of out.old)) (W.contents (device_of out.new)) result }
+    ensures failed { has_failed out.new ≡ (has_failed out.old || is_output_fault result) }
+{
+    if show_log {
+        write_log(alloc, clearing, out)
+    } else {
+        write_out(alloc, clearing, out)
+    }
+}
+
 /// Writes the report of the papers that the files hold, or their log, and flushes it.
 pub fn match_texts<W: Write>(
     alloc: Global,
@@ -111,14 +130,13 @@ pub fn match_texts<W: Write>(
         (W.contents (device_of out.old)) (W.contents (device_of out.new)) result }
     ensures failed { has_failed out.new ≡ (has_failed out.old || is_output_fault result) }
 {
-    let clearing = match open_files(alloc, seed, files) {
-        Ok(clearing) => clearing,
-        Err(fault) => return Err(fault),
-    };
-    if show_log {
-        write_log(alloc, &clearing, out)
-    } else {
-        write_out(alloc, &clearing, out)
+    match open_files(alloc, seed, files) {
+        Ok(clearing) => {
+            let written = write_opened(alloc, &clearing, show_log, out);
+            drop(clearing);
+            written
+        }
+        Err(fault) => Err(fault),
     }
 }
 

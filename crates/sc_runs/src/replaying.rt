@@ -27,13 +27,16 @@ fn replay_papers<W: Write>(
     ensures report { WritesReplay (Ok papers) journal.now (W.contents (device_of out.old)) (W.contents (device_of out.new)) result }
     ensures failed { has_failed out.new ≡ (has_failed out.old || is_output_fault result) }
 {
-    let (clearing, tail) = match replay(alloc, papers, journal) {
-        Ok(replayed) => replayed,
-        Err(fault) => return Err(RunFault::from(fault)),
-    };
-    match write_out(alloc, &clearing, out) {
-        Ok(()) => Ok(tail),
-        Err(fault) => Err(fault),
+    match replay(alloc, papers, journal) {
+        Ok((clearing, tail)) => {
+            let written = write_out(alloc, &clearing, out);
+            drop(clearing);
+            match written {
+                Ok(()) => Ok(tail),
+                Err(fault) => Err(fault),
+            }
+        }
+        Err(fault) => Err(RunFault::from(fault)),
     }
 }
 
