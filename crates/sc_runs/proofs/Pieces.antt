@@ -1,10 +1,11 @@
 -- What writes come to one after another.
-use Rattle.std.proofs.Common.{append_assoc, append-nil, ◌≡◌, ℕ, inl, inr, List, [], ◌∷◌, ◌++◌, Option, None, Some, Result, Ok, Err, take, refl, sym, ◌∙◌, subst, ap}
+use Rattle.std.proofs.Common.{append_assoc, append-nil, ◌≡◌, false, ℕ, inl, inr, List, [], ◌∷◌, ◌++◌, Option, None, Some, Result, Ok, Err, take, refl, sym, ◌∙◌, subst, ap}
 use Rattle.std.proofs.KnownBytes.{Appends-trans}
 use Rattle.std.specs.Io.KnownBytes.{Appends, Keeps}
 use Rattle.sc_report.specs.Whole.{AppendsFront}
-use Rattle.sc_runs.proofs.Openings.{Appends-kept}
-use Rattle.sc_runs.specs.Run.{Writes}
+use Rattle.sc_runs.proofs.Openings.{Appends-kept, Keeps-refl}
+use Rattle.sc_runs.specs.Opening.{WritesText}
+use Rattle.sc_runs.specs.Run.{is_journal_fault, IsFull, Writes}
 use Rattle.sc_runs.specs.declared.fault.RunFault.{RunFault}
 use Rattle.sc_runs.specs.declared.fault.RunFault.TheVariants.{Read, Intake, Journal, WriteOut, WriteJournal, OutOfMemory}
 use Rattle.sc_runs.specs.Pieces.{Held, Piece, journal_of, output_of, to_journal, to_output, GrowsByAll, GrowsByFront, IsFront}
@@ -133,9 +134,36 @@ GrowsByFront-line line rest j j' o o' written wrote =
     GrowsByFront-after (to_journal line ∷ []) rest (record { journal = j; output = o }) (record { journal = j'; output = o }) (record { journal = j'; output = o' })
     (GrowsByAll-journal line (record { journal = j; output = o }) j' written) wrote
 
--- the writes of a text by another name
-pub Writes-text : (x y : List ℕ) (old new : Held) (result : Result (Unit {0}) RunFault) → x ≡ y → Writes (to_output x ∷ []) old new result → Writes (to_output y ∷ []) old new result
-Writes-text x y old new result same wrote = subst (λ text. Writes (to_output text ∷ []) old new result) same wrote
+-- one text was given to the output, whole or in part, by what was written of it
+pub Writes-output : (text : List ℕ) (kept o o' : Option (List ℕ)) (result : Result (Unit {0}) RunFault) → WritesText (λ written. written ≡ text) o o' result
+    → Writes (to_output text ∷ []) (record { journal = kept; output = o }) (record { journal = kept; output = o' }) result
+Writes-output text kept o o' (Ok done) (same, is, written) = GrowsByAll-output text (record { journal = kept; output = o }) o' (subst (Appends o o') is written)
+Writes-output text kept o o' (Err WriteOut) (same, is, written) = GrowsByFront-text text same kept kept o o' is (Keeps-refl kept) written
+Writes-output text kept o o' (Err OutOfMemory) wrote = GrowsByFront-kept (to_output text ∷ []) kept kept o o' (Keeps-refl kept) wrote
+Writes-output text kept o o' (Err WriteJournal) wrote = absurd wrote
+Writes-output text kept o o' (Err (Journal fault)) wrote = absurd wrote
+Writes-output text kept o o' (Err (Read source)) wrote = absurd wrote
+Writes-output text kept o o' (Err (Intake fault)) wrote = absurd wrote
+
+-- a text for the output does not end for the journal
+pub is_journal_fault-text : (Is : List ℕ → Type 0) (o o' : Option (List ℕ)) (result : Result (Unit {0}) RunFault) → WritesText Is o o' result → is_journal_fault result ≡ false
+is_journal_fault-text Is o o' (Ok done) wrote = refl
+is_journal_fault-text Is o o' (Err WriteOut) wrote = refl
+is_journal_fault-text Is o o' (Err OutOfMemory) wrote = refl
+is_journal_fault-text Is o o' (Err WriteJournal) wrote = absurd wrote
+is_journal_fault-text Is o o' (Err (Journal fault)) wrote = refl
+is_journal_fault-text Is o o' (Err (Read source)) wrote = refl
+is_journal_fault-text Is o o' (Err (Intake fault)) wrote = refl
+
+-- nor for a full journal
+pub IsFull-text : (Is : List ℕ → Type 0) (o o' : Option (List ℕ)) (result : Result (Unit {0}) RunFault) → WritesText Is o o' result → IsFull 0 result
+IsFull-text Is o o' (Ok done) wrote = tt
+IsFull-text Is o o' (Err WriteOut) wrote = tt
+IsFull-text Is o o' (Err OutOfMemory) wrote = tt
+IsFull-text Is o o' (Err WriteJournal) wrote = tt
+IsFull-text Is o o' (Err (Journal fault)) wrote = absurd wrote
+IsFull-text Is o o' (Err (Read source)) wrote = tt
+IsFull-text Is o o' (Err (Intake fault)) wrote = tt
 
 -- the writes of pieces by another name
 pub Writes-same : (xs ys : List Piece) (old new : Held) (result : Result (Unit {0}) RunFault) → xs ≡ ys → Writes xs old new result → Writes ys old new result

@@ -12,23 +12,17 @@ ghost use Rattle.sc_runs.specs.Pieces.{to_output};
 ghost use Rattle.sc_runs.specs.Run.{is_journal_fault, opened_in, IsFull, RunsFiles, Writes, WritesRun};
 
 use crate::fault::RunFault;
-use crate::inputs::{Files, Opening, read_input, read_opening};
-use crate::matching::open_files;
+use crate::inputs::{Inputs, OpeningSlices, read_input, read_opening};
+use crate::opening::open_texts;
 use crate::recorder::Recorder;
-use crate::script::{answer_all, write_line};
+use crate::script::answer_all;
+use crate::writing::write_report_text;
 use sc_intake::{Source, read_script};
 use sc_papers::{Amendment, Refusal, Seed};
 use sc_repair::Clearing;
-use sc_report::{Watched, report_text};
+use sc_report::Watched;
 use std::alloc::Global;
 use std::io::{Read, Write};
-
-/// The inputs of a run: the files of an opening, and the script.
-#[derive(Drop)]
-pub struct Inputs<R> {
-    pub opening: Opening<R>,
-    pub script: Watched<R>,
-}
 
 /// The records of a script, or the fault of it.
 fn read_records(alloc: Global, script: &[u8]) -> Result<Vec<Result<Amendment, Refusal>>, RunFault>
@@ -36,25 +30,6 @@ fn read_records(alloc: Global, script: &[u8]) -> Result<Vec<Result<Amendment, Re
 {
     let records = read_script(alloc, script)?;
     Ok(records)
-}
-
-/// Writes the report of the standing assignment.
-fn write_last<W: Write>(
-    alloc: Global,
-    clearing: &Clearing,
-    out: &mut Watched<W>,
-) -> Result<(), RunFault>
-    ensures writes { (kept : Option (List ℕ)) → Writes (to_output (report_text clearing.now.papers (matching_of clearing.now)) ∷ [])
-        (record { journal = kept; output = W.contents (device_of out.old) })
-        (record { journal = kept; output = W.contents (device_of out.new) }) result }
-    ensures full { IsFull 0 result }
-    ensures failed { has_failed out.new ≡ (has_failed out.old || is_output_fault result) }
-    ensures kept { is_journal_fault result ≡ false }
-{
-    match report_text(alloc, clearing) {
-        Ok(text) => write_line(text.as_slice(), out),
-        Err(_) => Err(RunFault::OutOfMemory),
-    }
 }
 
 /// Writes the report of the standing assignment, and flushes the journal and then the output.
@@ -71,7 +46,7 @@ fn finish<W: Write, J: Recorder>(
     ensures failed { has_failed out.new ≡ (has_failed out.old || is_output_fault result) }
     ensures journal_failed { J.has_failed journal.new ≡ (J.has_failed journal.old || is_journal_fault result) }
 {
-    if let Err(fault) = write_last(alloc, clearing, out) {
+    if let Err(fault) = write_report_text(alloc, clearing, out) {
         return Err(fault);
     }
     match journal.flush() {
@@ -109,23 +84,23 @@ fn run_opened<W: Write, J: Recorder>(
     }
 }
 
-/// Opens the papers that the files hold, answers the records of the script in turn, and writes the
+/// Opens the papers that the texts hold, answers the records of the script in turn, and writes the
 /// report of the papers as they then stand.
 pub fn run_texts<W: Write, J: Recorder>(
     alloc: Global,
     seed: &Seed,
-    files: Files<'_>,
+    texts: OpeningSlices<'_>,
     script: &[u8],
     out: &mut Watched<W>,
     journal: &mut J,
 ) -> Result<(), RunFault>
-    ensures writes { WritesRun (opened_in (papers_in seed.now files.entry.schools.now files.entry.roster.now files.entry.lists.now) (script_in script.now))
+    ensures writes { WritesRun (opened_in (papers_in seed.now texts.entry.schools.now texts.entry.roster.now texts.entry.lists.now) (script_in script.now))
         (record { journal = J.contents journal.old; output = W.contents (device_of out.old) })
         (record { journal = J.contents journal.new; output = W.contents (device_of out.new) }) result }
     ensures failed { has_failed out.new ≡ (has_failed out.old || is_output_fault result) }
     ensures journal_failed { J.has_failed journal.new ≡ (J.has_failed journal.old || is_journal_fault result) }
 {
-    match open_files(alloc, seed, files) {
+    match open_texts(alloc, seed, texts) {
         Ok(mut clearing) => run_opened(alloc, &mut clearing, script, out, journal),
         Err(fault) => Err(fault),
     }
@@ -162,5 +137,12 @@ pub fn run<R: Read, W: Write, J: Write>(
         Ok(script) => script,
         Err(fault) => return Err(fault),
     };
-    run_texts(alloc, seed, texts.files(), script.as_slice(), out, journal)
+    run_texts(
+        alloc,
+        seed,
+        texts.as_slices(),
+        script.as_slice(),
+        out,
+        journal,
+    )
 }

@@ -13,10 +13,11 @@ ghost use Rattle.sc_runs.specs.Run.{accepted, accepted_in, made, after_record, a
 
 use crate::fault::RunFault;
 use crate::recorder::Recorder;
+use crate::writing::write_line;
 use sc_journal::{JournalCause, JournalFault, LineNo, line};
 use sc_papers::{Amendment, Refusal};
 use sc_repair::Clearing;
-use sc_report::{Watched, reply_line, write_whole};
+use sc_report::{Watched, reply_line};
 use std::alloc::{AllocError, Global};
 use std::io::Write;
 
@@ -39,21 +40,6 @@ fn reply(clearing: &mut Clearing, amendment: Amendment) -> Result<Result<(), Ref
     match clearing.amend(amendment) {
         Ok(()) => Ok(Ok(())),
         Err(refusal) => Ok(Err(by_the_rules(refusal)?)),
-    }
-}
-
-/// Writes a text to the output.
-pub fn write_line<W: Write>(line: &[u8], out: &mut Watched<W>) -> Result<(), RunFault>
-    ensures writes { (kept : Option (List ℕ)) → Writes (to_output line.now ∷ [])
-        (record { journal = kept; output = W.contents (device_of out.old) })
-        (record { journal = kept; output = W.contents (device_of out.new) }) result }
-    ensures full { IsFull 0 result }
-    ensures failed { has_failed out.new ≡ (has_failed out.old || is_output_fault result) }
-    ensures kept { is_journal_fault result ≡ false }
-{
-    match write_whole(out, line) {
-        Ok(()) => Ok(()),
-        Err(_) => Err(RunFault::WriteOut),
     }
 }
 

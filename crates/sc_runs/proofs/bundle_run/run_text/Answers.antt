@@ -6,7 +6,7 @@ use Rattle.sc_runs.specs.declared.ending.Ending.TheVariants.{Fault}
 use Rattle.sc_runs.specs.declared.fault.RunFault.{RunFault}
 use Rattle.sc_runs.specs.declared.fault.RunFault.TheVariants.{Read, Intake, Journal, WriteOut, WriteJournal, OutOfMemory}
 use Rattle.sc_runs.proofs.Openings.{Keeps-refl}
-use Rattle.sc_runs.proofs.bundle.run_text.Goals as goal
+use Rattle.sc_runs.proofs.bundle_run.run_text.Goals as goal
 
 -- a run that no journal ended does not end as one
 not-by_journal : (fault : RunFault) → is_journal_fault {A = Unit {0}} (Err fault) ≡ false → Fault fault ≢ Fault WriteJournal
