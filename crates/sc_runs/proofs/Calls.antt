@@ -1,19 +1,17 @@
 -- Calls that read their inputs, by what reading them and then using them did.
-use Rattle.std.proofs.Common.{◌≡◌, ℕ, inl, inr, ap, Bool, List, [], ◌∷◌, ◌++◌, Option, Result, Ok, Err, refl, ◌∙◌, subst}
+use Rattle.std.proofs.Common.{◌≡◌, ℕ, inl, inr, ap, Bool, List, [], ◌∷◌, ◌++◌, Option, Result, ◌∙◌, subst}
 use Rattle.std.proofs.lemmas.List.Elements.{All-nil}
-use Rattle.std.specs.Io.KnownBytes.{Keeps}
 use Rattle.sc_intake.specs.Log.{log_in}
 use Rattle.sc_intake.specs.Script.{script_in}
 use Rattle.sc_audit.specs.declared.verdict.Verdict.{Verdict}
 use Rattle.sc_journal.specs.declared.journal.Tail.{Tail}
 use Rattle.sc_runs.specs.Auditing.{claimed_in, AuditsFiles, WritesVerdict}
 use Rattle.sc_runs.specs.Inputs.{in_order, Texts, Turn, AreRead, EndsAmong, EndsReading, IsRead, IsUntouched}
-use Rattle.sc_runs.specs.Opening.{opening_in, papers_in, EndsUnread, MatchesFiles, WritesMatch}
+use Rattle.sc_runs.specs.Opening.{opening_in, papers_in, MatchesFiles, WritesMatch}
 use Rattle.sc_runs.specs.Pieces.{Held}
 use Rattle.sc_runs.specs.Replaying.{ReplaysFiles, WritesReplay}
-use Rattle.sc_runs.specs.Run.{opened_in, KeepsBoth, RunsFiles, WritesRun}
+use Rattle.sc_runs.specs.Run.{opened_in, RunsFiles, WritesRun}
 use Rattle.sc_runs.specs.declared.fault.RunFault.{RunFault}
-use Rattle.sc_runs.proofs.Openings.{Keeps-refl}
 use Rattle.sc_runs.proofs.Reading.{All-untouched, AreRead-more, EndsAmong-first, EndsAmong-later}
 
 -- files that are the texts that were read

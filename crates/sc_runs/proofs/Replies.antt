@@ -73,17 +73,22 @@ pub record Said (old now : Held) (opening : Market) (all : List (Result Amendmen
   pub wrote : GrowsByAll written old now
   pub rest : written ++ answers (number + 1) lines m left ≡ answers 1 0 opening all
 
-pub said-first : (old : Held) (m : Market) (all : List (Result Amendment Refusal)) → Said old old m all 0 0 m all
-said-first old m all = record { written = []; wrote = GrowsByAll-none old; rest = refl }
+pub said-first : (old : Held) (m : Market) (all : List (Result Amendment Refusal)) (number lines : ℕ) → number ≡ 0 → lines ≡ 0 → Said old old m all number lines m all
+said-first old m all number lines first none = record {
+  written = [];
+  wrote = GrowsByAll-none old;
+  rest = ap (λ n. answers (n + 1) lines m all) first ∙ ap (λ n. answers 1 n m all) none;
+}
 
-pub said-next : (old now next : Held) (opening : Market) (all : List (Result Amendment Refusal)) (number lines more : ℕ) (m later : Market) (entry : Result Amendment Refusal) (before left : List (Result Amendment Refusal))
-    → Said old now opening all number lines m before → before ≡ entry ∷ left → later ≡ after_record m entry → more ≡ lines + length (accepted_in m entry)
+pub said-next : (old now next : Held) (opening : Market) (all : List (Result Amendment Refusal)) (number following lines more : ℕ) (m later : Market) (entry : Result Amendment Refusal) (before left : List (Result Amendment Refusal))
+    → Said old now opening all number lines m before → before ≡ entry ∷ left → following ≡ number + 1 → later ≡ after_record m entry → more ≡ lines + length (accepted_in m entry)
     → GrowsByAll (answer_to (number + 1) lines m entry) now next
-    → Said old next opening all (number + 1) more later left
-said-next old now next opening all number lines more m later entry before left said begins is count wrote = record {
+    → Said old next opening all following more later left
+said-next old now next opening all number following lines more m later entry before left said begins is_next is count wrote = record {
   written = said.written ++ answer_to (number + 1) lines m entry;
   wrote = GrowsByAll-trans said.written (answer_to (number + 1) lines m entry) old now next said.wrote wrote;
-  rest = append_assoc said.written (answer_to (number + 1) lines m entry) (answers (number + 1 + 1) more later left)
+  rest = ap (λ n. (said.written ++ answer_to (number + 1) lines m entry) ++ answers (n + 1) more later left) is_next
+      ∙ append_assoc said.written (answer_to (number + 1) lines m entry) (answers (number + 1 + 1) more later left)
       ∙ ap (λ n. said.written ++ (answer_to (number + 1) lines m entry ++ answers (number + 1 + 1) n later left)) count
       ∙ ap (λ n. said.written ++ (answer_to (number + 1) lines m entry ++ answers (number + 1 + 1) (lines + length (accepted_in m entry)) n left)) is
       ∙ ap (λ records. said.written ++ answers (number + 1) lines m records) (sym begins)

@@ -3,7 +3,7 @@ use Rattle.std.specs.Prelude.{◌≡◌, ◌⊎◌, ⊤, ℕ, ◌+◌, ◌≤◌
 use Rattle.std.specs.Io.KnownBytes.{Keeps}
 use Rattle.sc_papers.specs.Interleaving.{after_verdict}
 use Rattle.sc_papers.specs.Market.{Market}
-use Rattle.sc_papers.specs.Verdict.{after, unless_refused, verdict}
+use Rattle.sc_papers.specs.Verdict.{unless_refused, verdict}
 use Rattle.sc_papers.specs.declared.amendment.Amendment.{Amendment}
 use Rattle.sc_papers.specs.declared.amendment.Refusal.{Refusal}
 use Rattle.sc_intake.specs.Fault.{◌>>=◌}

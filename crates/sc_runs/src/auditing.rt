@@ -110,7 +110,11 @@ fn audit_texts<W: Write>(
     ensures failed { has_failed out.new ≡ (has_failed out.old || is_output_fault result) }
 {
     match read_papers(alloc, seed, texts) {
-        Ok(papers) => audit_papers(alloc, &papers, log, out),
+        Ok(papers) => {
+            let verdict = audit_papers(alloc, &papers, log, out);
+            drop(papers);
+            verdict
+        }
         Err(fault) => Err(fault),
     }
 }

@@ -15,7 +15,7 @@ use crate::fault::RunFault;
 use crate::inputs::{Inputs, OpeningSlices, read_input, read_opening};
 use crate::opening::open_texts;
 use crate::recorder::Recorder;
-use crate::script::answer_all;
+use crate::script::Session;
 use crate::writing::write_report_text;
 use sc_intake::{Source, read_script};
 use sc_papers::{Amendment, Refusal, Seed};
@@ -62,13 +62,15 @@ fn finish<W: Write, J: Recorder>(
 /// Answers the records of the script in turn, and writes the report of the papers as they then stand.
 fn run_opened<W: Write, J: Recorder>(
     alloc: Global,
-    clearing: &mut Clearing,
+    session: &mut Session,
     script: &[u8],
     out: &mut Watched<W>,
     journal: &mut J,
 ) -> Result<(), RunFault>
-    requires certified { IsCertified clearing.old }
-    ensures writes { WritesRun (opened_in (Ok clearing.old.papers) (script_in script.now))
+    requires certified { IsCertified session.old.clearing }
+    requires records { session.old.records ≡ 0 }
+    requires lines { session.old.lines ≡ 0 }
+    ensures writes { WritesRun (opened_in (Ok session.old.clearing.papers) (script_in script.now))
         (record { journal = J.contents journal.old; output = W.contents (device_of out.old) })
         (record { journal = J.contents journal.new; output = W.contents (device_of out.new) }) result }
     ensures failed { has_failed out.new ≡ (has_failed out.old || is_output_fault result) }
@@ -78,8 +80,8 @@ fn run_opened<W: Write, J: Recorder>(
         Ok(records) => records,
         Err(fault) => return Err(fault),
     };
-    match answer_all(alloc, clearing, records, out, journal) {
-        Ok(()) => finish(alloc, clearing, out, journal),
+    match session.answer_all(alloc, records, out, journal) {
+        Ok(()) => finish(alloc, &session.clearing, out, journal),
         Err(fault) => Err(fault),
     }
 }
@@ -101,7 +103,12 @@ pub fn run_texts<W: Write, J: Recorder>(
     ensures journal_failed { J.has_failed journal.new ≡ (J.has_failed journal.old || is_journal_fault result) }
 {
     match open_texts(alloc, seed, texts) {
-        Ok(mut clearing) => run_opened(alloc, &mut clearing, script, out, journal),
+        Ok(clearing) => {
+            let mut session = Session::new(clearing);
+            let written = run_opened(alloc, &mut session, script, out, journal);
+            drop(session);
+            written
+        }
         Err(fault) => Err(fault),
     }
 }

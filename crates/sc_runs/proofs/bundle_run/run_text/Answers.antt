@@ -1,7 +1,6 @@
-use Rattle.std.proofs.Common.{◌≡◌, ◌≢◌, false, Result, Err, sym}
+use Rattle.std.proofs.Common.{◌≡◌, ◌≢◌, false, Err, sym}
 use Rattle.sc_runs.specs.Bundle.{sections_of}
 use Rattle.sc_runs.specs.Run.{is_journal_fault}
-use Rattle.sc_runs.specs.declared.ending.Ending.{Ending}
 use Rattle.sc_runs.specs.declared.ending.Ending.TheVariants.{Fault}
 use Rattle.sc_runs.specs.declared.fault.RunFault.{RunFault}
 use Rattle.sc_runs.specs.declared.fault.RunFault.TheVariants.{Read, Intake, Journal, WriteOut, WriteJournal, OutOfMemory}

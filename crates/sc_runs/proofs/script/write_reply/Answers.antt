@@ -1,7 +1,6 @@
-use Rattle.std.proofs.Common.{◌≡◌, ◌∷◌, [], ◌∙◌, Option, List, ℕ}
+use Rattle.std.proofs.Common.{◌≡◌, ◌∷◌, [], ◌∙◌}
 use Rattle.sc_report.specs.Reply.{reply_text}
 use Rattle.sc_report.specs.Watched.{device_of}
-use Rattle.sc_runs.specs.Opening.{WritesText}
 use Rattle.sc_runs.specs.Pieces.{to_output}
 use Rattle.sc_runs.proofs.Openings.{Keeps-refl, WritesText-of}
 use Rattle.sc_runs.proofs.Pieces.{is_journal_fault-text, GrowsByFront-kept, IsFull-text, Writes-output}

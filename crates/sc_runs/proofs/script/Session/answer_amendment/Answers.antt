@@ -1,6 +1,6 @@
 use Rattle.sc_runs.proofs.Openings.{Keeps-refl}
 use Rattle.sc_runs.proofs.Pieces.{GrowsByFront-kept}
-use Rattle.sc_runs.proofs.script.answer_amendment.Goals as goal
+use Rattle.sc_runs.proofs.script.Session.answer_amendment.Goals as goal
 
 pub returns-in-Err-clause-writes : goal.returns-in-Err-clause-writes
 returns-in-Err-clause-writes g c = GrowsByFront-kept _ _ _ _ _ (Keeps-refl _) (Keeps-refl _)
