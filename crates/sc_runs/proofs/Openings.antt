@@ -34,14 +34,14 @@ Appends-kept (Some xs) None c text written kept = absurd written
 Appends-kept (Some xs) (Some ys) None text written kept = absurd kept
 Appends-kept (Some xs) (Some ys) (Some zs) text written kept = kept ∙ written
 
--- a text that was written whole was written as its own front
+-- a text that was written whole was written as its own prefix
 pub AppendsFront-whole : (a b : Option (List ℕ)) (text : List ℕ) → Appends a b text → AppendsFront a b text
 AppendsFront-whole a b text written =
-    (length text, subst (λ (front : List ℕ). Appends a b front) (sym (take_all (length text) text (omega arith))) written)
+    (length text, subst (λ (prefix : List ℕ). Appends a b prefix) (sym (take_all (length text) text (omega arith))) written)
 
--- a text that was written whole, and then nothing, was written as its own front
-pub Appends-front-kept : (a b c : Option (List ℕ)) (text : List ℕ) → Appends a b text → Keeps b c → AppendsFront a c text
-Appends-front-kept a b c text written kept = AppendsFront-whole a c text (Appends-kept a b c text written kept)
+-- a text that was written whole, and then nothing, was written as its own prefix
+pub Appends-prefix-kept : (a b c : Option (List ℕ)) (text : List ℕ) → Appends a b text → Keeps b c → AppendsFront a c text
+Appends-prefix-kept a b c text written kept = AppendsFront-whole a c text (Appends-kept a b c text written kept)
 
 -- a device that was not touched keeps its bytes
 pub Keeps-refl : (a : Option (List ℕ)) → Keeps a a

@@ -6,7 +6,7 @@ ghost use Rattle.sc_audit.specs.Verdict.{IsVerdict};
 ghost use Rattle.sc_intake.specs.Log.{log_in};
 ghost use Rattle.sc_intake.specs.declared.fault.Source.TheVariants as input;
 ghost use Rattle.sc_report.specs.Watched.{device_of, has_failed};
-ghost use Rattle.sc_runs.specs.Auditing.{claimed_in, verdict_text, AuditsFiles, TellsVerdict, WritesVerdict};
+ghost use Rattle.sc_runs.specs.Auditing.{claimed_in, verdict_text, AuditsFiles, WritesVerdictLine, WritesVerdict};
 ghost use Rattle.sc_runs.specs.Inputs.{opening_turns, turn_of, TakesWithin};
 ghost use Rattle.sc_runs.specs.Opening.{is_output_fault, papers_in, IsOpeningFault};
 
@@ -64,7 +64,7 @@ fn write_verdict<W: Write>(
     verdict: &Verdict,
     out: &mut Watched<W>,
 ) -> Result<(), RunFault>
-    ensures told { TellsVerdict verdict.now (W.contents (device_of out.old)) (W.contents (device_of out.new)) result }
+    ensures bytes { WritesVerdictLine verdict.now (W.contents (device_of out.old)) (W.contents (device_of out.new)) result }
     ensures failed { has_failed out.new ≡ (has_failed out.old || is_output_fault result) }
 {
     match verdict_line(alloc, verdict) {

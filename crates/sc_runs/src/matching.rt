@@ -62,7 +62,7 @@ pub fn match_texts<W: Write>(
 ///
 /// Nothing is written before the files are known to be good. An error is the first fault of the
 /// files, each of which is read whole before any is looked into; that a file or the output failed; or
-/// want of memory, after which nothing was written. After a fault of the output a front of the text was.
+/// want of memory, after which nothing was written. After a fault of the output a prefix of the text was.
 /// Where reading a file ends early, those after it are not touched; of none more than one byte past
 /// 64 MiB is taken.
 pub fn match_files<R: Read, W: Write>(

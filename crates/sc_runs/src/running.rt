@@ -8,7 +8,7 @@ ghost use Rattle.sc_report.specs.Text.{report_text};
 ghost use Rattle.sc_report.specs.Watched.{device_of, has_failed};
 ghost use Rattle.sc_runs.specs.Opening.{is_output_fault, papers_in, IsOpeningFault};
 ghost use Rattle.sc_runs.specs.Inputs.{opening_turns, turn_of, TakesWithin};
-ghost use Rattle.sc_runs.specs.Pieces.{to_output};
+ghost use Rattle.sc_runs.specs.TwoWriters.{to_output};
 ghost use Rattle.sc_runs.specs.Run.{is_journal_fault, opened_in, IsFull, RunsFiles, Writes, WritesRun};
 
 use crate::fault::RunFault;
@@ -119,7 +119,7 @@ pub fn run_texts<W: Write, J: Recorder>(
 ///
 /// Nothing is written before the inputs are known to be good. An error is the first fault of the inputs,
 /// each of which is read whole before any is looked into; that an input or a writer failed; want of
-/// memory; or that the journal is full. After it the writers hold a front of what the run writes, in its
+/// memory; or that the journal is full. After it the writers hold a prefix of what the run writes, in its
 /// order: so each `ok` that stands whole in the output has its line whole in the journal.
 pub fn run<R: Read, W: Write, J: Write>(
     alloc: Global,

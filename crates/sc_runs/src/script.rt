@@ -8,8 +8,8 @@ ghost use Rattle.sc_repair.specs.Standing.{IsOptimal};
 ghost use Rattle.sc_report.specs.Reply.{reply_text};
 ghost use Rattle.sc_report.specs.Watched.{device_of, has_failed};
 ghost use Rattle.sc_runs.specs.Opening.{is_output_fault};
-ghost use Rattle.sc_runs.specs.Pieces.{to_journal, to_output};
-ghost use Rattle.sc_runs.specs.Run.{accepted, accepted_in, made, after_record, after_script, answer_to, answers, is_journal_fault, unless_verdict, IsFull, Writes};
+ghost use Rattle.sc_runs.specs.TwoWriters.{to_journal, to_output};
+ghost use Rattle.sc_runs.specs.Run.{accepted, accepted_in, answer_with_line, after_record, after_script, answer_to, answers, is_journal_fault, unless_verdict, IsFull, Writes};
 
 use crate::fault::RunFault;
 use crate::recorder::Recorder;
@@ -123,7 +123,7 @@ impl Session {
         ensures lines { OnOk result (self.new.lines ≡ self.old.lines + length (unless_verdict amendment (verdict self.old.clearing.papers amendment))) }
         ensures papers { OnOk result (self.new.clearing.papers ≡ after_verdict self.old.clearing.papers amendment (verdict self.old.clearing.papers amendment)) }
         ensures optimal { OnOk result (IsOptimal self.old.clearing → IsOptimal self.new.clearing) }
-        ensures writes { Writes (made line.now self.old.records self.old.clearing.papers amendment)
+        ensures writes { Writes (answer_with_line line.now self.old.records self.old.clearing.papers amendment)
             (record { journal = J.contents journal.old; output = W.contents (device_of out.old) })
             (record { journal = J.contents journal.new; output = W.contents (device_of out.new) }) result }
         ensures full { IsFull 0 result }

@@ -2,9 +2,9 @@ use Rattle.std.proofs.Common.{◌∷◌, [], Ok, Err}
 use Rattle.sc_repair.specs.Standing.{matching_of}
 use Rattle.sc_report.specs.Text.{report_text, IsReportText}
 use Rattle.sc_report.specs.Watched.{device_of}
-use Rattle.sc_runs.specs.Pieces.{to_output}
+use Rattle.sc_runs.specs.TwoWriters.{to_output}
 use Rattle.sc_runs.proofs.Openings.{Keeps-refl}
-use Rattle.sc_runs.proofs.Pieces.{is_journal_fault-text, GrowsByAll-flushed, GrowsByFront-flushed, IsFull-text, Writes-output}
+use Rattle.sc_runs.proofs.TwoWriters.{is_journal_fault-text, GrowsByAll-flushed, GrowsByPrefix-flushed, IsFull-text, Writes-output}
 use Rattle.sc_runs.proofs.Replies.{or-nothing}
 use Rattle.sc_runs.proofs.running.finish.Goals as goal
 
@@ -25,7 +25,7 @@ returns-in-Err-flush-clause-writes g c =
     let report = report_text c.args.clearing.now.papers (matching_of c.args.clearing.now) in
     let journal = g.J.Recorder.contents c.args.journal.now in
     let output = g.W.Write.contents (device_of c.write_report_text.new.out) in
-    GrowsByFront-flushed (to_output report ∷ [])
+    GrowsByPrefix-flushed (to_output report ∷ [])
     journal (g.J.Recorder.contents c.flush.new.self) (g.W.Write.contents (device_of c.args.out.now)) output output
     (Writes-output report journal _ _ (Ok tt) c.in_default.ensures.bytes) c.flush.ensures.bytes (Keeps-refl output)
 
@@ -42,7 +42,7 @@ pub returns-in-Err-flush-2-clause-writes : goal.returns-in-Err-flush-2-clause-wr
 returns-in-Err-flush-2-clause-writes g c =
     let report = report_text c.args.clearing.now.papers (matching_of c.args.clearing.now) in
     let journal = g.J.Recorder.contents c.args.journal.now in
-    GrowsByFront-flushed (to_output report ∷ [])
+    GrowsByPrefix-flushed (to_output report ∷ [])
     journal (g.J.Recorder.contents c.flush.new.self) (g.W.Write.contents (device_of c.args.out.now))
     (g.W.Write.contents (device_of c.write_report_text.new.out)) (g.W.Write.contents (device_of c.flush-2.new.self))
     (Writes-output report journal _ _ (Ok tt) c.in_default.ensures.bytes) c.flush.ensures.bytes c.flush-2.ensures.bytes

@@ -1,9 +1,9 @@
 use Rattle.std.proofs.Common.{◌≡◌, ◌∷◌, [], ◌∙◌}
 use Rattle.sc_report.specs.Reply.{reply_text}
 use Rattle.sc_report.specs.Watched.{device_of}
-use Rattle.sc_runs.specs.Pieces.{to_output}
+use Rattle.sc_runs.specs.TwoWriters.{to_output}
 use Rattle.sc_runs.proofs.Openings.{Keeps-refl, WritesText-of}
-use Rattle.sc_runs.proofs.Pieces.{is_journal_fault-text, GrowsByFront-kept, IsFull-text, Writes-output}
+use Rattle.sc_runs.proofs.TwoWriters.{is_journal_fault-text, GrowsByPrefix-kept, IsFull-text, Writes-output}
 use Rattle.sc_runs.proofs.script.write_reply.Goals as goal
 
 pub returns-in-Ok-clause-writes : goal.returns-in-Ok-clause-writes
@@ -26,4 +26,4 @@ returns-in-Ok-clause-kept g c =
 
 pub returns-in-Err-clause-writes : goal.returns-in-Err-clause-writes
 returns-in-Err-clause-writes g c = λ kept.
-    GrowsByFront-kept (to_output (reply_text c.args.number c.args.reply.now) ∷ []) kept kept _ _ (Keeps-refl kept) (Keeps-refl (g.W.Write.contents (device_of c.args.out.now)))
+    GrowsByPrefix-kept (to_output (reply_text c.args.number c.args.reply.now) ∷ []) kept kept _ _ (Keeps-refl kept) (Keeps-refl (g.W.Write.contents (device_of c.args.out.now)))

@@ -1,9 +1,9 @@
 use Rattle.std.proofs.Common.{sym, ap, ◌∷◌, [], Err}
 use Rattle.sc_report.specs.Reply.{reply_text}
 use Rattle.sc_report.specs.Watched.{device_of}
-use Rattle.sc_runs.specs.Pieces.{to_output}
+use Rattle.sc_runs.specs.TwoWriters.{to_output}
 use Rattle.sc_runs.specs.Run.{answer_to}
-use Rattle.sc_runs.proofs.Pieces.{Writes-same}
+use Rattle.sc_runs.proofs.TwoWriters.{Writes-same}
 use Rattle.sc_runs.proofs.script.Session.answer.Goals as goal
 
 pub returns-in-Err-clause-writes : goal.returns-in-Err-clause-writes

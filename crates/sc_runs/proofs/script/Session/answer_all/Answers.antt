@@ -1,7 +1,7 @@
 use Rattle.std.proofs.Common.{refl, sym, ◌∙◌, ap, arith, rules, ◌≡◌, ◌∷◌, length}
 use Rattle.std.specs.Vec.Iter.{into_iter_items}
 use Rattle.sc_runs.specs.Run.{after_script}
-use Rattle.sc_runs.proofs.Replies.{accepted_in-one, counted-next, or-nothing, said-failed, said-first, said-next}
+use Rattle.sc_runs.proofs.Replies.{accepted_in-one, counted-next, or-nothing, answered-failed, answered-first, answered-next}
 use Rattle.sc_runs.proofs.script.Session.answer_all.Goals as goal
 
 pub loop-entry-init : goal.loop-entry-init
@@ -9,7 +9,7 @@ loop-entry-init g c =
     let first = c.requires.records in
     let none = c.requires.lines in record {
       papers = refl;
-      said = said-first _ _ _ _ _ c.requires.records c.requires.lines;
+      answered = answered-first _ _ _ _ _ c.requires.records c.requires.lines;
       left = search rules;
       count = omega arith;
       room = omega arith;
@@ -45,7 +45,7 @@ loop-entry-preserved g c =
     let more = c.in_default.ensures.lines in
     let next = c.in_default.ensures.records in record {
       papers = at.invariant.papers ∙ ap (after_script at.self.clearing.papers) steps ∙ ap (λ m. after_script m (into_iter_items c.next.new.self)) (sym c.in_default.ensures.papers);
-      said = said-next _ _ _ _ _ at.self.records _ at.self.lines _ at.self.clearing.papers _ c.in-Some.entry _ _ at.invariant.said steps c.in_default.ensures.records c.in_default.ensures.papers c.in_default.ensures.lines c.in_default.ensures.writes;
+      answered = answered-next _ _ _ _ _ at.self.records _ at.self.lines _ at.self.clearing.papers _ c.in-Some.entry _ _ at.invariant.answered steps c.in_default.ensures.records c.in_default.ensures.papers c.in_default.ensures.lines c.in_default.ensures.writes;
       left = omega arith;
       count = omega arith;
       room = room;
@@ -61,4 +61,4 @@ returns-in-Err-clause-writes g c =
     let at = c.loop-entry in
     let steps : into_iter_items at.entry-iterator ≡ c.in-Some.entry ∷ into_iter_items c.next.new.self = c.in-Some.ensures.steps.0 in
     let all = c.into_iter-entry-iterator.ensures.into_iter_gives.0 in
-    said-failed _ _ _ _ _ _ at.self.records at.self.lines at.self.clearing.papers c.in-Some.entry _ _ c.in-Err.fault at.invariant.said steps all c.in-Err.ensures.writes
+    answered-failed _ _ _ _ _ _ at.self.records at.self.lines at.self.clearing.papers c.in-Some.entry _ _ c.in-Err.fault at.invariant.answered steps all c.in-Err.ensures.writes

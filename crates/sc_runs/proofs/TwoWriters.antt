@@ -8,7 +8,7 @@ use Rattle.sc_runs.specs.Opening.{WritesText}
 use Rattle.sc_runs.specs.Run.{is_journal_fault, IsFull, Writes}
 use Rattle.sc_runs.specs.declared.fault.RunFault.{RunFault}
 use Rattle.sc_runs.specs.declared.fault.RunFault.TheVariants.{Read, Intake, Journal, WriteOut, WriteJournal, OutOfMemory}
-use Rattle.sc_runs.specs.Pieces.{Held, Piece, journal_of, output_of, to_journal, to_output, GrowsByAll, GrowsByFront, IsFront}
+use Rattle.sc_runs.specs.TwoWriters.{Contents, Piece, journal_of, output_of, to_journal, to_output, GrowsByAll, GrowsByPrefix, IsPrefix}
 
 -- where nothing was written, nothing was added
 pub Appends-nothing : (a : Option (List ℕ)) → Appends a a []
@@ -30,92 +30,92 @@ output_of-append [] ys = refl
 output_of-append (x ∷ xs) ys = ap (λ rest. x.output ++ rest) (output_of-append xs ys) ∙ sym (append_assoc x.output (output_of xs) (output_of ys))
 
 -- all of no writes
-pub GrowsByAll-none : (old : Held) → GrowsByAll [] old old
+pub GrowsByAll-none : (old : Contents) → GrowsByAll [] old old
 GrowsByAll-none old = (Appends-nothing old.journal, Appends-nothing old.output)
 
 -- all of some writes and then all of others
-pub GrowsByAll-trans : (xs ys : List Piece) (a b c : Held) → GrowsByAll xs a b → GrowsByAll ys b c → GrowsByAll (xs ++ ys) a c
+pub GrowsByAll-trans : (xs ys : List Piece) (a b c : Contents) → GrowsByAll xs a b → GrowsByAll ys b c → GrowsByAll (xs ++ ys) a c
 GrowsByAll-trans xs ys a b c first second = (
   subst (Appends a.journal c.journal) (sym (journal_of-append xs ys)) (Appends-trans a.journal b.journal c.journal (journal_of xs) (journal_of ys) first.0 second.0),
   subst (Appends a.output c.output) (sym (output_of-append xs ys)) (Appends-trans a.output b.output c.output (output_of xs) (output_of ys) first.1 second.1),
 )
 
--- a front of the later writes, after all the earlier ones, is a front of all
-IsFront-after : (xs ys : List Piece) (j o : List ℕ) → IsFront ys j o → IsFront (xs ++ ys) (journal_of xs ++ j) (output_of xs ++ o)
-IsFront-after [] ys j o front = front
-IsFront-after (x ∷ xs) ys j o front = inr (
+-- a prefix of the later writes, after all the earlier ones, is a prefix of all
+IsPrefix-after : (xs ys : List Piece) (j o : List ℕ) → IsPrefix ys j o → IsPrefix (xs ++ ys) (journal_of xs ++ j) (output_of xs ++ o)
+IsPrefix-after [] ys j o prefix = prefix
+IsPrefix-after (x ∷ xs) ys j o prefix = inr (
   journal_of xs ++ j,
   output_of xs ++ o,
   append_assoc x.journal (journal_of xs) j,
   append_assoc x.output (output_of xs) o,
-  IsFront-after xs ys j o front,
+  IsPrefix-after xs ys j o prefix,
 )
 
-pub GrowsByFront-after : (xs ys : List Piece) (a b c : Held) → GrowsByAll xs a b → GrowsByFront ys b c → GrowsByFront (xs ++ ys) a c
-GrowsByFront-after xs ys a b c first (j, o, front, second) = (
+pub GrowsByPrefix-after : (xs ys : List Piece) (a b c : Contents) → GrowsByAll xs a b → GrowsByPrefix ys b c → GrowsByPrefix (xs ++ ys) a c
+GrowsByPrefix-after xs ys a b c first (j, o, prefix, second) = (
   journal_of xs ++ j,
   output_of xs ++ o,
-  IsFront-after xs ys j o front,
+  IsPrefix-after xs ys j o prefix,
   (
     Appends-trans a.journal b.journal c.journal (journal_of xs) j first.0 second.0,
     Appends-trans a.output b.output c.output (output_of xs) o first.1 second.1,
   ),
 )
 
--- nothing is a front of any writes
-IsFront-nothing : (xs : List Piece) → IsFront xs [] []
-IsFront-nothing [] = (refl, refl)
-IsFront-nothing (x ∷ xs) = inl (0, 0, refl, refl)
+-- nothing is a prefix of any writes
+IsPrefix-nothing : (xs : List Piece) → IsPrefix xs [] []
+IsPrefix-nothing [] = (refl, refl)
+IsPrefix-nothing (x ∷ xs) = inl (0, 0, refl, refl)
 
-pub GrowsByFront-nothing : (xs : List Piece) (a : Held) → GrowsByFront xs a a
-GrowsByFront-nothing xs a = ([], [], IsFront-nothing xs, (Appends-nothing a.journal, Appends-nothing a.output))
+pub GrowsByPrefix-nothing : (xs : List Piece) (a : Contents) → GrowsByPrefix xs a a
+GrowsByPrefix-nothing xs a = ([], [], IsPrefix-nothing xs, (Appends-nothing a.journal, Appends-nothing a.output))
 
--- a front of some writes is one of more writes
-IsFront-longer : (xs ys : List Piece) (j o : List ℕ) → IsFront xs j o → IsFront (xs ++ ys) j o
-IsFront-longer [] ys j o (no_journal, no_output) =
-    subst (λ j'. IsFront ys j' o) (sym no_journal) (subst (λ o'. IsFront ys [] o') (sym no_output) (IsFront-nothing ys))
-IsFront-longer (x ∷ xs) ys j o (inl front) = inl front
-IsFront-longer (x ∷ xs) ys j o (inr (j', o', journal, output, front)) = inr (j', o', journal, output, IsFront-longer xs ys j' o' front)
+-- a prefix of some writes is one of more writes
+IsPrefix-longer : (xs ys : List Piece) (j o : List ℕ) → IsPrefix xs j o → IsPrefix (xs ++ ys) j o
+IsPrefix-longer [] ys j o (no_journal, no_output) =
+    subst (λ j'. IsPrefix ys j' o) (sym no_journal) (subst (λ o'. IsPrefix ys [] o') (sym no_output) (IsPrefix-nothing ys))
+IsPrefix-longer (x ∷ xs) ys j o (inl prefix) = inl prefix
+IsPrefix-longer (x ∷ xs) ys j o (inr (j', o', journal, output, prefix)) = inr (j', o', journal, output, IsPrefix-longer xs ys j' o' prefix)
 
-pub GrowsByFront-longer : (xs ys : List Piece) (a b : Held) → GrowsByFront xs a b → GrowsByFront (xs ++ ys) a b
-GrowsByFront-longer xs ys a b (j, o, front, grown) = (j, o, IsFront-longer xs ys j o front, grown)
+pub GrowsByPrefix-longer : (xs ys : List Piece) (a b : Contents) → GrowsByPrefix xs a b → GrowsByPrefix (xs ++ ys) a b
+GrowsByPrefix-longer xs ys a b (j, o, prefix, grown) = (j, o, IsPrefix-longer xs ys j o prefix, grown)
 
--- all the writes are their own front
-IsFront-all : (xs : List Piece) → IsFront xs (journal_of xs) (output_of xs)
-IsFront-all [] = (refl, refl)
-IsFront-all (x ∷ xs) = inr (journal_of xs, output_of xs, refl, refl, IsFront-all xs)
+-- all the writes are their own prefix
+IsPrefix-all : (xs : List Piece) → IsPrefix xs (journal_of xs) (output_of xs)
+IsPrefix-all [] = (refl, refl)
+IsPrefix-all (x ∷ xs) = inr (journal_of xs, output_of xs, refl, refl, IsPrefix-all xs)
 
-pub GrowsByFront-all : (xs : List Piece) (a b : Held) → GrowsByAll xs a b → GrowsByFront xs a b
-GrowsByFront-all xs a b grown = (journal_of xs, output_of xs, IsFront-all xs, grown)
+pub GrowsByPrefix-all : (xs : List Piece) (a b : Contents) → GrowsByAll xs a b → GrowsByPrefix xs a b
+GrowsByPrefix-all xs a b grown = (journal_of xs, output_of xs, IsPrefix-all xs, grown)
 
--- a front of one write to the journal
-pub GrowsByFront-journal : (text : List ℕ) (rest : List Piece) (a : Held) (after : Option (List ℕ)) → AppendsFront a.journal after text
-    → GrowsByFront (to_journal text ∷ rest) a (record { journal = after; output = a.output })
-GrowsByFront-journal text rest a after (count, written) =
+-- a prefix of one write to the journal
+pub GrowsByPrefix-journal : (text : List ℕ) (rest : List Piece) (a : Contents) (after : Option (List ℕ)) → AppendsFront a.journal after text
+    → GrowsByPrefix (to_journal text ∷ rest) a (record { journal = after; output = a.output })
+GrowsByPrefix-journal text rest a after (count, written) =
     (take count text, [], inl (count, 0, refl, refl), (written, Appends-nothing a.output))
 
--- a front of one write to the output
-pub GrowsByFront-output : (text : List ℕ) (rest : List Piece) (a : Held) (after : Option (List ℕ)) → AppendsFront a.output after text
-    → GrowsByFront (to_output text ∷ rest) a (record { journal = a.journal; output = after })
-GrowsByFront-output text rest a after (count, written) =
+-- a prefix of one write to the output
+pub GrowsByPrefix-output : (text : List ℕ) (rest : List Piece) (a : Contents) (after : Option (List ℕ)) → AppendsFront a.output after text
+    → GrowsByPrefix (to_output text ∷ rest) a (record { journal = a.journal; output = after })
+GrowsByPrefix-output text rest a after (count, written) =
     ([], take count text, inl (0, count, refl, refl), (Appends-nothing a.journal, written))
 
 -- one write to the journal, whole
-pub GrowsByAll-journal : (text : List ℕ) (a : Held) (after : Option (List ℕ)) → Appends a.journal after text
+pub GrowsByAll-journal : (text : List ℕ) (a : Contents) (after : Option (List ℕ)) → Appends a.journal after text
     → GrowsByAll (to_journal text ∷ []) a (record { journal = after; output = a.output })
 GrowsByAll-journal text a after written =
     (subst (Appends a.journal after) (sym (append-nil text)) written, Appends-nothing a.output)
 
 -- one write to the output, whole
-pub GrowsByAll-output : (text : List ℕ) (a : Held) (after : Option (List ℕ)) → Appends a.output after text
+pub GrowsByAll-output : (text : List ℕ) (a : Contents) (after : Option (List ℕ)) → Appends a.output after text
     → GrowsByAll (to_output text ∷ []) a (record { journal = a.journal; output = after })
 GrowsByAll-output text a after written =
     (Appends-nothing a.journal, subst (Appends a.output after) (sym (append-nil text)) written)
 
--- a front of a text was written to the output, and the journal kept
-pub GrowsByFront-text : (text same : List ℕ) (j j' o o' : Option (List ℕ)) → same ≡ text → Keeps j j' → AppendsFront o o' same
-    → GrowsByFront (to_output text ∷ []) (record { journal = j; output = o }) (record { journal = j'; output = o' })
-GrowsByFront-text text same j j' o o' is kept (count, written) = (
+-- a prefix of a text was written to the output, and the journal kept
+pub GrowsByPrefix-text : (text same : List ℕ) (j j' o o' : Option (List ℕ)) → same ≡ text → Keeps j j' → AppendsFront o o' same
+    → GrowsByPrefix (to_output text ∷ []) (record { journal = j; output = o }) (record { journal = j'; output = o' })
+GrowsByPrefix-text text same j j' o o' is kept (count, written) = (
   [],
   take count text,
   inl (0, count, refl, refl),
@@ -123,23 +123,23 @@ GrowsByFront-text text same j j' o o' is kept (count, written) = (
 )
 
 -- nothing was written
-pub GrowsByFront-kept : (pieces : List Piece) (j j' o o' : Option (List ℕ)) → Keeps j j' → Keeps o o'
-    → GrowsByFront pieces (record { journal = j; output = o }) (record { journal = j'; output = o' })
-GrowsByFront-kept pieces j j' o o' kept_journal kept_output = ([], [], IsFront-nothing pieces, (Appends-keeps j j' kept_journal, Appends-keeps o o' kept_output))
+pub GrowsByPrefix-kept : (pieces : List Piece) (j j' o o' : Option (List ℕ)) → Keeps j j' → Keeps o o'
+    → GrowsByPrefix pieces (record { journal = j; output = o }) (record { journal = j'; output = o' })
+GrowsByPrefix-kept pieces j j' o o' kept_journal kept_output = ([], [], IsPrefix-nothing pieces, (Appends-keeps j j' kept_journal, Appends-keeps o o' kept_output))
 
-GrowsByFront-line : (line : List ℕ) (rest : List Piece) (j j' o o' : Option (List ℕ)) → Appends j j' line
-    → GrowsByFront rest (record { journal = j'; output = o }) (record { journal = j'; output = o' })
-    → GrowsByFront (to_journal line ∷ rest) (record { journal = j; output = o }) (record { journal = j'; output = o' })
-GrowsByFront-line line rest j j' o o' written wrote =
-    GrowsByFront-after (to_journal line ∷ []) rest (record { journal = j; output = o }) (record { journal = j'; output = o }) (record { journal = j'; output = o' })
+GrowsByPrefix-line : (line : List ℕ) (rest : List Piece) (j j' o o' : Option (List ℕ)) → Appends j j' line
+    → GrowsByPrefix rest (record { journal = j'; output = o }) (record { journal = j'; output = o' })
+    → GrowsByPrefix (to_journal line ∷ rest) (record { journal = j; output = o }) (record { journal = j'; output = o' })
+GrowsByPrefix-line line rest j j' o o' written wrote =
+    GrowsByPrefix-after (to_journal line ∷ []) rest (record { journal = j; output = o }) (record { journal = j'; output = o }) (record { journal = j'; output = o' })
     (GrowsByAll-journal line (record { journal = j; output = o }) j' written) wrote
 
 -- one text was given to the output, whole or in part, by what was written of it
 pub Writes-output : (text : List ℕ) (kept o o' : Option (List ℕ)) (result : Result (Unit {0}) RunFault) → WritesText (λ written. written ≡ text) o o' result
     → Writes (to_output text ∷ []) (record { journal = kept; output = o }) (record { journal = kept; output = o' }) result
 Writes-output text kept o o' (Ok done) (same, is, written) = GrowsByAll-output text (record { journal = kept; output = o }) o' (subst (Appends o o') is written)
-Writes-output text kept o o' (Err WriteOut) (same, is, written) = GrowsByFront-text text same kept kept o o' is (Keeps-refl kept) written
-Writes-output text kept o o' (Err OutOfMemory) wrote = GrowsByFront-kept (to_output text ∷ []) kept kept o o' (Keeps-refl kept) wrote
+Writes-output text kept o o' (Err WriteOut) (same, is, written) = GrowsByPrefix-text text same kept kept o o' is (Keeps-refl kept) written
+Writes-output text kept o o' (Err OutOfMemory) wrote = GrowsByPrefix-kept (to_output text ∷ []) kept kept o o' (Keeps-refl kept) wrote
 Writes-output text kept o o' (Err WriteJournal) wrote = absurd wrote
 Writes-output text kept o o' (Err (Journal fault)) wrote = absurd wrote
 Writes-output text kept o o' (Err (Read source)) wrote = absurd wrote
@@ -166,7 +166,7 @@ IsFull-text Is o o' (Err (Read source)) wrote = tt
 IsFull-text Is o o' (Err (Intake fault)) wrote = tt
 
 -- the writes of pieces by another name
-pub Writes-same : (xs ys : List Piece) (old new : Held) (result : Result (Unit {0}) RunFault) → xs ≡ ys → Writes xs old new result → Writes ys old new result
+pub Writes-same : (xs ys : List Piece) (old new : Contents) (result : Result (Unit {0}) RunFault) → xs ≡ ys → Writes xs old new result → Writes ys old new result
 Writes-same xs ys old new result same wrote = subst (λ pieces. Writes pieces old new result) same wrote
 
 -- a write to the journal that was made whole, and then others
@@ -176,10 +176,10 @@ pub Writes-after : (line : List ℕ) (rest : List Piece) (j j' o o' : Option (Li
 Writes-after line rest j j' o o' (Ok done) written wrote =
     GrowsByAll-trans (to_journal line ∷ []) rest (record { journal = j; output = o }) (record { journal = j'; output = o }) (record { journal = j'; output = o' })
     (GrowsByAll-journal line (record { journal = j; output = o }) j' written) wrote
-Writes-after line rest j j' o o' (Err WriteOut) written wrote = GrowsByFront-line line rest j j' o o' written wrote
-Writes-after line rest j j' o o' (Err WriteJournal) written wrote = GrowsByFront-line line rest j j' o o' written wrote
-Writes-after line rest j j' o o' (Err OutOfMemory) written wrote = GrowsByFront-line line rest j j' o o' written wrote
-Writes-after line rest j j' o o' (Err (Journal fault)) written wrote = GrowsByFront-line line rest j j' o o' written wrote
+Writes-after line rest j j' o o' (Err WriteOut) written wrote = GrowsByPrefix-line line rest j j' o o' written wrote
+Writes-after line rest j j' o o' (Err WriteJournal) written wrote = GrowsByPrefix-line line rest j j' o o' written wrote
+Writes-after line rest j j' o o' (Err OutOfMemory) written wrote = GrowsByPrefix-line line rest j j' o o' written wrote
+Writes-after line rest j j' o o' (Err (Journal fault)) written wrote = GrowsByPrefix-line line rest j j' o o' written wrote
 Writes-after line rest j j' o o' (Err (Read source)) written wrote = absurd wrote
 Writes-after line rest j j' o o' (Err (Intake fault)) written wrote = absurd wrote
 
@@ -189,8 +189,8 @@ pub GrowsByAll-flushed : (pieces : List Piece) (j j' o o' o'' : Option (List ℕ
 GrowsByAll-flushed pieces j j' o o' o'' (journal, output) kept_journal kept_output =
     (Appends-kept j j j' (journal_of pieces) journal kept_journal, Appends-kept o o' o'' (output_of pieces) output kept_output)
 
-pub GrowsByFront-flushed : (pieces : List Piece) (j j' o o' o'' : Option (List ℕ)) → GrowsByAll pieces (record { journal = j; output = o }) (record { journal = j; output = o' })
-    → Keeps j j' → Keeps o' o'' → GrowsByFront pieces (record { journal = j; output = o }) (record { journal = j'; output = o'' })
-GrowsByFront-flushed pieces j j' o o' o'' grown kept_journal kept_output =
-    GrowsByFront-all pieces (record { journal = j; output = o }) (record { journal = j'; output = o'' })
+pub GrowsByPrefix-flushed : (pieces : List Piece) (j j' o o' o'' : Option (List ℕ)) → GrowsByAll pieces (record { journal = j; output = o }) (record { journal = j; output = o' })
+    → Keeps j j' → Keeps o' o'' → GrowsByPrefix pieces (record { journal = j; output = o }) (record { journal = j'; output = o'' })
+GrowsByPrefix-flushed pieces j j' o o' o'' grown kept_journal kept_output =
+    GrowsByPrefix-all pieces (record { journal = j; output = o }) (record { journal = j'; output = o'' })
     (GrowsByAll-flushed pieces j j' o o' o'' grown kept_journal kept_output)
