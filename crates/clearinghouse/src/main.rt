@@ -22,7 +22,7 @@ fn main(rt: HostRuntime) -> ExitCode {
     let errors = rt.stderr();
     let status = match words(&rt) {
         Ok(words) => perform::perform(&rt, words.as_slice(), rt.stdin(), rt.stdout(), errors),
-        Err(error) => perform::refuse(rt.alloc(), &error, errors),
+        Err(error) => perform::end_without_words(rt.alloc(), &error, errors),
     };
     ExitCode::from(status)
 }

@@ -9,7 +9,7 @@ use sc_runs::{
     Ending, Inputs, Opening, RunFault, Tail, Verdict, audit_files, fault_line, match_files,
     replay_files, run, run_bundle, status_of,
 };
-use sc_words::{OpeningWords, Order, Word, order_of};
+use sc_words::{OpeningWords, Order, Subcommand, Word, order_of};
 use std::alloc::Global;
 use std::fs::File;
 use std::io;
@@ -104,54 +104,52 @@ fn replay_journal<R: Files + AllocGlobal, W: Write>(
     }
 }
 
-/// Makes the call that an order asks for, under its seed; without words there is none to make.
-fn call<R: Files + AllocGlobal, W: Write>(
+/// Makes the call that a subcommand asks for, under this seed.
+fn dispatch<R: Files + AllocGlobal, W: Write>(
     rt: &R,
-    order: &Order<'_>,
     seed: &Seed,
+    opening: &OpeningWords<'_>,
+    subcommand: &Subcommand<'_>,
     out: &mut Watched<W>,
 ) -> Result<Ending, RunFault> {
-    match order {
-        Order::NoWords => Ok(Ending::Done),
-        Order::Match { opening, show_log } => match_opening(rt, seed, opening, *show_log, out),
-        Order::Run {
-            opening,
-            script,
-            journal,
-        } => run_script(rt, seed, opening, script, journal, out),
-        Order::Audit { opening, log } => audit_log(rt, seed, opening, log, out),
-        Order::Replay { opening, journal } => replay_journal(rt, seed, opening, journal, out),
+    match subcommand {
+        Subcommand::Match { show_log } => match_opening(rt, seed, opening, *show_log, out),
+        Subcommand::Run { script, journal } => run_script(rt, seed, opening, script, journal, out),
+        Subcommand::Audit { log } => audit_log(rt, seed, opening, log, out),
+        Subcommand::Replay { journal } => replay_journal(rt, seed, opening, journal, out),
     }
 }
 
-/// The seed's text in an order; without words there is none.
-fn seed_in<'a>(order: &Order<'a>) -> Option<&'a str> {
-    match order {
-        Order::NoWords => None,
-        Order::Match { opening, .. } => Some(opening.seed),
-        Order::Run { opening, .. } => Some(opening.seed),
-        Order::Audit { opening, .. } => Some(opening.seed),
-        Order::Replay { opening, .. } => Some(opening.seed),
+/// Does what a subcommand asks for. The seed is read before a file is opened.
+fn perform_subcommand<R: Files + AllocGlobal, W: Write>(
+    rt: &R,
+    opening: &OpeningWords<'_>,
+    subcommand: &Subcommand<'_>,
+    out: &mut Watched<W>,
+) -> Ending {
+    let seed = match Seed::from_hex(opening.seed.as_bytes()) {
+        Ok(seed) => seed,
+        Err(error) => return Ending::BadSeed(error),
+    };
+    match dispatch(rt, &seed, opening, subcommand, out) {
+        Ok(ending) => ending,
+        Err(fault) => Ending::Fault(fault),
     }
 }
 
-/// Does what an order asks for. Its seed is read before a file is opened.
-fn carry_out<R: Files + AllocGlobal, I: Read + Drop, W: Write>(
+/// Does what an order asks for.
+fn perform_order<R: Files + AllocGlobal, I: Read + Drop, W: Write>(
     rt: &R,
     order: &Order<'_>,
     input: I,
     out: &mut Watched<W>,
 ) -> Ending {
-    let Some(seed) = seed_in(order) else {
-        return run_bundle(rt.alloc(), &mut Watched::new(input), out);
-    };
-    let seed = match Seed::from_hex(seed.as_bytes()) {
-        Ok(seed) => seed,
-        Err(error) => return Ending::BadSeed(error),
-    };
-    match call(rt, order, &seed, out) {
-        Ok(ending) => ending,
-        Err(fault) => Ending::Fault(fault),
+    match order {
+        Order::Bundle => run_bundle(rt.alloc(), &mut Watched::new(input), out),
+        Order::Opening {
+            opening,
+            subcommand,
+        } => perform_subcommand(rt, opening, subcommand, out),
     }
 }
 
@@ -168,47 +166,55 @@ pub fn perform<R: Files + AllocGlobal, I: Read + Drop, O: Write + Drop, E: Write
     let mut errors = Watched::new(errors);
     match order_of(rt.alloc(), words) {
         Ok(order) => {
-            let ending = carry_out(rt, &order, input, &mut output);
-            tell(rt.alloc(), &ending, &mut errors);
+            let ending = perform_order(rt, &order, input, &mut output);
+            write_ending(rt.alloc(), &ending, &mut errors);
             status_of(&ending)
         }
         Err(error) => {
             if error.use_stderr() {
-                explain(rt.alloc(), &error, &mut errors);
+                write_clap_message(rt.alloc(), &error, &mut errors);
             } else {
-                explain(rt.alloc(), &error, &mut output);
+                write_clap_message(rt.alloc(), &error, &mut output);
             }
             status_of_words(&error)
         }
     }
 }
 
-/// Tells that the words could not be taken, and answers the exit status: 5 for want of memory, and else 2.
-pub fn refuse<E: Write + Drop>(alloc: Global, error: &io::Error, errors: E) -> u8 {
+/// Ends the program where its words could not be read: writes the line that tells why to the errors, and
+/// answers the exit status, 5 for want of memory and 2 for a word that is not UTF-8.
+pub fn end_without_words<E: Write + Drop>(alloc: Global, error: &io::Error, errors: E) -> u8 {
     let mut errors = Watched::new(errors);
     if error.kind() == io::ErrorKind::OutOfMemory {
         let ending = Ending::Fault(RunFault::OutOfMemory);
-        tell(alloc, &ending, &mut errors);
+        write_ending(alloc, &ending, &mut errors);
         return status_of(&ending);
     }
+    write_message(NOT_UTF_8, &mut errors);
     2
 }
 
-/// Writes the ending's line. Where there is no memory for it, or the stream fails, nothing more can be
-/// told, and the status stays.
-fn tell<E: Write>(alloc: Global, ending: &Ending, errors: &mut Watched<E>) {
+const NOT_UTF_8: &[u8] = b"clearinghouse: a word of the command line is not UTF-8\n";
+
+/// Writes the ending's line. Where there is no memory for it, nothing more can be told, and the status
+/// stays.
+fn write_ending<W: Write>(alloc: Global, ending: &Ending, to: &mut Watched<W>) {
     if let Ok(line) = fault_line(alloc, ending) {
-        let _ = write_whole(errors, line.as_slice());
-        let _ = errors.flush();
+        write_message(line.as_slice(), to);
     }
 }
 
 /// Writes what `clap` says of the words: help that was asked for, or what is wrong with them.
-fn explain<W: Write>(alloc: Global, error: &Error, to: &mut Watched<W>) {
+fn write_clap_message<W: Write>(alloc: Global, error: &Error, to: &mut Watched<W>) {
     if let Ok(text) = format!(in alloc; "{error}") {
-        let _ = write_whole(to, text.as_bytes());
-        let _ = to.flush();
+        write_message(text.as_bytes(), to);
     }
+}
+
+/// Writes a message and flushes it. Where the stream fails, nothing more can be told.
+fn write_message<W: Write>(message: &[u8], to: &mut Watched<W>) {
+    let _ = write_whole(to, message);
+    let _ = to.flush();
 }
 
 /// The exit status of words that order nothing: 0 where help was asked for, 5 for want of memory, and

@@ -1,3 +1,5 @@
+mod command_line;
+
 use crate::perform::perform;
 use sc_report::devices::{Ending, FailingWriter};
 use sc_words::Word;

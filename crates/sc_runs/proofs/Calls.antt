@@ -1,19 +1,17 @@
 -- Calls that read their inputs, by what reading them and then using them did.
-use Rattle.std.proofs.Common.{◌≡◌, ℕ, inl, inr, ap, Bool, List, [], ◌∷◌, ◌++◌, Option, Result, Ok, Err, refl, ◌∙◌, subst}
+use Rattle.std.proofs.Common.{◌≡◌, ℕ, inl, inr, ap, Bool, List, [], ◌∷◌, ◌++◌, Option, Result, ◌∙◌, subst}
 use Rattle.std.proofs.lemmas.List.Elements.{All-nil}
-use Rattle.std.specs.Io.KnownBytes.{Keeps}
 use Rattle.sc_intake.specs.Log.{log_in}
 use Rattle.sc_intake.specs.Script.{script_in}
 use Rattle.sc_audit.specs.declared.verdict.Verdict.{Verdict}
 use Rattle.sc_journal.specs.declared.journal.Tail.{Tail}
 use Rattle.sc_runs.specs.Auditing.{claimed_in, AuditsFiles, WritesVerdict}
 use Rattle.sc_runs.specs.Inputs.{in_order, Texts, Turn, AreRead, EndsAmong, EndsReading, IsRead, IsUntouched}
-use Rattle.sc_runs.specs.Opening.{opening_in, papers_in, EndsUnread, MatchesFiles, WritesMatch}
-use Rattle.sc_runs.specs.Pieces.{Held}
+use Rattle.sc_runs.specs.Opening.{opening_in, papers_in, MatchesFiles, WritesMatch}
+use Rattle.sc_runs.specs.TwoWriters.{Contents}
 use Rattle.sc_runs.specs.Replaying.{ReplaysFiles, WritesReplay}
-use Rattle.sc_runs.specs.Run.{opened_in, KeepsBoth, RunsFiles, WritesRun}
+use Rattle.sc_runs.specs.Run.{opened_in, RunsFiles, WritesRun}
 use Rattle.sc_runs.specs.declared.fault.RunFault.{RunFault}
-use Rattle.sc_runs.proofs.Openings.{Keeps-refl}
 use Rattle.sc_runs.proofs.Reading.{All-untouched, AreRead-more, EndsAmong-first, EndsAmong-later}
 
 -- files that are the texts that were read
@@ -67,7 +65,7 @@ ReplaysFiles-read seed turns turn texts journal schools roster lists given old n
 )
 
 -- the files and the script were read, and run
-pub RunsFiles-read : (seed : List ℕ) (turns : List Turn) (turn : Turn) (texts : Texts) (script schools roster lists given : List ℕ) (old new : Held) (result : Result (Unit {0}) RunFault)
+pub RunsFiles-read : (seed : List ℕ) (turns : List Turn) (turn : Turn) (texts : Texts) (script schools roster lists given : List ℕ) (old new : Contents) (result : Result (Unit {0}) RunFault)
     → AreRead turns (in_order texts) → IsRead turn script → AreTexts texts schools roster lists → given ≡ script
     → WritesRun (opened_in (papers_in seed schools roster lists) (script_in given)) old new result → RunsFiles seed (turns ++ turn ∷ []) old new result
 RunsFiles-read seed turns turn texts script schools roster lists given old new result read script_read same is wrote = inr (

@@ -1,5 +1,5 @@
 -- The journal of a run is replayed to the run's papers.
-use Rattle.std.proofs.Common.{◌≡◌, ◌≢◌, ℕ, ◌≤◌, ◌<◌, ◌==◌, arith, inl, inr, Bool, true, false, ◌&&◌, if◌then◌else◌, List, [], ◌∷◌, ◌++◌, Option, None, Some, Result, Ok, Err, length, codes, refl, sym, ap, subst, ◌∙◌, append-nil, IsTrue}
+use Rattle.std.proofs.Common.{◌≡◌, ◌≢◌, ℕ, ◌≤◌, ◌==◌, arith, Bool, true, false, ◌&&◌, if◌then◌else◌, List, [], ◌∷◌, ◌++◌, Option, None, Some, Result, Ok, Err, length, refl, sym, subst, ◌∙◌, append-nil}
 use Rattle.std.proofs.lemmas.Bool.Decides.{nat_tests}
 use Rattle.std.proofs.lemmas.List.Elements.{All-append, All-cons, All-head, All-nil, All-tail}
 use Rattle.std.specs.Int.{IsInRange}
@@ -7,17 +7,16 @@ use Rattle.std.specs.List.{All, list_all}
 use Rattle.std.specs.Prelude.{map, ⊤}
 use Rattle.sc_papers.specs.Interleaving.{after_verdict}
 use Rattle.sc_papers.specs.Market.{Market}
-use Rattle.sc_papers.specs.Verdict.{after, verdict}
+use Rattle.sc_papers.specs.Verdict.{verdict}
 use Rattle.sc_papers.specs.declared.amendment.Amendment.{Amendment}
 use Rattle.sc_papers.specs.declared.amendment.Amendment.TheVariants.{Enter, Withdraw, Rerank, Add, Close, Correct}
 use Rattle.sc_papers.specs.declared.amendment.Refusal.{Refusal}
 use Rattle.sc_intake.specs.Fault.{◌>>=◌}
 use Rattle.sc_intake.specs.Field.{all_schools, is_within, list_of, number_of, within}
 use Rattle.sc_intake.specs.File.{text_at, records_in}
-use Rattle.sc_intake.specs.Script.{add_of, amendment_in, amendment_of, begins, close_of, correct_of, count_at, enter_of, list_at, number_at, or_shape, rerank_of, school_at, script_in, student_at, withdraw_of, zone_at}
+use Rattle.sc_intake.specs.Script.{add_of, amendment_in, amendment_of, close_of, correct_of, count_at, enter_of, list_at, number_at, or_shape, rerank_of, school_at, script_in, student_at, withdraw_of, zone_at}
 use Rattle.sc_intake.specs.declared.fault.Cause.{Cause}
 use Rattle.sc_intake.specs.declared.fault.Cause.TheVariants.{Fields, Range}
-use Rattle.sc_intake.specs.declared.fault.IntakeFault.{IntakeFault}
 use Rattle.sc_intake.specs.declared.fault.Source.TheVariants.{Script}
 use Rattle.sc_journal.specs.Journal.{after_all, journal_text, AreAccepted, IsReplay}
 use Rattle.sc_journal.specs.Spelling.{IsInRanges, IsSchool}

@@ -3,7 +3,7 @@ pub mod Openings
 pub mod Reading
 pub mod Calls
 pub mod Replies
-pub mod Pieces
-pub mod Lasts
+pub mod TwoWriters
+pub mod Verdicts
 pub mod LastReport
 pub mod Journaling

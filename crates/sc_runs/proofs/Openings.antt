@@ -1,20 +1,14 @@
 -- What the readers gave one after another is what the files make together.
-use Rattle.std.proofs.Common.{◌≡◌, ℕ, ◌<◌, ◌≤◌, inl, inr, ap, arith, nat_lt, Bool, true, false, List, Option, None, Some, Result, Ok, Err, length, take, refl, sym, ◌∙◌, subst, []}
-use Rattle.std.proofs.lemmas.Bool.Decides.{nat_tests}
-use Rattle.std.proofs.lemmas.Bool.{cases_lt}
-use Rattle.std.proofs.lemmas.List.{take_all, length-take-le}
+use Rattle.std.proofs.Common.{◌≡◌, ℕ, arith, Bool, true, false, List, Option, None, Some, Result, Ok, Err, length, refl, sym, ◌∙◌, subst}
+use Rattle.std.proofs.lemmas.List.{take_all}
 use Rattle.std.specs.Io.KnownBytes.{Appends, Keeps}
 use Rattle.sc_papers.specs.Log.{IsSettled}
 use Rattle.sc_papers.specs.Matching.{Matching, IsStudentOptimal}
 use Rattle.sc_papers.specs.declared.rejection.Rejection.{Rejection}
-use Rattle.sc_intake.specs.Fault.{fault_at}
-use Rattle.sc_intake.specs.declared.fault.Cause.TheVariants.{TooLong}
 use Rattle.sc_intake.specs.declared.fault.IntakeFault.{IntakeFault}
-use Rattle.sc_intake.specs.declared.fault.Source.{Source}
-use Rattle.sc_intake.specs.declared.fault.Source.TheVariants as input
 use Rattle.sc_report.specs.LogText.{log_text}
 use Rattle.sc_report.specs.Text.{IsReportText}
-use Rattle.sc_report.specs.Whole.{AppendsFront, GivesFirst}
+use Rattle.sc_report.specs.Whole.{AppendsFront}
 use Rattle.sc_runs.specs.declared.fault.RunFault.{RunFault}
 use Rattle.sc_runs.specs.declared.fault.RunFault.TheVariants.{Read, Intake, Journal, WriteOut, WriteJournal, OutOfMemory}
 use Rattle.sc_papers.specs.Market.{Market}
@@ -40,14 +34,14 @@ Appends-kept (Some xs) None c text written kept = absurd written
 Appends-kept (Some xs) (Some ys) None text written kept = absurd kept
 Appends-kept (Some xs) (Some ys) (Some zs) text written kept = kept ∙ written
 
--- a text that was written whole was written as its own front
+-- a text that was written whole was written as its own prefix
 pub AppendsFront-whole : (a b : Option (List ℕ)) (text : List ℕ) → Appends a b text → AppendsFront a b text
 AppendsFront-whole a b text written =
-    (length text, subst (λ (front : List ℕ). Appends a b front) (sym (take_all (length text) text (omega arith))) written)
+    (length text, subst (λ (prefix : List ℕ). Appends a b prefix) (sym (take_all (length text) text (omega arith))) written)
 
--- a text that was written whole, and then nothing, was written as its own front
-pub Appends-front-kept : (a b c : Option (List ℕ)) (text : List ℕ) → Appends a b text → Keeps b c → AppendsFront a c text
-Appends-front-kept a b c text written kept = AppendsFront-whole a c text (Appends-kept a b c text written kept)
+-- a text that was written whole, and then nothing, was written as its own prefix
+pub Appends-prefix-kept : (a b c : Option (List ℕ)) (text : List ℕ) → Appends a b text → Keeps b c → AppendsFront a c text
+Appends-prefix-kept a b c text written kept = AppendsFront-whole a c text (Appends-kept a b c text written kept)
 
 -- a device that was not touched keeps its bytes
 pub Keeps-refl : (a : Option (List ℕ)) → Keeps a a

@@ -1,12 +1,10 @@
 -- What reading inputs in their turn does, by what each reader gave.
-use Rattle.std.proofs.Common.{◌≡◌, ℕ, ◌<◌, ◌≤◌, inl, inr, ap, arith, Bool, true, false, ◌||◌, List, [], ◌∷◌, ◌++◌, Option, None, Some, length, take, drop, refl, sym, ◌∙◌, subst}
+use Rattle.std.proofs.Common.{◌≡◌, ℕ, ◌<◌, ◌≤◌, inl, inr, ap, arith, Bool, true, false, ◌||◌, List, [], ◌∷◌, ◌++◌, Option, None, Some, length, take, refl, sym, ◌∙◌, subst}
 use Rattle.std.proofs.lemmas.Bool.{cases_lt}
 use Rattle.std.proofs.lemmas.List.{take_all, drop_all, length-take, length-take-le, take-append-drop}
 use Rattle.std.proofs.lemmas.List.Elements.{All-append, All-cons, All-nil}
 use Rattle.std.specs.Io.KnownBytes.{Consumes}
 use Rattle.std.specs.List.{All}
-use Rattle.sc_intake.specs.Fault.{fault_at}
-use Rattle.sc_intake.specs.declared.fault.Cause.TheVariants.{TooLong}
 use Rattle.sc_report.specs.Whole.{GivesAtMost, GivesFirst}
 use Rattle.sc_runs.specs.Inputs.{Turn, AreRead, EndsAmong, EndsReading, IsRead, IsTooLong, IsUntouched, IsWhole, ReadsToEnd, TakesWithin}
 use Rattle.sc_runs.specs.declared.fault.RunFault.{RunFault}

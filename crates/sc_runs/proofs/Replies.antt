@@ -16,13 +16,13 @@ use Rattle.sc_journal.specs.Line.{line_text}
 use Rattle.sc_report.specs.Reply.{reply_text}
 use Rattle.sc_report.specs.Text.{report_text}
 use Rattle.sc_runs.specs.Opening.{IsOpeningFault}
-use Rattle.sc_runs.specs.Pieces.{Held, Piece, journal_of, output_of, to_output, GrowsByAll, GrowsByFront}
-use Rattle.sc_runs.specs.Run.{accepted, accepted_in, after_record, after_script, answer_to, answers, lines_for, made, made_by, opened_in, replies, reply_to, unless_verdict, IsFull, KeepsBoth, Writes, WritesFront, WritesRun}
+use Rattle.sc_runs.specs.TwoWriters.{Contents, Piece, journal_of, output_of, to_output, GrowsByAll, GrowsByPrefix}
+use Rattle.sc_runs.specs.Run.{accepted, accepted_in, after_record, after_script, answer_to, answers, lines_for, answer_with_line, answer_by_verdict, opened_in, replies, reply_to, unless_verdict, IsFull, KeepsBoth, Writes, WritesPrefix, WritesRun}
 use Rattle.sc_runs.specs.declared.fault.RunFault.{RunFault}
 use Rattle.sc_runs.specs.declared.fault.RunFault.TheVariants.{Read, Intake, Journal, WriteOut, WriteJournal, OutOfMemory}
 use Rattle.sc_runs.proofs.LastReport.{IsLastReport-some}
 use Rattle.sc_runs.proofs.Openings.{Keeps-refl}
-use Rattle.sc_runs.proofs.Pieces.{GrowsByAll-none, GrowsByAll-trans, GrowsByFront-after, GrowsByFront-longer, journal_of-append, output_of-append}
+use Rattle.sc_runs.proofs.TwoWriters.{GrowsByAll-none, GrowsByAll-trans, GrowsByPrefix-after, GrowsByPrefix-longer, journal_of-append, output_of-append}
 
 -- a refusal that is not want of memory is the verdict
 pub refused-by_rules : (found : Option Refusal) (refusal same : Refusal) → IsRefusal found refusal → same ≡ refusal → same ≢ refused_for_memory → found ≡ Some same
@@ -42,20 +42,20 @@ pub nothing-left : {X : Type 0} (xs : List X) → length xs ≡ 0 → xs ≡ []
 nothing-left [] none = refl
 nothing-left (x ∷ xs) none = absurd (omega arith)
 
-pub KeepsBoth-refl : (a : Held) → KeepsBoth a a
+pub KeepsBoth-refl : (a : Contents) → KeepsBoth a a
 KeepsBoth-refl a = (Keeps-refl a.journal, Keeps-refl a.output)
 
 -- the writes that answer an amendment whose line is the next
-made_by-line : (number lines : ℕ) (amendment : Amendment) (found : Option Refusal)
-    → made_by (line_text (lines + 1) amendment ++ codes "\n") number found ≡ lines_for lines (unless_verdict amendment found) ++ to_output (reply_text number (unless_refused found)) ∷ []
-made_by-line number lines amendment None = refl
-made_by-line number lines amendment (Some refusal) = refl
+answer_by_verdict-line : (number lines : ℕ) (amendment : Amendment) (found : Option Refusal)
+    → answer_by_verdict (line_text (lines + 1) amendment ++ codes "\n") number found ≡ lines_for lines (unless_verdict amendment found) ++ to_output (reply_text number (unless_refused found)) ∷ []
+answer_by_verdict-line number lines amendment None = refl
+answer_by_verdict-line number lines amendment (Some refusal) = refl
 
-pub made-line : (number lines next : ℕ) (m : Market) (amendment : Amendment) (line : List ℕ) → next ≡ lines + 1 → line ≡ line_text next amendment ++ codes "\n"
-    → made line number m amendment ≡ answer_to number lines m (Ok amendment)
-made-line number lines next m amendment line is_next is =
-    ap (λ text. made text number m amendment) (is ∙ ap (λ n. line_text n amendment ++ codes "\n") is_next)
-    ∙ made_by-line number lines amendment (verdict m amendment)
+pub answer_with_line-next : (number lines next : ℕ) (m : Market) (amendment : Amendment) (line : List ℕ) → next ≡ lines + 1 → line ≡ line_text next amendment ++ codes "\n"
+    → answer_with_line line number m amendment ≡ answer_to number lines m (Ok amendment)
+answer_with_line-next number lines next m amendment line is_next is =
+    ap (λ text. answer_with_line text number m amendment) (is ∙ ap (λ n. line_text n amendment ++ codes "\n") is_next)
+    ∙ answer_by_verdict-line number lines amendment (verdict m amendment)
 
 -- a refusal that is answered is the verdict
 pub verdict-refused : (found : Option Refusal) (refusal : Refusal) → Err refusal ≡ unless_refused found → found ≡ Some refusal
@@ -63,64 +63,69 @@ verdict-refused None refusal is = absurd (true≢false (ap is_err is))
 verdict-refused (Some first) refusal is = sym (ap result_err is)
 
 -- and its writes are its reply alone
-pub made-refused : (line : List ℕ) (number : ℕ) (m : Market) (amendment : Amendment) (refusal : Refusal) → Err refusal ≡ unless_refused (verdict m amendment)
-    → made line number m amendment ≡ to_output (reply_text number (Err refusal)) ∷ []
-made-refused line number m amendment refusal is = ap (made_by line number) (verdict-refused (verdict m amendment) refusal is)
+pub answer_with_line-refused : (line : List ℕ) (number : ℕ) (m : Market) (amendment : Amendment) (refusal : Refusal) → Err refusal ≡ unless_refused (verdict m amendment)
+    → answer_with_line line number m amendment ≡ to_output (reply_text number (Err refusal)) ∷ []
+answer_with_line-refused line number m amendment refusal is = ap (answer_by_verdict line number) (verdict-refused (verdict m amendment) refusal is)
 
 -- what was written so far, and the answers to the records that are left, are the answers to all
-pub record Said (old now : Held) (opening : Market) (all : List (Result Amendment Refusal)) (number lines : ℕ) (m : Market) (left : List (Result Amendment Refusal)) : Type 0 where
+pub record Answered (old now : Contents) (opening : Market) (all : List (Result Amendment Refusal)) (number lines : ℕ) (m : Market) (left : List (Result Amendment Refusal)) : Type 0 where
   pub written : List Piece
   pub wrote : GrowsByAll written old now
   pub rest : written ++ answers (number + 1) lines m left ≡ answers 1 0 opening all
 
-pub said-first : (old : Held) (m : Market) (all : List (Result Amendment Refusal)) → Said old old m all 0 0 m all
-said-first old m all = record { written = []; wrote = GrowsByAll-none old; rest = refl }
-
-pub said-next : (old now next : Held) (opening : Market) (all : List (Result Amendment Refusal)) (number lines more : ℕ) (m later : Market) (entry : Result Amendment Refusal) (before left : List (Result Amendment Refusal))
-    → Said old now opening all number lines m before → before ≡ entry ∷ left → later ≡ after_record m entry → more ≡ lines + length (accepted_in m entry)
-    → GrowsByAll (answer_to (number + 1) lines m entry) now next
-    → Said old next opening all (number + 1) more later left
-said-next old now next opening all number lines more m later entry before left said begins is count wrote = record {
-  written = said.written ++ answer_to (number + 1) lines m entry;
-  wrote = GrowsByAll-trans said.written (answer_to (number + 1) lines m entry) old now next said.wrote wrote;
-  rest = append_assoc said.written (answer_to (number + 1) lines m entry) (answers (number + 1 + 1) more later left)
-      ∙ ap (λ n. said.written ++ (answer_to (number + 1) lines m entry ++ answers (number + 1 + 1) n later left)) count
-      ∙ ap (λ n. said.written ++ (answer_to (number + 1) lines m entry ++ answers (number + 1 + 1) (lines + length (accepted_in m entry)) n left)) is
-      ∙ ap (λ records. said.written ++ answers (number + 1) lines m records) (sym begins)
-      ∙ said.rest;
+pub answered-first : (old : Contents) (m : Market) (all : List (Result Amendment Refusal)) (number lines : ℕ) → number ≡ 0 → lines ≡ 0 → Answered old old m all number lines m all
+answered-first old m all number lines first none = record {
+  written = [];
+  wrote = GrowsByAll-none old;
+  rest = ap (λ n. answers (n + 1) lines m all) first ∙ ap (λ n. answers 1 n m all) none;
 }
 
-pub said-all : (old now : Held) (opening : Market) (all whole : List (Result Amendment Refusal)) (number lines : ℕ) (m : Market) (left : List (Result Amendment Refusal))
-    → Said old now opening all number lines m left → left ≡ [] → all ≡ whole → GrowsByAll (answers 1 0 opening whole) old now
-said-all old now opening all whole number lines m left said none same =
+pub answered-next : (old now next : Contents) (opening : Market) (all : List (Result Amendment Refusal)) (number following lines more : ℕ) (m later : Market) (entry : Result Amendment Refusal) (before left : List (Result Amendment Refusal))
+    → Answered old now opening all number lines m before → before ≡ entry ∷ left → following ≡ number + 1 → later ≡ after_record m entry → more ≡ lines + length (accepted_in m entry)
+    → GrowsByAll (answer_to (number + 1) lines m entry) now next
+    → Answered old next opening all following more later left
+answered-next old now next opening all number following lines more m later entry before left answered begins is_next is count wrote = record {
+  written = answered.written ++ answer_to (number + 1) lines m entry;
+  wrote = GrowsByAll-trans answered.written (answer_to (number + 1) lines m entry) old now next answered.wrote wrote;
+  rest = ap (λ n. (answered.written ++ answer_to (number + 1) lines m entry) ++ answers (n + 1) more later left) is_next
+      ∙ append_assoc answered.written (answer_to (number + 1) lines m entry) (answers (number + 1 + 1) more later left)
+      ∙ ap (λ n. answered.written ++ (answer_to (number + 1) lines m entry ++ answers (number + 1 + 1) n later left)) count
+      ∙ ap (λ n. answered.written ++ (answer_to (number + 1) lines m entry ++ answers (number + 1 + 1) (lines + length (accepted_in m entry)) n left)) is
+      ∙ ap (λ records. answered.written ++ answers (number + 1) lines m records) (sym begins)
+      ∙ answered.rest;
+}
+
+pub answered-all : (old now : Contents) (opening : Market) (all whole : List (Result Amendment Refusal)) (number lines : ℕ) (m : Market) (left : List (Result Amendment Refusal))
+    → Answered old now opening all number lines m left → left ≡ [] → all ≡ whole → GrowsByAll (answers 1 0 opening whole) old now
+answered-all old now opening all whole number lines m left answered none same =
     subst (λ records. GrowsByAll (answers 1 0 opening records) old now) same
     (subst (λ pieces. GrowsByAll pieces old now)
-    (sym (append-nil said.written) ∙ ap (λ records. said.written ++ answers (number + 1) lines m records) (sym none) ∙ said.rest) said.wrote)
+    (sym (append-nil answered.written) ∙ ap (λ records. answered.written ++ answers (number + 1) lines m records) (sym none) ∙ answered.rest) answered.wrote)
 
--- a front of the answers to the next record is one of the answers to all
-said-front : (old now next : Held) (opening : Market) (all : List (Result Amendment Refusal)) (number lines : ℕ) (m : Market) (entry : Result Amendment Refusal) (left : List (Result Amendment Refusal))
-    → Said old now opening all number lines m (entry ∷ left) → GrowsByFront (answer_to (number + 1) lines m entry) now next → GrowsByFront (answers 1 0 opening all) old next
-said-front old now next opening all number lines m entry left said front =
-    subst (λ pieces. GrowsByFront pieces old next)
-    (append_assoc said.written (answer_to (number + 1) lines m entry) (answers (number + 1 + 1) (lines + length (accepted_in m entry)) (after_record m entry) left) ∙ said.rest)
-    (GrowsByFront-longer (said.written ++ answer_to (number + 1) lines m entry) (answers (number + 1 + 1) (lines + length (accepted_in m entry)) (after_record m entry) left) old next
-    (GrowsByFront-after said.written (answer_to (number + 1) lines m entry) old now next said.wrote front))
+-- a prefix of the answers to the next record is one of the answers to all
+answered-prefix : (old now next : Contents) (opening : Market) (all : List (Result Amendment Refusal)) (number lines : ℕ) (m : Market) (entry : Result Amendment Refusal) (left : List (Result Amendment Refusal))
+    → Answered old now opening all number lines m (entry ∷ left) → GrowsByPrefix (answer_to (number + 1) lines m entry) now next → GrowsByPrefix (answers 1 0 opening all) old next
+answered-prefix old now next opening all number lines m entry left answered prefix =
+    subst (λ pieces. GrowsByPrefix pieces old next)
+    (append_assoc answered.written (answer_to (number + 1) lines m entry) (answers (number + 1 + 1) (lines + length (accepted_in m entry)) (after_record m entry) left) ∙ answered.rest)
+    (GrowsByPrefix-longer (answered.written ++ answer_to (number + 1) lines m entry) (answers (number + 1 + 1) (lines + length (accepted_in m entry)) (after_record m entry) left) old next
+    (GrowsByPrefix-after answered.written (answer_to (number + 1) lines m entry) old now next answered.wrote prefix))
 
-said-ended : (old now next : Held) (opening : Market) (all : List (Result Amendment Refusal)) (number lines : ℕ) (m : Market) (entry : Result Amendment Refusal) (left : List (Result Amendment Refusal)) (fault : RunFault)
-    → Said old now opening all number lines m (entry ∷ left) → Writes {A = Unit {0}} (answer_to (number + 1) lines m entry) now next (Err fault) → Writes {A = Unit {0}} (answers 1 0 opening all) old next (Err fault)
-said-ended old now next opening all number lines m entry left (Read source) said wrote = absurd wrote
-said-ended old now next opening all number lines m entry left (Intake fault) said wrote = absurd wrote
-said-ended old now next opening all number lines m entry left (Journal fault) said wrote = said-front old now next opening all number lines m entry left said wrote
-said-ended old now next opening all number lines m entry left WriteJournal said wrote = said-front old now next opening all number lines m entry left said wrote
-said-ended old now next opening all number lines m entry left WriteOut said wrote = said-front old now next opening all number lines m entry left said wrote
-said-ended old now next opening all number lines m entry left OutOfMemory said wrote = said-front old now next opening all number lines m entry left said wrote
+answered-ended : (old now next : Contents) (opening : Market) (all : List (Result Amendment Refusal)) (number lines : ℕ) (m : Market) (entry : Result Amendment Refusal) (left : List (Result Amendment Refusal)) (fault : RunFault)
+    → Answered old now opening all number lines m (entry ∷ left) → Writes {A = Unit {0}} (answer_to (number + 1) lines m entry) now next (Err fault) → Writes {A = Unit {0}} (answers 1 0 opening all) old next (Err fault)
+answered-ended old now next opening all number lines m entry left (Read source) answered wrote = absurd wrote
+answered-ended old now next opening all number lines m entry left (Intake fault) answered wrote = absurd wrote
+answered-ended old now next opening all number lines m entry left (Journal fault) answered wrote = answered-prefix old now next opening all number lines m entry left answered wrote
+answered-ended old now next opening all number lines m entry left WriteJournal answered wrote = answered-prefix old now next opening all number lines m entry left answered wrote
+answered-ended old now next opening all number lines m entry left WriteOut answered wrote = answered-prefix old now next opening all number lines m entry left answered wrote
+answered-ended old now next opening all number lines m entry left OutOfMemory answered wrote = answered-prefix old now next opening all number lines m entry left answered wrote
 
-pub said-failed : (old now next : Held) (opening : Market) (all whole : List (Result Amendment Refusal)) (number lines : ℕ) (m : Market) (entry : Result Amendment Refusal) (before left : List (Result Amendment Refusal)) (fault : RunFault)
-    → Said old now opening all number lines m before → before ≡ entry ∷ left → all ≡ whole → Writes {A = Unit {0}} (answer_to (number + 1) lines m entry) now next (Err fault)
+pub answered-failed : (old now next : Contents) (opening : Market) (all whole : List (Result Amendment Refusal)) (number lines : ℕ) (m : Market) (entry : Result Amendment Refusal) (before left : List (Result Amendment Refusal)) (fault : RunFault)
+    → Answered old now opening all number lines m before → before ≡ entry ∷ left → all ≡ whole → Writes {A = Unit {0}} (answer_to (number + 1) lines m entry) now next (Err fault)
     → Writes {A = Unit {0}} (answers 1 0 opening whole) old next (Err fault)
-said-failed old now next opening all whole number lines m entry before left fault said is same wrote =
+answered-failed old now next opening all whole number lines m entry before left fault answered is same wrote =
     subst (λ records. Writes {A = Unit {0}} (answers 1 0 opening records) old next (Err fault)) same
-    (said-ended old now next opening all number lines m entry left fault (subst (Said old now opening all number lines m) is said) wrote)
+    (answered-ended old now next opening all number lines m entry left fault (subst (Answered old now opening all number lines m) is answered) wrote)
 
 -- a journal that is full after so many lines is full after more
 pub IsFull-more : (few many : ℕ) (result : Result (Unit {0}) RunFault) → few ≤ many → IsFull few result → IsFull many result
@@ -179,7 +184,7 @@ journal_of-answers number lines m (entry ∷ rest) =
     ∙ sym (journal_text-append (lines + 1) (accepted_in m entry) (accepted (after_record m entry) rest))
 
 -- the papers have a fault, and nothing was written
-pub WritesRun-unopened : (reading : Result Market IntakeFault) (scripted : Result (List (Result Amendment Refusal)) IntakeFault) (old : Held) (fault : RunFault)
+pub WritesRun-unopened : (reading : Result Market IntakeFault) (scripted : Result (List (Result Amendment Refusal)) IntakeFault) (old : Contents) (fault : RunFault)
     → IsOpeningFault reading fault → WritesRun (opened_in reading scripted) old old (Err fault)
 WritesRun-unopened reading scripted old (Read source) is = absurd is
 WritesRun-unopened reading scripted old (Intake fault) is = (ap (λ r. opened_in r scripted) is, KeepsBoth-refl old)
@@ -189,7 +194,7 @@ WritesRun-unopened reading scripted old WriteJournal is = absurd is
 WritesRun-unopened reading scripted old OutOfMemory is = inl (KeepsBoth-refl old)
 
 -- the papers were read, the script has a fault, and nothing was written
-pub WritesRun-unscripted : (scripted : Result (List (Result Amendment Refusal)) IntakeFault) (m : Market) (old : Held) (fault : RunFault)
+pub WritesRun-unscripted : (scripted : Result (List (Result Amendment Refusal)) IntakeFault) (m : Market) (old : Contents) (fault : RunFault)
     → IsOpeningFault scripted fault → WritesRun (opened_in (Ok m) scripted) old old (Err fault)
 WritesRun-unscripted scripted m old (Read source) is = absurd is
 WritesRun-unscripted scripted m old (Intake fault) is = (ap (opened_in (Ok m)) is, KeepsBoth-refl old)
@@ -199,39 +204,39 @@ WritesRun-unscripted scripted m old WriteJournal is = absurd is
 WritesRun-unscripted scripted m old OutOfMemory is = inl (KeepsBoth-refl old)
 
 -- the answers were written in part
-WritesFront-answered : (m : Market) (script : List (Result Amendment Refusal)) (old new : Held)
-    → WellFormed m → GrowsByFront (answers 1 0 m script) old new → WritesFront (record { papers = m; script = script }) old new
-WritesFront-answered m script old new well wrote =
+WritesPrefix-answered : (m : Market) (script : List (Result Amendment Refusal)) (old new : Contents)
+    → WellFormed m → GrowsByPrefix (answers 1 0 m script) old new → WritesPrefix (record { papers = m; script = script }) old new
+WritesPrefix-answered m script old new well wrote =
     let (report, is) = IsLastReport-some (record { papers = m; script = script }) well in
-    (report, is, GrowsByFront-longer (answers 1 0 m script) (to_output report ∷ []) old new wrote)
+    (report, is, GrowsByPrefix-longer (answers 1 0 m script) (to_output report ∷ []) old new wrote)
 
 -- the run ended amid the answers
-pub WritesRun-answered : (scripted : Result (List (Result Amendment Refusal)) IntakeFault) (m : Market) (script : List (Result Amendment Refusal)) (old new : Held) (fault : RunFault)
+pub WritesRun-answered : (scripted : Result (List (Result Amendment Refusal)) IntakeFault) (m : Market) (script : List (Result Amendment Refusal)) (old new : Contents) (fault : RunFault)
     → WellFormed m → scripted ≡ Ok script → Writes {A = Unit {0}} (answers 1 0 m script) old new (Err fault) → IsFull {A = Unit {0}} (length script) (Err fault) → WritesRun (opened_in (Ok m) scripted) old new (Err fault)
 WritesRun-answered scripted m script old new (Read source) well read wrote full = absurd wrote
 WritesRun-answered scripted m script old new (Intake fault) well read wrote full = absurd wrote
 WritesRun-answered scripted m script old new (Journal fault) well read wrote full =
-    (record { papers = m; script = script }, ap (opened_in (Ok m)) read, full, WritesFront-answered m script old new well wrote)
+    (record { papers = m; script = script }, ap (opened_in (Ok m)) read, full, WritesPrefix-answered m script old new well wrote)
 WritesRun-answered scripted m script old new WriteJournal well read wrote full =
-    (record { papers = m; script = script }, ap (opened_in (Ok m)) read, WritesFront-answered m script old new well wrote)
+    (record { papers = m; script = script }, ap (opened_in (Ok m)) read, WritesPrefix-answered m script old new well wrote)
 WritesRun-answered scripted m script old new WriteOut well read wrote full =
-    (record { papers = m; script = script }, ap (opened_in (Ok m)) read, WritesFront-answered m script old new well wrote)
+    (record { papers = m; script = script }, ap (opened_in (Ok m)) read, WritesPrefix-answered m script old new well wrote)
 WritesRun-answered scripted m script old new OutOfMemory well read wrote full =
-    inr (record { papers = m; script = script }, ap (opened_in (Ok m)) read, WritesFront-answered m script old new well wrote)
+    inr (record { papers = m; script = script }, ap (opened_in (Ok m)) read, WritesPrefix-answered m script old new well wrote)
 
 -- all answers were written, and then the report in part
-WritesFront-finished : (m : Market) (script : List (Result Amendment Refusal)) (a : Matching) (old mid new : Held)
+WritesPrefix-finished : (m : Market) (script : List (Result Amendment Refusal)) (a : Matching) (old mid new : Contents)
     → IsStudentOptimal (after_script m script) a → GrowsByAll (answers 1 0 m script) old mid
-    → GrowsByFront (to_output (report_text (after_script m script) a) ∷ []) mid new
-    → WritesFront (record { papers = m; script = script }) old new
-WritesFront-finished m script a old mid new optimal answered wrote = (
+    → GrowsByPrefix (to_output (report_text (after_script m script) a) ∷ []) mid new
+    → WritesPrefix (record { papers = m; script = script }) old new
+WritesPrefix-finished m script a old mid new optimal answered wrote = (
   report_text (after_script m script) a,
   (a, optimal, refl),
-  GrowsByFront-after (answers 1 0 m script) (to_output (report_text (after_script m script) a) ∷ []) old mid new answered wrote,
+  GrowsByPrefix-after (answers 1 0 m script) (to_output (report_text (after_script m script) a) ∷ []) old mid new answered wrote,
 )
 
 -- all answers were written, and then the report, whole or in part
-WritesRun-written : (scripted : Result (List (Result Amendment Refusal)) IntakeFault) (m : Market) (script : List (Result Amendment Refusal)) (a : Matching) (old mid new : Held) (result : Result (Unit {0}) RunFault)
+WritesRun-written : (scripted : Result (List (Result Amendment Refusal)) IntakeFault) (m : Market) (script : List (Result Amendment Refusal)) (a : Matching) (old mid new : Contents) (result : Result (Unit {0}) RunFault)
     → scripted ≡ Ok script → IsStudentOptimal (after_script m script) a → length (accepted m script) ≤ 999999999 → GrowsByAll (answers 1 0 m script) old mid
     → Writes (to_output (report_text (after_script m script) a) ∷ []) mid new result → IsFull 0 result
     → WritesRun (opened_in (Ok m) scripted) old new result
@@ -257,11 +262,11 @@ WritesRun-written scripted m script a old mid new (Ok done) read optimal room an
       ),
     )
 WritesRun-written scripted m script a old mid new (Err WriteOut) read optimal room answered wrote full =
-    (record { papers = m; script = script }, ap (opened_in (Ok m)) read, WritesFront-finished m script a old mid new optimal answered wrote)
+    (record { papers = m; script = script }, ap (opened_in (Ok m)) read, WritesPrefix-finished m script a old mid new optimal answered wrote)
 WritesRun-written scripted m script a old mid new (Err WriteJournal) read optimal room answered wrote full =
-    (record { papers = m; script = script }, ap (opened_in (Ok m)) read, WritesFront-finished m script a old mid new optimal answered wrote)
+    (record { papers = m; script = script }, ap (opened_in (Ok m)) read, WritesPrefix-finished m script a old mid new optimal answered wrote)
 WritesRun-written scripted m script a old mid new (Err OutOfMemory) read optimal room answered wrote full =
-    inr (record { papers = m; script = script }, ap (opened_in (Ok m)) read, WritesFront-finished m script a old mid new optimal answered wrote)
+    inr (record { papers = m; script = script }, ap (opened_in (Ok m)) read, WritesPrefix-finished m script a old mid new optimal answered wrote)
 WritesRun-written scripted m script a old mid new (Err (Journal fault)) read optimal room answered wrote full =
     let none = full.0 in
     absurd (omega arith)
@@ -269,7 +274,7 @@ WritesRun-written scripted m script a old mid new (Err (Read source)) read optim
 WritesRun-written scripted m script a old mid new (Err (Intake fault)) read optimal room answered wrote full = absurd wrote
 
 -- the same of the papers that stand after the script, by whatever name
-pub WritesRun-after : (scripted : Result (List (Result Amendment Refusal)) IntakeFault) (m : Market) (script : List (Result Amendment Refusal)) (later : Market) (a : Matching) (old mid new : Held) (result : Result (Unit {0}) RunFault)
+pub WritesRun-after : (scripted : Result (List (Result Amendment Refusal)) IntakeFault) (m : Market) (script : List (Result Amendment Refusal)) (later : Market) (a : Matching) (old mid new : Contents) (result : Result (Unit {0}) RunFault)
     → scripted ≡ Ok script → later ≡ after_script m script → IsStudentOptimal later a → length (accepted m script) ≤ 999999999 → GrowsByAll (answers 1 0 m script) old mid
     → Writes (to_output (report_text later a) ∷ []) mid new result → IsFull 0 result
     → WritesRun (opened_in (Ok m) scripted) old new result

@@ -38,17 +38,17 @@ claimed_in reading logged = do
 abbrev pub audit_in : List ℕ → Texts → List ℕ → Result Claimed IntakeFault
 audit_in seed texts log = claimed_in (opening_in seed texts) (log_in log)
 
--- a verdict's line was written; a front of it where the writer failed, and nothing at want of memory
-abbrev pub TellsVerdict : Verdict → Option (List ℕ) → Option (List ℕ) → Result (Unit {0}) RunFault → Type 0
-TellsVerdict verdict old new (Ok done) = Appends old new (verdict_text verdict)
-TellsVerdict verdict old new (Err WriteOut) = AppendsFront old new (verdict_text verdict)
-TellsVerdict verdict old new (Err OutOfMemory) = Keeps old new
-TellsVerdict verdict old new (Err (Read source)) = ⊥
-TellsVerdict verdict old new (Err (Intake fault)) = ⊥
-TellsVerdict verdict old new (Err (Journal fault)) = ⊥
-TellsVerdict verdict old new (Err WriteJournal) = ⊥
+-- a verdict's line was written; a prefix of it where the writer failed, and nothing at want of memory
+abbrev pub WritesVerdictLine : Verdict → Option (List ℕ) → Option (List ℕ) → Result (Unit {0}) RunFault → Type 0
+WritesVerdictLine verdict old new (Ok done) = Appends old new (verdict_text verdict)
+WritesVerdictLine verdict old new (Err WriteOut) = AppendsFront old new (verdict_text verdict)
+WritesVerdictLine verdict old new (Err OutOfMemory) = Keeps old new
+WritesVerdictLine verdict old new (Err (Read source)) = ⊥
+WritesVerdictLine verdict old new (Err (Intake fault)) = ⊥
+WritesVerdictLine verdict old new (Err (Journal fault)) = ⊥
+WritesVerdictLine verdict old new (Err WriteJournal) = ⊥
 
--- an audit answers the verdict of the log that was read, and wrote its line; a front of it where the
+-- an audit answers the verdict of the log that was read, and wrote its line; a prefix of it where the
 -- writer failed, and nothing where the inputs have a fault
 abbrev pub WritesVerdict : Result Claimed IntakeFault → Option (List ℕ) → Option (List ℕ) → Result Verdict RunFault → Type 0
 WritesVerdict reading old new (Ok verdict) = (claimed : Claimed) × (reading ≡ Ok claimed) × IsVerdict claimed.papers claimed.log verdict × Appends old new (verdict_text verdict)

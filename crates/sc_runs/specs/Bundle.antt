@@ -3,7 +3,7 @@ use Rattle.std.specs.Prelude.{ℕ, true, List, Option, None, Some, codes}
 use Rattle.std.specs.Option.{option_and_then, option_copied}
 use Rattle.sc_runs.specs.Blanks.{trimmed}
 use Rattle.sc_runs.specs.Markers.{Parts, after_marker, cut_at}
-use Rattle.sc_runs.specs.declared.sections.Bundle.{Bundle}
+use Rattle.sc_runs.specs.declared.bundle.Bundle.{Bundle}
 
 -- the sections of a bundle
 pub record Sections : Type 0 where

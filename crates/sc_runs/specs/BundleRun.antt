@@ -1,5 +1,5 @@
 -- What running a bundle does, and how it ends.
-use Rattle.std.specs.Prelude.{◌≡◌, ◌⊎◌, ℕ, Bool, true, false, List, ⊤, Option, None, Some, Result, Ok, Err}
+use Rattle.std.specs.Prelude.{◌≡◌, ◌⊎◌, ℕ, Bool, false, List, Option, None, Some, Result, Ok, Err}
 use Rattle.std.specs.Io.KnownBytes.{Keeps}
 use Rattle.sc_lottery.specs.Seed.{seed_of}
 use Rattle.sc_papers.specs.Market.{Market}
@@ -12,7 +12,6 @@ use Rattle.sc_runs.specs.Run.{opened_in, WritesRun}
 use Rattle.sc_runs.specs.declared.ending.Ending.{Ending}
 use Rattle.sc_runs.specs.declared.ending.Ending.TheVariants.{Done, NotCertified, Torn, BadSeed, BadBundle, Fault}
 use Rattle.sc_runs.specs.declared.fault.RunFault.{RunFault}
-use Rattle.sc_runs.specs.declared.fault.RunFault.TheVariants.{Read, Intake, Journal, WriteOut, WriteJournal, OutOfMemory}
 
 -- what running the papers and a script does, with a journal that keeps nothing; without a script it is
 -- matching the papers alone

@@ -5,7 +5,7 @@ pub mod Ending
 pub mod Inputs
 pub mod Opening
 pub mod BundleRun
-pub mod Pieces
+pub mod TwoWriters
 pub mod Run
 pub mod Auditing
 pub mod Replaying

@@ -42,7 +42,7 @@ IsOpeningFault reading WriteOut = ⊥
 IsOpeningFault reading WriteJournal = ⊥
 IsOpeningFault reading OutOfMemory = ⊤
 
--- a writer was given one of these texts whole at `Ok`, a front of one where it failed, and nothing at
+-- a writer was given one of these texts whole at `Ok`, a prefix of one where it failed, and nothing at
 -- want of memory
 abbrev pub WritesText : (List ℕ → Type 0) → Option (List ℕ) → Option (List ℕ) → Result (Unit {0}) RunFault → Type 0
 WritesText Is old new (Ok done) = (text : List ℕ) × Is text × Appends old new text
@@ -53,7 +53,7 @@ WritesText Is old new (Err (Journal fault)) = ⊥
 WritesText Is old new (Err WriteJournal) = ⊥
 WritesText Is old new (Err OutOfMemory) = Keeps old new
 
--- a writer was given this text whole at `Ok`, and a front of it where it failed
+-- a writer was given this text whole at `Ok`, and a prefix of it where it failed
 abbrev pub WritesExactly : List ℕ → Option (List ℕ) → Option (List ℕ) → Result (Unit {0}) RunFault → Type 0
 WritesExactly text old new (Ok done) = Appends old new text
 WritesExactly text old new (Err WriteOut) = AppendsFront old new text

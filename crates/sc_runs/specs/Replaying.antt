@@ -18,7 +18,7 @@ use Rattle.sc_runs.specs.declared.fault.RunFault.TheVariants.{Read, Intake, Jour
 abbrev pub IsReplayReport : Market → List ℕ → Tail → List ℕ → Type 0
 IsReplayReport m journal tail text = (now : Market) × IsReplay m now journal tail × IsReport now text
 
--- a replay answers how the journal ends, and wrote the report of the papers after it; a front of it where
+-- a replay answers how the journal ends, and wrote the report of the papers after it; a prefix of it where
 -- the writer failed, and nothing where the inputs or the journal have a fault
 abbrev pub WritesReplay : Result Market IntakeFault → List ℕ → Option (List ℕ) → Option (List ℕ) → Result Tail RunFault → Type 0
 WritesReplay reading journal old new (Ok tail) =

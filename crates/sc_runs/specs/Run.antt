@@ -3,7 +3,7 @@ use Rattle.std.specs.Prelude.{◌≡◌, ◌⊎◌, ⊤, ℕ, ◌+◌, ◌≤◌
 use Rattle.std.specs.Io.KnownBytes.{Keeps}
 use Rattle.sc_papers.specs.Interleaving.{after_verdict}
 use Rattle.sc_papers.specs.Market.{Market}
-use Rattle.sc_papers.specs.Verdict.{after, unless_refused, verdict}
+use Rattle.sc_papers.specs.Verdict.{unless_refused, verdict}
 use Rattle.sc_papers.specs.declared.amendment.Amendment.{Amendment}
 use Rattle.sc_papers.specs.declared.amendment.Refusal.{Refusal}
 use Rattle.sc_intake.specs.Fault.{◌>>=◌}
@@ -15,7 +15,7 @@ use Rattle.sc_journal.specs.declared.fault.JournalFault.{JournalFault}
 use Rattle.sc_report.specs.Reply.{reply_text}
 use Rattle.sc_runs.specs.Inputs.{in_order, Texts, Turn, AreRead, EndsAmong}
 use Rattle.sc_runs.specs.Opening.{opening_in, IsReport}
-use Rattle.sc_runs.specs.Pieces.{Held, Piece, to_journal, to_output, Grows, GrowsByAll, GrowsByFront}
+use Rattle.sc_runs.specs.TwoWriters.{Contents, Piece, to_journal, to_output, Grows, GrowsByAll, GrowsByPrefix}
 use Rattle.sc_journal.specs.declared.fault.JournalCause.TheVariants.{JournalFull}
 use Rattle.sc_runs.specs.declared.fault.RunFault.{RunFault}
 use Rattle.sc_runs.specs.declared.fault.RunFault.TheVariants.{Read, Intake, Journal, WriteOut, WriteJournal, OutOfMemory}
@@ -73,13 +73,13 @@ answers number lines m (entry ∷ rest) =
     answer_to number lines m entry ++ answers (number + 1) (lines + length (accepted_in m entry)) (after_record m entry) rest
 
 -- the writes that answer an amendment of this verdict, whose line is this text
-abbrev pub made_by : List ℕ → ℕ → Option Refusal → List Piece
-made_by line number None = to_journal line ∷ to_output (reply_text number (Ok tt)) ∷ []
-made_by line number (Some refusal) = to_output (reply_text number (Err refusal)) ∷ []
+abbrev pub answer_by_verdict : List ℕ → ℕ → Option Refusal → List Piece
+answer_by_verdict line number None = to_journal line ∷ to_output (reply_text number (Ok tt)) ∷ []
+answer_by_verdict line number (Some refusal) = to_output (reply_text number (Err refusal)) ∷ []
 
 -- the same by the papers
-abbrev pub made : List ℕ → ℕ → Market → Amendment → List Piece
-made line number m amendment = made_by line number (verdict m amendment)
+abbrev pub answer_with_line : List ℕ → ℕ → Market → Amendment → List Piece
+answer_with_line line number m amendment = answer_by_verdict line number (verdict m amendment)
 
 -- the fault of a journal in which line 999,999,999 stands, and the next would have no number
 abbrev pub full_journal : JournalFault
@@ -95,13 +95,13 @@ IsFull lines (Err WriteOut) = ⊤
 IsFull lines (Err WriteJournal) = ⊤
 IsFull lines (Err OutOfMemory) = ⊤
 
--- these writes were made, all at `Ok`, and a front of them where making them ended early
-abbrev pub Writes : {A : Type 0} → List Piece → Held → Held → Result A RunFault → Type 0
+-- these writes were made, all at `Ok`, and a prefix of them where making them ended early
+abbrev pub Writes : {A : Type 0} → List Piece → Contents → Contents → Result A RunFault → Type 0
 Writes pieces old new (Ok done) = GrowsByAll pieces old new
-Writes pieces old new (Err WriteOut) = GrowsByFront pieces old new
-Writes pieces old new (Err WriteJournal) = GrowsByFront pieces old new
-Writes pieces old new (Err OutOfMemory) = GrowsByFront pieces old new
-Writes pieces old new (Err (Journal fault)) = GrowsByFront pieces old new
+Writes pieces old new (Err WriteOut) = GrowsByPrefix pieces old new
+Writes pieces old new (Err WriteJournal) = GrowsByPrefix pieces old new
+Writes pieces old new (Err OutOfMemory) = GrowsByPrefix pieces old new
+Writes pieces old new (Err (Journal fault)) = GrowsByPrefix pieces old new
 Writes pieces old new (Err (Read source)) = ⊥
 Writes pieces old new (Err (Intake fault)) = ⊥
 
@@ -138,34 +138,34 @@ IsLastReport opened report = IsReport (after_script opened.papers opened.script)
 
 -- a run wrote its texts: to the output a reply line for each record, and then the report; to the journal
 -- the lines of the accepted amendments, no more than there are numbers for
-abbrev pub WritesAll : Opened → Held → Held → Type 0
+abbrev pub WritesAll : Opened → Contents → Contents → Type 0
 WritesAll opened old new = (report : List ℕ) × IsLastReport opened report
     × (length (accepted opened.papers opened.script) ≤ 999999999)
     × Grows old new (journal_text 1 (accepted opened.papers opened.script)) (replies 1 opened.papers opened.script ++ report)
 
 -- a run ended amid its writes: the answers to the records, and then the report
-abbrev pub WritesFront : Opened → Held → Held → Type 0
-WritesFront opened old new =
-    (report : List ℕ) × IsLastReport opened report × GrowsByFront (answers 1 0 opened.papers opened.script ++ to_output report ∷ []) old new
+abbrev pub WritesPrefix : Opened → Contents → Contents → Type 0
+WritesPrefix opened old new =
+    (report : List ℕ) × IsLastReport opened report × GrowsByPrefix (answers 1 0 opened.papers opened.script ++ to_output report ∷ []) old new
 
 -- nothing was written
-abbrev pub KeepsBoth : Held → Held → Type 0
+abbrev pub KeepsBoth : Contents → Contents → Type 0
 KeepsBoth old new = Keeps old.journal new.journal × Keeps old.output new.output
 
--- a run wrote its texts whole at `Ok`, a front of its writes where a writer failed or memory was refused, and
+-- a run wrote its texts whole at `Ok`, a prefix of its writes where a writer failed or memory was refused, and
 -- nothing where the papers or the script have a fault
-abbrev pub WritesRun : Result Opened IntakeFault → Held → Held → Result (Unit {0}) RunFault → Type 0
+abbrev pub WritesRun : Result Opened IntakeFault → Contents → Contents → Result (Unit {0}) RunFault → Type 0
 WritesRun reading old new (Ok done) = (opened : Opened) × (reading ≡ Ok opened) × WritesAll opened old new
 WritesRun reading old new (Err (Intake fault)) = (reading ≡ Err fault) × KeepsBoth old new
-WritesRun reading old new (Err WriteOut) = (opened : Opened) × (reading ≡ Ok opened) × WritesFront opened old new
-WritesRun reading old new (Err WriteJournal) = (opened : Opened) × (reading ≡ Ok opened) × WritesFront opened old new
-WritesRun reading old new (Err OutOfMemory) = KeepsBoth old new ⊎ ((opened : Opened) × (reading ≡ Ok opened) × WritesFront opened old new)
+WritesRun reading old new (Err WriteOut) = (opened : Opened) × (reading ≡ Ok opened) × WritesPrefix opened old new
+WritesRun reading old new (Err WriteJournal) = (opened : Opened) × (reading ≡ Ok opened) × WritesPrefix opened old new
+WritesRun reading old new (Err OutOfMemory) = KeepsBoth old new ⊎ ((opened : Opened) × (reading ≡ Ok opened) × WritesPrefix opened old new)
 WritesRun reading old new (Err (Journal fault)) =
-    (opened : Opened) × (reading ≡ Ok opened) × IsFull {A = Unit {0}} (length opened.script) (Err (Journal fault)) × WritesFront opened old new
+    (opened : Opened) × (reading ≡ Ok opened) × IsFull {A = Unit {0}} (length opened.script) (Err (Journal fault)) × WritesPrefix opened old new
 WritesRun reading old new (Err (Read source)) = ⊥
 
 -- what running files did: reading them ended early, and nothing was written; or they were read, each whole,
 -- and run
-abbrev pub RunsFiles : List ℕ → List Turn → Held → Held → Result (Unit {0}) RunFault → Type 0
+abbrev pub RunsFiles : List ℕ → List Turn → Contents → Contents → Result (Unit {0}) RunFault → Type 0
 RunsFiles seed turns old new result = (IsErrAnd result (EndsAmong turns) × KeepsBoth old new)
     ⊎ ((texts : Texts) × (script : List ℕ) × AreRead turns (in_order texts ++ script ∷ []) × WritesRun (run_in seed texts script) old new result)

@@ -5,13 +5,14 @@ ghost use Rattle.sc_audit.specs.Verdict.{IsVerdict};
 ghost use Rattle.sc_intake.specs.Log.{log_in};
 ghost use Rattle.sc_intake.specs.declared.fault.Source.TheVariants as input;
 ghost use Rattle.sc_report.specs.Watched.{device_of, has_failed};
-ghost use Rattle.sc_runs.specs.Auditing.{claimed_in, verdict_text, AuditsFiles, TellsVerdict, WritesVerdict};
+ghost use Rattle.sc_runs.specs.Auditing.{claimed_in, verdict_text, AuditsFiles, WritesVerdictLine, WritesVerdict};
 ghost use Rattle.sc_runs.specs.Inputs.{opening_turns, turn_of, TakesWithin};
 ghost use Rattle.sc_runs.specs.Opening.{is_output_fault, papers_in, IsOpeningFault};
 
 use crate::fault::RunFault;
-use crate::inputs::{Files, Opening, read_input, read_opening};
-use crate::matching::{read_papers, write_text};
+use crate::inputs::{Opening, OpeningSlices, read_input, read_opening};
+use crate::opening::read_papers;
+use crate::writing::write_text;
 use sc_audit::{Verdict, audit};
 use sc_decimal::push_number;
 use sc_intake::{Source, read_log};
@@ -48,9 +49,13 @@ fn read_entries(alloc: Global, log: &[u8]) -> Result<Vec<Rejection>, RunFault>
     Ok(entries)
 }
 
-/// Writes the line of a verdict.
-fn tell<W: Write>(alloc: Global, verdict: &Verdict, out: &mut Watched<W>) -> Result<(), RunFault>
-    ensures told { TellsVerdict verdict.now (W.contents (device_of out.old)) (W.contents (device_of out.new)) result }
+/// Writes the line of a verdict, and flushes it.
+fn write_verdict<W: Write>(
+    alloc: Global,
+    verdict: &Verdict,
+    out: &mut Watched<W>,
+) -> Result<(), RunFault>
+    ensures bytes { WritesVerdictLine verdict.now (W.contents (device_of out.old)) (W.contents (device_of out.new)) result }
     ensures failed { has_failed out.new ≡ (has_failed out.old || is_output_fault result) }
 {
     match verdict_line(alloc, verdict) {
@@ -77,26 +82,30 @@ fn audit_papers<W: Write>(
         Ok(verdict) => verdict,
         Err(_) => return Err(RunFault::OutOfMemory),
     };
-    match tell(alloc, &verdict, out) {
+    match write_verdict(alloc, &verdict, out) {
         Ok(()) => Ok(verdict),
         Err(fault) => Err(fault),
     }
 }
 
-/// Audits a log under the papers that the files hold.
+/// Audits a log under the papers that the texts hold.
 fn audit_texts<W: Write>(
     alloc: Global,
     seed: &Seed,
-    files: Files<'_>,
+    texts: OpeningSlices<'_>,
     log: &[u8],
     out: &mut Watched<W>,
 ) -> Result<Verdict, RunFault>
-    ensures verdict { WritesVerdict (claimed_in (papers_in seed.now files.entry.schools.now files.entry.roster.now files.entry.lists.now) (log_in log.now))
+    ensures verdict { WritesVerdict (claimed_in (papers_in seed.now texts.entry.schools.now texts.entry.roster.now texts.entry.lists.now) (log_in log.now))
         (W.contents (device_of out.old)) (W.contents (device_of out.new)) result }
     ensures failed { has_failed out.new ≡ (has_failed out.old || is_output_fault result) }
 {
-    match read_papers(alloc, seed, files) {
-        Ok(papers) => audit_papers(alloc, &papers, log, out),
+    match read_papers(alloc, seed, texts) {
+        Ok(papers) => {
+            let verdict = audit_papers(alloc, &papers, log, out);
+            drop(papers);
+            verdict
+        }
         Err(fault) => Err(fault),
     }
 }
@@ -129,5 +138,5 @@ pub fn audit_files<R: Read, W: Write>(
         Ok(log) => log,
         Err(fault) => return Err(fault),
     };
-    audit_texts(alloc, seed, texts.files(), log.as_slice(), out)
+    audit_texts(alloc, seed, texts.as_slices(), log.as_slice(), out)
 }

@@ -1,87 +1,49 @@
-//! From one bundle to replies and an assignment.
+//! A bundle and its sections.
+ghost use Rattle.std.specs.Prelude.{◌≡◌};
+ghost use Rattle.std.specs.Option.{option_map};
+ghost use Rattle.sc_runs.specs.Bundle.{bundle_of, sections_of};
 
-ghost use Rattle.std.specs.Prelude.{◌≡◌, ◌≢◌, ◌||◌, false};
-ghost use Rattle.sc_intake.specs.declared.fault.Source.TheVariants as source;
-ghost use Rattle.sc_report.specs.Watched.{device_of, has_failed};
-ghost use Rattle.sc_runs.specs.Bundle.{sections_of};
-ghost use Rattle.sc_runs.specs.BundleRun.{ends_by_output, EndsBundle, RunsBundle, WritesSections};
-ghost use Rattle.sc_runs.specs.Inputs.{turn_of, TakesWithin};
-ghost use Rattle.sc_runs.specs.Opening.{is_output_fault};
-ghost use Rattle.sc_runs.specs.Run.{is_journal_fault};
-ghost use Rattle.sc_runs.specs.declared.ending.Ending.TheVariants.{Fault};
-ghost use Rattle.sc_runs.specs.declared.fault.RunFault.TheVariants.{WriteJournal};
+use crate::blanks::trimmed;
+use crate::markers::{after_marker, cut_at};
 
-use crate::ending::Ending;
-use crate::fault::RunFault;
-use crate::inputs::{Files, read_input};
-use crate::matching::match_texts;
-use crate::recorder::Unkept;
-use crate::running::run_texts;
-use crate::sections::{Bundle, split_bundle};
-use sc_intake::Source;
-use sc_papers::Seed;
-use sc_report::Watched;
-use std::alloc::Global;
-use std::io::{Read, Write};
-
-/// Reads a bundle whole, and its seed, and runs its sections: with a script, its records are answered in
-/// turn before the report is written, and without one the report of the opening is written. Before the
-/// sections are known to be good, nothing is written. At most one byte past 64 MiB is read. No journal
-/// is kept, so none can fail.
-pub fn run_bundle<R: Read, W: Write>(
-    alloc: Global,
-    input: &mut Watched<R>,
-    out: &mut Watched<W>,
-) -> Ending
-    ensures ending { RunsBundle (turn_of R.remaining source.Bundle input.old input.new)
-        (W.contents (device_of out.old)) (W.contents (device_of out.new)) result }
-    ensures failed { has_failed out.new ≡ (has_failed out.old || ends_by_output result) }
-    ensures no_journal { result ≢ Fault WriteJournal }
-    ensures limit { TakesWithin (turn_of R.remaining source.Bundle input.old input.new) }
-{
-    match read_input(alloc, input, Source::Bundle) {
-        Ok(text) => run_text(alloc, text.as_slice(), out),
-        Err(fault) => Ending::Fault(fault),
-    }
+/// The sections of a bundle, each a part of the text that was split.
+#[derive(Clone, Copy, Debug, PartialEq, Eq)]
+pub struct Bundle<'a> {
+    /// The seed, without the spaces, tabs and line ends around it.
+    pub seed: &'a [u8],
+    /// The schools file.
+    pub schools: &'a [u8],
+    /// The roster file.
+    pub roster: &'a [u8],
+    /// The lists file.
+    pub lists: &'a [u8],
+    /// The script, where the bundle has one.
+    pub script: Option<&'a [u8]>,
 }
 
-/// Answers the script of a bundle, where it has one, and writes the report of its papers.
-fn run_sections<W: Write>(
-    alloc: Global,
-    seed: &Seed,
-    bundle: &Bundle<'_>,
-    out: &mut Watched<W>,
-) -> Result<(), RunFault>
-    ensures bytes { WritesSections seed.now (sections_of bundle.now) (W.contents (device_of out.old)) (W.contents (device_of out.new)) result }
-    ensures failed { has_failed out.new ≡ (has_failed out.old || is_output_fault result) }
-    ensures no_journal { is_journal_fault result ≡ false }
+/// Splits a bundle at its marker lines `%seed`, `%schools`, `%roster`, `%lists` and `%script`, which
+/// stand in this order; the last may be missing.
+///
+/// The first line is `%seed`. A line that equals the next marker begins its section, and any other
+/// line belongs to the section that it stands in. A line ends at an LF or at the end of the input, and
+/// a CR right before that LF is no part of it. It answers `None` where the first line is another, or
+/// one of the next three markers is missing. It takes no memory, and time linear in the input.
+pub fn split_bundle(input: &[u8]) -> Option<Bundle<'_>>
+    ensures { option_map sections_of result ≡ bundle_of input.now }
 {
-    let files = Files {
-        schools: bundle.schools,
-        roster: bundle.roster,
-        lists: bundle.lists,
+    let first = after_marker(input, b"%seed")?;
+    let seed = cut_at(first, b"%schools")?;
+    let schools = cut_at(seed.after, b"%roster")?;
+    let roster = cut_at(schools.after, b"%lists")?;
+    let (lists, script) = match cut_at(roster.after, b"%script") {
+        Some(lists) => (lists.before, Some(lists.after)),
+        None => (roster.after, None),
     };
-    match bundle.script {
-        Some(script) => run_texts(alloc, seed, files, script, out, &mut Unkept),
-        None => match_texts(alloc, seed, files, false, out),
-    }
-}
-
-/// Runs a bundle that was read.
-fn run_text<W: Write>(alloc: Global, text: &[u8], out: &mut Watched<W>) -> Ending
-    ensures ending { EndsBundle text.now (W.contents (device_of out.old)) (W.contents (device_of out.new)) result }
-    ensures failed { has_failed out.new ≡ (has_failed out.old || ends_by_output result) }
-    ensures no_journal { result ≢ Fault WriteJournal }
-{
-    let Some(bundle) = split_bundle(text) else {
-        return Ending::BadBundle;
-    };
-    let seed = match Seed::from_hex(bundle.seed) {
-        Ok(seed) => seed,
-        Err(error) => return Ending::BadSeed(error),
-    };
-    match run_sections(alloc, &seed, &bundle, out) {
-        Ok(()) => Ending::Done,
-        Err(fault) => Ending::Fault(fault),
-    }
+    Some(Bundle {
+        seed: trimmed(seed.before),
+        schools: schools.before,
+        roster: roster.before,
+        lists,
+        script,
+    })
 }

@@ -1,4 +1,4 @@
-//! Reading the inputs of a call, each whole.
+//! The inputs of a call, and reading each of them whole.
 
 ghost use Rattle.std.specs.Prelude.{All, IfErr, IfOk};
 ghost use Rattle.sc_runs.specs.Inputs.{in_order, opening_turns, texts_of, turn_of, AreRead, EndsAmong, EndsReading, IsRead, TakesWithin};
@@ -17,7 +17,14 @@ pub struct Opening<R> {
     pub lists: Watched<R>,
 }
 
-/// The files of an opening, read whole.
+/// The inputs of a run: the files of an opening, and the script.
+#[derive(Drop)]
+pub struct Inputs<R> {
+    pub opening: Opening<R>,
+    pub script: Watched<R>,
+}
+
+/// The texts of an opening's files, each read whole.
 #[derive(Drop)]
 pub struct OpeningTexts {
     pub schools: Vec<u8>,
@@ -25,9 +32,9 @@ pub struct OpeningTexts {
     pub lists: Vec<u8>,
 }
 
-/// The files of an opening, lent.
+/// The texts of an opening's files, lent.
 #[derive(Clone, Copy)]
-pub struct Files<'a> {
+pub struct OpeningSlices<'a> {
     pub schools: &'a [u8],
     pub roster: &'a [u8],
     pub lists: &'a [u8],
@@ -90,13 +97,13 @@ pub fn read_opening<R: Read>(
 impl OpeningTexts {
     ghost use Rattle.std.specs.Prelude.{◌≡◌};
 
-    /// The files, lent.
-    pub fn files(&self) -> Files<'_>
+    /// The texts, lent.
+    pub fn as_slices(&self) -> OpeningSlices<'_>
         ensures schools { result.schools.now ≡ self.now.schools.items }
         ensures roster { result.roster.now ≡ self.now.roster.items }
         ensures lists { result.lists.now ≡ self.now.lists.items }
     {
-        Files {
+        OpeningSlices {
             schools: self.schools.as_slice(),
             roster: self.roster.as_slice(),
             lists: self.lists.as_slice(),

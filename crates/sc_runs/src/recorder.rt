@@ -15,7 +15,7 @@ pub trait Recorder {
     // Whether a call on it has failed.
     ghost has_failed: { Self → Bool };
 
-    /// Takes a line whole, or a front of it where it fails.
+    /// Takes a line whole, or a prefix of it where it fails.
     fn write_line(&mut self, line: &[u8]) -> Result<(), DeviceFailed>
         ensures bytes { WritesWhole (contents self.old) (contents self.new) result line.now }
         ensures failed { has_failed self.new ≡ (has_failed self.old || is_err result) };

@@ -8,8 +8,9 @@ ghost use Rattle.sc_runs.specs.Opening.{is_output_fault, papers_in};
 ghost use Rattle.sc_runs.specs.Replaying.{ReplaysFiles, WritesReplay};
 
 use crate::fault::RunFault;
-use crate::inputs::{Files, Opening, read_input, read_opening};
-use crate::matching::{read_papers, write_out};
+use crate::inputs::{Opening, OpeningSlices, read_input, read_opening};
+use crate::opening::read_papers;
+use crate::writing::write_flushed_report;
 use sc_intake::Source;
 use sc_journal::{Tail, replay};
 use sc_papers::{Papers, Seed};
@@ -27,29 +28,32 @@ fn replay_papers<W: Write>(
     ensures report { WritesReplay (Ok papers) journal.now (W.contents (device_of out.old)) (W.contents (device_of out.new)) result }
     ensures failed { has_failed out.new ≡ (has_failed out.old || is_output_fault result) }
 {
-    let (clearing, tail) = match replay(alloc, papers, journal) {
-        Ok(replayed) => replayed,
-        Err(fault) => return Err(RunFault::from(fault)),
-    };
-    match write_out(alloc, &clearing, out) {
-        Ok(()) => Ok(tail),
-        Err(fault) => Err(fault),
+    match replay(alloc, papers, journal) {
+        Ok((clearing, tail)) => {
+            let written = write_flushed_report(alloc, &clearing, out);
+            drop(clearing);
+            match written {
+                Ok(()) => Ok(tail),
+                Err(fault) => Err(fault),
+            }
+        }
+        Err(fault) => Err(RunFault::from(fault)),
     }
 }
 
-/// Replays a journal over the papers that the files hold.
+/// Replays a journal over the papers that the texts hold.
 fn replay_texts<W: Write>(
     alloc: Global,
     seed: &Seed,
-    files: Files<'_>,
+    texts: OpeningSlices<'_>,
     journal: &[u8],
     out: &mut Watched<W>,
 ) -> Result<Tail, RunFault>
-    ensures report { WritesReplay (papers_in seed.now files.entry.schools.now files.entry.roster.now files.entry.lists.now) journal.now
+    ensures report { WritesReplay (papers_in seed.now texts.entry.schools.now texts.entry.roster.now texts.entry.lists.now) journal.now
         (W.contents (device_of out.old)) (W.contents (device_of out.new)) result }
     ensures failed { has_failed out.new ≡ (has_failed out.old || is_output_fault result) }
 {
-    match read_papers(alloc, seed, files) {
+    match read_papers(alloc, seed, texts) {
         Ok(papers) => replay_papers(alloc, papers, journal, out),
         Err(fault) => Err(fault),
     }
@@ -84,5 +88,5 @@ pub fn replay_files<R: Read, W: Write>(
         Ok(journal) => journal,
         Err(fault) => return Err(fault),
     };
-    replay_texts(alloc, seed, texts.files(), journal.as_slice(), out)
+    replay_texts(alloc, seed, texts.as_slices(), journal.as_slice(), out)
 }

@@ -8,27 +8,21 @@ ghost use Rattle.sc_report.specs.Text.{report_text};
 ghost use Rattle.sc_report.specs.Watched.{device_of, has_failed};
 ghost use Rattle.sc_runs.specs.Opening.{is_output_fault, papers_in, IsOpeningFault};
 ghost use Rattle.sc_runs.specs.Inputs.{opening_turns, turn_of, TakesWithin};
-ghost use Rattle.sc_runs.specs.Pieces.{to_output};
+ghost use Rattle.sc_runs.specs.TwoWriters.{to_output};
 ghost use Rattle.sc_runs.specs.Run.{is_journal_fault, opened_in, IsFull, RunsFiles, Writes, WritesRun};
 
 use crate::fault::RunFault;
-use crate::inputs::{Files, Opening, read_input, read_opening};
-use crate::matching::open_files;
+use crate::inputs::{Inputs, OpeningSlices, read_input, read_opening};
+use crate::opening::open_texts;
 use crate::recorder::Recorder;
-use crate::script::{answer_all, write_line};
+use crate::script::Session;
+use crate::writing::write_report_text;
 use sc_intake::{Source, read_script};
 use sc_papers::{Amendment, Refusal, Seed};
 use sc_repair::Clearing;
-use sc_report::{Watched, report_text};
+use sc_report::Watched;
 use std::alloc::Global;
 use std::io::{Read, Write};
-
-/// The inputs of a run: the files of an opening, and the script.
-#[derive(Drop)]
-pub struct Inputs<R> {
-    pub opening: Opening<R>,
-    pub script: Watched<R>,
-}
 
 /// The records of a script, or the fault of it.
 fn read_records(alloc: Global, script: &[u8]) -> Result<Vec<Result<Amendment, Refusal>>, RunFault>
@@ -36,25 +30,6 @@ fn read_records(alloc: Global, script: &[u8]) -> Result<Vec<Result<Amendment, Re
 {
     let records = read_script(alloc, script)?;
     Ok(records)
-}
-
-/// Writes the report of the standing assignment.
-fn write_last<W: Write>(
-    alloc: Global,
-    clearing: &Clearing,
-    out: &mut Watched<W>,
-) -> Result<(), RunFault>
-    ensures writes { (kept : Option (List ℕ)) → Writes (to_output (report_text clearing.now.papers (matching_of clearing.now)) ∷ [])
-        (record { journal = kept; output = W.contents (device_of out.old) })
-        (record { journal = kept; output = W.contents (device_of out.new) }) result }
-    ensures full { IsFull 0 result }
-    ensures failed { has_failed out.new ≡ (has_failed out.old || is_output_fault result) }
-    ensures kept { is_journal_fault result ≡ false }
-{
-    match report_text(alloc, clearing) {
-        Ok(text) => write_line(text.as_slice(), out),
-        Err(_) => Err(RunFault::OutOfMemory),
-    }
 }
 
 /// Writes the report of the standing assignment, and flushes the journal and then the output.
@@ -71,7 +46,7 @@ fn finish<W: Write, J: Recorder>(
     ensures failed { has_failed out.new ≡ (has_failed out.old || is_output_fault result) }
     ensures journal_failed { J.has_failed journal.new ≡ (J.has_failed journal.old || is_journal_fault result) }
 {
-    if let Err(fault) = write_last(alloc, clearing, out) {
+    if let Err(fault) = write_report_text(alloc, clearing, out) {
         return Err(fault);
     }
     match journal.flush() {
@@ -87,13 +62,15 @@ fn finish<W: Write, J: Recorder>(
 /// Answers the records of the script in turn, and writes the report of the papers as they then stand.
 fn run_opened<W: Write, J: Recorder>(
     alloc: Global,
-    clearing: &mut Clearing,
+    session: &mut Session,
     script: &[u8],
     out: &mut Watched<W>,
     journal: &mut J,
 ) -> Result<(), RunFault>
-    requires certified { IsCertified clearing.old }
-    ensures writes { WritesRun (opened_in (Ok clearing.old.papers) (script_in script.now))
+    requires certified { IsCertified session.old.clearing }
+    requires records { session.old.records ≡ 0 }
+    requires lines { session.old.lines ≡ 0 }
+    ensures writes { WritesRun (opened_in (Ok session.old.clearing.papers) (script_in script.now))
         (record { journal = J.contents journal.old; output = W.contents (device_of out.old) })
         (record { journal = J.contents journal.new; output = W.contents (device_of out.new) }) result }
     ensures failed { has_failed out.new ≡ (has_failed out.old || is_output_fault result) }
@@ -103,30 +80,35 @@ fn run_opened<W: Write, J: Recorder>(
         Ok(records) => records,
         Err(fault) => return Err(fault),
     };
-    match answer_all(alloc, clearing, records, out, journal) {
-        Ok(()) => finish(alloc, clearing, out, journal),
+    match session.answer_all(alloc, records, out, journal) {
+        Ok(()) => finish(alloc, &session.clearing, out, journal),
         Err(fault) => Err(fault),
     }
 }
 
-/// Opens the papers that the files hold, answers the records of the script in turn, and writes the
+/// Opens the papers that the texts hold, answers the records of the script in turn, and writes the
 /// report of the papers as they then stand.
 pub fn run_texts<W: Write, J: Recorder>(
     alloc: Global,
     seed: &Seed,
-    files: Files<'_>,
+    texts: OpeningSlices<'_>,
     script: &[u8],
     out: &mut Watched<W>,
     journal: &mut J,
 ) -> Result<(), RunFault>
-    ensures writes { WritesRun (opened_in (papers_in seed.now files.entry.schools.now files.entry.roster.now files.entry.lists.now) (script_in script.now))
+    ensures writes { WritesRun (opened_in (papers_in seed.now texts.entry.schools.now texts.entry.roster.now texts.entry.lists.now) (script_in script.now))
         (record { journal = J.contents journal.old; output = W.contents (device_of out.old) })
         (record { journal = J.contents journal.new; output = W.contents (device_of out.new) }) result }
     ensures failed { has_failed out.new ≡ (has_failed out.old || is_output_fault result) }
     ensures journal_failed { J.has_failed journal.new ≡ (J.has_failed journal.old || is_journal_fault result) }
 {
-    match open_files(alloc, seed, files) {
-        Ok(mut clearing) => run_opened(alloc, &mut clearing, script, out, journal),
+    match open_texts(alloc, seed, texts) {
+        Ok(clearing) => {
+            let mut session = Session::new(clearing);
+            let written = run_opened(alloc, &mut session, script, out, journal);
+            drop(session);
+            written
+        }
         Err(fault) => Err(fault),
     }
 }
@@ -137,7 +119,7 @@ pub fn run_texts<W: Write, J: Recorder>(
 ///
 /// Nothing is written before the inputs are known to be good. An error is the first fault of the inputs,
 /// each of which is read whole before any is looked into; that an input or a writer failed; want of
-/// memory; or that the journal is full. After it the writers hold a front of what the run writes, in its
+/// memory; or that the journal is full. After it the writers hold a prefix of what the run writes, in its
 /// order: so each `ok` that stands whole in the output has its line whole in the journal.
 pub fn run<R: Read, W: Write, J: Write>(
     alloc: Global,
@@ -162,5 +144,12 @@ pub fn run<R: Read, W: Write, J: Write>(
         Ok(script) => script,
         Err(fault) => return Err(fault),
     };
-    run_texts(alloc, seed, texts.files(), script.as_slice(), out, journal)
+    run_texts(
+        alloc,
+        seed,
+        texts.as_slices(),
+        script.as_slice(),
+        out,
+        journal,
+    )
 }

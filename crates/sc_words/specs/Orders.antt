@@ -5,7 +5,9 @@ use Rattle.clap.specs.Words.{Row, Text, Kinds, fault_of, first_of, one_of, subco
 use Rattle.sc_words.specs.CommandLine.{command_line}
 use Rattle.sc_words.specs.declared.order.OpeningWords.{OpeningWords}
 use Rattle.sc_words.specs.declared.order.Order.{Order}
-use Rattle.sc_words.specs.declared.order.Order.TheVariants.{NoWords, Match, Run, Audit, Replay}
+use Rattle.sc_words.specs.declared.order.Order.TheVariants.{Bundle, Opening}
+use Rattle.sc_words.specs.declared.order.Subcommand.{Subcommand}
+use Rattle.sc_words.specs.declared.order.Subcommand.TheVariants.{Match, Run, Audit, Replay}
 
 -- the text given for the option of this name
 abbrev pub IsGiven : List Row → Text → Bor Text → Type 0
@@ -20,21 +22,22 @@ abbrev pub IsOpeningIn : List Row → OpeningWords → Type 0
 IsOpeningIn rows o = IsGiven rows (codes "seed") o.seed × IsGiven rows (codes "schools") o.schools
     × IsGiven rows (codes "roster") o.roster × IsGiven rows (codes "lists") o.lists
 
--- the order of the subcommand of this name, by what its options are
+-- what the subcommand of this name asks for, by what its options are
+abbrev pub IsSubcommandIn : Text → List Row → Subcommand → Type 0
+IsSubcommandIn name rows (Match show_log) = (name ≡ codes "match") × ((show_log ≡ true) ↔ IsSet rows (codes "print-log"))
+IsSubcommandIn name rows (Run script journal) =
+    (name ≡ codes "run") × IsGiven rows (codes "script") script × IsGiven rows (codes "journal") journal
+IsSubcommandIn name rows (Audit log) = (name ≡ codes "audit") × IsGiven rows (codes "log") log
+IsSubcommandIn name rows (Replay journal) = (name ≡ codes "replay") × IsGiven rows (codes "journal") journal
+
+-- the order of the subcommand of this name: the opening that its options name, and what is to be done with it
 abbrev pub IsOrderIn : Text → List Row → Order → Type 0
-IsOrderIn name rows NoWords = ⊥
-IsOrderIn name rows (Match opening show_log) = (name ≡ codes "match") × IsOpeningIn rows opening
-    × ((show_log ≡ true) ↔ IsSet rows (codes "print-log"))
-IsOrderIn name rows (Run opening script journal) = (name ≡ codes "run") × IsOpeningIn rows opening
-    × IsGiven rows (codes "script") script × IsGiven rows (codes "journal") journal
-IsOrderIn name rows (Audit opening log) =
-    (name ≡ codes "audit") × IsOpeningIn rows opening × IsGiven rows (codes "log") log
-IsOrderIn name rows (Replay opening journal) =
-    (name ≡ codes "replay") × IsOpeningIn rows opening × IsGiven rows (codes "journal") journal
+IsOrderIn name rows Bundle = ⊥
+IsOrderIn name rows (Opening opening subcommand) = IsOpeningIn rows opening × IsSubcommandIn name rows subcommand
 
 -- no words, or the order of the subcommand that `clap` reads in them
 abbrev pub IsOrderOf : List Text → Order → Type 0
-IsOrderOf [] order = order ≡ NoWords
+IsOrderOf [] order = order ≡ Bundle
 IsOrderOf (word ∷ rest) order =
     IsSomeAnd (subcommand_of command_line (word ∷ rest)) (λ found. IsOrderIn found.0 found.1 order)
 

@@ -84,7 +84,7 @@ pub(crate) const PRINT_LOG: &str = "Write the log of rejections in place of the 
 pub(crate) const SCRIPT: &str = "The amendments, one a record and no header (below)";
 
 pub(crate) const NEW_JOURNAL: &str =
-    "The file that keeps the accepted amendments; it is made new or emptied";
+    "The file that keeps the accepted amendments; it is made new, or emptied before the inputs are read, and must not be one of them";
 
 pub(crate) const LOG: &str = "The log of rejections, a record STUDENT,SCHOOL each and no header";
 

@@ -2,7 +2,7 @@ ghost use Rattle.std.specs.Prelude.{◌≡◌, ◌↔◌, true, [], Ok, IfOk, If
 ghost use Rattle.clap.specs.Words.{FailsBy, first_of, found_of, rows_of, subcommand_rows_of};
 ghost use Rattle.sc_words.specs.CommandLine.{audit_names, opening_names, replay_names, run_names};
 ghost use Rattle.sc_words.specs.Complete.{HasOptions, IsComplete};
-ghost use Rattle.sc_words.specs.Orders.{IsGiven, IsOpeningIn, IsOrderIn, IsOrderOf, IsSet, faults_of};
+ghost use Rattle.sc_words.specs.Orders.{IsGiven, IsOpeningIn, IsOrderIn, IsOrderOf, IsSet, IsSubcommandIn, faults_of};
 
 use crate::program::program;
 use crate::word::Word;
@@ -26,28 +26,25 @@ pub struct OpeningWords<'a> {
 #[derive(Clone, Copy, Debug, PartialEq, Eq)]
 pub enum Order<'a> {
     /// Run the bundle on standard input.
-    NoWords,
-    /// Write the report of an opening, or its log of rejections.
-    Match {
+    Bundle,
+    /// Do this with an opening.
+    Opening {
         opening: OpeningWords<'a>,
-        show_log: bool,
+        subcommand: Subcommand<'a>,
     },
-    /// Answer a script after an opening, write the report and keep a journal.
-    Run {
-        opening: OpeningWords<'a>,
-        script: &'a str,
-        journal: &'a str,
-    },
-    /// Check a log of rejections against an opening.
-    Audit {
-        opening: OpeningWords<'a>,
-        log: &'a str,
-    },
-    /// Replay a journal over an opening, and write the report.
-    Replay {
-        opening: OpeningWords<'a>,
-        journal: &'a str,
-    },
+}
+
+/// What is to be done with an opening.
+#[derive(Clone, Copy, Debug, PartialEq, Eq)]
+pub enum Subcommand<'a> {
+    /// Write its report, or its log of rejections.
+    Match { show_log: bool },
+    /// Answer a script after it, write the report and keep a journal.
+    Run { script: &'a str, journal: &'a str },
+    /// Check a log of rejections against it.
+    Audit { log: &'a str },
+    /// Replay a journal over it, and write the report.
+    Replay { journal: &'a str },
 }
 
 /// The text given for an option.
@@ -79,45 +76,59 @@ fn opening_in<'a>(found: &ArgMatches<'a>) -> Option<OpeningWords<'a>>
     })
 }
 
-fn match_in<'a>(found: &ArgMatches<'a>) -> Option<Order<'a>>
-    ensures given { IfSome result (IsOrderIn (codes "match") (rows_of (found_of found.now))) }
-    ensures found { HasOptions (rows_of (found_of found.now)) opening_names → IsSome result }
+/// What `match` asks for.
+fn match_in<'a>(found: &ArgMatches<'a>) -> Subcommand<'a>
+    ensures { IsSubcommandIn (codes "match") (rows_of (found_of found.now)) result }
 {
-    Some(Order::Match {
-        opening: opening_in(found)?,
+    Subcommand::Match {
         show_log: is_set(found, "print-log"),
-    })
+    }
 }
 
-fn run_in<'a>(found: &ArgMatches<'a>) -> Option<Order<'a>>
-    ensures given { IfSome result (IsOrderIn (codes "run") (rows_of (found_of found.now))) }
+/// What `run` asks for.
+fn run_in<'a>(found: &ArgMatches<'a>) -> Option<Subcommand<'a>>
+    ensures given { IfSome result (IsSubcommandIn (codes "run") (rows_of (found_of found.now))) }
     ensures found { HasOptions (rows_of (found_of found.now)) run_names → IsSome result }
 {
-    Some(Order::Run {
-        opening: opening_in(found)?,
+    Some(Subcommand::Run {
         script: text_in(found, "script")?,
         journal: text_in(found, "journal")?,
     })
 }
 
-fn audit_in<'a>(found: &ArgMatches<'a>) -> Option<Order<'a>>
-    ensures given { IfSome result (IsOrderIn (codes "audit") (rows_of (found_of found.now))) }
+/// What `audit` asks for.
+fn audit_in<'a>(found: &ArgMatches<'a>) -> Option<Subcommand<'a>>
+    ensures given { IfSome result (IsSubcommandIn (codes "audit") (rows_of (found_of found.now))) }
     ensures found { HasOptions (rows_of (found_of found.now)) audit_names → IsSome result }
 {
-    Some(Order::Audit {
-        opening: opening_in(found)?,
+    Some(Subcommand::Audit {
         log: text_in(found, "log")?,
     })
 }
 
-fn replay_in<'a>(found: &ArgMatches<'a>) -> Option<Order<'a>>
-    ensures given { IfSome result (IsOrderIn (codes "replay") (rows_of (found_of found.now))) }
+/// What `replay` asks for.
+fn replay_in<'a>(found: &ArgMatches<'a>) -> Option<Subcommand<'a>>
+    ensures given { IfSome result (IsSubcommandIn (codes "replay") (rows_of (found_of found.now))) }
     ensures found { HasOptions (rows_of (found_of found.now)) replay_names → IsSome result }
 {
-    Some(Order::Replay {
-        opening: opening_in(found)?,
+    Some(Subcommand::Replay {
         journal: text_in(found, "journal")?,
     })
+}
+
+/// What the subcommand of this name asks for, or `None` where there is none of this name or it lacks an
+/// option.
+fn subcommand_in<'a>(name: &str, found: &ArgMatches<'a>) -> Option<Subcommand<'a>>
+    ensures given { IfSome result (IsSubcommandIn name.now (rows_of (found_of found.now))) }
+    ensures found { IsComplete name.now (rows_of (found_of found.now)) → IsSome result }
+{
+    match name {
+        "match" => Some(match_in(found)),
+        "run" => run_in(found),
+        "audit" => audit_in(found),
+        "replay" => replay_in(found),
+        _ => None,
+    }
 }
 
 /// The order of a subcommand, or `None` where there is none or it lacks an option.
@@ -127,13 +138,11 @@ fn order_in<'a>(matches: &ArgMatches<'a>) -> Option<Order<'a>>
     ensures found { IsSomeAnd (subcommand_rows_of matches.now) (λ p. IsComplete p.0 p.1)
         → IsSome result }
 {
-    match matches.subcommand()? {
-        ("match", found) => match_in(found),
-        ("run", found) => run_in(found),
-        ("audit", found) => audit_in(found),
-        ("replay", found) => replay_in(found),
-        _ => None,
-    }
+    let (name, found) = matches.subcommand()?;
+    Some(Order::Opening {
+        opening: opening_in(found)?,
+        subcommand: subcommand_in(name, found)?,
+    })
 }
 
 /// What the words after the program's name order: with no words the bundle, and else what `clap` reads
@@ -142,12 +151,12 @@ fn order_in<'a>(matches: &ArgMatches<'a>) -> Option<Order<'a>>
 /// An error is `clap`'s, and has one of the kinds that its own statements find in the words (wrong
 /// words, or that help was asked for), or means want of memory.
 pub fn order_of<'a>(alloc: Global, words: &'a [Word]) -> Result<Order<'a>, Error>
-    ensures no_words { (result ≡ Ok Order.NoWords) ↔ (words.entry.now ≡ []) }
+    ensures no_words { (result ≡ Ok Order.Bundle) ↔ (words.entry.now ≡ []) }
     ensures order { IfOk result (IsOrderOf words.entry.now) }
     ensures refused { FailsBy (faults_of words.entry.now) result }
 {
     if words.is_empty() {
-        return Ok(Order::NoWords);
+        return Ok(Order::Bundle);
     }
     let matches = program(alloc)?.try_get_matches_from(words)?;
     match order_in(&matches) {

@@ -36,10 +36,10 @@ returns-clause-verdict g c =
     let opening = opening_turns g.R.Read.remaining c.args.opening.now c.read_opening.new.opening in
     let log = turn_of g.R.Read.remaining input.Log c.args.log.now c.read_input.new.from in
     AuditsFiles-read c.args.seed.now opening log (texts_of c.in-Ok.texts) c.in-Ok-read_input.log.items
-    c.files.result.schools.now c.files.result.roster.now c.files.result.lists.now c.as_slice.result.now
+    c.as_slices.result.schools.now c.as_slices.result.roster.now c.as_slices.result.lists.now c.as_slice.result.now
     (g.W.Write.contents (device_of c.args.out.now)) (g.W.Write.contents (device_of c.audit_texts.new.out)) c.audit_texts.result
     c.in-Ok.ensures.read c.in-Ok-read_input.ensures.read
-    (record { schools_same = c.files.ensures.schools; roster_same = c.files.ensures.roster; lists_same = c.files.ensures.lists }) c.as_slice.ensures.value c.audit_texts.ensures.verdict
+    (record { schools_same = c.as_slices.ensures.schools; roster_same = c.as_slices.ensures.roster; lists_same = c.as_slices.ensures.lists }) c.as_slice.ensures.value c.audit_texts.ensures.verdict
 
 pub returns-clause-limit : goal.returns-clause-limit
 returns-clause-limit g c =

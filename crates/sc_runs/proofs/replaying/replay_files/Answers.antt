@@ -36,10 +36,10 @@ returns-clause-report g c =
     let opening = opening_turns g.R.Read.remaining c.args.opening.now c.read_opening.new.opening in
     let journal = turn_of g.R.Read.remaining input.Journal c.args.journal.now c.read_input.new.from in
     ReplaysFiles-read c.args.seed.now opening journal (texts_of c.in-Ok.texts) c.in-Ok-read_input.journal.items
-    c.files.result.schools.now c.files.result.roster.now c.files.result.lists.now c.as_slice.result.now
+    c.as_slices.result.schools.now c.as_slices.result.roster.now c.as_slices.result.lists.now c.as_slice.result.now
     (g.W.Write.contents (device_of c.args.out.now)) (g.W.Write.contents (device_of c.replay_texts.new.out)) c.replay_texts.result
     c.in-Ok.ensures.read c.in-Ok-read_input.ensures.read
-    (record { schools_same = c.files.ensures.schools; roster_same = c.files.ensures.roster; lists_same = c.files.ensures.lists }) c.as_slice.ensures.value c.replay_texts.ensures.report
+    (record { schools_same = c.as_slices.ensures.schools; roster_same = c.as_slices.ensures.roster; lists_same = c.as_slices.ensures.lists }) c.as_slice.ensures.value c.replay_texts.ensures.report
 
 pub returns-clause-limit : goal.returns-clause-limit
 returns-clause-limit g c =

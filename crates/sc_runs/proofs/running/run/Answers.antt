@@ -36,10 +36,10 @@ returns-clause-writes g c =
     let opening = opening_turns g.R.Read.remaining c.args.inputs.now.opening c.read_opening.new.opening in
     let script = turn_of g.R.Read.remaining input.Script c.args.inputs.now.script c.read_input.new.from in
     RunsFiles-read c.args.seed.now opening script (texts_of c.in-Ok.texts) c.in-Ok-read_input.script.items
-    c.files.result.schools.now c.files.result.roster.now c.files.result.lists.now c.as_slice.result.now
+    c.as_slices.result.schools.now c.as_slices.result.roster.now c.as_slices.result.lists.now c.as_slice.result.now
     (record { journal = g.J.Write.contents (device_of c.args.journal.now); output = g.W.Write.contents (device_of c.args.out.now) }) (record { journal = g.J.Write.contents (device_of c.run_texts.new.journal); output = g.W.Write.contents (device_of c.run_texts.new.out) }) c.run_texts.result
     c.in-Ok.ensures.read c.in-Ok-read_input.ensures.read
-    (record { schools_same = c.files.ensures.schools; roster_same = c.files.ensures.roster; lists_same = c.files.ensures.lists }) c.as_slice.ensures.value c.run_texts.ensures.writes
+    (record { schools_same = c.as_slices.ensures.schools; roster_same = c.as_slices.ensures.roster; lists_same = c.as_slices.ensures.lists }) c.as_slice.ensures.value c.run_texts.ensures.writes
 
 pub returns-clause-limit : goal.returns-clause-limit
 returns-clause-limit g c =

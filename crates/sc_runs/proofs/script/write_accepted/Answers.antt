@@ -1,8 +1,8 @@
 use Rattle.std.proofs.Common.{◌∷◌, [], Ok}
 use Rattle.sc_report.specs.Reply.{reply_text}
 use Rattle.sc_report.specs.Watched.{device_of}
-use Rattle.sc_runs.specs.Pieces.{to_output}
-use Rattle.sc_runs.proofs.Pieces.{Writes-after}
+use Rattle.sc_runs.specs.TwoWriters.{to_output}
+use Rattle.sc_runs.proofs.TwoWriters.{Writes-after}
 use Rattle.sc_runs.proofs.script.write_accepted.Goals as goal
 
 pub returns-in-Ok-clause-writes : goal.returns-in-Ok-clause-writes

@@ -1,12 +1,11 @@
-use Rattle.std.proofs.Common.{◌≡◌, ◌≢◌, false, Result, Err, sym}
+use Rattle.std.proofs.Common.{◌≡◌, ◌≢◌, false, Err, sym}
 use Rattle.sc_runs.specs.Bundle.{sections_of}
 use Rattle.sc_runs.specs.Run.{is_journal_fault}
-use Rattle.sc_runs.specs.declared.ending.Ending.{Ending}
 use Rattle.sc_runs.specs.declared.ending.Ending.TheVariants.{Fault}
 use Rattle.sc_runs.specs.declared.fault.RunFault.{RunFault}
 use Rattle.sc_runs.specs.declared.fault.RunFault.TheVariants.{Read, Intake, Journal, WriteOut, WriteJournal, OutOfMemory}
 use Rattle.sc_runs.proofs.Openings.{Keeps-refl}
-use Rattle.sc_runs.proofs.bundle.run_text.Goals as goal
+use Rattle.sc_runs.proofs.bundle_run.run_text.Goals as goal
 
 -- a run that no journal ended does not end as one
 not-by_journal : (fault : RunFault) → is_journal_fault {A = Unit {0}} (Err fault) ≡ false → Fault fault ≢ Fault WriteJournal

@@ -25,27 +25,27 @@ abbrev pub output_of : List Piece → List ℕ
 output_of [] = []
 output_of (piece ∷ rest) = piece.output ++ output_of rest
 
--- what was given to the two writers is a front of the writes: of the first, or the first whole and a front
+-- what was given to the two writers is a prefix of the writes: of the first, or the first whole and a prefix
 -- of the others, so that no write begins before those ahead of it are whole
-abbrev pub IsFront : List Piece → List ℕ → List ℕ → Type 0
-IsFront [] journal output = (journal ≡ []) × (output ≡ [])
-IsFront (piece ∷ rest) journal output =
+abbrev pub IsPrefix : List Piece → List ℕ → List ℕ → Type 0
+IsPrefix [] journal output = (journal ≡ []) × (output ≡ [])
+IsPrefix (piece ∷ rest) journal output =
     ((j : ℕ) × (k : ℕ) × (journal ≡ take j piece.journal) × (output ≡ take k piece.output))
-    ⊎ ((j : List ℕ) × (o : List ℕ) × (journal ≡ piece.journal ++ j) × (output ≡ piece.output ++ o) × IsFront rest j o)
+    ⊎ ((j : List ℕ) × (o : List ℕ) × (journal ≡ piece.journal ++ j) × (output ≡ piece.output ++ o) × IsPrefix rest j o)
 
 -- what the two writers hold, where it is known
-pub record Held : Type 0 where
+pub record Contents : Type 0 where
   pub journal : Option (List ℕ)
   pub output : Option (List ℕ)
 
 -- the two writers were given these texts
-abbrev pub Grows : Held → Held → List ℕ → List ℕ → Type 0
+abbrev pub Grows : Contents → Contents → List ℕ → List ℕ → Type 0
 Grows old new journal output = Appends old.journal new.journal journal × Appends old.output new.output output
 
 -- the two writers were given all the writes
-abbrev pub GrowsByAll : List Piece → Held → Held → Type 0
+abbrev pub GrowsByAll : List Piece → Contents → Contents → Type 0
 GrowsByAll pieces old new = Grows old new (journal_of pieces) (output_of pieces)
 
--- the two writers were given a front of the writes
-abbrev pub GrowsByFront : List Piece → Held → Held → Type 0
-GrowsByFront pieces old new = (journal : List ℕ) × (output : List ℕ) × IsFront pieces journal output × Grows old new journal output
+-- the two writers were given a prefix of the writes
+abbrev pub GrowsByPrefix : List Piece → Contents → Contents → Type 0
+GrowsByPrefix pieces old new = (journal : List ℕ) × (output : List ℕ) × IsPrefix pieces journal output × Grows old new journal output

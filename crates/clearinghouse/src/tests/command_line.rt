@@ -1,0 +1,190 @@
+//! What words order, and what is said of words that order nothing.
+use crate::perform::end_without_words;
+use clap::error::ErrorKind;
+use sc_words::{OpeningWords, Order, Subcommand, Word, order_of};
+use std::alloc::{AllocError, Global};
+use std::io;
+use std::process::Abort;
+
+/// The words of a line, which stand between bars.
+fn words_of(alloc: Global, line: &str) -> Result<Vec<Word>, AllocError> {
+    let mut words = Vec::new(alloc);
+    for text in line.split('|') {
+        words.push(Word::from_text(String::from_str(alloc, text)?))?;
+    }
+    Ok(words)
+}
+
+const OPENING: OpeningWords<'static> = OpeningWords {
+    seed: "00",
+    schools: "schools",
+    roster: "roster",
+    lists: "lists",
+};
+
+/// Lines, and what each asks for with that opening.
+const ORDERS: &[(&str, Subcommand<'static>)] = &[
+    (
+        "match|--seed|00|--schools|schools|--roster|roster|--lists|lists",
+        Subcommand::Match { show_log: false },
+    ),
+    (
+        "match|--print-log|--lists=lists|--roster|roster|--schools=schools|--seed|00",
+        Subcommand::Match { show_log: true },
+    ),
+    (
+        "run|--seed|00|--schools|schools|--roster|roster|--lists|lists|--script|script|--journal|journal",
+        Subcommand::Run {
+            script: "script",
+            journal: "journal",
+        },
+    ),
+    (
+        "run|--journal=|--script=-|--seed|00|--schools|schools|--roster|roster|--lists|lists",
+        Subcommand::Run {
+            script: "-",
+            journal: "",
+        },
+    ),
+    (
+        "audit|--seed|00|--schools|schools|--roster|roster|--lists|lists|--log|the log",
+        Subcommand::Audit { log: "the log" },
+    ),
+    (
+        "replay|--seed|00|--schools|schools|--roster|roster|--lists|lists|--journal=--journal",
+        Subcommand::Replay {
+            journal: "--journal",
+        },
+    ),
+];
+
+/// The words order this.
+fn expect_order<R: Abort + AllocGlobal>(rt: &R, words: &[Word], want: Order<'_>) {
+    match order_of(rt.alloc(), words) {
+        Ok(order) => assert!(rt; order == want, "{order:?}"),
+        Err(error) => panic!(rt; "{error}"),
+    }
+}
+
+/// The words of a line ask for this with the opening.
+fn expect_subcommand<R: Abort + AllocGlobal>(rt: &R, line: &str, subcommand: Subcommand<'_>) {
+    match words_of(rt.alloc(), line) {
+        Ok(words) => expect_order(
+            rt,
+            words.as_slice(),
+            Order::Opening {
+                opening: OPENING,
+                subcommand,
+            },
+        ),
+        Err(error) => panic!(rt; "{error}"),
+    }
+}
+
+#[test]
+fn command_lines(rt: HostRuntime) {
+    for (line, subcommand) in ORDERS {
+        expect_subcommand(&rt, line, *subcommand);
+    }
+    expect_order(&rt, &[], Order::Bundle);
+}
+
+/// The kind of error that `clap` finds in words that order nothing, and its text.
+fn clap_error(alloc: Global, line: &str) -> Result<Option<(ErrorKind, String)>, AllocError> {
+    let words = words_of(alloc, line)?;
+    match order_of(alloc, words.as_slice()) {
+        Ok(_) => Ok(None),
+        Err(error) => Ok(Some((error.kind(), format!(in alloc; "{error}")?))),
+    }
+}
+
+/// The words of a line order nothing: `clap` finds this kind of error in them, and says this among other
+/// things.
+fn expect_error<R: Abort + AllocGlobal>(rt: &R, line: &str, kind: ErrorKind, piece: &str) {
+    match clap_error(rt.alloc(), line) {
+        Ok(Some((found, text))) => {
+            assert!(rt; found == kind, "{line}: {found:?}");
+            assert!(rt; text.as_str().contains(piece), "{line}: {text}");
+        }
+        Ok(None) => panic!(rt; "{line}: no error"),
+        Err(error) => panic!(rt; "{error}"),
+    }
+}
+
+const WRONG_LINES: &[(&str, ErrorKind)] = &[
+    ("", ErrorKind::InvalidSubcommand),
+    ("shuffle", ErrorKind::InvalidSubcommand),
+    ("--seed|00|match", ErrorKind::UnknownArgument),
+    ("match", ErrorKind::MissingRequiredArgument),
+    (
+        "match|--seed|00|--schools|schools|--roster|roster",
+        ErrorKind::MissingRequiredArgument,
+    ),
+    ("match|--colour", ErrorKind::UnknownArgument),
+    ("run|--print-log", ErrorKind::UnknownArgument),
+    ("match|--print-log=yes", ErrorKind::TooManyValues),
+    ("match|schools", ErrorKind::UnknownArgument),
+    ("match|--seed|00|--seed|00", ErrorKind::ArgumentConflict),
+    ("match|--print-log|--print-log", ErrorKind::ArgumentConflict),
+    ("match|--seed", ErrorKind::InvalidValue),
+    ("audit|--log|-x", ErrorKind::UnknownArgument),
+    ("audit|--log|--seed", ErrorKind::InvalidValue),
+    ("help", ErrorKind::DisplayHelp),
+    ("--help", ErrorKind::DisplayHelp),
+    ("match|--help", ErrorKind::DisplayHelp),
+    ("run|-h", ErrorKind::DisplayHelp),
+];
+
+#[test]
+fn wrong_command_lines(rt: HostRuntime) {
+    for (line, kind) in WRONG_LINES {
+        expect_error(&rt, line, *kind, "");
+    }
+    let missing = "error: the following required arguments were not provided:";
+    expect_error(&rt, "match", ErrorKind::MissingRequiredArgument, missing);
+}
+
+/// Lines that ask for help, and a piece of what it says.
+const HELP_TEXTS: &[(&str, &str)] = &[
+    ("--help", "Usage: clearinghouse <COMMAND>"),
+    ("--help", "Exit status: 0 done, 1 the log is not certified"),
+    (
+        "match|--help",
+        "Usage: clearinghouse match [OPTIONS] --seed <HEX>",
+    ),
+    ("match|--help", "school,zone,seats"),
+    ("match|--help", "student,zone,siblings"),
+    ("match|--help", "student,choices"),
+    ("match|--help", "--print-log"),
+    ("match|--help", "Example:\n  clearinghouse match"),
+    ("run|--help", "enter,STUDENT,ZONE,SIBLINGS,CHOICES"),
+    ("run|--help", "emptied before the inputs are read"),
+    ("run|--help", "Example:\n  clearinghouse run"),
+    ("audit|--help", "STUDENT,SCHOOL"),
+    ("audit|--help", "Example:\n  clearinghouse audit"),
+    ("replay|--help", "--journal <FILE>"),
+    ("replay|--help", "Example:\n  clearinghouse replay"),
+];
+
+#[test]
+fn help_texts(rt: HostRuntime) {
+    for (line, piece) in HELP_TEXTS {
+        expect_error(&rt, line, ErrorKind::DisplayHelp, piece);
+    }
+}
+
+/// What the program says, and its status, where its words could not be read for this error.
+fn expect_end<R: Abort + AllocGlobal>(rt: &R, error: &io::Error, line: &[u8], want: u8) {
+    let mut errors = Vec::new(rt.alloc());
+    let status = end_without_words(rt.alloc(), error, &mut errors);
+    assert!(rt; errors.as_slice() == line, "{errors:?}");
+    assert!(rt; status == want, "{status}");
+}
+
+#[test]
+fn words_that_could_not_be_read(rt: HostRuntime) {
+    let line = b"clearinghouse: a word of the command line is not UTF-8\n";
+    expect_end(&rt, &io::Error::from(io::ErrorKind::InvalidData), line, 2);
+    let line = b"clearinghouse: out of memory\n";
+    expect_end(&rt, &io::Error::from(io::ErrorKind::OutOfMemory), line, 5);
+}

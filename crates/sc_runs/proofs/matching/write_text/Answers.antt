@@ -1,5 +1,0 @@
-use Rattle.sc_runs.proofs.Openings.{Appends-front-kept}
-use Rattle.sc_runs.proofs.matching.write_text.Goals as goal
-
-pub returns-in-Err-flush-clause-bytes : goal.returns-in-Err-flush-clause-bytes
-returns-in-Err-flush-clause-bytes g c = Appends-front-kept _ _ _ c.args.text.now c.in-Ok.ensures.bytes c.flush.ensures.bytes

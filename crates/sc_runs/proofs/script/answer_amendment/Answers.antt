@@ -1,9 +1,0 @@
-use Rattle.sc_runs.proofs.Openings.{Keeps-refl}
-use Rattle.sc_runs.proofs.Pieces.{GrowsByFront-kept}
-use Rattle.sc_runs.proofs.script.answer_amendment.Goals as goal
-
-pub returns-in-Err-clause-writes : goal.returns-in-Err-clause-writes
-returns-in-Err-clause-writes g c = GrowsByFront-kept _ _ _ _ _ (Keeps-refl _) (Keeps-refl _)
-
-pub returns-in-None-clause-writes : goal.returns-in-None-clause-writes
-returns-in-None-clause-writes g c = GrowsByFront-kept _ _ _ _ _ (Keeps-refl _) (Keeps-refl _)

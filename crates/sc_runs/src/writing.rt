@@ -1,0 +1,91 @@
+//! Writing to the output: a line, a text, the report and the log of the standing assignment.
+
+ghost use Rattle.std.specs.Prelude.{◌≡◌, ◌||◌};
+ghost use Rattle.sc_repair.specs.Standing.{matching_of, IsCertified};
+ghost use Rattle.sc_report.specs.Text.{IsReportText};
+ghost use Rattle.sc_report.specs.Watched.{device_of, has_failed};
+ghost use Rattle.sc_runs.specs.Opening.{is_output_fault, IsCertificate, WritesExactly, WritesText};
+
+use crate::fault::RunFault;
+use sc_repair::Clearing;
+use sc_report::{ReportFault, Watched, log_text, write_report, write_whole};
+use std::alloc::Global;
+use std::io::Write;
+
+/// Writes a line, or any text, and does not flush it.
+pub fn write_line<W: Write>(line: &[u8], out: &mut Watched<W>) -> Result<(), RunFault>
+    ensures bytes { WritesExactly line.now (W.contents (device_of out.old)) (W.contents (device_of out.new)) result }
+    ensures failed { has_failed out.new ≡ (has_failed out.old || is_output_fault result) }
+{
+    match write_whole(out, line) {
+        Ok(()) => Ok(()),
+        Err(_) => Err(RunFault::WriteOut),
+    }
+}
+
+/// Writes a text, and flushes it.
+pub fn write_text<W: Write>(text: &[u8], out: &mut Watched<W>) -> Result<(), RunFault>
+    ensures bytes { WritesExactly text.now (W.contents (device_of out.old)) (W.contents (device_of out.new)) result }
+    ensures failed { has_failed out.new ≡ (has_failed out.old || is_output_fault result) }
+{
+    if let Err(fault) = write_line(text, out) {
+        return Err(fault);
+    }
+    match out.flush() {
+        Ok(()) => Ok(()),
+        Err(_) => Err(RunFault::WriteOut),
+    }
+}
+
+/// Writes the report of the standing assignment, and does not flush it.
+pub fn write_report_text<W: Write>(
+    alloc: Global,
+    clearing: &Clearing,
+    out: &mut Watched<W>,
+) -> Result<(), RunFault>
+    ensures bytes { WritesText (IsReportText clearing.now.papers (matching_of clearing.now))
+        (W.contents (device_of out.old)) (W.contents (device_of out.new)) result }
+    ensures failed { has_failed out.new ≡ (has_failed out.old || is_output_fault result) }
+{
+    match write_report(alloc, clearing, out) {
+        Ok(()) => Ok(()),
+        Err(ReportFault::Write) => Err(RunFault::WriteOut),
+        Err(ReportFault::OutOfMemory) => Err(RunFault::OutOfMemory),
+    }
+}
+
+/// Writes the report of the standing assignment, and flushes it.
+pub fn write_flushed_report<W: Write>(
+    alloc: Global,
+    clearing: &Clearing,
+    out: &mut Watched<W>,
+) -> Result<(), RunFault>
+    ensures bytes { WritesText (IsReportText clearing.now.papers (matching_of clearing.now))
+        (W.contents (device_of out.old)) (W.contents (device_of out.new)) result }
+    ensures failed { has_failed out.new ≡ (has_failed out.old || is_output_fault result) }
+{
+    if let Err(fault) = write_report_text(alloc, clearing, out) {
+        return Err(fault);
+    }
+    match out.flush() {
+        Ok(()) => Ok(()),
+        Err(_) => Err(RunFault::WriteOut),
+    }
+}
+
+/// Writes the log of rejections that certifies the standing assignment, and flushes it.
+pub fn write_log<W: Write>(
+    alloc: Global,
+    clearing: &Clearing,
+    out: &mut Watched<W>,
+) -> Result<(), RunFault>
+    requires certified { IsCertified clearing.now }
+    ensures bytes { WritesText (IsCertificate clearing.now.papers)
+        (W.contents (device_of out.old)) (W.contents (device_of out.new)) result }
+    ensures failed { has_failed out.new ≡ (has_failed out.old || is_output_fault result) }
+{
+    match log_text(alloc, clearing.rejections()) {
+        Ok(text) => write_text(text.as_slice(), out),
+        Err(_) => Err(RunFault::OutOfMemory),
+    }
+}
