@@ -56,6 +56,7 @@ fn audits(rt: HostRuntime) {
 ";
     let papers = papers_of(&rt, rt.alloc(), MARKET_B_AND_NEWCOMER);
     expect_verdicts(&rt, rt.alloc(), &papers, lines);
+    drop(papers);
 }
 
 #[test]
@@ -63,6 +64,7 @@ fn an_unknown_student_or_school_is_a_bad_entry(rt: HostRuntime) {
     let papers = papers_of(&rt, rt.alloc(), MARKET_B_AND_NEWCOMER);
     let lines = "9,10 => bad entry 1\n1,10 2,77 => bad entry 2\n";
     expect_verdicts(&rt, rt.alloc(), &papers, lines);
+    drop(papers);
 }
 
 #[test]
@@ -73,6 +75,7 @@ fn a_correction_rewinds_to_the_start(rt: HostRuntime) {
     amend(&rt, rt.alloc(), &mut papers, "correct,1,0,");
     let after = "2,10 3,20 2,20 => bad entry 1\n1,10 1,20 3,20 => certified\n";
     expect_verdicts(&rt, rt.alloc(), &papers, after);
+    drop(papers);
 }
 
 /// A stability verdict in words.
@@ -106,6 +109,7 @@ fn expect_stabilities(rt: &impl Abort, alloc: Global, files: Files<'_>, lines: &
         let stability = stability_of(rt, alloc, &papers, pairs).expect(rt, "memory");
         assert_eq!(rt; stability.as_str(), want, "{pairs}");
     }
+    drop(papers);
 }
 
 #[test]

@@ -5,7 +5,7 @@
 //! last settling then made, and the standing that is left.
 use crate::given::{papers_of, school, student};
 use sc_markets::{FIVE_STUDENTS, Files, MARKET_A, MARKET_B, TWO_STUDENTS, amendment, standing};
-use sc_papers::{Amendment, Refusal};
+use sc_papers::Refusal;
 use sc_repair::Clearing;
 use std::alloc::{AllocError, Global};
 use std::process::Abort;
@@ -47,6 +47,7 @@ fn walk(rt: &impl Abort, alloc: Global, files: Files<'_>, opening: &str, script:
         let left = left_by(alloc, &mut clearing, record).expect(rt, "memory");
         assert_eq!(rt; left.as_str(), want, "{record}");
     }
+    drop(clearing);
 }
 
 #[test]
@@ -149,35 +150,6 @@ add,77,1 => UnknownSchool 77, 3: 1:20 2:0 3:10 |(1,10)(2,20)(2,10)
     walk(&rt, rt.alloc(), MARKET_B, "1:10 2:20 |", script);
 }
 
-/// Enters the newcomer, and once more where memory was refused, which leaves the clearing as it was
-/// opened.
-fn enter_or_keep(
-    rt: &impl Abort,
-    alloc: Global,
-    clearing: &mut Clearing,
-    entry: Amendment,
-    again: Amendment,
-) {
-    if let Err(refusal) = clearing.amend(entry) {
-        assert_eq!(rt; refusal, Refusal::OutOfMemory);
-        assert_eq!(rt; clearing.proposals_last(), 2);
-        expect_standing(rt, alloc, clearing, "1:10 2:20 |");
-        assert!(rt; clearing.amend(again) == Ok(()));
-    }
-    expect_standing(rt, alloc, clearing, "1:20 2:0 3:10 |(1,10)(2,20)(2,10)");
-}
-
-/// To be run with each allocation failing in turn: want of memory leaves Market B as it was opened, and
-/// the same call then succeeds.
-#[test]
-fn each_growth_refused(rt: HostRuntime) {
-    let alloc = rt.alloc();
-    let mut clearing = open(&rt, alloc, MARKET_B);
-    let entry = amendment(alloc, "enter,3,1,10,10").expect(&rt, "an amendment");
-    let again = amendment(alloc, "enter,3,1,10,10").expect(&rt, "an amendment");
-    enter_or_keep(&rt, alloc, &mut clearing, entry, again);
-}
-
 fn expect_read_back(rt: &impl Abort, clearing: &Clearing) {
     assert!(rt; clearing.place_of(student(rt, 1)) == Some(None));
     assert!(rt; clearing.place_of(student(rt, 3)).is_none());
@@ -193,5 +165,7 @@ fn expect_read_back(rt: &impl Abort, clearing: &Clearing) {
 
 #[test]
 fn one_seat_two_students(rt: HostRuntime) {
-    expect_read_back(&rt, &open(&rt, rt.alloc(), TWO_STUDENTS));
+    let clearing = open(&rt, rt.alloc(), TWO_STUDENTS);
+    expect_read_back(&rt, &clearing);
+    drop(clearing);
 }

@@ -2,7 +2,7 @@
 ghost use Rattle.std.specs.Prelude.{◌≡◌};
 
 use sc_markets::{Files, amendment};
-use sc_papers::{Papers, SchoolNo, StudentNo};
+use sc_papers::{Amendment, Papers, SchoolNo, StudentNo};
 use std::alloc::Global;
 use std::process::Abort;
 
@@ -20,13 +20,23 @@ pub fn school(rt: &impl Abort, number: u32) -> SchoolNo
 
 /// Makes an amendment that the papers allow.
 pub fn amend(rt: &impl Abort, alloc: Global, papers: &mut Papers, record: &str) {
-    let amendment = amendment(alloc, record).expect(rt, "an amendment");
     papers
-        .apply(amendment)
+        .apply(amendment_of(rt, alloc, record))
         .expect(rt, "an amendment that is allowed");
 }
 
-/// The papers of a market.
+/// The papers of a market, made again where memory was refused.
 pub fn papers_of(rt: &impl Abort, alloc: Global, files: Files<'_>) -> Papers {
-    files.papers(alloc).expect(rt, "papers")
+    match files.papers(alloc) {
+        Ok(papers) => papers,
+        Err(_) => files.papers(alloc).expect(rt, "papers"),
+    }
+}
+
+/// The amendment of a record, made again where memory was refused.
+pub fn amendment_of(rt: &impl Abort, alloc: Global, record: &str) -> Amendment {
+    match amendment(alloc, record) {
+        Ok(amendment) => amendment,
+        Err(_) => amendment(alloc, record).expect(rt, "an amendment"),
+    }
 }

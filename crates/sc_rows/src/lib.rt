@@ -9,6 +9,8 @@ mod clearings;
 #[cfg(test)]
 mod given;
 #[cfg(test)]
+mod lottery;
+#[cfg(test)]
 mod papers;
 #[cfg(test)]
 mod ranges;

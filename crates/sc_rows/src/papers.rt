@@ -1,17 +1,15 @@
 //! Papers: what they hold, the keys, and what each amendment changes.
-use crate::given::{amend, papers_of, school, student};
-use sc_markets::{Files, MARKET_B, amendment, assignment};
+use crate::given::{amend, amendment_of, papers_of, school, student};
+use sc_markets::{Files, MARKET_B, assignment};
 use sc_papers::{Assignment, Key, Papers, Refusal, Seed};
 use std::alloc::Global;
 use std::process::Abort;
 
-#[test]
-fn schools_are_read_back(rt: HostRuntime) {
-    let papers = papers_of(&rt, rt.alloc(), MARKET_B);
+fn expect_schools(rt: &impl Abort, papers: &Papers) {
     assert!(rt; papers.schools_len() == 2);
-    assert!(rt; papers.school_at(1) == Some(school(&rt, 20)));
-    assert!(rt; papers.school_position(school(&rt, 20)) == Some(1));
-    let ten = papers.school(school(&rt, 10)).expect(&rt, "school 10");
+    assert!(rt; papers.school_at(1) == Some(school(rt, 20)));
+    assert!(rt; papers.school_position(school(rt, 20)) == Some(1));
+    let ten = papers.school(school(rt, 10)).expect(rt, "school 10");
     assert!(rt; ten.zone.get() == 1);
     assert!(rt; Seed::from_hex(&[b'0'; 64]) == Ok(papers.seed()));
 }
@@ -29,8 +27,11 @@ fn expect_students(rt: &impl Abort, alloc: Global, papers: &Papers) {
 }
 
 #[test]
-fn students_are_read_back(rt: HostRuntime) {
-    expect_students(&rt, rt.alloc(), &papers_of(&rt, rt.alloc(), MARKET_B));
+fn schools_and_students_are_read_back(rt: HostRuntime) {
+    let papers = papers_of(&rt, rt.alloc(), MARKET_B);
+    expect_schools(&rt, &papers);
+    expect_students(&rt, rt.alloc(), &papers);
+    drop(papers);
 }
 
 /// The student at this position has this number, and has at school 10 a key of this class and draw.
@@ -45,6 +46,13 @@ fn expect_key(rt: &impl Abort, papers: &Papers, at: usize, number: u32, class: u
     assert!(rt; papers.key_at(at, 1).is_none());
 }
 
+fn expect_keys(rt: &impl Abort, papers: &Papers) {
+    expect_key(rt, papers, 0, 1, 0, 0xe56a5d4028bd8653);
+    expect_key(rt, papers, 1, 2, 1, 0xb819d2bd1aed8da0);
+    expect_key(rt, papers, 2, 3, 2, 0xccef36a8c70d778b);
+    expect_key(rt, papers, 3, 4, 3, 0x7c5941da8d485751);
+}
+
 // The classes by the rule: sibling and zone, sibling, zone, neither. The draws are the lottery's
 // under the zero seed.
 #[test]
@@ -55,10 +63,8 @@ fn keys_by_class_draw_and_number(rt: HostRuntime) {
         lists: "1,10\n2,10\n3,10\n4,10\n",
     };
     let papers = papers_of(&rt, rt.alloc(), files);
-    expect_key(&rt, &papers, 0, 1, 0, 0xe56a5d4028bd8653);
-    expect_key(&rt, &papers, 1, 2, 1, 0xb819d2bd1aed8da0);
-    expect_key(&rt, &papers, 2, 3, 2, 0xccef36a8c70d778b);
-    expect_key(&rt, &papers, 3, 4, 3, 0x7c5941da8d485751);
+    expect_keys(&rt, &papers);
+    drop(papers);
 }
 
 fn leave_and_return(rt: &impl Abort, alloc: Global, papers: &mut Papers) {
@@ -76,6 +82,7 @@ fn leave_and_return(rt: &impl Abort, alloc: Global, papers: &mut Papers) {
 fn withdraw_and_return(rt: HostRuntime) {
     let mut papers = papers_of(&rt, rt.alloc(), MARKET_B);
     leave_and_return(&rt, rt.alloc(), &mut papers);
+    drop(papers);
 }
 
 fn expect_changed(rt: &impl Abort, copy: &Papers) {
@@ -89,13 +96,16 @@ fn expect_changed(rt: &impl Abort, copy: &Papers) {
 fn change_and_copy(rt: &impl Abort, alloc: Global, papers: &mut Papers) {
     amend(rt, alloc, papers, "rerank,1,20");
     amend(rt, alloc, papers, "correct,1,7,");
-    expect_changed(rt, &papers.copy().expect(rt, "memory"));
+    let copy = papers.copy().expect(rt, "memory");
+    expect_changed(rt, &copy);
+    drop(copy);
 }
 
 #[test]
 fn changes_keep_the_place_and_the_rest(rt: HostRuntime) {
     let mut papers = papers_of(&rt, rt.alloc(), MARKET_B);
     change_and_copy(&rt, rt.alloc(), &mut papers);
+    drop(papers);
 }
 
 fn expect_assigned(rt: &impl Abort, copy: &Assignment) {
@@ -111,13 +121,16 @@ fn an_assignment_is_a_map(rt: HostRuntime) {
     expect_assigned(&rt, &assignment.copy().expect(&rt, "memory"));
 }
 
-/// Makes amendments for which memory may be refused: if it is, the papers stay as they were.
+/// Makes amendments for which memory may be refused: if it is, the papers stay as they were, and the same
+/// amendment then succeeds.
 fn amend_or_keep(rt: &impl Abort, alloc: Global, papers: &mut Papers, script: &str) {
     for record in script.lines() {
-        let amendment = amendment(alloc, record).expect(rt, "an amendment");
         let before = papers.students_len();
-        if papers.apply(amendment) == Err(Refusal::OutOfMemory) {
+        let first = amendment_of(rt, alloc, record);
+        let again = amendment_of(rt, alloc, record);
+        if papers.apply(first) == Err(Refusal::OutOfMemory) {
             assert!(rt; papers.students_len() == before);
+            assert!(rt; papers.apply(again) == Ok(()), "{record}");
         }
     }
 }
@@ -129,4 +142,5 @@ fn each_growth_refused(rt: HostRuntime) {
     let mut papers = papers_of(&rt, rt.alloc(), MARKET_B);
     let script = "enter,3,1,10,10\nrerank,1,20\ncorrect,2,1,20\nwithdraw,1\nadd,10,1\nclose,10,1\n";
     amend_or_keep(&rt, rt.alloc(), &mut papers, script);
+    drop(papers);
 }

@@ -5,7 +5,6 @@ use sc_markets::{MARKET_B, amendment};
 use sc_papers::{Amendment, Papers, Refusal, SchoolList, SchoolRefusal, Seats, Seed, Zone};
 use std::alloc::{AllocError, Global};
 use std::process::Abort;
-use std::test::Fail;
 
 fn zero_papers(rt: &impl Abort, alloc: Global) -> Papers {
     let seed = Seed::from_hex(&[b'0'; 64]).expect(rt, "a seed");
@@ -26,8 +25,10 @@ fn refusals_of_schools(rt: HostRuntime) {
     }
     assert!(rt; add_school(&rt, &mut papers, 7) == Err(SchoolRefusal::SchoolExists));
     assert!(rt; add_school(&rt, &mut papers, 5001) == Err(SchoolRefusal::TooManySchools));
+    drop(papers);
     let mut closed = papers_of(&rt, rt.alloc(), MARKET_B);
     assert!(rt; add_school(&rt, &mut closed, 30) == Err(SchoolRefusal::SchoolsClosed));
+    drop(closed);
 }
 
 /// The entry of a student who lists school 10 alone.
@@ -50,20 +51,21 @@ fn refusal_of(rt: &impl Abort, papers: &mut Papers, amendment: Amendment) -> Opt
     applied
 }
 
-fn fill_with_students(rt: &impl Abort, alloc: Global, papers: &mut Papers) -> Result<(), Fail> {
+fn fill_with_students(rt: &impl Abort, alloc: Global, papers: &mut Papers) {
     for number in 1..200_001 {
-        papers.apply(entry(rt, alloc, number)?)?;
+        let entry = entry(rt, alloc, number).expect(rt, "memory");
+        papers.apply(entry).expect(rt, "room");
     }
-    let one_more = entry(rt, alloc, 200_001)?;
+    let one_more = entry(rt, alloc, 200_001).expect(rt, "memory");
     assert!(rt; refusal_of(rt, papers, one_more) == Some(Refusal::RosterFull));
-    Ok(())
 }
 
 #[test]
-fn the_roster_is_full(rt: HostRuntime) -> Result<(), Fail> {
+fn the_roster_is_full(rt: HostRuntime) {
     let mut papers = zero_papers(&rt, rt.alloc());
     assert!(rt; add_school(&rt, &mut papers, 10) == Ok(()));
-    fill_with_students(&rt, rt.alloc(), &mut papers)
+    fill_with_students(&rt, rt.alloc(), &mut papers);
+    drop(papers);
 }
 
 /// What the papers answer to an amendment: its refusal, or `ok`.
@@ -102,6 +104,7 @@ fn expect_of_market_b(rt: &impl Abort, alloc: Global, script: &str, left: u32) {
     assert!(rt; papers.students_len() == 2);
     assert!(rt; seats(rt, &papers, 10) == left);
     assert!(rt; seats(rt, &papers, 20) == 1);
+    drop(papers);
 }
 
 // A list of 21 schools has an unknown one, too: its length comes first.

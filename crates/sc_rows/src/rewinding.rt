@@ -42,5 +42,7 @@ close,20,1 => 0
 add,30,1 => 5
 withdraw,99 => UnknownStudent
 ";
-    expect_points(&rt, rt.alloc(), &papers_of(&rt, rt.alloc(), files), script);
+    let papers = papers_of(&rt, rt.alloc(), files);
+    expect_points(&rt, rt.alloc(), &papers, script);
+    drop(papers);
 }

@@ -8,7 +8,6 @@ use sc_papers::{Key, Seats, StudentNo};
 use sc_seats::{HeapRoll, Roll, SortedRoll};
 use std::alloc::{AllocError, Global};
 use std::process::Abort;
-use std::test::Fail;
 
 fn key(rt: &impl Abort, class: u8, draw: u64, number: u32) -> Key {
     Key {
@@ -95,17 +94,15 @@ fn few_seats<R: Roll>(rt: &impl Abort, alloc: Global) -> Result<(), AllocError> 
 }
 
 #[test]
-fn sorted_rolls(rt: HostRuntime) -> Result<(), Fail> {
-    two_seats::<SortedRoll>(&rt, rt.alloc())?;
-    few_seats::<SortedRoll>(&rt, rt.alloc())?;
-    Ok(())
+fn sorted_rolls(rt: HostRuntime) {
+    two_seats::<SortedRoll>(&rt, rt.alloc()).expect(&rt, "memory");
+    few_seats::<SortedRoll>(&rt, rt.alloc()).expect(&rt, "memory");
 }
 
 #[test]
-fn heap_rolls(rt: HostRuntime) -> Result<(), Fail> {
-    two_seats::<HeapRoll>(&rt, rt.alloc())?;
-    few_seats::<HeapRoll>(&rt, rt.alloc())?;
-    Ok(())
+fn heap_rolls(rt: HostRuntime) {
+    two_seats::<HeapRoll>(&rt, rt.alloc()).expect(&rt, "memory");
+    few_seats::<HeapRoll>(&rt, rt.alloc()).expect(&rt, "memory");
 }
 
 /// Whether both kinds of roll answer alike to keys drawn at random, by Knuth's linear congruential
@@ -138,11 +135,11 @@ fn agree(rt: &impl Abort, alloc: Global, capacity: u32) -> Result<bool, AllocErr
 }
 
 #[test]
-fn both_rolls_agree_on_random_offers(rt: HostRuntime) -> Result<(), Fail> {
-    for capacity in [0, 1, 2, 7, 40, 1_000] {
-        assert!(rt; agree(&rt, rt.alloc(), capacity)?, "{capacity}");
+fn both_rolls_agree_on_random_offers(rt: HostRuntime) {
+    for capacity in &[0, 1, 2, 7, 40, 1_000] {
+        let alike = agree(&rt, rt.alloc(), *capacity).expect(&rt, "memory");
+        assert!(rt; alike, "{capacity}");
     }
-    Ok(())
 }
 
 /// Nine offers to a roll of eight seats, and a copy of it.
@@ -171,8 +168,7 @@ fn grow<R: Roll>(rt: &impl Abort, alloc: Global) -> Result<(), AllocError> {
 
 // Run with each allocation refused in turn, this one sees that a refused growth leaves a roll as it was.
 #[test]
-fn each_growth_refused(rt: HostRuntime) -> Result<(), Fail> {
-    grow::<SortedRoll>(&rt, rt.alloc())?;
-    grow::<HeapRoll>(&rt, rt.alloc())?;
-    Ok(())
+fn each_growth_refused(rt: HostRuntime) {
+    grow::<SortedRoll>(&rt, rt.alloc()).expect(&rt, "memory");
+    grow::<HeapRoll>(&rt, rt.alloc()).expect(&rt, "memory");
 }

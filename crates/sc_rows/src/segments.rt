@@ -1,15 +1,16 @@
 //! Checkpoints of Market B and its newcomer: schools 10 in zone 1 and 20, with a seat each, and three
 //! students, of whom the last sets off a chain of three rejections.
-ghost use Rattle.std.specs.Prelude.{◌≡◌, ◌∷◌, ◌++◌, [], IfOk, OnOk};
+ghost use Rattle.std.specs.Prelude.{◌≡◌, ◌∷◌, ◌++◌, [], IfOk, IfSome, OnOk};
 ghost use Rattle.sc_papers.specs.Market.{students_of};
 ghost use Rattle.sc_checkpoint.specs.Chains.{students_in};
 
 use crate::given::{school, student};
 use sc_checkpoint::{Segments, Standing};
-use sc_papers::{Amendment, Papers, Rejection, SchoolList, Seats, Seed, Zone};
+use sc_papers::{
+    Amendment, Papers, Refusal, Rejection, SchoolList, SchoolRefusal, Seats, Seed, Zone,
+};
 use std::alloc::{AllocError, Global};
 use std::process::Abort;
-use std::test::Fail;
 
 fn zone(rt: &impl Abort, number: u32) -> Zone {
     Zone::new(number).expect(rt, "a zone")
@@ -23,18 +24,27 @@ fn list(rt: &impl Abort, alloc: Global, numbers: &[u32]) -> Result<SchoolList, A
     Ok(SchoolList::from_vec(schools))
 }
 
-fn add_school(rt: &impl Abort, papers: &mut Papers, number: u32, at: u32) -> Result<(), Fail>
+fn add_school(
+    rt: &impl Abort,
+    papers: &mut Papers,
+    number: u32,
+    at: u32,
+) -> Result<(), SchoolRefusal>
     ensures { OnOk result (students_of papers.new ≡ students_of papers.old) }
 {
     let seats = Seats::new(1).expect(rt, "a seat");
-    papers.add_school(school(rt, number), zone(rt, at), seats)?;
-    Ok(())
+    papers.add_school(school(rt, number), zone(rt, at), seats)
 }
 
 /// A student of the worked row: number, zone, siblings, choices.
 type Entry<'a> = (u32, u32, &'a [u32], &'a [u32]);
 
-fn enter(rt: &impl Abort, alloc: Global, papers: &mut Papers, entry: Entry<'_>) -> Result<(), Fail>
+fn enter(
+    rt: &impl Abort,
+    alloc: Global,
+    papers: &mut Papers,
+    entry: Entry<'_>,
+) -> Result<(), Refusal>
     ensures { OnOk result (students_of papers.new ≡ students_of papers.old ++ entry.entry.0 ∷ []) }
 {
     let (number, at, siblings, choices) = entry;
@@ -45,20 +55,19 @@ fn enter(rt: &impl Abort, alloc: Global, papers: &mut Papers, entry: Entry<'_>) 
         zone: zone(rt, at),
         siblings,
         choices,
-    })?;
-    Ok(())
+    })
 }
 
-fn worked_papers(rt: &impl Abort, alloc: Global) -> Result<Papers, Fail>
-    ensures { IfOk result (λ papers. students_of papers ≡ 1 ∷ 2 ∷ 3 ∷ []) }
+fn worked_papers(rt: &impl Abort, alloc: Global) -> Option<Papers>
+    ensures { IfSome result (λ papers. students_of papers ≡ 1 ∷ 2 ∷ 3 ∷ []) }
 {
-    let mut papers = Papers::new(alloc, Seed::from_hex(&[b'0'; 64])?);
-    add_school(rt, &mut papers, 10, 1)?;
-    add_school(rt, &mut papers, 20, 0)?;
-    enter(rt, alloc, &mut papers, (1, 0, &[20], &[10, 20]))?;
-    enter(rt, alloc, &mut papers, (2, 0, &[10], &[20, 10]))?;
-    enter(rt, alloc, &mut papers, (3, 1, &[10], &[10]))?;
-    Ok(papers)
+    let mut papers = Papers::new(alloc, Seed::from_hex(&[b'0'; 64]).ok()?);
+    add_school(rt, &mut papers, 10, 1).ok()?;
+    add_school(rt, &mut papers, 20, 0).ok()?;
+    enter(rt, alloc, &mut papers, (1, 0, &[20], &[10, 20])).ok()?;
+    enter(rt, alloc, &mut papers, (2, 0, &[10], &[20, 10])).ok()?;
+    enter(rt, alloc, &mut papers, (3, 1, &[10], &[10])).ok()?;
+    Some(papers)
 }
 
 fn rejection(rt: &impl Abort, number: u32, at: u32) -> Rejection {
@@ -87,32 +96,63 @@ fn worked_segments(rt: &impl Abort, alloc: Global) -> Result<Segments, AllocErro
     Ok(segments)
 }
 
-#[test]
-fn segments_are_cut_where_students_enter(rt: HostRuntime) -> Result<(), Fail> {
-    let segments = worked_segments(&rt, rt.alloc())?;
-    assert_eq!(rt; segments.len(), 3);
-    let chain = last_chain(&rt);
+/// The same segments, made again where memory was refused.
+fn segments_of_three(rt: &impl Abort, alloc: Global) -> Segments
+    ensures { students_in result ≡ 1 ∷ 2 ∷ 3 ∷ [] }
+{
+    match worked_segments(rt, alloc) {
+        Ok(segments) => segments,
+        Err(_) => worked_segments(rt, alloc).expect(rt, "memory"),
+    }
+}
+
+fn expect_cuts(rt: &impl Abort, segments: &Segments)
+    requires segments { students_in segments.now ≡ 1 ∷ 2 ∷ 3 ∷ [] }
+{
+    let chain = last_chain(rt);
     assert_eq!(rt; segments.rejections(), chain.as_slice());
     assert_eq!(rt; segments.segment(0).len(), 0);
     assert_eq!(rt; segments.segment(2), chain.as_slice());
-    assert_eq!(rt; segments.student(2), student(&rt, 3));
+    assert_eq!(rt; segments.student(2), student(rt, 3));
     assert_eq!(rt; segments.first(2).len(), 0);
     assert_eq!(rt; segments.first(3), chain.as_slice());
-    Ok(())
 }
 
 #[test]
-fn checkpoints_are_copied(rt: HostRuntime) -> Result<(), Fail> {
-    let segments = worked_segments(&rt, rt.alloc())?;
-    assert_eq!(rt; segments.len(), 3);
-    let chain = last_chain(&rt);
-    assert_eq!(rt; segments.flat()?.as_slice(), chain.as_slice());
-    assert_eq!(rt; segments.prefix(2)?.len(), 0);
-    let mut rewound = segments.copy_prefix(2)?;
+fn segments_are_cut_where_students_enter(rt: HostRuntime) {
+    let segments = segments_of_three(&rt, rt.alloc());
+    expect_cuts(&rt, &segments);
+    drop(segments);
+}
+
+/// Pushes the third student's first rejection behind the first two.
+fn push_one(rt: &impl Abort, rewound: &mut Segments)
+    requires { students_in rewound.old ≡ 1 ∷ 2 ∷ [] }
+{
+    let chain = last_chain(rt);
     assert_eq!(rt; rewound.len(), 2);
-    rewound.push(student(&rt, 3), &chain[..1])?;
+    let pushed = rewound.push(student(rt, 3), &chain[..1]);
+    assert!(rt; pushed.is_ok());
     assert_eq!(rt; rewound.rejections(), &chain[..1]);
-    Ok(())
+}
+
+fn expect_copies(rt: &impl Abort, segments: &Segments)
+    requires { students_in segments.now ≡ 1 ∷ 2 ∷ 3 ∷ [] }
+{
+    let log = segments.flat().expect(rt, "memory");
+    assert_eq!(rt; log.as_slice(), last_chain(rt).as_slice());
+    let prefix = segments.prefix(2).expect(rt, "memory");
+    assert_eq!(rt; prefix.len(), 0);
+    let mut rewound = segments.copy_prefix(2).expect(rt, "memory");
+    push_one(rt, &mut rewound);
+    drop(rewound);
+}
+
+#[test]
+fn checkpoints_are_copied(rt: HostRuntime) {
+    let segments = segments_of_three(&rt, rt.alloc());
+    expect_copies(&rt, &segments);
+    drop(segments);
 }
 
 /// The students stand at these schools, in order: 0 is none.
@@ -120,7 +160,11 @@ fn expect_standings(rt: &impl Abort, standings: &[Standing], wanted: &[(u32, u32
     assert_eq!(rt; standings.len(), wanted.len());
     for (standing, (number, at)) in standings.iter().zip(wanted.iter()) {
         assert_eq!(rt; standing.student, student(rt, *number));
-        assert_eq!(rt; standing.next.map_or(0, |next| next.get()), *at);
+        let next = match standing.next {
+            Some(next) => next.get(),
+            None => 0,
+        };
+        assert_eq!(rt; next, *at);
     }
 }
 
@@ -146,27 +190,71 @@ fn expect_next_choices(
     Ok(())
 }
 
-#[test]
-fn students_stand_at_their_next_choices(rt: HostRuntime) -> Result<(), Fail> {
-    let papers = worked_papers(&rt, rt.alloc())?;
-    let segments = worked_segments(&rt, rt.alloc())?;
-    expect_next_choices(&rt, &papers, &segments)?;
-    Ok(())
+/// The worked papers, made again where memory was refused.
+fn papers_of_three(rt: &impl Abort, alloc: Global) -> Papers
+    ensures { students_of result ≡ 1 ∷ 2 ∷ 3 ∷ [] }
+{
+    match worked_papers(rt, alloc) {
+        Some(papers) => papers,
+        None => worked_papers(rt, alloc).expect(rt, "papers"),
+    }
 }
 
-fn expect_growths(rt: &impl Abort, papers: &Papers, segments: &mut Segments)
-    requires papers { students_of papers.now ≡ 1 ∷ 2 ∷ 3 ∷ [] }
-    requires segments { students_in segments.old ≡ 1 ∷ 2 ∷ 3 ∷ [] }
+/// Where the students of the worked papers stand after these segments. Where a growth is refused, they
+/// are asked for again.
+fn expect_of_papers(rt: &impl Abort, alloc: Global, segments: &Segments)
+    requires { students_in segments.now ≡ 1 ∷ 2 ∷ 3 ∷ [] }
 {
-    assert!(rt; segments.flat().map_or(3, |log| log.len()) == 3);
-    assert!(rt; segments.prefix(3).map_or(3, |log| log.len()) == 3);
-    assert!(rt; segments.copy_prefix(3).map_or(3, |copy| copy.len()) == 3);
-    assert!(rt;
-        segments
-            .next_choices_at(papers, 3)
-            .map_or(3, |standings| standings.len())
-            == 3
-    );
+    let papers = papers_of_three(rt, alloc);
+    if expect_next_choices(rt, &papers, segments).is_err() {
+        expect_next_choices(rt, &papers, segments).expect(rt, "memory");
+    }
+    drop(papers);
+}
+
+#[test]
+fn students_stand_at_their_next_choices(rt: HostRuntime) {
+    let segments = segments_of_three(&rt, rt.alloc());
+    expect_of_papers(&rt, rt.alloc(), &segments);
+    drop(segments);
+}
+
+/// How many a call gave, or as many as are wanted where memory was refused.
+fn given_or(given: Option<usize>, wanted: usize) -> usize {
+    match given {
+        Some(given) => given,
+        None => wanted,
+    }
+}
+
+/// How many rejections a list has, where there was memory for it.
+fn rejections(list: Result<Vec<Rejection>, AllocError>) -> Option<usize> {
+    match list {
+        Ok(list) => Some(list.len()),
+        Err(_) => None,
+    }
+}
+
+/// How many students a copy of all segments has, where there was memory for it.
+fn copied(segments: &Segments) -> Option<usize>
+    requires { students_in segments.now ≡ 1 ∷ 2 ∷ 3 ∷ [] }
+{
+    match segments.copy_prefix(3) {
+        Ok(copy) => {
+            let students = copy.len();
+            drop(copy);
+            Some(students)
+        }
+        Err(_) => None,
+    }
+}
+
+fn expect_growths(rt: &impl Abort, segments: &mut Segments)
+    requires { students_in segments.old ≡ 1 ∷ 2 ∷ 3 ∷ [] }
+{
+    assert!(rt; given_or(rejections(segments.flat()), 3) == 3);
+    assert!(rt; given_or(rejections(segments.prefix(3)), 3) == 3);
+    assert!(rt; given_or(copied(segments), 3) == 3);
     let pushed = segments.push(student(rt, 4), &last_chain(rt)).is_ok();
     assert!(rt; segments.len() == if pushed { 4 } else { 3 });
     assert!(rt; segments.rejections().len() == if pushed { 6 } else { 3 });
@@ -174,9 +262,8 @@ fn expect_growths(rt: &impl Abort, papers: &Papers, segments: &mut Segments)
 
 // Run with each allocation refused in turn, this one sees want of memory from each call that takes any.
 #[test]
-fn each_growth_refused(rt: HostRuntime) -> Result<(), Fail> {
-    let papers = worked_papers(&rt, rt.alloc())?;
-    let mut segments = worked_segments(&rt, rt.alloc())?;
-    expect_growths(&rt, &papers, &mut segments);
-    Ok(())
+fn each_growth_refused(rt: HostRuntime) {
+    let mut segments = segments_of_three(&rt, rt.alloc());
+    expect_growths(&rt, &mut segments);
+    drop(segments);
 }

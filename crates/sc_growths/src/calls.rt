@@ -1,0 +1,141 @@
+//! The calls over readers and writers. The writers' room is made beforehand: a growth of theirs that is
+//! refused would be a failed write.
+
+use crate::market::{
+    BUNDLE, JOURNAL, LISTS, LOG, REPORT, ROSTER, SCHOOLS, SCRIPT, WHOLE_RUN, seed,
+};
+use crate::twice::{Call, expect};
+use sc_report::Watched;
+use sc_runs::{
+    Ending, Inputs, Opening, RunFault, audit_files, match_files, replay_files, run, run_bundle,
+};
+use std::alloc::{AllocError, Global};
+use std::process::Abort;
+
+/// A writer with room for each text of the trials.
+fn writer(alloc: Global) -> Result<Watched<Vec<u8>>, AllocError> {
+    Ok(Watched::new(Vec::with_capacity(alloc, 400)?))
+}
+
+/// The files of Market B.
+fn opening() -> Opening<&'static [u8]> {
+    Opening {
+        schools: Watched::new(SCHOOLS),
+        roster: Watched::new(ROSTER),
+        lists: Watched::new(LISTS),
+    }
+}
+
+/// What was written to a writer.
+fn written(alloc: Global, out: &Watched<Vec<u8>>) -> Result<String, AllocError> {
+    let text = String::from_utf8_lossy(alloc, out.inner().as_slice())?;
+    format!(in alloc; "{text}")
+}
+
+/// What a call that writes one text whole wrote. A fault is want of memory, and nothing was written.
+fn one_text(
+    rt: &impl Abort,
+    alloc: Global,
+    fault: Option<RunFault>,
+    out: &Watched<Vec<u8>>,
+) -> Result<String, AllocError> {
+    let Some(fault) = fault else {
+        return written(alloc, out);
+    };
+    assert_eq!(rt; fault, RunFault::OutOfMemory);
+    assert!(rt; out.inner().is_empty());
+    Err(AllocError)
+}
+
+pub fn matched(rt: &impl Abort, alloc: Global, show_log: bool) -> Result<String, AllocError> {
+    let mut out = writer(alloc)?;
+    let answer = match_files(alloc, &seed(rt), &mut opening(), show_log, &mut out);
+    one_text(rt, alloc, answer.err(), &out)
+}
+
+#[test]
+fn match_of_files(rt: HostRuntime) {
+    expect(&rt, rt.alloc(), Call::MatchFiles, REPORT);
+    expect(&rt, rt.alloc(), Call::MatchLog, "");
+}
+
+/// What a run left. A fault is want of memory, after which the output and the journal are prefixes of the
+/// whole, and no reply stands without its line.
+fn run_left(
+    rt: &impl Abort,
+    alloc: Global,
+    answer: Result<(), RunFault>,
+    out: &Watched<Vec<u8>>,
+    journal: &Watched<Vec<u8>>,
+) -> Result<String, AllocError> {
+    let (output, journal) = (out.inner().as_slice(), journal.inner().as_slice());
+    let Err(fault) = answer else {
+        assert!(rt; journal == JOURNAL.as_bytes());
+        return written(alloc, out);
+    };
+    assert_eq!(rt; fault, RunFault::OutOfMemory);
+    assert!(rt; WHOLE_RUN.as_bytes().starts_with(output));
+    assert!(rt; JOURNAL.as_bytes().starts_with(journal));
+    // The last reply, the one of record 5, stands on line 2.
+    let lines = journal.iter().filter(|byte| **byte == b'\n').count();
+    assert!(rt; lines >= 1 || output.is_empty());
+    assert!(rt; lines == 2 || !output.starts_with(&WHOLE_RUN.as_bytes()[..84]));
+    Err(AllocError)
+}
+
+pub fn ran(rt: &impl Abort, alloc: Global) -> Result<String, AllocError> {
+    let mut inputs = Inputs {
+        opening: opening(),
+        script: Watched::new(SCRIPT),
+    };
+    let mut out = writer(alloc)?;
+    let mut journal = writer(alloc)?;
+    let answer = run(alloc, &seed(rt), &mut inputs, &mut out, &mut journal);
+    run_left(rt, alloc, answer, &out, &journal)
+}
+
+#[test]
+fn run_of_a_script(rt: HostRuntime) {
+    expect(&rt, rt.alloc(), Call::Run, WHOLE_RUN);
+}
+
+pub fn audited(rt: &impl Abort, alloc: Global) -> Result<String, AllocError> {
+    let mut out = writer(alloc)?;
+    let mut log = Watched::new(LOG);
+    let answer = audit_files(alloc, &seed(rt), &mut opening(), &mut log, &mut out);
+    one_text(rt, alloc, answer.err(), &out)
+}
+
+#[test]
+fn audit_of_files(rt: HostRuntime) {
+    expect(&rt, rt.alloc(), Call::AuditFiles, "bad entry 1\n");
+}
+
+pub fn replayed(rt: &impl Abort, alloc: Global) -> Result<String, AllocError> {
+    let mut out = writer(alloc)?;
+    let mut journal = Watched::new(JOURNAL.as_bytes());
+    let answer = replay_files(alloc, &seed(rt), &mut opening(), &mut journal, &mut out);
+    one_text(rt, alloc, answer.err(), &out)
+}
+
+#[test]
+fn replay_of_files(rt: HostRuntime) {
+    expect(&rt, rt.alloc(), Call::ReplayFiles, REPORT);
+}
+
+pub fn ran_bundle(rt: &impl Abort, alloc: Global) -> Result<String, AllocError> {
+    let mut out = writer(alloc)?;
+    match run_bundle(alloc, &mut Watched::new(BUNDLE), &mut out) {
+        Ending::Done => written(alloc, &out),
+        ending => {
+            assert_eq!(rt; ending, Ending::Fault(RunFault::OutOfMemory));
+            assert!(rt; WHOLE_RUN.as_bytes().starts_with(out.inner().as_slice()));
+            Err(AllocError)
+        }
+    }
+}
+
+#[test]
+fn run_of_a_bundle(rt: HostRuntime) {
+    expect(&rt, rt.alloc(), Call::RunBundle, WHOLE_RUN);
+}

@@ -1,0 +1,218 @@
+//! The calls of the libraries.
+
+use crate::market::{JOURNAL, LISTS, LOG, ROSTER, SCHOOLS, SCRIPT, seed};
+use crate::twice::{Call, expect, given};
+use sc_audit::{audit, check_stable};
+use sc_intake::{papers_of, read_lists, read_log, read_roster, read_schools, read_script};
+use sc_journal::{JournalCause, replay};
+use sc_markets::{amendment, market_b, standing};
+use sc_papers::{Amendment, Papers, Refusal};
+use sc_repair::Clearing;
+use sc_report::report_text;
+use std::alloc::{AllocError, Global};
+use std::process::Abort;
+
+/// The standing of a clearing, which ends here.
+fn last_standing(alloc: Global, clearing: Clearing) -> Result<String, AllocError> {
+    let text = standing(alloc, &clearing);
+    drop(clearing);
+    text
+}
+
+/// Opens papers that a refusal gave back.
+fn open_again(rt: &impl Abort, alloc: Global, papers: Papers) -> Result<String, AllocError> {
+    assert_eq!(rt; papers.students_len(), 2);
+    assert_eq!(rt; papers.schools_len(), 2);
+    match Clearing::open(alloc, papers) {
+        Ok(clearing) => last_standing(alloc, clearing),
+        Err(_refused) => Err(AllocError),
+    }
+}
+
+/// The papers of Market B, made again where memory was refused.
+fn papers_of_b(rt: &impl Abort, alloc: Global) -> Papers {
+    match market_b(alloc) {
+        Ok(papers) => papers,
+        Err(_) => market_b(alloc).expect(rt, "papers"),
+    }
+}
+
+pub fn opened(rt: &impl Abort, alloc: Global) -> Result<String, AllocError> {
+    let papers = papers_of_b(rt, alloc);
+    match Clearing::open(alloc, papers) {
+        Ok(clearing) => last_standing(alloc, clearing),
+        Err(refused) => open_again(rt, alloc, refused.papers),
+    }
+}
+
+#[test]
+fn open(rt: HostRuntime) {
+    expect(&rt, rt.alloc(), Call::Open, "1:10 2:20 |");
+}
+
+/// The amendment that enters the newcomer, made again where memory was refused.
+fn entry(rt: &impl Abort, alloc: Global) -> Amendment {
+    match amendment(alloc, "enter,3,1,10,10") {
+        Ok(entry) => entry,
+        Err(_) => amendment(alloc, "enter,3,1,10,10").expect(rt, "an amendment"),
+    }
+}
+
+/// Sees that the clearing stands as it was opened, and enters the newcomer again.
+fn enter_again(rt: &impl Abort, alloc: Global, clearing: &mut Clearing) -> Result<(), AllocError> {
+    assert_eq!(rt; clearing.proposals_last(), 2);
+    let kept = standing(alloc, clearing)?;
+    assert_eq!(rt; kept.as_str(), "1:10 2:20 |");
+    assert!(rt; clearing.amend(entry(rt, alloc)) == Ok(()));
+    Ok(())
+}
+
+/// Enters the newcomer, a second time where memory is refused.
+fn enter(rt: &impl Abort, alloc: Global, clearing: &mut Clearing) -> Result<String, AllocError> {
+    if let Err(refusal) = clearing.amend(entry(rt, alloc)) {
+        assert_eq!(rt; refusal, Refusal::OutOfMemory);
+        enter_again(rt, alloc, clearing)?;
+    }
+    standing(alloc, clearing)
+}
+
+/// Amends a clearing, which ends here.
+fn amend_opened(rt: &impl Abort, alloc: Global, clearing: Clearing) -> Result<String, AllocError> {
+    let mut clearing = clearing;
+    let left = enter(rt, alloc, &mut clearing);
+    drop(clearing);
+    left
+}
+
+pub fn amended(rt: &impl Abort, alloc: Global) -> Result<String, AllocError> {
+    let papers = papers_of_b(rt, alloc);
+    match Clearing::open(alloc, papers) {
+        Ok(clearing) => amend_opened(rt, alloc, clearing),
+        Err(_refused) => Err(AllocError),
+    }
+}
+
+#[test]
+fn amend(rt: HostRuntime) {
+    let want = "1:20 2:0 3:10 |(1,10)(2,20)(2,10)";
+    expect(&rt, rt.alloc(), Call::Amend, want);
+}
+
+pub fn papers_read(rt: &impl Abort, alloc: Global) -> Result<String, AllocError> {
+    let schools = given(rt, read_schools(alloc, SCHOOLS))?;
+    let roster = given(rt, read_roster(alloc, ROSTER))?;
+    let lists = given(rt, read_lists(alloc, LISTS))?;
+    let papers = given(rt, papers_of(alloc, seed(rt), &schools, &roster, &lists))?;
+    let counts = (papers.schools_len(), papers.students_len());
+    drop(papers);
+    format!(in alloc; "{} schools, {} students", counts.0, counts.1)
+}
+
+#[test]
+fn papers(rt: HostRuntime) {
+    let want = "2 schools, 2 students";
+    expect(&rt, rt.alloc(), Call::PapersOf, want);
+}
+
+pub fn script_read(rt: &impl Abort, alloc: Global) -> Result<String, AllocError> {
+    let script = given(rt, read_script(alloc, SCRIPT))?;
+    format!(in alloc; "{} records", script.len())
+}
+
+#[test]
+fn script(rt: HostRuntime) {
+    expect(&rt, rt.alloc(), Call::ReadScript, "5 records");
+}
+
+pub fn log_read(rt: &impl Abort, alloc: Global) -> Result<String, AllocError> {
+    let log = given(rt, read_log(alloc, LOG))?;
+    format!(in alloc; "{} entries", log.len())
+}
+
+#[test]
+fn log(rt: HostRuntime) {
+    expect(&rt, rt.alloc(), Call::ReadLog, "3 entries");
+}
+
+/// The verdict on the log under papers.
+fn verdict(rt: &impl Abort, alloc: Global, papers: &Papers) -> Result<String, AllocError> {
+    let log = given(rt, read_log(alloc, LOG))?;
+    let verdict = audit(alloc, papers, log.as_slice())?;
+    format!(in alloc; "{verdict:?}")
+}
+
+pub fn audited(rt: &impl Abort, alloc: Global) -> Result<String, AllocError> {
+    let papers = papers_of_b(rt, alloc);
+    let verdict = verdict(rt, alloc, &papers);
+    drop(papers);
+    verdict
+}
+
+// Without the newcomer nobody else can have school 10: the first entry is not valid.
+#[test]
+fn audit_of_a_log(rt: HostRuntime) {
+    expect(&rt, rt.alloc(), Call::Audit, "BadEntry { line: 1 }");
+}
+
+/// Whether the standing assignment is stable.
+fn stability(alloc: Global, clearing: &Clearing) -> Result<String, AllocError> {
+    let stability = check_stable(alloc, clearing.papers(), clearing.places())?;
+    format!(in alloc; "{stability:?}")
+}
+
+pub fn checked(rt: &impl Abort, alloc: Global) -> Result<String, AllocError> {
+    let papers = papers_of_b(rt, alloc);
+    match Clearing::open(alloc, papers) {
+        Ok(clearing) => {
+            let text = stability(alloc, &clearing);
+            drop(clearing);
+            text
+        }
+        Err(_refused) => Err(AllocError),
+    }
+}
+
+#[test]
+fn check_of_stability(rt: HostRuntime) {
+    expect(&rt, rt.alloc(), Call::CheckStable, "Stable");
+}
+
+/// The report of a clearing.
+fn report_of(alloc: Global, clearing: &Clearing) -> Result<String, AllocError> {
+    let text = report_text(alloc, clearing)?;
+    let text = String::from_utf8_lossy(alloc, text.as_slice())?;
+    format!(in alloc; "{text}")
+}
+
+pub fn reported(rt: &impl Abort, alloc: Global) -> Result<String, AllocError> {
+    let papers = papers_of_b(rt, alloc);
+    match Clearing::open(alloc, papers) {
+        Ok(clearing) => {
+            let text = report_of(alloc, &clearing);
+            drop(clearing);
+            text
+        }
+        Err(_refused) => Err(AllocError),
+    }
+}
+
+#[test]
+fn report(rt: HostRuntime) {
+    expect(&rt, rt.alloc(), Call::ReportText, crate::market::REPORT);
+}
+
+pub fn replayed(rt: &impl Abort, alloc: Global) -> Result<String, AllocError> {
+    let papers = papers_of_b(rt, alloc);
+    match replay(alloc, papers, JOURNAL.as_bytes()) {
+        Ok((clearing, _tail)) => last_standing(alloc, clearing),
+        Err(fault) => {
+            assert_eq!(rt; fault.cause, JournalCause::OutOfMemory);
+            Err(AllocError)
+        }
+    }
+}
+
+#[test]
+fn replay_of_a_journal(rt: HostRuntime) {
+    expect(&rt, rt.alloc(), Call::Replay, "1:10 2:20 |");
+}

@@ -1,0 +1,35 @@
+//! Market B, whose newcomer sets off a chain of three rejections: its files, and what the calls give.
+
+use sc_papers::Seed;
+use std::process::Abort;
+
+pub const SCHOOLS: &[u8] = b"school,zone,seats\n10,1,1\n20,0,1\n";
+
+pub const ROSTER: &[u8] = b"student,zone,siblings\n1,0,20\n2,0,10\n";
+
+pub const LISTS: &[u8] = b"student,choices\n1,10 20\n2,20 10\n";
+
+pub const SCRIPT: &[u8] = b"enter,3,1,10,10\nnonsense\nwithdraw,99\nadd,77,1\nwithdraw,3\n";
+
+/// What the script's amendments leave in the journal.
+pub const JOURNAL: &str = "1,enter,3,1,10,10\n2,withdraw,3\n";
+
+/// A log of three entries, of which the first is not valid under Market B.
+pub const LOG: &[u8] = b"1,10\n2,20\n2,10\n";
+
+/// The report of the opening, and again after the newcomer has withdrawn.
+pub const REPORT: &str =
+    "student,school\n1,10\n2,20\nschool,seats,held,class,draw,student\n10,1,1,3,e56a5d4028bd8653,1\n20,1,1,3,b819d2bd1aed8da0,2\nstudent,school,reason\n";
+
+/// What a run of the script writes.
+pub const WHOLE_RUN: &str =
+    "1,ok\n2,refused,1,Shape\n3,refused,2,UnknownStudent\n4,refused,6,UnknownSchool,77\n5,ok\nstudent,school\n1,10\n2,20\nschool,seats,held,class,draw,student\n10,1,1,3,e56a5d4028bd8653,1\n20,1,1,3,b819d2bd1aed8da0,2\nstudent,school,reason\n";
+
+/// Market B and the script in one bundle.
+pub const BUNDLE: &[u8] =
+    b"%seed\n0000000000000000000000000000000000000000000000000000000000000000\n%schools\nschool,zone,seats\n10,1,1\n20,0,1\n%roster\nstudent,zone,siblings\n1,0,20\n2,0,10\n%lists\nstudent,choices\n1,10 20\n2,20 10\n%script\nenter,3,1,10,10\nnonsense\nwithdraw,99\nadd,77,1\nwithdraw,3\n";
+
+/// The seed of 64 zeros.
+pub fn seed(rt: &impl Abort) -> Seed {
+    Seed::from_hex(&[b'0'; 64]).ok().expect(rt, "a seed")
+}

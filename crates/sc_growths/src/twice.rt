@@ -1,0 +1,68 @@
+//! The harness: a call is tried, and tried again where memory was refused.
+
+use crate::{calls, libraries};
+use sc_intake::{Cause, IntakeFault};
+use std::alloc::{AllocError, Global};
+use std::process::Abort;
+
+/// A call that takes memory.
+#[derive(Clone, Copy)]
+pub enum Call {
+    Open,
+    Amend,
+    PapersOf,
+    ReadScript,
+    ReadLog,
+    Audit,
+    CheckStable,
+    ReportText,
+    Replay,
+    MatchFiles,
+    MatchLog,
+    Run,
+    AuditFiles,
+    ReplayFiles,
+    RunBundle,
+}
+
+/// Tries a call: a text of what it left, or the error where memory was refused, to it or to the trial. After
+/// a refusal the trial has seen that the call left all as it promises.
+fn attempt(rt: &impl Abort, alloc: Global, call: Call) -> Result<String, AllocError> {
+    match call {
+        Call::Open => libraries::opened(rt, alloc),
+        Call::Amend => libraries::amended(rt, alloc),
+        Call::PapersOf => libraries::papers_read(rt, alloc),
+        Call::ReadScript => libraries::script_read(rt, alloc),
+        Call::ReadLog => libraries::log_read(rt, alloc),
+        Call::Audit => libraries::audited(rt, alloc),
+        Call::CheckStable => libraries::checked(rt, alloc),
+        Call::ReportText => libraries::reported(rt, alloc),
+        Call::Replay => libraries::replayed(rt, alloc),
+        Call::MatchFiles => calls::matched(rt, alloc, false),
+        Call::MatchLog => calls::matched(rt, alloc, true),
+        Call::Run => calls::ran(rt, alloc),
+        Call::AuditFiles => calls::audited(rt, alloc),
+        Call::ReplayFiles => calls::replayed(rt, alloc),
+        Call::RunBundle => calls::ran_bundle(rt, alloc),
+    }
+}
+
+/// The call leaves what is wanted: at once, or when it is made again after a refused growth.
+pub fn expect(rt: &impl Abort, alloc: Global, call: Call, want: &str) {
+    let left = match attempt(rt, alloc, call) {
+        Ok(left) => left,
+        Err(_refused) => attempt(rt, alloc, call).expect(rt, "memory"),
+    };
+    assert!(rt; left.as_str() == want, "{left}");
+}
+
+/// What a reader gave; where it gave nothing, the cause is want of memory.
+pub fn given<T>(rt: &impl Abort, read: Result<T, IntakeFault>) -> Result<T, AllocError> {
+    match read {
+        Ok(given) => Ok(given),
+        Err(fault) => {
+            assert_eq!(rt; fault.cause, Cause::OutOfMemory);
+            Err(AllocError)
+        }
+    }
+}

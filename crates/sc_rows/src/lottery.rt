@@ -1,0 +1,78 @@
+//! The lottery: draws under known seeds, by the vectors of RFC 8439's cipher with a counter of 64 bits, and
+//! what is no seed and no student.
+use crate::given::student;
+use sc_lottery::{Seed, SeedError, StudentNumber, draw};
+use std::process::Abort;
+
+const ZEROS: [u8; 64] = [b'0'; 64];
+
+/// The seed that 64 digits write.
+fn seed(rt: &impl Abort, digits: &[u8]) -> Seed {
+    Seed::from_hex(digits).ok().expect(rt, "a seed")
+}
+
+#[test]
+fn draws_of_the_zero_seed(rt: HostRuntime) {
+    let seed = seed(&rt, &ZEROS);
+    for (number, want) in &[
+        (1, 0xe56a5d4028bd8653),
+        (2, 0xb819d2bd1aed8da0),
+        (3, 0xccef36a8c70d778b),
+        (4, 0x7c5941da8d485751),
+        (5, 0x3fe02477374ad8b8),
+        (6, 0xf4b8436a1ca11815),
+        (7, 0x69b687c38665eeb2),
+        (999_999_999, 0xca78c135d87c7d89),
+    ] {
+        let draw = draw(&seed, student(&rt, *number));
+        assert_eq!(rt; draw, *want, "student {number}");
+    }
+}
+
+#[test]
+fn the_first_byte_of_the_seed_counts_lowest(rt: HostRuntime) {
+    let text = b"000102030405060708090a0b0c0d0e0f101112131415161718191a1b1c1d1e1f";
+    let draw = draw(&seed(&rt, text), student(&rt, 1));
+    assert_eq!(rt; draw, 0x7703bd8d494adcb8);
+}
+
+#[test]
+fn both_cases_of_letters_read_alike(rt: HostRuntime) {
+    let lower = b"00112233445566778899aabbccddeeff00112233445566778899aabbccddeeff";
+    let upper = b"00112233445566778899AABBCCDDEEFF00112233445566778899AABBCCDDEEFF";
+    let seeds = (seed(&rt, lower), seed(&rt, upper));
+    assert!(rt; seeds.0 == seeds.1);
+    assert_eq!(rt; draw(&seeds.0, student(&rt, 1)), 0xec209e20502a894d);
+}
+
+#[test]
+fn texts_that_are_no_seed(rt: HostRuntime) {
+    assert_eq!(rt; Seed::from_hex(&ZEROS[..63]), Err(SeedError::Length));
+    assert_eq!(rt; Seed::from_hex(&[b'0'; 66]), Err(SeedError::Length));
+    assert_eq!(rt; Seed::from_hex(b""), Err(SeedError::Length));
+    for place in 0..64 {
+        let mut text = ZEROS;
+        text[place] = b'g';
+        text[63] = b'g';
+        assert_eq!(rt; Seed::from_hex(&text), Err(SeedError::Digit { place }));
+    }
+}
+
+#[test]
+fn numbers_of_students(rt: HostRuntime) {
+    assert!(rt; StudentNumber::new(0).is_none());
+    assert_eq!(rt; student(&rt, 1).get(), 1);
+    assert_eq!(rt; student(&rt, 999_999_999).get(), 999_999_999);
+    assert!(rt; StudentNumber::new(1_000_000_000).is_none());
+}
+
+#[test]
+fn refusals_in_words(rt: HostRuntime) {
+    let length = SeedError::Length
+        .to_string(rt.alloc())
+        .expect(&rt, "memory");
+    assert_eq!(rt; length.as_str(), "Length");
+    let digit = SeedError::Digit { place: 5 };
+    let digit = digit.to_string(rt.alloc()).expect(&rt, "memory");
+    assert_eq!(rt; digit.as_str(), "Digit 5");
+}
