@@ -1,4 +1,5 @@
 //! What runs write, over inputs in memory.
+mod faults;
 mod sections;
 
 use sc_papers::Seed;

@@ -1,6 +1,9 @@
 //! Readers and writers that fail in mid-stream, read and written whole.
+use sc_markets::clearing;
 use sc_report::devices::{Ending, FailingReader, FailingWriter};
-use sc_report::{DeviceFailed, ReadFault, Watched, read_whole, write_whole};
+use sc_report::{
+    DeviceFailed, ReadFault, ReportFault, Watched, read_whole, write_report, write_whole,
+};
 use std::io::ErrorKind;
 use std::test::Fail;
 
@@ -17,7 +20,7 @@ fn written_whole_in_pieces(rt: HostRuntime) -> Result<(), Fail> {
 }
 
 #[test]
-fn a_front_after_a_fault(rt: HostRuntime) -> Result<(), Fail> {
+fn a_prefix_after_a_fault(rt: HostRuntime) -> Result<(), Fail> {
     for ending in [Ending::Fails, Ending::TakesNone] {
         let room = Vec::with_capacity(rt.alloc(), 10)?;
         let mut to = Watched::new(FailingWriter::new(room, 10, 4, ending));
@@ -29,6 +32,18 @@ fn a_front_after_a_fault(rt: HostRuntime) -> Result<(), Fail> {
         assert!(rt; to.failed());
     }
     Ok(())
+}
+
+#[test]
+fn failing_writers(rt: HostRuntime) {
+    let room = Vec::with_capacity(rt.alloc(), 10).expect(&rt, "memory");
+    let mut to = Watched::new(FailingWriter::new(room, 10, 999, Ending::Fails));
+    let (schools, students, lists) = super::MARKET_A;
+    let opened = clearing(rt.alloc(), schools, students, lists).expect(&rt, "a clearing");
+    let answer = write_report(rt.alloc(), &opened, &mut to);
+    drop(opened);
+    assert_eq!(rt; answer, Err(ReportFault::Write));
+    assert_eq!(rt; to.inner().taken(), b"student,sc".as_slice());
 }
 
 #[test]
