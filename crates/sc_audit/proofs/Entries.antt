@@ -10,7 +10,7 @@ use Rattle.sc_papers.specs.declared.rejection.Rejection.{Rejection}
 use Rattle.sc_papers.proofs.Priority.{ahead-irrefl, ahead-asymm}
 use Rattle.sc_papers.proofs.Rejections.{has-true, has-some, has-agree}
 use Rattle.sc_papers.proofs.Students.{how_many-le, how_many-lt}
-use Rattle.sc_audit.specs.Ledger.{keeps, KeepsBest}
+use Rattle.sc_audit.specs.AuditView.{keeps, KeepsBest}
 use Rattle.sc_audit.proofs.Keeping.{keys-length}
 
 module _ (m : Market) (next : Matching) (kept : ℕ → Bool) (s : ℕ) (keys : List Key) (best : KeepsBest m next kept s keys) where

@@ -19,7 +19,7 @@ use Rattle.sc_papers.proofs.Chain.{how_many-split_both}
 use Rattle.sc_papers.proofs.Priority.{ahead-total, ahead-trans}
 use Rattle.sc_papers.proofs.Rejections.{has-true, has-some, has-agree}
 use Rattle.sc_audit.specs.Offers.{Offers}
-use Rattle.sc_audit.specs.Ledger.{AreKeysOf, keeps, KeepsBest}
+use Rattle.sc_audit.specs.AuditView.{AreKeysOf, keeps, KeepsBest}
 
 -- tests that hold together are one
 pub both-ways : (a b : Bool) → (a ≡ true → b ≡ true) → (b ≡ true → a ≡ true) → a ≡ b
@@ -135,7 +135,7 @@ is_out None j = false
 is_out (Some key) j = nat_eq j key.student
 
 -- a student comes to s, where one may be put out
-pub record Came (m : Market) (next next' : Matching) (kept kept' : ℕ → Bool) (s i : ℕ) (out : Option Key) (keys new : List Key) : Type 0 where
+pub record Moved (m : Market) (next next' : Matching) (kept kept' : ℕ → Bool) (s i : ℕ) (out : Option Key) (keys new : List Key) : Type 0 where
   pub well_formed : WellFormed m
   pub among : Contains (students_of m) i
   pub best : KeepsBest m next kept s keys
@@ -148,40 +148,40 @@ pub record Came (m : Market) (next next' : Matching) (kept kept' : ℕ → Bool)
   pub others_kept : (j : ℕ) → (j ≡ i → ⊥) → kept' j ≡ (kept j && not (is_out out j))
 
 module _ (m : Market) (next next' : Matching) (kept kept' : ℕ → Bool) (s i : ℕ) (keys new : List Key) where
-  stander : (out : Option Key) → Came m next next' kept kept' s i out keys new → (j : ℕ) → next' j ≡ Some s → Contains (students_of m) j
-  stander out came j at = elim (cases_eq j i) [
-    | inl same ↦ subst (Contains (students_of m)) (sym same) came.among
-    | inr apart ↦ came.standers j (sym (came.others j apart) ∙ at)
+  stander : (out : Option Key) → Moved m next next' kept kept' s i out keys new → (j : ℕ) → next' j ≡ Some s → Contains (students_of m) j
+  stander out moved j at = elim (cases_eq j i) [
+    | inl same ↦ subst (Contains (students_of m)) (sym same) moved.among
+    | inr apart ↦ moved.standers j (sym (moved.others j apart) ∙ at)
   ]
 
   -- those who were kept, and the one who comes
   joined_test : ℕ → Bool
   joined_test j = keeps next kept s j || j == i
 
-  stood-apart : (out : Option Key) → Came m next next' kept kept' s i out keys new → keeps next kept s i ≡ false
-  stood-apart out came = elim (cases_Bool (keeps next kept s i)) [
+  stood-apart : (out : Option Key) → Moved m next next' kept kept' s i out keys new → keeps next kept s i ≡ false
+  stood-apart out moved = elim (cases_Bool (keeps next kept s i)) [
     | inr apart ↦ apart
-    | inl held ↦ absurd (none-some s (sym came.nowhere ∙ has-true next s i (and_parts (has next s i) (kept i) held).0))
+    | inl held ↦ absurd (none-some s (sym moved.nowhere ∙ has-true next s i (and_parts (has next s i) (kept i) held).0))
   ]
 
-  joined : (out : Option Key) → Came m next next' kept kept' s i out keys new → AreKeysOf m s joined_test (option_to_list out ++ new)
+  joined : (out : Option Key) → Moved m next next' kept kept' s i out keys new → AreKeysOf m s joined_test (option_to_list out ++ new)
   unfolding joined_test
-  joined out came =
-      keys-permute (key_of m i s ∷ keys) (option_to_list out ++ new) came.offered.together
-      (keys-join m came.well_formed s i (keeps next kept s) keys came.among (stood-apart out came) came.best.exact_keys)
+  joined out moved =
+      keys-permute (key_of m i s ∷ keys) (option_to_list out ++ new) moved.offered.together
+      (keys-join m moved.well_formed s i (keeps next kept s) keys moved.among (stood-apart out moved) moved.best.exact_keys)
 
   -- who is kept then
-  kept-test : (out : Option Key) → Came m next next' kept kept' s i out keys new → (j : ℕ) → (joined_test j && not (is_out out j)) ≡ keeps next' kept' s j
+  kept-test : (out : Option Key) → Moved m next next' kept kept' s i out keys new → (j : ℕ) → (joined_test j && not (is_out out j)) ≡ keeps next' kept' s j
   unfolding joined_test
-  kept-test out came j = elim (cases_eq j i) [
+  kept-test out moved j = elim (cases_eq j i) [
     | inl same ↦ ap (λ n. (keeps next kept s n || n == i) && not (is_out out n)) same
         ∙ ap (λ b. b && not (is_out out i)) (or_right (keeps next kept s i) (i == i) (eq-eqb i i refl))
-        ∙ sym came.own_kept
-        ∙ sym (ap (λ b. b && kept' i) (has-some next' s i came.here))
+        ∙ sym moved.own_kept
+        ∙ sym (ap (λ b. b && kept' i) (has-some next' s i moved.here))
         ∙ ap (keeps next' kept' s) (sym same)
     | inr apart ↦
         regroup (has next s j) (kept j) (j == i) (not (is_out out j)) (ne_eqb j i apart)
-        ∙ (λ t. has-agree next next' s j (sym (came.others j apart)) t && sym (came.others_kept j apart) t)
+        ∙ (λ t. has-agree next next' s j (sym (moved.others j apart)) t && sym (moved.others_kept j apart) t)
   ]
     where
       regroup : (a b c d : Bool) → c ≡ false → (((a && b) || c) && d) ≡ (a && (b && d))
@@ -191,31 +191,31 @@ module _ (m : Market) (next next' : Matching) (kept kept' : ℕ → Bool) (s i :
       regroup false b false d refused = refl
 
   -- the keys that stay are theirs
-  stays : (out : Option Key) → Came m next next' kept kept' s i out keys new → AreKeysOf m s (keeps next' kept' s) new
-  stays None came =
-      keys-alike joined_test (keeps next' kept' s) (λ j. and-true (joined_test j) ∙ kept-test None came j) (joined None came)
+  stays : (out : Option Key) → Moved m next next' kept kept' s i out keys new → AreKeysOf m s (keeps next' kept' s) new
+  stays None moved =
+      keys-alike joined_test (keeps next' kept' s) (λ j. and-true (joined_test j) ∙ kept-test None moved j) (joined None moved)
     where
       and-true : (a : Bool) → a ≡ (a && not false)
       and-true true = refl
       and-true false = refl
-  stays (Some out) came =
-      keys-alike (λ j. joined_test j && not (j == out.student)) (keeps next' kept' s) (λ j. kept-test (Some out) came j)
-      (keys-leave m came.well_formed s joined_test out new (joined (Some out) came))
+  stays (Some out) moved =
+      keys-alike (λ j. joined_test j && not (j == out.student)) (keeps next' kept' s) (λ j. kept-test (Some out) moved j)
+      (keys-leave m moved.well_formed s joined_test out new (joined (Some out) moved))
 
   -- the one put out stood there, or has just come
-  put-out : (out : Key) → Came m next next' kept kept' s i (Some out) keys new → Contains (students_of m) out.student × (joined_test out.student ≡ true) × (out ≡ key_of m out.student s)
-  put-out out came = keys-own out (joined (Some out) came) (contains-head out new)
+  put-out : (out : Key) → Moved m next next' kept kept' s i (Some out) keys new → Contains (students_of m) out.student × (joined_test out.student ≡ true) × (out ≡ key_of m out.student s)
+  put-out out moved = keys-own out (joined (Some out) moved) (contains-head out new)
 
   -- it stands there now
-  pub out-there : (out : Option Key) → Came m next next' kept kept' s i out keys new → (j : ℕ) → is_out out j ≡ true → next' j ≡ Some s
+  pub out-there : (out : Option Key) → Moved m next next' kept kept' s i out keys new → (j : ℕ) → is_out out j ≡ true → next' j ≡ Some s
   unfolding joined_test
-  out-there None came j refused = absurd (false≢true refused)
-  out-there (Some out) came j is =
+  out-there None moved j refused = absurd (false≢true refused)
+  out-there (Some out) moved j is =
       let same : j ≡ out.student = eqb-true j out.student is in
-      let was : (keeps next kept s out.student || out.student == i) ≡ true = (put-out out came).1 in
+      let was : (keeps next kept s out.student || out.student == i) ≡ true = (put-out out moved).1 in
       elim (cases_eq j i) [
-        | inl own ↦ ap next' own ∙ came.here
-        | inr apart ↦ came.others j apart ∙ ap next same ∙
+        | inl own ↦ ap next' own ∙ moved.here
+        | inr apart ↦ moved.others j apart ∙ ap next same ∙
             has-true next s out.student (and_parts (has next s out.student) (kept out.student) (left-true (keeps next kept s out.student) (out.student == i) (ne_eqb out.student i (λ at. apart (same ∙ at))) was)).0
       ]
     where
@@ -224,12 +224,12 @@ module _ (m : Market) (next next' : Matching) (kept kept' : ℕ → Bool) (s i :
       left-true false b refused holds = absurd (false≢true (sym refused ∙ holds))
 
   -- with room nobody stands there without being kept
-  room-none : Came m next next' kept kept' s i None keys new → (l : ℕ) → next' l ≡ Some s → kept' l ≡ false → ⊥
-  room-none came l at waits = elim (cases_eq l i) [
-    | inl same ↦ true≢false (sym came.own_kept ∙ ap kept' (sym same) ∙ waits)
+  room-none : Moved m next next' kept kept' s i None keys new → (l : ℕ) → next' l ≡ Some s → kept' l ≡ false → ⊥
+  room-none moved l at waits = elim (cases_eq l i) [
+    | inl same ↦ true≢false (sym moved.own_kept ∙ ap kept' (sym same) ∙ waits)
     | inr apart ↦
-        let full = came.best.full l (sym (came.others l apart) ∙ at) (and-keep (kept l) (sym (came.others_kept l apart) ∙ waits)) in
-        omega (arith, full, length_permutation (key_of m i s ∷ keys) new came.offered.together, came.offered.within)
+        let full = moved.best.full l (sym (moved.others l apart) ∙ at) (and-keep (kept l) (sym (moved.others_kept l apart) ∙ waits)) in
+        omega (arith, full, length_permutation (key_of m i s ∷ keys) new moved.offered.together, moved.offered.within)
   ]
     where
       and-keep : (a : Bool) → (a && not false) ≡ false → a ≡ false
@@ -241,39 +241,39 @@ module _ (m : Market) (next next' : Matching) (kept kept' : ℕ → Bool) (s i :
   to-ahead out j own behind = ap (λ k. is_before k (key_of m j s)) (sym own) ∙ behind
 
   -- who is kept now is ahead of the one put out
-  ahead-out : (out : Key) → Came m next next' kept kept' s i (Some out) keys new → (j : ℕ) → next' j ≡ Some s → kept' j ≡ true → is_ahead m s j out.student ≡ true
-  ahead-out out came j at held =
+  ahead-out : (out : Key) → Moved m next next' kept kept' s i (Some out) keys new → (j : ℕ) → next' j ≡ Some s → kept' j ≡ true → is_ahead m s j out.student ≡ true
+  ahead-out out moved j at held =
       let passes : keeps next' kept' s j ≡ true = and_from (has next' s j) (kept' j) (has-some next' s j at) held in
-      let not_out : (j == out.student) ≡ false = not-true (j == out.student) (and_parts (joined_test j) (not (j == out.student)) (kept-test (Some out) came j ∙ passes)).1 in
+      let not_out : (j == out.student) ≡ false = not-true (j == out.student) (and_parts (joined_test j) (not (j == out.student)) (kept-test (Some out) moved j ∙ passes)).1 in
       let apart : out.student ≡ j → ⊥ = λ same. false≢true (sym not_out ∙ eq-eqb j out.student (sym same)) in
-      let among : Contains (students_of m) j = stander (Some out) came j at in
-      let there : Contains new (key_of m j s) = keys-hold j (stays (Some out) came) among passes in
-      let behind : is_before out (key_of m j s) ≡ false = All-contains (λ k. is_before out k ≡ false) new (key_of m j s) came.offered.last there in
-      let ahead : is_ahead m s out.student j ≡ false = to-ahead out j (put-out out came).2 behind in
+      let among : Contains (students_of m) j = stander (Some out) moved j at in
+      let there : Contains new (key_of m j s) = keys-hold j (stays (Some out) moved) among passes in
+      let behind : is_before out (key_of m j s) ≡ false = All-contains (λ k. is_before out k ≡ false) new (key_of m j s) moved.offered.last there in
+      let ahead : is_ahead m s out.student j ≡ false = to-ahead out j (put-out out moved).2 behind in
       elim (ahead-total m s out.student j apart) [
         | inl refused ↦ absurd (false≢true (sym ahead ∙ refused))
         | inr so ↦ so
       ]
 
   -- where one was put out, who is kept is ahead of each who isn't
-  ahead-all : (out : Key) → Came m next next' kept kept' s i (Some out) keys new → (l j : ℕ) → next' l ≡ Some s → kept' l ≡ false → next' j ≡ Some s → kept' j ≡ true → is_ahead m s j l ≡ true
+  ahead-all : (out : Key) → Moved m next next' kept kept' s i (Some out) keys new → (l j : ℕ) → next' l ≡ Some s → kept' l ≡ false → next' j ≡ Some s → kept' j ≡ true → is_ahead m s j l ≡ true
   unfolding joined_test
-  ahead-all out came l j at waits at_j held =
+  ahead-all out moved l j at waits at_j held =
       elim (cases_eq l out.student) [
-        | inl same ↦ subst (λ n. is_ahead m s j n ≡ true) (sym same) (ahead-out out came j at_j held)
+        | inl same ↦ subst (λ n. is_ahead m s j n ≡ true) (sym same) (ahead-out out moved j at_j held)
         | inr other ↦
-            let not_own : l ≡ i → ⊥ = λ same. true≢false (sym (came.own_kept ∙ ap not (ne_eqb i out.student (λ is. other (same ∙ is)))) ∙ ap kept' (sym same) ∙ waits) in
-            let before : next l ≡ Some s = sym (came.others l not_own) ∙ at in
-            let waited : kept l ≡ false = drop-true (kept l) (nat_eq l out.student) (ne_eqb l out.student other) (sym (came.others_kept l not_own) ∙ waits) in
+            let not_own : l ≡ i → ⊥ = λ same. true≢false (sym (moved.own_kept ∙ ap not (ne_eqb i out.student (λ is. other (same ∙ is)))) ∙ ap kept' (sym same) ∙ waits) in
+            let before : next l ≡ Some s = sym (moved.others l not_own) ∙ at in
+            let waited : kept l ≡ false = drop-true (kept l) (nat_eq l out.student) (ne_eqb l out.student other) (sym (moved.others_kept l not_own) ∙ waits) in
             elim (cases_eq j i) [
-              | inr apart ↦ came.best.ahead l j before waited (sym (came.others j apart) ∙ at_j) (and_parts (kept j) (not (nat_eq j out.student)) (sym (came.others_kept j apart) ∙ held)).0
+              | inr apart ↦ moved.best.ahead l j before waited (sym (moved.others j apart) ∙ at_j) (and_parts (kept j) (not (nat_eq j out.student)) (sym (moved.others_kept j apart) ∙ held)).0
               | inl own ↦
-                  let j_ahead : is_ahead m s j out.student ≡ true = ahead-out out came j at_j held in
-                  let not_out : out.student ≡ i → ⊥ = λ is. false≢true (sym (ap not (eq-eqb j out.student (own ∙ sym is))) ∙ sym (came.own_kept ∙ ap (λ n. not (nat_eq n out.student)) (sym own)) ∙ ap kept' (sym own) ∙ held) in
-                  let was : (keeps next kept s out.student || out.student == i) ≡ true = (put-out out came).1 in
+                  let j_ahead : is_ahead m s j out.student ≡ true = ahead-out out moved j at_j held in
+                  let not_out : out.student ≡ i → ⊥ = λ is. false≢true (sym (ap not (eq-eqb j out.student (own ∙ sym is))) ∙ sym (moved.own_kept ∙ ap (λ n. not (nat_eq n out.student)) (sym own)) ∙ ap kept' (sym own) ∙ held) in
+                  let was : (keeps next kept s out.student || out.student == i) ≡ true = (put-out out moved).1 in
                   let stood : keeps next kept s out.student ≡ true = left-true (keeps next kept s out.student) (out.student == i) (ne_eqb out.student i not_out) was in
                   let parts = and_parts (has next s out.student) (kept out.student) stood in
-                  ahead-trans m s j out.student l j_ahead (came.best.ahead l out.student before waited (has-true next s out.student parts.0) parts.1)
+                  ahead-trans m s j out.student l j_ahead (moved.best.ahead l out.student before waited (has-true next s out.student parts.0) parts.1)
             ]
       ]
     where
@@ -287,37 +287,37 @@ module _ (m : Market) (next next' : Matching) (kept kept' : ℕ → Bool) (s i :
       left-true false b refused holds = absurd (false≢true (sym refused ∙ holds))
 
   -- the school keeps the best
-  pub keeps-more : (out : Option Key) → Came m next next' kept kept' s i out keys new → KeepsBest m next' kept' s new
-  keeps-more None came = record {
-    exact_keys = stays None came;
-    within = came.offered.within;
-    full = λ l at waits. absurd (room-none came l at waits);
-    ahead = λ l j at waits at_j held. absurd (room-none came l at waits);
+  pub keeps-more : (out : Option Key) → Moved m next next' kept kept' s i out keys new → KeepsBest m next' kept' s new
+  keeps-more None moved = record {
+    exact_keys = stays None moved;
+    within = moved.offered.within;
+    full = λ l at waits. absurd (room-none moved l at waits);
+    ahead = λ l j at waits at_j held. absurd (room-none moved l at waits);
   }
-  keeps-more (Some out) came = record {
-    exact_keys = stays (Some out) came;
-    within = came.offered.within;
-    full = λ l at waits. came.offered.full refl;
-    ahead = ahead-all out came;
+  keeps-more (Some out) moved = record {
+    exact_keys = stays (Some out) moved;
+    within = moved.offered.within;
+    full = λ l at waits. moved.offered.full refl;
+    ahead = ahead-all out moved;
   }
 
   -- and every other school the same
-  pub keeps-others : (out : Option Key) → Came m next next' kept kept' s i out keys new → (t : ℕ) (others : List Key) → (t ≡ s → ⊥) → KeepsBest m next kept t others → KeepsBest m next' kept' t others
-  keeps-others out came t others apart best =
+  pub keeps-others : (out : Option Key) → Moved m next next' kept kept' s i out keys new → (t : ℕ) (others : List Key) → (t ≡ s → ⊥) → KeepsBest m next kept t others → KeepsBest m next' kept' t others
+  keeps-others out moved t others apart best =
       keeps-still m next next' kept kept' t others
       (λ j at.
-      let not_own : j ≡ i → ⊥ = λ same. apart (same_Some t s (sym at ∙ ap next' same ∙ came.here)) in
-      (sym (came.others j not_own) ∙ at, same-kept j not_own at))
+      let not_own : j ≡ i → ⊥ = λ same. apart (same_Some t s (sym at ∙ ap next' same ∙ moved.here)) in
+      (sym (moved.others j not_own) ∙ at, same-kept j not_own at))
       (λ j at held.
-      let not_own : j ≡ i → ⊥ = λ same. none-some t (sym came.nowhere ∙ ap next (sym same) ∙ at) in
-      let still : next' j ≡ Some t = came.others j not_own ∙ at in
+      let not_own : j ≡ i → ⊥ = λ same. none-some t (sym moved.nowhere ∙ ap next (sym same) ∙ at) in
+      let still : next' j ≡ Some t = moved.others j not_own ∙ at in
       (still, same-kept j not_own still ∙ held))
       best
     where
       same-kept : (j : ℕ) → (j ≡ i → ⊥) → next' j ≡ Some t → kept' j ≡ kept j
       same-kept j not_own at = elim (cases_Bool (is_out out j)) [
-        | inl so ↦ absurd (apart (same_Some t s (sym at ∙ out-there out came j so)))
-        | inr refused ↦ came.others_kept j not_own ∙ ap (λ b. kept j && not b) refused ∙ and-true (kept j)
+        | inl so ↦ absurd (apart (same_Some t s (sym at ∙ out-there out moved j so)))
+        | inr refused ↦ moved.others_kept j not_own ∙ ap (λ b. kept j && not b) refused ∙ and-true (kept j)
       ]
         where
           and-true : (a : Bool) → (a && not false) ≡ a

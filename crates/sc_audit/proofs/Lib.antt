@@ -2,7 +2,7 @@ mod Tables
 mod Keeping
 mod Entries
 mod Offered
-mod Ledgers
+mod Steps
 mod Openings
 mod Takings
 mod Lessers

@@ -1,4 +1,4 @@
--- The ledger before the first entry.
+-- The state before the first entry.
 use Rattle.std.proofs.Common.{◌≡◌, inl, inr, refl, ap, sym, subst, ◌∙◌, ℕ, ◌+◌, ◌<◌, ◌≤◌, nat_eq, false, not, ◌&&◌, List, [], ◌∷◌, length, get_or, find, Option, Some, None, All, position, slice_get, arith}
 use Rattle.std.specs.BinaryHeap.{IsHeap}
 use Rattle.std.specs.Option.{option_map, option_map_or}
@@ -13,7 +13,7 @@ use Rattle.sc_papers.specs.declared.key.Key.{Key}
 use Rattle.sc_papers.proofs.Choices.{contains-at}
 use Rattle.sc_papers.proofs.Students.{how_many-none, lister-among}
 use Rattle.sc_papers.specs.Key.{key_cmp}
-use Rattle.sc_audit.specs.Ledger.{Ledger, stand_of, next_of, is_kept, keys_at, keeps, KeepsBest, Fits, Comes, Follows}
+use Rattle.sc_audit.specs.AuditView.{AuditView, stand_of, next_of, is_kept, keys_at, keeps, KeepsBest, Fits, MovesTo, Follows}
 use Rattle.sc_audit.specs.declared.stand.Stand.{Stand}
 use Rattle.sc_audit.proofs.Tables.{stand-away}
 use Rattle.sc_papers.proofs.Positions.{among-student, place-position, position-at, position-one, student-position}
@@ -36,10 +36,10 @@ nothing-kept m kept long nothing s = go (position (nat_eq s) (schools_of m)) ref
     go None is = refl
     go (Some at) is = nothing at [] (omega (arith, (position-at (schools_of m) s at is).0, length-keys_of m.schools, long))
 
-no-next : (m : Market) (l : Ledger) → ((i : ℕ) → stand_of m l.stands i ≡ None) → (i : ℕ) → next_of m l.stands i ≡ None
+no-next : (m : Market) (l : AuditView) → ((i : ℕ) → stand_of m l.stands i ≡ None) → (i : ℕ) → next_of m l.stands i ≡ None
 no-next m l nobody i = ap (option_map (λ (stand : Stand). stand.school)) (nobody i)
 
-keeps-nobody : (m : Market) (l : Ledger) → ((i : ℕ) → stand_of m l.stands i ≡ None) → (s : ℕ) → KeepsBest m (next_of m l.stands) (is_kept m l.stands) s []
+keeps-nobody : (m : Market) (l : AuditView) → ((i : ℕ) → stand_of m l.stands i ≡ None) → (s : ℕ) → KeepsBest m (next_of m l.stands) (is_kept m l.stands) s []
 keeps-nobody m l nobody s =
     let absent : (j : ℕ) → next_of m l.stands j ≡ Some s → ⊥ = λ j at. none-some s (sym (no-next m l nobody j) ∙ at) in
     record {
@@ -53,7 +53,7 @@ keeps-nobody m l nobody s =
       ahead = λ i j at waits at_j held. absurd (absent i at);
     }
 
-pub fits-empty : (m : Market) (l : Ledger) → WellFormed m → WithinLimits m → length l.stands ≡ length m.students → length l.kept ≡ length m.schools → ((i : ℕ) → stand_of m l.stands i ≡ None) → All (λ keys. keys ≡ []) l.kept → All (IsHeap key_cmp) l.kept → Fits m l
+pub fits-empty : (m : Market) (l : AuditView) → WellFormed m → WithinLimits m → length l.stands ≡ length m.students → length l.kept ≡ length m.schools → ((i : ℕ) → stand_of m l.stands i ≡ None) → All (λ keys. keys ≡ []) l.kept → All (IsHeap key_cmp) l.kept → Fits m l
 fits-empty m l well within stands schools nobody nothing heaps = record {
   well_formed = well;
   within_limits = within;
@@ -65,39 +65,39 @@ fits-empty m l well within stands schools nobody nothing heaps = record {
 }
 
 -- the first k students have come to their first choices
-pub record Opened (m : Market) (l : Ledger) (k : ℕ) : Type 0 where
+pub record Opened (m : Market) (l : AuditView) (k : ℕ) : Type 0 where
   pub fits : Fits m l
   pub came : (i at : ℕ) → position (nat_eq i) (students_of m) ≡ Some at → at < k → next_of m l.stands i ≡ slice_get (choices_of m i) 0
   pub later : (i at : ℕ) → position (nat_eq i) (students_of m) ≡ Some at → k ≤ at → stand_of m l.stands i ≡ None
 
-pub opened-none : (m : Market) (l : Ledger) → Fits m l → ((i : ℕ) → stand_of m l.stands i ≡ None) → Opened m l 0
+pub opened-none : (m : Market) (l : AuditView) → Fits m l → ((i : ℕ) → stand_of m l.stands i ≡ None) → Opened m l 0
 opened-none m l fits nobody = record {
   fits = fits;
   came = λ i at found low. absurd (omega (arith, low));
   later = λ i at found past. nobody i;
 }
 
-pub opened-nowhere : (m : Market) (l : Ledger) (k i : ℕ) → Opened m l k → slice_get (students_of m) k ≡ Some i → stand_of m l.stands i ≡ None
+pub opened-nowhere : (m : Market) (l : AuditView) (k i : ℕ) → Opened m l k → slice_get (students_of m) k ≡ Some i → stand_of m l.stands i ≡ None
 opened-nowhere m l k i opened here = opened.later i k (place-position m opened.fits.well_formed k i here) (omega arith)
 
 no-school : (o : Option Stand) → option_map (λ (stand : Stand). stand.school) o ≡ None → o ≡ None
 no-school None none = refl
 no-school (Some stand) none = absurd (none-some stand.school (sym none))
 
-pub opened-more : (m : Market) (l new : Ledger) (k i : ℕ) → Opened m l k → slice_get (students_of m) k ≡ Some i → Comes m l i 0 new → Opened m new (k + 1)
-opened-more m l new k i opened here comes =
+pub opened-more : (m : Market) (l new : AuditView) (k i : ℕ) → Opened m l k → slice_get (students_of m) k ≡ Some i → MovesTo m l i 0 new → Opened m new (k + 1)
+opened-more m l new k i opened here moves =
     let own : position (nat_eq i) (students_of m) ≡ Some k = place-position m opened.fits.well_formed k i here in
     record {
-      fits = comes.fits;
+      fits = moves.fits;
       came = λ j at found low. elim (cases_eq j i) [
-        | inl same ↦ ap (next_of m new.stands) same ∙ comes.own ∙ ap (λ n. slice_get (choices_of m n) 0) (sym same)
+        | inl same ↦ ap (next_of m new.stands) same ∙ moves.own ∙ ap (λ n. slice_get (choices_of m n) 0) (sym same)
         | inr apart ↦
             let before : at < k = elim (cases_lt at k) [ inl below ↦ below | inr past ↦ absurd (apart (position-one (students_of m) i j k own (found ∙ ap Some (omega (arith, low, past))))) ] in
-            comes.others j apart ∙ opened.came j at found before
+            moves.others j apart ∙ opened.came j at found before
       ];
       later = λ j at found past.
           let apart : j ≡ i → ⊥ = λ same. omega (arith, past, same_Some at k (sym found ∙ ap (λ n. position (nat_eq n) (students_of m)) same ∙ own)) in
-          no-school (stand_of m new.stands j) (comes.others j apart ∙ ap (option_map (λ (stand : Stand). stand.school)) (opened.later j at found (omega (arith, past))));
+          no-school (stand_of m new.stands j) (moves.others j apart ∙ ap (option_map (λ (stand : Stand). stand.school)) (opened.later j at found (omega (arith, past))));
     }
 
 -- before the first entry the next choice is the first
@@ -109,7 +109,7 @@ first-open m i = go (choices_of m i)
     go [] = refl
     go (x ∷ xs) = refl
 
-pub opened-all : (m : Market) (l : Ledger) (k : ℕ) → length m.students ≤ k → Opened m l k → Follows m [] l
+pub opened-all : (m : Market) (l : AuditView) (k : ℕ) → length m.students ≤ k → Opened m l k → Follows m [] l
 opened-all m l k all opened = record {
   fits = opened.fits;
   next = λ i. first-open m i ∙ go i (position (nat_eq i) (students_of m)) refl (slice_get (choices_of m i) 0) refl;

@@ -7,7 +7,7 @@ use Rattle.std.proofs.lemmas.Map.Entries.{length-keys_of}
 use Rattle.std.proofs.lemmas.Option.{none-some, same_Some, slice_get-get_or}
 use Rattle.sc_papers.specs.Market.{Market, students_of, seats_of}
 use Rattle.sc_papers.specs.Matching.{held, WithinSeats}
-use Rattle.sc_audit.specs.Ledger.{Ledger, stand_of, next_of, is_kept, keys_at, waiting_at, Fits}
+use Rattle.sc_audit.specs.AuditView.{AuditView, stand_of, next_of, is_kept, keys_at, waiting_at, Fits}
 use Rattle.sc_audit.specs.Least.{LeastOf}
 use Rattle.sc_audit.specs.Over.{IsFirstOver}
 use Rattle.sc_audit.specs.declared.stand.Stand.{Stand}
@@ -16,12 +16,12 @@ use Rattle.sc_papers.proofs.Positions.{among-student, position-at, student-posit
 use Rattle.sc_audit.proofs.Entries.{waiting-over, kept-within}
 
 -- who waits at a school stands there and isn't kept
-record Waiting (m : Market) (l : Ledger) (i s : ℕ) : Type 0 where
+record Waiting (m : Market) (l : AuditView) (i s : ℕ) : Type 0 where
   among : Contains (students_of m) i
   next : next_of m l.stands i ≡ Some s
   aside : is_kept m l.stands i ≡ false
 
-waiting-from : (m : Market) (l : Ledger) (i s : ℕ) → waiting_at (stand_of m l.stands i) ≡ Some s → Waiting m l i s
+waiting-from : (m : Market) (l : AuditView) (i s : ℕ) → waiting_at (stand_of m l.stands i) ≡ Some s → Waiting m l i s
 waiting-from m l i s waits = go (stand_of m l.stands i) refl waits
   where
     go : (o : Option Stand) → stand_of m l.stands i ≡ o → waiting_at o ≡ Some s → Waiting m l i s
@@ -36,21 +36,21 @@ waiting-from m l i s waits = go (stand_of m l.stands i) refl waits
     ]
 
 -- and the other way round
-waits-there : (m : Market) (l : Ledger) (i s : ℕ) → next_of m l.stands i ≡ Some s → is_kept m l.stands i ≡ false → waiting_at (stand_of m l.stands i) ≡ Some s
+waits-there : (m : Market) (l : AuditView) (i s : ℕ) → next_of m l.stands i ≡ Some s → is_kept m l.stands i ≡ false → waiting_at (stand_of m l.stands i) ≡ Some s
 waits-there m l i s next aside = go (stand_of m l.stands i) next aside
   where
     go : (o : Option Stand) → option_map (λ (stand : Stand). stand.school) o ≡ Some s → option_map_or (λ (stand : Stand). stand.kept) o false ≡ false → waiting_at o ≡ Some s
     go None none aside = absurd (none-some s none)
     go (Some stand) at aside = cond-false stand.kept None (Some stand.school) aside ∙ at
 
-next-student : (m : Market) (l : Ledger) (i s : ℕ) → next_of m l.stands i ≡ Some s → Contains (students_of m) i
+next-student : (m : Market) (l : AuditView) (i s : ℕ) → next_of m l.stands i ≡ Some s → Contains (students_of m) i
 next-student m l i s next = go (stand_of m l.stands i) refl next
   where
     go : (o : Option Stand) → stand_of m l.stands i ≡ o → option_map (λ (stand : Stand). stand.school) o ≡ Some s → Contains (students_of m) i
     go None is none = absurd (none-some s none)
     go (Some stand) is at = stander-among m l.stands i stand is
 
-module _ (m : Market) (l : Ledger) (k : ℕ) (all : length m.students ≤ k) (fits : Fits m l) where
+module _ (m : Market) (l : AuditView) (k : ℕ) (all : length m.students ≤ k) (fits : Fits m l) where
   -- a school below the least is within its seats
   below-within : (least : Option ℕ) → LeastOf (students_of m) (λ i. waiting_at (stand_of m l.stands i)) k least → (t : ℕ) → ((n : ℕ) → least ≡ Some n → t < n) → held m (next_of m l.stands) t ≤ seats_of m t
   below-within least found t under =

@@ -7,7 +7,7 @@ use Rattle.std.proofs.lemmas.List.{get_or_read, length-map}
 use Rattle.std.proofs.lemmas.Map.Entries.{length-keys_of}
 use Rattle.sc_papers.specs.Market.{Market, schools_of, students_of}
 use Rattle.sc_papers.proofs.Positions.{position-among, position-at, position-one}
-use Rattle.sc_audit.specs.Ledger.{looked_up, set_aside, stand_of, keys_at}
+use Rattle.sc_audit.specs.AuditView.{looked_up, set_aside, stand_of, keys_at}
 use Rattle.sc_audit.specs.declared.stand.Stand.{Stand}
 use Rattle.sc_papers.specs.declared.key.Key.{Key}
 

@@ -11,21 +11,21 @@ use Rattle.sc_papers.specs.declared.rejection.Rejection.{Rejection}
 use Rattle.sc_papers.proofs.Rejections.{next-same}
 use Rattle.sc_papers.proofs.Standings.{next-moves}
 use Rattle.sc_papers.specs.Key.{key_cmp}
-use Rattle.sc_audit.specs.Ledger.{Ledger, stand_of, next_of, is_kept, keys_at, waiting_place, KeepsBest, Fits, Comes, Follows}
+use Rattle.sc_audit.specs.AuditView.{AuditView, stand_of, next_of, is_kept, keys_at, waiting_place, KeepsBest, Fits, MovesTo, Follows}
 use Rattle.sc_audit.specs.declared.stand.Stand.{Stand}
 use Rattle.sc_audit.proofs.Tables.{stander-among}
 use Rattle.sc_audit.proofs.Keeping.{keeps-still}
 use Rattle.sc_audit.proofs.Entries.{waiting-rivals, kept-rivals}
 
 -- a student who stands at a school without being kept
-pub record Waits (m : Market) (l : Ledger) (i s place : ℕ) : Type 0 where
+pub record Waits (m : Market) (l : AuditView) (i s place : ℕ) : Type 0 where
   pub stand : Stand
   pub is : stand_of m l.stands i ≡ Some stand
   pub aside : stand.kept ≡ false
   pub at : stand.school ≡ s
   pub placed : stand.place ≡ place
 
-pub waits-from : (m : Market) (l : Ledger) (i s place : ℕ) → waiting_place (stand_of m l.stands i) s ≡ Some place → Waits m l i s place
+pub waits-from : (m : Market) (l : AuditView) (i s place : ℕ) → waiting_place (stand_of m l.stands i) s ≡ Some place → Waits m l i s place
 waits-from m l i s place found = go (stand_of m l.stands i) refl found
   where
     go : (o : Option Stand) → stand_of m l.stands i ≡ o → waiting_place o s ≡ Some place → Waits m l i s place
@@ -43,7 +43,7 @@ waits-from m l i s place found = go (stand_of m l.stands i) refl found
       | inr fails ↦ absurd (none-some place (sym (cond-false (not stand.kept && stand.school == s) (Some stand.place) None fails) ∙ there))
     ]
 
-module _ {m : Market} {l : Ledger} {i s place : ℕ} (waits : Waits m l i s place) where
+module _ {m : Market} {l : AuditView} {i s place : ℕ} (waits : Waits m l i s place) where
   pub waits-next : next_of m l.stands i ≡ Some s
   waits-next = ap (option_map (λ (stand : Stand). stand.school)) waits.is ∙ ap Some waits.at
 
@@ -57,7 +57,7 @@ module _ {m : Market} {l : Ledger} {i s place : ℕ} (waits : Waits m l i s plac
   waits-placed fits = ap (slice_get (choices_of m i)) (sym waits.placed) ∙ fits.placed i waits.stand waits.is ∙ ap Some waits.at
 
   -- the student leaves
-  module _ (new : Ledger) (fits : Fits m l) (kept : new.kept ≡ l.kept) (long : length new.stands ≡ length l.stands) (stands : (j : ℕ) → stand_of m new.stands j ≡ cond (nat_eq j i) None (stand_of m l.stands j)) where
+  module _ (new : AuditView) (fits : Fits m l) (kept : new.kept ≡ l.kept) (long : length new.stands ≡ length l.stands) (stands : (j : ℕ) → stand_of m new.stands j ≡ cond (nat_eq j i) None (stand_of m l.stands j)) where
     pub left-nowhere : stand_of m new.stands i ≡ None
     left-nowhere = stands i ∙ cond-true (nat_eq i i) None (stand_of m l.stands i) (eq-eqb i i refl)
 
@@ -93,22 +93,22 @@ module _ {m : Market} {l : Ledger} {i s place : ℕ} (waits : Waits m l i s plac
     }
 
 -- a valid entry
-pub taken-valid : (m : Market) (log : List Rejection) (l : Ledger) (e : Rejection) (place : ℕ) → Follows m log l → Waits m l e.student e.school place → IsValidEntry m log e
+pub taken-valid : (m : Market) (log : List Rejection) (l : AuditView) (e : Rejection) (place : ℕ) → Follows m log l → Waits m l e.student e.school place → IsValidEntry m log e
 taken-valid m log l e place follows waits = record {
   next = follows.next e.student ∙ waits-next waits;
   full = waiting-rivals m (next_of m l.stands) (is_kept m l.stands) e.school (keys_at m l.kept e.school) (follows.fits.each e.school) log follows.next e.student (waits-next waits) (waits-aside waits);
 }
 
-pub taken-follows : (m : Market) (log : List Rejection) (l mid new : Ledger) (e : Rejection) (place : ℕ) → IsValidLog m log → Follows m log l → Waits m l e.student e.school place
-    → ((j : ℕ) → (j ≡ e.student → ⊥) → next_of m mid.stands j ≡ next_of m l.stands j) → Comes m mid e.student (place + 1) new → Follows m (log ++ e ∷ []) new
-taken-follows m log l mid new e place valid follows waits left comes = record {
-  fits = comes.fits;
+pub taken-follows : (m : Market) (log : List Rejection) (l mid new : AuditView) (e : Rejection) (place : ℕ) → IsValidLog m log → Follows m log l → Waits m l e.student e.school place
+    → ((j : ℕ) → (j ≡ e.student → ⊥) → next_of m mid.stands j ≡ next_of m l.stands j) → MovesTo m mid e.student (place + 1) new → Follows m (log ++ e ∷ []) new
+taken-follows m log l mid new e place valid follows waits left moves = record {
+  fits = moves.fits;
   next = λ j. elim (cases_eq j e.student) [
     | inl same ↦
         ap (next_choice m (log ++ e ∷ [])) same
         ∙ next-moves m follows.fits.well_formed log e place valid (taken-valid m log l e place follows waits) (waits-placed waits follows.fits)
-        ∙ sym comes.own ∙ ap (next_of m new.stands) (sym same)
-    | inr apart ↦ next-same m log e j (λ same. apart (sym same)) ∙ follows.next j ∙ sym (left j apart) ∙ sym (comes.others j apart)
+        ∙ sym moves.own ∙ ap (next_of m new.stands) (sym same)
+    | inr apart ↦ next-same m log e j (λ same. apart (sym same)) ∙ follows.next j ∙ sym (left j apart) ∙ sym (moves.others j apart)
   ];
 }
 
@@ -117,7 +117,7 @@ and-holds true b first second = absurd (true≢false first)
 and-holds false b first second = second
 
 -- an entry that isn't
-pub not-taken : (m : Market) (log : List Rejection) (l : Ledger) (e : Rejection) → waiting_place (stand_of m l.stands e.student) e.school ≡ None → Follows m log l → IsValidEntry m log e → ⊥
+pub not-taken : (m : Market) (log : List Rejection) (l : AuditView) (e : Rejection) → waiting_place (stand_of m l.stands e.student) e.school ≡ None → Follows m log l → IsValidEntry m log e → ⊥
 not-taken m log l e none follows valid = go (stand_of m l.stands e.student) refl none (sym (follows.next e.student) ∙ valid.next)
   where
     go : (o : Option Stand) → stand_of m l.stands e.student ≡ o → waiting_place o e.school ≡ None → next_of m l.stands e.student ≡ Some e.school → ⊥

@@ -13,30 +13,30 @@ use Rattle.sc_papers.proofs.Rejections.{has-agree}
 use Rattle.sc_papers.proofs.Standings.{valid-rest}
 use Rattle.sc_papers.proofs.Students.{how_many-agree}
 use Rattle.sc_papers.proofs.Validity.{valid-push}
-use Rattle.sc_audit.specs.Ledger.{Ledger, next_of, Follows, Finds}
+use Rattle.sc_audit.specs.AuditView.{AuditView, next_of, Follows, Finds}
 use Rattle.sc_audit.specs.Over.{IsFirstOver}
 use Rattle.sc_audit.specs.Verdict.{IsBadLine, IsVerdict}
 use Rattle.sc_audit.specs.declared.verdict.Verdict.{Verdict}
 use Rattle.sc_audit.specs.declared.verdict.Verdict.TheVariants.{BadEntry, Over, Certified}
 
--- the first k entries are valid, and the ledger follows them
-pub record ReadUpTo (m : Market) (log : List Rejection) (k : ℕ) (l : Ledger) : Type 0 where
+-- the first k entries are valid, and the state follows them
+pub record ReadUpTo (m : Market) (log : List Rejection) (k : ℕ) (l : AuditView) : Type 0 where
   pub valid : IsValidLog m (take k log)
   pub follows : Follows m (take k log) l
 
-pub read-none : (m : Market) (log : List Rejection) (l : Ledger) → Follows m [] l → ReadUpTo m log 0 l
+pub read-none : (m : Market) (log : List Rejection) (l : AuditView) → Follows m [] l → ReadUpTo m log 0 l
 read-none m log l follows = record { valid = tt; follows = follows }
 
 take-entry : (log : List Rejection) (k : ℕ) (e : Rejection) → k < length log → e ≡ get_or log k e → take (k + 1) log ≡ take k log ++ e ∷ []
 take-entry log k e low is = rw (add-one, take-suc log k e low) (ap (λ y. take k log ++ y ∷ []) (sym is))
 
-pub read-more : (m : Market) (log : List Rejection) (k : ℕ) (l new : Ledger) (e : Rejection) → k < length log → e ≡ get_or log k e → ReadUpTo m log k l → Finds m (take k log) e true new → ReadUpTo m log (k + 1) new
+pub read-more : (m : Market) (log : List Rejection) (k : ℕ) (l new : AuditView) (e : Rejection) → k < length log → e ≡ get_or log k e → ReadUpTo m log k l → Finds m (take k log) e true new → ReadUpTo m log (k + 1) new
 read-more m log k l new e low is before found = record {
   valid = subst (IsValidLog m) (sym (take-entry log k e low is)) (valid-push m [] (take k log) e before.valid found.0);
   follows = subst (λ first. Follows m first new) (sym (take-entry log k e low is)) found.1;
 }
 
-pub bad-line : (m : Market) (log : List Rejection) (k line : ℕ) (l new : Ledger) (e : Rejection) → k < length log → e ≡ get_or log k e → line ≡ k + 1 → ReadUpTo m log k l → Finds m (take k log) e false new → IsBadLine m log line
+pub bad-line : (m : Market) (log : List Rejection) (k line : ℕ) (l new : AuditView) (e : Rejection) → k < length log → e ≡ get_or log k e → line ≡ k + 1 → ReadUpTo m log k l → Finds m (take k log) e false new → IsBadLine m log line
 bad-line m log k line l new e low is line_is before found = record {
   before = take k log;
   entry = e;
@@ -48,20 +48,20 @@ bad-line m log k line l new e low is line_is before found = record {
 }
 
 -- the whole log is read
-pub read-all : (m : Market) (log : List Rejection) (k : ℕ) (l : Ledger) → length log ≤ k → ReadUpTo m log k l → IsValidLog m log × Follows m log l
+pub read-all : (m : Market) (log : List Rejection) (k : ℕ) (l : AuditView) → length log ≤ k → ReadUpTo m log k l → IsValidLog m log × Follows m log l
 read-all m log k l all read =
     (subst (IsValidLog m) (take_all k log all) read.valid, subst (λ whole. Follows m whole l) (take_all k log all) read.follows)
 
-held-same : (m : Market) (log : List Rejection) (l : Ledger) → Follows m log l → (s : ℕ) → held m (matching_of m log) s ≡ held m (next_of m l.stands) s
+held-same : (m : Market) (log : List Rejection) (l : AuditView) → Follows m log l → (s : ℕ) → held m (matching_of m log) s ≡ held m (next_of m l.stands) s
 held-same m log l follows s = how_many-agree m (has (matching_of m log) s) (has (next_of m l.stands) s) (λ j. has-agree (matching_of m log) (next_of m l.stands) s j (follows.next j))
 
-pub over-log : (m : Market) (log : List Rejection) (l : Ledger) (s : ℕ) → Follows m log l → IsFirstOver m (next_of m l.stands) s → IsFirstOver m (matching_of m log) s
+pub over-log : (m : Market) (log : List Rejection) (l : AuditView) (s : ℕ) → Follows m log l → IsFirstOver m (next_of m l.stands) s → IsFirstOver m (matching_of m log) s
 over-log m log l s follows over = record {
   over = omega (arith, over.over, held-same m log l follows s);
   least = λ t low. omega (arith, over.least t low, held-same m log l follows t);
 }
 
-pub settled-log : (m : Market) (log : List Rejection) (l : Ledger) → IsValidLog m log → Follows m log l → WithinSeats m (next_of m l.stands) → IsSettled m log
+pub settled-log : (m : Market) (log : List Rejection) (l : AuditView) → IsValidLog m log → Follows m log l → WithinSeats m (next_of m l.stands) → IsSettled m log
 settled-log m log l valid follows within = record {
   valid = valid;
   within_seats = λ t. omega (arith, within t, held-same m log l follows t);

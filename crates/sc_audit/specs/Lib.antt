@@ -2,7 +2,7 @@ pub mod Over
 pub mod Verdict
 pub mod Offers
 pub mod Least
-pub mod Ledger
-pub mod Books
+pub mod AuditView
+pub mod AuditState
 pub mod Stability
 pub mod Tallies

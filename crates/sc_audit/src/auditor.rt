@@ -1,12 +1,12 @@
 ghost use Rattle.std.specs.Prelude.{◌≡◌, [], IfOk};
 ghost use Rattle.sc_papers.specs.Log.{matching_of};
 ghost use Rattle.sc_papers.specs.Matching.{IsStudentOptimal};
-ghost use Rattle.sc_audit.specs.Books.{ledger_of};
-ghost use Rattle.sc_audit.specs.Ledger.{Follows};
+ghost use Rattle.sc_audit.specs.AuditState.{view_of};
+ghost use Rattle.sc_audit.specs.AuditView.{Follows};
 ghost use Rattle.sc_audit.specs.Verdict.{IsVerdict};
 ghost use Rattle.sc_audit.specs.declared.verdict.Verdict.TheVariants.{Certified};
 
-use crate::books::Books;
+use crate::audit_state::AuditState;
 use crate::verdict::Verdict;
 use sc_papers::{Papers, Rejection};
 use std::alloc::{AllocError, Global};
@@ -23,23 +23,23 @@ pub fn audit(alloc: Global, papers: &Papers, log: &[Rejection]) -> Result<Verdic
     ensures verdict { IfOk result (IsVerdict papers.now log.now) }
     ensures optimal { IfOk result (λ verdict. verdict ≡ Certified → IsStudentOptimal papers.now (matching_of papers.now log.now)) }
 {
-    let mut books = Books::open(alloc, papers)?;
-    read(&mut books, papers, log)
+    let mut state = AuditState::start(alloc, papers)?;
+    read(&mut state, papers, log)
 }
 
-/// Reads a log into the books of papers before the first entry.
-fn read(books: &mut Books, papers: &Papers, log: &[Rejection]) -> Result<Verdict, AllocError>
-    requires { Follows papers.now [] (ledger_of books.old) }
+/// Reads a log from the state before the first entry on.
+fn read(state: &mut AuditState, papers: &Papers, log: &[Rejection]) -> Result<Verdict, AllocError>
+    requires { Follows papers.now [] (view_of state.old) }
     ensures { IfOk result (IsVerdict papers.now log.now) }
 {
     for position in 0..log.len() {
-        if !books.take(papers, log[position])? {
+        if !state.take(papers, log[position])? {
             return Ok(Verdict::BadEntry {
                 line: position as u64 + 1,
             });
         }
     }
-    match books.least_over(papers) {
+    match state.least_over(papers) {
         Some(school) => Ok(Verdict::Over { school }),
         None => Ok(Verdict::Certified),
     }

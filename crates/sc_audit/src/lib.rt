@@ -2,9 +2,9 @@
 //! a log or an assignment from anybody, and answers what the papers alone say of it.
 #![tactic(auto)]
 
+mod audit_state;
 mod auditor;
 mod blocks;
-mod books;
 mod checker;
 mod choices;
 pub mod laws;

@@ -2,7 +2,7 @@
 ghost use Rattle.std.specs.Prelude.{◌≡◌, ℕ, ◌==◌, nat_eq, true, All, None, length, IfOk, if◌then◌else◌};
 ghost use Rattle.std.specs.Option.{option_map};
 ghost use Rattle.sc_papers.specs.Market.{is_student};
-ghost use Rattle.sc_audit.specs.Ledger.{set_aside, stand_of};
+ghost use Rattle.sc_audit.specs.AuditView.{set_aside, stand_of};
 
 use crate::stand::Stand;
 use sc_papers::{Papers, StudentNo};

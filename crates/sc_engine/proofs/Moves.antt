@@ -12,8 +12,8 @@ use Rattle.sc_engine.proofs.Tables.{place-low, roll-at, stands-at, StandsAt, pos
 use Rattle.sc_engine.proofs.Proposals.{Proposed, put-out, Out, fits-held, fits-ended, counted-ended, counted-held}
 use Rattle.sc_engine.proofs.Steps.{Rejected, entry_of, entered-stays, fits-put_out, counted-put_out, midway-put_out, continues-held, continues-ended, left-put_out}
 
-pub proposed-from : (m : Market) (r : Standings) (hand s at : ℕ) (key : Key) (rolls : List Held) (out : Option Key) → FitsBut m r (only hand) → next_of m r.places hand ≡ Some s → position (nat_eq s) (schools_of m) ≡ Some at → key ≡ key_of m hand s → OffersAt r.rolls rolls at key out → Proposed m r hand s at rolls out
-proposed-from m r hand s at key rolls out fits stands school is offered = record {
+pub proposed-from : (m : Market) (r : Standings) (proposer s at : ℕ) (key : Key) (rolls : List Held) (out : Option Key) → FitsBut m r (only proposer) → next_of m r.places proposer ≡ Some s → position (nat_eq s) (schools_of m) ≡ Some at → key ≡ key_of m proposer s → OffersAt r.rolls rolls at key out → Proposed m r proposer s at rolls out
+proposed-from m r proposer s at key rolls out fits stands school is offered = record {
   fits = fits;
   stands = stands;
   school = school;
@@ -21,9 +21,9 @@ proposed-from m r hand s at key rolls out fits stands school is offered = record
 }
 
 -- the same of what the roll answered
-pub proposed-told : (m : Market) (r : Standings) (hand s at : ℕ) (key : Key) (rolls : List Held) (told out : Option Key) → FitsBut m r (only hand) → next_of m r.places hand ≡ Some s → position (nat_eq s) (schools_of m) ≡ Some at → key ≡ key_of m hand s → OffersAt r.rolls rolls at key told → told ≡ out → Proposed m r hand s at rolls out
-proposed-told m r hand s at key rolls told out fits stands school is offered answer =
-    proposed-from m r hand s at key rolls out fits stands school is (subst (OffersAt r.rolls rolls at key) answer offered)
+pub proposed-told : (m : Market) (r : Standings) (proposer s at : ℕ) (key : Key) (rolls : List Held) (told out : Option Key) → FitsBut m r (only proposer) → next_of m r.places proposer ≡ Some s → position (nat_eq s) (schools_of m) ≡ Some at → key ≡ key_of m proposer s → OffersAt r.rolls rolls at key told → told ≡ out → Proposed m r proposer s at rolls out
+proposed-told m r proposer s at key rolls told out fits stands school is offered answer =
+    proposed-from m r proposer s at key rolls out fits stands school is (subst (OffersAt r.rolls rolls at key) answer offered)
 
 pub extends-same : (old new : List Rejection) → new ≡ old → Extends old new
 extends-same old new same = ([], same ∙ sym (append-nil old))
@@ -32,34 +32,34 @@ pub extends-trans : (a b c : List Rejection) → Extends a b → Extends b c →
 extends-trans a b c (first, is_b) (second, is_c) = (first ++ second, is_c ∙ ap (λ l. l ++ second) is_b ∙ append_assoc a first second)
 
 -- the student in hand has no choice left
-pub ends-none : (m : Market) (r : Standings) (hand : ℕ) → FitsBut m r (only hand) → next_of m r.places hand ≡ None → ChainEnds m r r hand
-ends-none m r hand fits none = record {
-  fits = fits-ended m r hand fits none;
+pub ends-none : (m : Market) (r : Standings) (proposer : ℕ) → FitsBut m r (only proposer) → next_of m r.places proposer ≡ None → ChainEnds m r r proposer
+ends-none m r proposer fits none = record {
+  fits = fits-ended m r proposer fits none;
   entered = λ i. refl;
-  continues = continues-ended m r hand fits none;
-  counted = counted-ended m r hand none;
+  continues = continues-ended m r proposer fits none;
+  counted = counted-ended m r proposer none;
   extends = extends-same r.log r.log refl;
 }
 
 -- the roll had room
-pub ends-held : (m : Market) (r r' : Standings) (hand s at : ℕ) → Proposed m r hand s at r'.rolls None → r'.places ≡ r.places → r'.log ≡ r.log → r'.proposals ≡ r.proposals + 1 → ChainEnds m r r' hand
-ends-held m r r' hand s at done same_places same_log one_more = record {
-  counted = counted-held m r r' hand s done.fits.well_formed done.stands same_places same_log one_more;
-  fits = fits-held m r r' hand s at done same_places (counted-held m r r' hand s done.fits.well_formed done.stands same_places same_log one_more);
+pub ends-held : (m : Market) (r r' : Standings) (proposer s at : ℕ) → Proposed m r proposer s at r'.rolls None → r'.places ≡ r.places → r'.log ≡ r.log → r'.proposals ≡ r.proposals + 1 → ChainEnds m r r' proposer
+ends-held m r r' proposer s at done same_places same_log one_more = record {
+  counted = counted-held m r r' proposer s done.fits.well_formed done.stands same_places same_log one_more;
+  fits = fits-held m r r' proposer s at done same_places (counted-held m r r' proposer s done.fits.well_formed done.stands same_places same_log one_more);
   entered = λ i. ap (λ places. is_some (place_of m places i)) same_places;
-  continues = continues-held m r r' hand s at done same_places same_log;
+  continues = continues-held m r r' proposer s at done same_places same_log;
   extends = extends-same r.log r'.log same_log;
 }
 
 -- a student is put out and moves on
-pub goes-on : (m : Market) (r r' : Standings) (hand s at : ℕ) (rolls : List Held) (out : Key) → Proposed m r hand s at rolls (Some out) → r'.rolls ≡ rolls → r'.log ≡ r.log ++ entry_of out.student s ∷ []
+pub goes-on : (m : Market) (r r' : Standings) (proposer s at : ℕ) (rolls : List Held) (out : Key) → Proposed m r proposer s at rolls (Some out) → r'.rolls ≡ rolls → r'.log ≡ r.log ++ entry_of out.student s ∷ []
     → ((k place : ℕ) → position (nat_eq out.student) (students_of m) ≡ Some k → place_of m r.places out.student ≡ Some place → r'.places ≡ set r.places k (Some (place + 1)))
-    → r'.proposals ≡ r.proposals + 1 → Proposes m r r' hand (Some out.student)
-goes-on m r r' hand s at rolls out done same_rolls log moved one_more =
-    let gone : Out m (next_of m r.places) hand s out = put-out m r hand s at rolls out done in
+    → r'.proposals ≡ r.proposals + 1 → Proposes m r r' proposer (Some out.student)
+goes-on m r r' proposer s at rolls out done same_rolls log moved one_more =
+    let gone : Out m (next_of m r.places) proposer s out = put-out m r proposer s at rolls out done in
     let stood : StandsAt m r.places out.student s = stands-at m r.places out.student s gone.stands in
     let where_is : PositionOf m r.places out.student stood.place = position-of m r.places out.student stood.place stood.entered in
-    let done' : Proposed m r hand s at r'.rolls (Some out) = subst (λ rs. Proposed m r hand s at rs (Some out)) (sym same_rolls) done in
+    let done' : Proposed m r proposer s at r'.rolls (Some out) = subst (λ rs. Proposed m r proposer s at rs (Some out)) (sym same_rolls) done in
     let low : where_is.at < length r.places = place-low r.places where_is.at stood.place where_is.here in
     let step : Rejected m r r' out.student s where_is.at stood.place = record {
       student = where_is.found;
@@ -69,20 +69,20 @@ goes-on m r r' hand s at rolls out done same_rolls log moved one_more =
       places = moved where_is.at stood.place where_is.found stood.entered;
       log = log;
     } in
-    let counted = counted-put_out m r r' hand s out.student where_is.at stood.place done.fits.well_formed done.stands step one_more in (
+    let counted = counted-put_out m r r' proposer s out.student where_is.at stood.place done.fits.well_formed done.stands step one_more in (
       record {
         counted = counted;
-        fits = fits-put_out m r r' hand s at out where_is.at stood.place done' step counted;
+        fits = fits-put_out m r r' proposer s at out where_is.at stood.place done' step counted;
         entered = entered-stays step;
-        continues = midway-put_out m r r' hand s at out where_is.at stood.place done' step;
+        continues = midway-put_out m r r' proposer s at out where_is.at stood.place done' step;
         extends = (entry_of out.student s ∷ [], log);
       },
       omega (arith, left-put_out m r r' out.student s where_is.at stood.place done.fits.well_formed step),
     )
 
 -- a chain that has not begun
-pub goes-on_first : (m : Market) (r : Standings) (hand : ℕ) → FitsBut m r (only hand) → ChainGoesOn m r r hand hand
-goes-on_first m r hand fits = record {
+pub goes-on_first : (m : Market) (r : Standings) (proposer : ℕ) → FitsBut m r (only proposer) → ChainGoesOn m r r proposer proposer
+goes-on_first m r proposer fits = record {
   fits = fits;
   entered = λ i. refl;
   continues = λ earlier midway. midway;
@@ -109,7 +109,7 @@ goes-on_ends m a b c i j first last = record {
 }
 
 -- what an offer asks of the roll
-pub roll-new : (m : Market) (r : Standings) (hand s at : ℕ) (key : Key) → FitsBut m r (only hand) → position (nat_eq s) (schools_of m) ≡ Some at → key ≡ key_of m hand s → Contains (roll_at r.rolls at).keys key → ⊥
-roll-new m r hand s at key fits school is held =
-    away-off m (next_of m r.places) (only hand) s (roll_at r.rolls at) hand (subst (RollFits m (next_of m r.places) (only hand) s) (roll-at m r.rolls s at school) (fits.each s)) (eq-eqb hand hand refl)
+pub roll-new : (m : Market) (r : Standings) (proposer s at : ℕ) (key : Key) → FitsBut m r (only proposer) → position (nat_eq s) (schools_of m) ≡ Some at → key ≡ key_of m proposer s → Contains (roll_at r.rolls at).keys key → ⊥
+roll-new m r proposer s at key fits school is held =
+    away-off m (next_of m r.places) (only proposer) s (roll_at r.rolls at) proposer (subst (RollFits m (next_of m r.places) (only proposer) s) (roll-at m r.rolls s at school) (fits.each s)) (eq-eqb proposer proposer refl)
     (subst (Contains (roll_at r.rolls at).keys) is held)

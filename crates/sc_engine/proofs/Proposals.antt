@@ -46,20 +46,20 @@ stays true = refl
 stays false = refl
 
 -- a proposal as the code makes it: the student in hand stands at s, and its key is offered to the roll
-pub record Proposed (m : Market) (r : Standings) (hand s at : ℕ) (rolls : List Held) (out : Option Key) : Type 0 where
-  pub fits : FitsBut m r (only hand)
-  pub stands : next_of m r.places hand ≡ Some s
+pub record Proposed (m : Market) (r : Standings) (proposer s at : ℕ) (rolls : List Held) (out : Option Key) : Type 0 where
+  pub fits : FitsBut m r (only proposer)
+  pub stands : next_of m r.places proposer ≡ Some s
   pub school : position (nat_eq s) (schools_of m) ≡ Some at
-  pub offered : OffersAt r.rolls rolls at (key_of m hand s) out
+  pub offered : OffersAt r.rolls rolls at (key_of m proposer s) out
 
 pub key-student : (m : Market) (i s : ℕ) → (key_of m i s).student ≡ i
 unfolding key_of
 key-student m i s = refl
 
-module _ {m : Market} {r : Standings} {hand s at : ℕ} {rolls : List Held} {out : Option Key} (done : Proposed m r hand s at rolls out) where
+module _ {m : Market} {r : Standings} {proposer s at : ℕ} {rolls : List Held} {out : Option Key} (done : Proposed m r proposer s at rolls out) where
   -- the school's roll before
-  pub roll-before : RollFits m (next_of m r.places) (only hand) s (roll_at r.rolls at)
-  roll-before = subst (RollFits m (next_of m r.places) (only hand) s) (roll-at m r.rolls s at done.school) (done.fits.each s)
+  pub roll-before : RollFits m (next_of m r.places) (only proposer) s (roll_at r.rolls at)
+  roll-before = subst (RollFits m (next_of m r.places) (only proposer) s) (roll-at m r.rolls s at done.school) (done.fits.each s)
 
   -- the other schools' rolls stay
   pub roll-after_other : (t : ℕ) → (t ≡ s → ⊥) → roll_of m rolls t ≡ roll_of m r.rolls t
@@ -103,17 +103,17 @@ standing-others m old new i same =
     ])
 
 -- the counts at the end of a chain
-pub counted-ended : (m : Market) (r : Standings) (hand : ℕ) → next_of m r.places hand ≡ None → CountsProposals m r (only hand) r nobody
-counted-ended m r hand none = ap (λ n. r.proposals + (length r.log + n)) (sym (standing-without m r.places hand none))
+pub counted-ended : (m : Market) (r : Standings) (proposer : ℕ) → next_of m r.places proposer ≡ None → CountsProposals m r (only proposer) r nobody
+counted-ended m r proposer none = ap (λ n. r.proposals + (length r.log + n)) (sym (standing-without m r.places proposer none))
 
-pub counted-held : (m : Market) (r r' : Standings) (hand s : ℕ) → WellFormed m → next_of m r.places hand ≡ Some s → r'.places ≡ r.places → r'.log ≡ r.log → r'.proposals ≡ r.proposals + 1 → CountsProposals m r (only hand) r' nobody
-counted-held m r r' hand s well stands same_places same_log one_more =
-    omega (arith, one_more, standing-split m well r.places hand s stands, ap (λ places. standing_but m places nobody) same_places, ap (λ (l : List Rejection). length l) same_log)
+pub counted-held : (m : Market) (r r' : Standings) (proposer s : ℕ) → WellFormed m → next_of m r.places proposer ≡ Some s → r'.places ≡ r.places → r'.log ≡ r.log → r'.proposals ≡ r.proposals + 1 → CountsProposals m r (only proposer) r' nobody
+counted-held m r r' proposer s well stands same_places same_log one_more =
+    omega (arith, one_more, standing-split m well r.places proposer s stands, ap (λ places. standing_but m places nobody) same_places, ap (λ (l : List Rejection). length l) same_log)
 
 -- nobody is put out: the roll had room
-pub fits-held : (m : Market) (r r' : Standings) (hand s at : ℕ) → Proposed m r hand s at r'.rolls None → r'.places ≡ r.places → CountsProposals m r (only hand) r' nobody → Fits m r'
-fits-held m r r' hand s at done same counted = record {
-  proposals = counted-within m r (only hand) r' nobody counted done.fits.proposals;
+pub fits-held : (m : Market) (r r' : Standings) (proposer s at : ℕ) → Proposed m r proposer s at r'.rolls None → r'.places ≡ r.places → CountsProposals m r (only proposer) r' nobody → Fits m r'
+fits-held m r r' proposer s at done same counted = record {
+  proposals = counted-within m r (only proposer) r' nobody counted done.fits.proposals;
   well_formed = done.fits.well_formed;
   within_limits = done.fits.within_limits;
   places = omega (arith, ap (λ (l : List (Option ℕ)). length l) same, done.fits.places);
@@ -121,8 +121,8 @@ fits-held m r r' hand s at done same counted = record {
   each = λ t. subst (λ places. RollFits m (next_of m places) nobody t (roll_of m r'.rolls t)) (sym same) (elim (cases_eq t s) [
     | inl at_s ↦ subst (λ u. RollFits m next nobody u (roll_of m r'.rolls u)) (sym at_s) (subst (RollFits m next nobody s) (sym (roll-after done)) here)
     | inr apart ↦ subst (RollFits m next nobody t) (sym (roll-after_other done t apart))
-        (roll-fits_still m next next (only hand) nobody t (roll_of m r.rolls t)
-        (λ j. not-there (has next t j) j hand (λ is_hand. has-not next s t j (ap next is_hand ∙ done.stands) apart) ∙ sym (stays (has next t j)))
+        (roll-fits_still m next next (only proposer) nobody t (roll_of m r.rolls t)
+        (λ j. not-there (has next t j) j proposer (λ is_hand. has-not next s t j (ap next is_hand ∙ done.stands) apart) ∙ sym (stays (has next t j)))
         (done.fits.each t))
   ]);
 }
@@ -134,32 +134,32 @@ fits-held m r r' hand s at done same counted = record {
     here = record {
       seats = done.offered.seats ∙ (roll-before done).seats;
       within = done.offered.within;
-      keyed = All-permutation (λ k. k ≡ key_of m k.student s) (key_of m hand s ∷ (roll_at r.rolls at).keys) (roll_at r'.rolls at).keys done.offered.together
-          (All-cons (λ k. k ≡ key_of m k.student s) (key_of m hand s) (roll_at r.rolls at).keys (ap (λ i. key_of m i s) (sym (key-student m hand s))) (roll-before done).keyed);
+      keyed = All-permutation (λ k. k ≡ key_of m k.student s) (key_of m proposer s ∷ (roll_at r.rolls at).keys) (roll_at r'.rolls at).keys done.offered.together
+          (All-cons (λ k. k ≡ key_of m k.student s) (key_of m proposer s) (roll_at r.rolls at).keys (ap (λ i. key_of m i s) (sym (key-student m proposer s))) (roll-before done).keyed);
       exact = λ p.
-          let now : count_by (λ (k : Key). p k.student) (roll_at r'.rolls at).keys ≡ cond (p hand) 1 0 + count_by (λ (k : Key). p k.student) (roll_at r.rolls at).keys =
-          counts-held p (key_of m hand s) (roll_at r.rolls at).keys (roll_at r'.rolls at).keys done.offered.together ∙ ap (λ i. cond (p i) 1 0 + count_by (λ (k : Key). p k.student) (roll_at r.rolls at).keys) (key-student m hand s) in
-          let split = how_many-split_both m done.fits.well_formed p (has next s) hand (next-among m r.places hand s done.stands) (has-some next s hand done.stands) in
+          let now : count_by (λ (k : Key). p k.student) (roll_at r'.rolls at).keys ≡ cond (p proposer) 1 0 + count_by (λ (k : Key). p k.student) (roll_at r.rolls at).keys =
+          counts-held p (key_of m proposer s) (roll_at r.rolls at).keys (roll_at r'.rolls at).keys done.offered.together ∙ ap (λ i. cond (p i) 1 0 + count_by (λ (k : Key). p k.student) (roll_at r.rolls at).keys) (key-student m proposer s) in
+          let split = how_many-split_both m done.fits.well_formed p (has next s) proposer (next-among m r.places proposer s done.stands) (has-some next s proposer done.stands) in
           let still : how_many m (λ j. p j && has next s j) ≡ how_many m (λ j. p j && (has next s j && not false)) =
           how_many-agree m (λ j. p j && has next s j) (λ j. p j && (has next s j && not false)) (λ j. ap (λ b. p j && b) (sym (stays (has next s j)))) in
           omega (arith, now, split, still, (roll-before done).exact p);
     }
 
 -- the student in hand has no choice left
-pub fits-ended : (m : Market) (r : Standings) (hand : ℕ) → FitsBut m r (only hand) → next_of m r.places hand ≡ None → Fits m r
-fits-ended m r hand fits none = record {
+pub fits-ended : (m : Market) (r : Standings) (proposer : ℕ) → FitsBut m r (only proposer) → next_of m r.places proposer ≡ None → Fits m r
+fits-ended m r proposer fits none = record {
   well_formed = fits.well_formed;
   within_limits = fits.within_limits;
   places = fits.places;
   rolls = fits.rolls;
-  proposals = counted-within m r (only hand) r nobody (counted-ended m r hand none) fits.proposals;
-  each = λ t. roll-fits_still m (next_of m r.places) (next_of m r.places) (only hand) nobody t (roll_of m r.rolls t)
-      (λ j. not-there (has (next_of m r.places) t j) j hand (λ is_hand. has-none (next_of m r.places) t j (ap (next_of m r.places) is_hand ∙ none)) ∙ sym (stays (has (next_of m r.places) t j)))
+  proposals = counted-within m r (only proposer) r nobody (counted-ended m r proposer none) fits.proposals;
+  each = λ t. roll-fits_still m (next_of m r.places) (next_of m r.places) (only proposer) nobody t (roll_of m r.rolls t)
+      (λ j. not-there (has (next_of m r.places) t j) j proposer (λ is_hand. has-none (next_of m r.places) t j (ap (next_of m r.places) is_hand ∙ none)) ∙ sym (stays (has (next_of m r.places) t j)))
       (fits.each t);
 }
 
 -- the student who is put out was there or is the one in hand, and is the last of them
-pub record Out (m : Market) (next : Matching) (hand s : ℕ) (out : Key) : Type 0 where
+pub record Out (m : Market) (next : Matching) (proposer s : ℕ) (out : Key) : Type 0 where
   pub stands : next out.student ≡ Some s
   pub own : out ≡ key_of m out.student s
   pub last : (j : ℕ) → next j ≡ Some s → (j ≡ out.student → ⊥) → is_ahead m s j out.student ≡ true
@@ -168,19 +168,19 @@ before-ahead : (m : Market) (s i j : ℕ) → is_before (key_of m i s) (key_of m
 unfolding is_ahead
 before-ahead m s i j before = before
 
-pub put-out : (m : Market) (r : Standings) (hand s at : ℕ) (rolls : List Held) (out : Key) → Proposed m r hand s at rolls (Some out) → Out m (next_of m r.places) hand s out
-put-out m r hand s at rolls out done = record {
+pub put-out : (m : Market) (r : Standings) (proposer s at : ℕ) (rolls : List Held) (out : Key) → Proposed m r proposer s at rolls (Some out) → Out m (next_of m r.places) proposer s out
+put-out m r proposer s at rolls out done = record {
   stands = (elim from [
-    | inl is_hand ↦ ap next (ap (λ (k : Key). k.student) (sym is_hand) ∙ key-student m hand s) ∙ done.stands
-    | inr held ↦ (on-roll m next (only hand) s old out (roll-before done) held).stands
+    | inl is_hand ↦ ap next (ap (λ (k : Key). k.student) (sym is_hand) ∙ key-student m proposer s) ∙ done.stands
+    | inr held ↦ (on-roll m next (only proposer) s old out (roll-before done) held).stands
   ]);
   own = own;
   last = λ j stands apart.
-      let among : Contains (key_of m hand s ∷ old.keys) (key_of m j s) = elim (cases_eq j hand) [
-        | inl is_hand ↦ subst (λ i. Contains (key_of m hand s ∷ old.keys) (key_of m i s)) (sym is_hand) (contains-head (key_of m hand s) old.keys)
-        | inr other ↦ contains-tail (key_of m hand s) old.keys (key_of m j s) (roll-holds m next (only hand) s old j (roll-before done) (next-among m r.places j s stands) stands (ne_eqb j hand other))
+      let among : Contains (key_of m proposer s ∷ old.keys) (key_of m j s) = elim (cases_eq j proposer) [
+        | inl is_hand ↦ subst (λ i. Contains (key_of m proposer s ∷ old.keys) (key_of m i s)) (sym is_hand) (contains-head (key_of m proposer s) old.keys)
+        | inr other ↦ contains-tail (key_of m proposer s) old.keys (key_of m j s) (roll-holds m next (only proposer) s old j (roll-before done) (next-among m r.places j s stands) stands (ne_eqb j proposer other))
       ] in
-      elim (contains-cons out (roll_at rolls at).keys (key_of m j s) (Contains-permutation (key_of m hand s ∷ old.keys) (out ∷ (roll_at rolls at).keys) (key_of m j s) done.offered.together among)) [
+      elim (contains-cons out (roll_at rolls at).keys (key_of m j s) (Contains-permutation (key_of m proposer s ∷ old.keys) (out ∷ (roll_at rolls at).keys) (key_of m j s) done.offered.together among)) [
         | inl is_out ↦ absurd (apart (sym (key-student m j s) ∙ ap (λ (k : Key). k.student) (sym is_out)))
         | inr stayed ↦ before-ahead m s j out.student (subst (λ k. is_before (key_of m j s) k ≡ true) own (All-contains (λ held. is_before held out ≡ true) (roll_at rolls at).keys (key_of m j s) done.offered.last stayed))
       ];
@@ -192,15 +192,15 @@ put-out m r hand s at rolls out done = record {
     old : Held
     old = roll_at r.rolls at
 
-    from : (key_of m hand s ≡ out) ⊎ Contains (roll_at r.rolls at).keys out
-    from = contains-cons (key_of m hand s) (roll_at r.rolls at).keys out
-        (Contains-permutation (out ∷ (roll_at rolls at).keys) (key_of m hand s ∷ (roll_at r.rolls at).keys) out
-        (IsPermutation-sym (key_of m hand s ∷ (roll_at r.rolls at).keys) (out ∷ (roll_at rolls at).keys) done.offered.together) (contains-head out (roll_at rolls at).keys))
+    from : (key_of m proposer s ≡ out) ⊎ Contains (roll_at r.rolls at).keys out
+    from = contains-cons (key_of m proposer s) (roll_at r.rolls at).keys out
+        (Contains-permutation (out ∷ (roll_at rolls at).keys) (key_of m proposer s ∷ (roll_at r.rolls at).keys) out
+        (IsPermutation-sym (key_of m proposer s ∷ (roll_at r.rolls at).keys) (out ∷ (roll_at rolls at).keys) done.offered.together) (contains-head out (roll_at rolls at).keys))
 
     own : out ≡ key_of m out.student s
-    own = elim (contains-cons (key_of m hand s) (roll_at r.rolls at).keys out
-        (Contains-permutation (out ∷ (roll_at rolls at).keys) (key_of m hand s ∷ (roll_at r.rolls at).keys) out
-        (IsPermutation-sym (key_of m hand s ∷ (roll_at r.rolls at).keys) (out ∷ (roll_at rolls at).keys) done.offered.together) (contains-head out (roll_at rolls at).keys))) [
-          | inl is_hand ↦ sym is_hand ∙ ap (λ i. key_of m i s) (sym (key-student m hand s) ∙ ap (λ (k : Key). k.student) is_hand)
-          | inr held ↦ (on-roll m (next_of m r.places) (only hand) s (roll_at r.rolls at) out (roll-before done) held).own
+    own = elim (contains-cons (key_of m proposer s) (roll_at r.rolls at).keys out
+        (Contains-permutation (out ∷ (roll_at rolls at).keys) (key_of m proposer s ∷ (roll_at r.rolls at).keys) out
+        (IsPermutation-sym (key_of m proposer s ∷ (roll_at r.rolls at).keys) (out ∷ (roll_at rolls at).keys) done.offered.together) (contains-head out (roll_at rolls at).keys))) [
+          | inl is_hand ↦ sym is_hand ∙ ap (λ i. key_of m i s) (sym (key-student m proposer s) ∙ ap (λ (k : Key). k.student) is_hand)
+          | inr held ↦ (on-roll m (next_of m r.places) (only proposer) s (roll_at r.rolls at) out (roll-before done) held).own
         ]

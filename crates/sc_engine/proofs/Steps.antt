@@ -71,21 +71,21 @@ stands-after {m} {r} {r'} {i} moved t j = elim (cases_eq j i) [
 ]
 
 -- the counts after a student is put out
-pub counted-put_out : (m : Market) (r r' : Standings) (hand s i place_at place : ℕ) → WellFormed m → next_of m r.places hand ≡ Some s → Rejected m r r' i s place_at place → r'.proposals ≡ r.proposals + 1 → CountsProposals m r (only hand) r' (only i)
-counted-put_out m r r' hand s i place_at place well stands moved one_more =
+pub counted-put_out : (m : Market) (r r' : Standings) (proposer s i place_at place : ℕ) → WellFormed m → next_of m r.places proposer ≡ Some s → Rejected m r r' i s place_at place → r'.proposals ≡ r.proposals + 1 → CountsProposals m r (only proposer) r' (only i)
+counted-put_out m r r' proposer s i place_at place well stands moved one_more =
     omega (
       arith,
       one_more,
-      standing-split m well r.places hand s stands,
+      standing-split m well r.places proposer s stands,
       standing-split m well r.places i s (next-stood moved),
       standing-others m r.places r'.places i (next-stays moved),
       ap (λ (l : List Rejection). length l) moved.log ∙ length_push r.log (entry_of i s),
     )
 
 -- the rolls after a student is put out
-pub fits-put_out : (m : Market) (r r' : Standings) (hand s at : ℕ) (out : Key) (place_at place : ℕ) → Proposed m r hand s at r'.rolls (Some out) → Rejected m r r' out.student s place_at place → CountsProposals m r (only hand) r' (only out.student) → FitsBut m r' (only out.student)
-fits-put_out m r r' hand s at out place_at place done moved counted = record {
-  proposals = counted-within m r (only hand) r' (only out.student) counted done.fits.proposals;
+pub fits-put_out : (m : Market) (r r' : Standings) (proposer s at : ℕ) (out : Key) (place_at place : ℕ) → Proposed m r proposer s at r'.rolls (Some out) → Rejected m r r' out.student s place_at place → CountsProposals m r (only proposer) r' (only out.student) → FitsBut m r' (only out.student)
+fits-put_out m r r' proposer s at out place_at place done moved counted = record {
+  proposals = counted-within m r (only proposer) r' (only out.student) counted done.fits.proposals;
   well_formed = done.fits.well_formed;
   within_limits = done.fits.within_limits;
   places = omega (arith, ap (λ (l : List (Option ℕ)). length l) moved.places, length-set r.places place_at (Some (place + 1)), done.fits.places);
@@ -93,8 +93,8 @@ fits-put_out m r r' hand s at out place_at place done moved counted = record {
   each = λ t. elim (cases_eq t s) [
     | inl at_s ↦ subst (λ u. RollFits m next' (only i) u (roll_of m r'.rolls u)) (sym at_s) (subst (RollFits m next' (only i) s) (sym (roll-after done)) here)
     | inr apart ↦ subst (RollFits m next' (only i) t) (sym (roll-after_other done t apart))
-        (roll-fits_still m next next' (only hand) (only i) t (roll_of m r.rolls t)
-        (λ j. not-there (has next t j) j hand (λ is_hand. has-not next s t j (ap next is_hand ∙ done.stands) apart)
+        (roll-fits_still m next next' (only proposer) (only i) t (roll_of m r.rolls t)
+        (λ j. not-there (has next t j) j proposer (λ is_hand. has-not next s t j (ap next is_hand ∙ done.stands) apart)
         ∙ sym (not-there (has next t j) j i (λ is_out. has-not next s t j (ap next is_out ∙ next-stood moved) apart))
         ∙ sym (stands-after moved t j))
         (done.fits.each t))
@@ -119,20 +119,20 @@ fits-put_out m r r' hand s at out place_at place done moved counted = record {
     new : Held
     new = roll_at r'.rolls at
 
-    hand-student : (key_of m hand s).student ≡ hand
-    hand-student = key-student m hand s
+    hand-student : (key_of m proposer s).student ≡ proposer
+    hand-student = key-student m proposer s
 
     here : RollFits m next' (only i) s new
     here = record {
       seats = done.offered.seats ∙ (roll-before done).seats;
       within = done.offered.within;
       keyed = All-tail (λ k. k ≡ key_of m k.student s) out new.keys
-          (All-permutation (λ k. k ≡ key_of m k.student s) (key_of m hand s ∷ old.keys) (out ∷ new.keys) done.offered.together
-          (All-cons (λ k. k ≡ key_of m k.student s) (key_of m hand s) old.keys (ap (λ j. key_of m j s) (sym hand-student)) (roll-before done).keyed));
+          (All-permutation (λ k. k ≡ key_of m k.student s) (key_of m proposer s ∷ old.keys) (out ∷ new.keys) done.offered.together
+          (All-cons (λ k. k ≡ key_of m k.student s) (key_of m proposer s) old.keys (ap (λ j. key_of m j s) (sym hand-student)) (roll-before done).keyed));
       exact = λ p.
-          let now = counts-offered p (key_of m hand s) out old.keys new.keys done.offered.together in
+          let now = counts-offered p (key_of m proposer s) out old.keys new.keys done.offered.together in
           let hand_term = ap (λ j. one_if (p j)) hand-student in
-          let by_hand = how_many-split_both m done.fits.well_formed p (has next s) hand (next-among m r.places hand s done.stands) (has-some next s hand done.stands) in
+          let by_hand = how_many-split_both m done.fits.well_formed p (has next s) proposer (next-among m r.places proposer s done.stands) (has-some next s proposer done.stands) in
           let by_out = how_many-split_both m done.fits.well_formed p (has next s) i (next-among m r.places i s (next-stood moved)) (has-some next s i (next-stood moved)) in
           let still : how_many m (λ j. p j && (has next' s j && not (j == i))) ≡ how_many m (λ j. p j && (has next s j && not (j == i))) =
           how_many-agree m (λ j. p j && (has next' s j && not (j == i))) (λ j. p j && (has next s j && not (j == i))) (λ j. ap (λ b. p j && b) (stands-after moved s j)) in
@@ -140,34 +140,34 @@ fits-put_out m r r' hand s at out place_at place done moved counted = record {
     }
 
 -- how many others stand at the school, by the roll
-held-on_roll : (m : Market) (earlier : List Rejection) (r : Standings) (hand s : ℕ) (roll : Held) → Midway m earlier r hand → RollFits m (next_of m r.places) (only hand) s roll → held_by_others (entered_papers m r.places) (earlier ++ r.log) hand s ≡ length roll.keys
-held-on_roll m earlier r hand s roll midway fits =
+held-on_roll : (m : Market) (earlier : List Rejection) (r : Standings) (proposer s : ℕ) (roll : Held) → Midway m earlier r proposer → RollFits m (next_of m r.places) (only proposer) s roll → held_by_others (entered_papers m r.places) (earlier ++ r.log) proposer s ≡ length roll.keys
+held-on_roll m earlier r proposer s roll midway fits =
     let n : Market = entered_papers m r.places in
     let log : List Rejection = earlier ++ r.log in
     let next : Matching = next_of m r.places in
     let entered : ℕ → Bool = has_entered m r.places in
-    let agree : (j : ℕ) → (entered j && (has (matching_of n log) s j && not (j == hand))) ≡ (has next s j && not (j == hand)) = λ j.
-    ap (λ b. entered j && (b && not (j == hand))) (has-agree (matching_of n log) next s j (midway.next j))
-    ∙ implied (entered j) (has next s j) (not (j == hand)) (λ stands. next-entered m r.places j s (has-true next s j stands)) in
-    counts-restricted m entered (λ j. has (matching_of n log) s j && not (j == hand))
-    ∙ how_many-agree m (λ j. entered j && (has (matching_of n log) s j && not (j == hand))) (λ j. has next s j && not (j == hand)) agree
-    ∙ sym (roll-length m next (only hand) s roll fits)
+    let agree : (j : ℕ) → (entered j && (has (matching_of n log) s j && not (j == proposer))) ≡ (has next s j && not (j == proposer)) = λ j.
+    ap (λ b. entered j && (b && not (j == proposer))) (has-agree (matching_of n log) next s j (midway.next j))
+    ∙ implied (entered j) (has next s j) (not (j == proposer)) (λ stands. next-entered m r.places j s (has-true next s j stands)) in
+    counts-restricted m entered (λ j. has (matching_of n log) s j && not (j == proposer))
+    ∙ how_many-agree m (λ j. entered j && (has (matching_of n log) s j && not (j == proposer))) (λ j. has next s j && not (j == proposer)) agree
+    ∙ sym (roll-length m next (only proposer) s roll fits)
   where
     implied : (a b c : Bool) → (b ≡ true → a ≡ true) → (a && (b && c)) ≡ (b && c)
     implied a false c so = and_right a false refl
     implied a true c so = ap (λ x. x && c) (so refl)
 
 -- the step of the mechanism that puts a student out
-puts-out : (m : Market) (earlier : List Rejection) (r : Standings) (hand s at : ℕ) (rolls : List Held) (out : Key) → Proposed m r hand s at rolls (Some out) → Midway m earlier r hand → PutsOut (entered_papers m r.places) (earlier ++ r.log) hand s out.student
-puts-out m earlier r hand s at rolls out done midway =
+puts-out : (m : Market) (earlier : List Rejection) (r : Standings) (proposer s at : ℕ) (rolls : List Held) (out : Key) → Proposed m r proposer s at rolls (Some out) → Midway m earlier r proposer → PutsOut (entered_papers m r.places) (earlier ++ r.log) proposer s out.student
+puts-out m earlier r proposer s at rolls out done midway =
     let n : Market = entered_papers m r.places in
-    let gone : Out m (next_of m r.places) hand s out = put-out m r hand s at rolls out done in
+    let gone : Out m (next_of m r.places) proposer s out = put-out m r proposer s at rolls out done in
     let out_entered : has_entered m r.places out.student ≡ true = next-entered m r.places out.student s gone.stands in
     record {
-      proposes = midway.next hand ∙ done.stands;
+      proposes = midway.next proposer ∙ done.stands;
       full = omega (
         arith,
-        held-on_roll m earlier r hand s (roll_at r.rolls at) midway (roll-before done),
+        held-on_roll m earlier r proposer s (roll_at r.rolls at) midway (roll-before done),
         done.offered.full refl,
         (roll-before done).seats,
         seats-restricted m (has_entered m r.places) s,
@@ -179,21 +179,21 @@ puts-out m earlier r hand s at rolls out done midway =
     }
 
 -- after a student is put out, the chain goes on with it
-pub midway-put_out : (m : Market) (r r' : Standings) (hand s at : ℕ) (out : Key) (place_at place : ℕ) → Proposed m r hand s at r'.rolls (Some out) → Rejected m r r' out.student s place_at place → (earlier : List Rejection) → Midway m earlier r hand → Midway m earlier r' out.student
-midway-put_out m r r' hand s at out place_at place done moved earlier midway =
+pub midway-put_out : (m : Market) (r r' : Standings) (proposer s at : ℕ) (out : Key) (place_at place : ℕ) → Proposed m r proposer s at r'.rolls (Some out) → Rejected m r r' out.student s place_at place → (earlier : List Rejection) → Midway m earlier r proposer → Midway m earlier r' out.student
+midway-put_out m r r' proposer s at out place_at place done moved earlier midway =
     let i : ℕ = out.student in
     let n : Market = entered_papers m r.places in
     let e : Rejection = entry_of i s in
     let well : WellFormed n = well-restricted m (has_entered m r.places) done.fits.well_formed in
-    let puts : PutsOut n (earlier ++ r.log) hand s i = puts-out m earlier r hand s at r'.rolls out done midway in
+    let puts : PutsOut n (earlier ++ r.log) proposer s i = puts-out m earlier r proposer s at r'.rolls out done midway in
     let same_papers : entered_papers m r'.places ≡ n = papers-same m r.places r'.places (entered-stays moved) in
     let same_log : earlier ++ r'.log ≡ (earlier ++ r.log) ++ e ∷ [] = ap (λ l. earlier ++ l) moved.log ∙ sym (append_assoc earlier r.log (e ∷ [])) in
     let chosen : choices_of n i ≡ choices_of m i = choices-restricted m (has_entered m r.places) i ∙ ap (λ b. cond b (choices_of m i) []) (ap is_some moved.stood) in
     let moves : next_choice n ((earlier ++ r.log) ++ e ∷ []) i ≡ next_of m r'.places i =
-    next-moves n well (earlier ++ r.log) e place midway.chain.valid (put-out-valid n well (earlier ++ r.log) hand e puts) (ap (λ xs. slice_get xs place) chosen ∙ moved.choice)
+    next-moves n well (earlier ++ r.log) e place midway.chain.valid (put-out-valid n well (earlier ++ r.log) proposer e puts) (ap (λ xs. slice_get xs place) chosen ∙ moved.choice)
     ∙ ap (λ xs. slice_get xs (place + 1)) chosen ∙ sym (next-by m r'.places i (place + 1) (place-moved moved)) in
     record {
-      chain = subst (λ p. InChain p (earlier ++ r'.log) i) (sym same_papers) (subst (λ l. InChain n l i) (sym same_log) (chain-puts-out n well (earlier ++ r.log) hand e midway.chain puts));
+      chain = subst (λ p. InChain p (earlier ++ r'.log) i) (sym same_papers) (subst (λ l. InChain n l i) (sym same_log) (chain-puts-out n well (earlier ++ r.log) proposer e midway.chain puts));
       next = λ j. ap (λ p. next_choice p (earlier ++ r'.log) j) same_papers ∙ ap (λ l. next_choice n l j) same_log ∙ elim (cases_eq j i) [
         | inl is_out ↦ ap (next_choice n ((earlier ++ r.log) ++ e ∷ [])) is_out ∙ moves ∙ ap (next_of m r'.places) (sym is_out)
         | inr apart ↦ next-same n (earlier ++ r.log) e j (λ same. apart (sym same)) ∙ midway.next j ∙ sym (next-stays moved j apart)
@@ -201,32 +201,32 @@ midway-put_out m r r' hand s at out place_at place done moved earlier midway =
     }
 
 -- a chain that ends where the roll had room
-pub continues-held : (m : Market) (r r' : Standings) (hand s at : ℕ) → Proposed m r hand s at r'.rolls None → r'.places ≡ r.places → r'.log ≡ r.log → (earlier : List Rejection) → Midway m earlier r hand → Continues m earlier r'
-continues-held m r r' hand s at done same_places same_log earlier midway =
+pub continues-held : (m : Market) (r r' : Standings) (proposer s at : ℕ) → Proposed m r proposer s at r'.rolls None → r'.places ≡ r.places → r'.log ≡ r.log → (earlier : List Rejection) → Midway m earlier r proposer → Continues m earlier r'
+continues-held m r r' proposer s at done same_places same_log earlier midway =
     let n : Market = entered_papers m r.places in
     let well : WellFormed n = well-restricted m (has_entered m r.places) done.fits.well_formed in
-    let room : held_by_others n (earlier ++ r.log) hand s < seats_of n s = omega (
+    let room : held_by_others n (earlier ++ r.log) proposer s < seats_of n s = omega (
       arith,
-      held-on_roll m earlier r hand s (roll_at r.rolls at) midway (roll-before done),
-      length_permutation (key_of m hand s ∷ (roll_at r.rolls at).keys) (roll_at r'.rolls at).keys done.offered.together,
+      held-on_roll m earlier r proposer s (roll_at r.rolls at) midway (roll-before done),
+      length_permutation (key_of m proposer s ∷ (roll_at r.rolls at).keys) (roll_at r'.rolls at).keys done.offered.together,
       done.offered.within,
       done.offered.seats,
       (roll-before done).seats,
       seats-restricted m (has_entered m r.places) s,
     ) in
-    let settled : IsSettled n (earlier ++ r.log) = chain-ends n well (earlier ++ r.log) hand midway.chain (inr (s, midway.next hand ∙ done.stands, room)) in
+    let settled : IsSettled n (earlier ++ r.log) = chain-ends n well (earlier ++ r.log) proposer midway.chain (inr (s, midway.next proposer ∙ done.stands, room)) in
     record {
       settled = subst (λ places. IsSettled (entered_papers m places) (earlier ++ r'.log)) (sym same_places) (subst (λ l. IsSettled n (earlier ++ l)) (sym same_log) settled);
       next = λ j. ap (λ places. next_choice (entered_papers m places) (earlier ++ r'.log) j) same_places ∙ ap (λ l. next_choice n (earlier ++ l) j) same_log ∙ midway.next j ∙ ap (λ places. next_of m places j) (sym same_places);
     }
 
 -- a chain that ends where the student in hand has no choice left
-pub continues-ended : (m : Market) (r : Standings) (hand : ℕ) → FitsBut m r (only hand) → next_of m r.places hand ≡ None → (earlier : List Rejection) → Midway m earlier r hand → Continues m earlier r
-continues-ended m r hand fits none earlier midway =
+pub continues-ended : (m : Market) (r : Standings) (proposer : ℕ) → FitsBut m r (only proposer) → next_of m r.places proposer ≡ None → (earlier : List Rejection) → Midway m earlier r proposer → Continues m earlier r
+continues-ended m r proposer fits none earlier midway =
     let n : Market = entered_papers m r.places in
     let well : WellFormed n = well-restricted m (has_entered m r.places) fits.well_formed in
     record {
-      settled = chain-ends n well (earlier ++ r.log) hand midway.chain (inl (midway.next hand ∙ none));
+      settled = chain-ends n well (earlier ++ r.log) proposer midway.chain (inl (midway.next proposer ∙ none));
       next = midway.next;
     }
 

@@ -76,9 +76,9 @@ pub record FitsBut (m : Market) (r : Standings) (away : ℕ → Bool) : Type 0 w
 abbrev pub nobody : ℕ → Bool
 nobody = λ j. false
 
--- one student is away: the one in hand
+-- one student is away: the one who proposes
 abbrev pub only : ℕ → ℕ → Bool
-only hand = λ j. j == hand
+only proposer = λ j. j == proposer
 
 -- the standings fit the papers: everyone who has entered and stands at a choice is on its roll
 abbrev pub Fits : Market → Standings → Type 0
@@ -94,9 +94,9 @@ pub record Continues (m : Market) (earlier : List Rejection) (r : Standings) : T
   pub settled : IsSettled (entered_papers m r.places) (earlier ++ r.log)
   pub next : (i : ℕ) → next_choice (entered_papers m r.places) (earlier ++ r.log) i ≡ next_of m r.places i
 
--- the same in the course of a chain, with a student in hand
-pub record Midway (m : Market) (earlier : List Rejection) (r : Standings) (hand : ℕ) : Type 0 where
-  pub chain : InChain (entered_papers m r.places) (earlier ++ r.log) hand
+-- the same in the course of a chain, where a student is to propose
+pub record Midway (m : Market) (earlier : List Rejection) (r : Standings) (proposer : ℕ) : Type 0 where
+  pub chain : InChain (entered_papers m r.places) (earlier ++ r.log) proposer
   pub next : (i : ℕ) → next_choice (entered_papers m r.places) (earlier ++ r.log) i ≡ next_of m r.places i
 
 -- what an offer to the roll at a position does: the others stay
@@ -132,26 +132,26 @@ abbrev pub CountsProposals : Market → Standings → (ℕ → Bool) → Standin
 CountsProposals m old away new away' =
     new.proposals + (length old.log + standing_but m old.places away) ≡ old.proposals + (length new.log + standing_but m new.places away')
 
--- the chain of the student in hand has come to its end
-pub record ChainEnds (m : Market) (old new : Standings) (hand : ℕ) : Type 0 where
+-- the chain of the student who proposes has come to its end
+pub record ChainEnds (m : Market) (old new : Standings) (proposer : ℕ) : Type 0 where
   pub fits : Fits m new
   pub entered : SameEntered m old new
-  pub continues : (earlier : List Rejection) → Midway m earlier old hand → Continues m earlier new
+  pub continues : (earlier : List Rejection) → Midway m earlier old proposer → Continues m earlier new
   pub extends : Extends old.log new.log
-  pub counted : CountsProposals m old (only hand) new nobody
+  pub counted : CountsProposals m old (only proposer) new nobody
 
--- the chain goes on with another student in hand
-pub record ChainGoesOn (m : Market) (old new : Standings) (hand out : ℕ) : Type 0 where
+-- the chain goes on with another student who is to propose
+pub record ChainGoesOn (m : Market) (old new : Standings) (proposer out : ℕ) : Type 0 where
   pub fits : FitsBut m new (only out)
   pub entered : SameEntered m old new
-  pub continues : (earlier : List Rejection) → Midway m earlier old hand → Midway m earlier new out
+  pub continues : (earlier : List Rejection) → Midway m earlier old proposer → Midway m earlier new out
   pub extends : Extends old.log new.log
-  pub counted : CountsProposals m old (only hand) new (only out)
+  pub counted : CountsProposals m old (only proposer) new (only out)
 
--- what one proposal of the student in hand does: whoever is put out is in hand next
+-- what one proposal does: whoever is put out proposes next
 abbrev pub Proposes : Market → Standings → Standings → ℕ → Option ℕ → Type 0
-Proposes m old new hand None = ChainEnds m old new hand
-Proposes m old new hand (Some out) = ChainGoesOn m old new hand out × (choices_left m new.places < choices_left m old.places)
+Proposes m old new proposer None = ChainEnds m old new proposer
+Proposes m old new proposer (Some out) = ChainGoesOn m old new proposer out × (choices_left m new.places < choices_left m old.places)
 
 -- one more student has entered by a whole chain: after each earlier log that the round continued, it
 -- still does

@@ -67,7 +67,7 @@ fn empty_rolls<R: Roll>(alloc: Global, papers: &Papers) -> Result<Vec<R>, AllocE
 }
 
 /// Each student's choice, in order of entry.
-fn choices_stood_at(
+fn assignment_of(
     alloc: Global,
     places: &[Option<usize>],
     papers: &Papers,
@@ -205,18 +205,18 @@ impl<R: Roll> Round<R> {
         Ok(())
     }
 
-    /// The student in hand, by its position, proposes to its next choice, if it has one: the position
+    /// The student at the position proposes to its next choice, if it has one: the position
     /// of whoever is put out, if anybody.
-    fn propose(&mut self, papers: &Papers, hand: usize) -> Result<Option<usize>, AllocError>
-        requires within { hand < length papers.now.students }
-        requires fits { FitsBut papers.now (standings_of R.keys R.seats self.old) (only (student_at papers.now hand)) }
+    fn propose(&mut self, papers: &Papers, proposer: usize) -> Result<Option<usize>, AllocError>
+        requires within { proposer < length papers.now.students }
+        requires fits { FitsBut papers.now (standings_of R.keys R.seats self.old) (only (student_at papers.now proposer)) }
         ensures within { IfOk result (λ out. IfSome out (λ next. next < length papers.now.students)) }
-        ensures proposes { IfOk result (λ out. Proposes papers.now (standings_of R.keys R.seats self.old) (standings_of R.keys R.seats self.new) (student_at papers.now hand) (option_map (student_at papers.now) out)) }
+        ensures proposes { IfOk result (λ out. Proposes papers.now (standings_of R.keys R.seats self.old) (standings_of R.keys R.seats self.new) (student_at papers.now proposer) (option_map (student_at papers.now) out)) }
     {
-        let Some(school) = choice_at(self.places.as_slice(), papers, hand) else {
+        let Some(school) = choice_at(self.places.as_slice(), papers, proposer) else {
             return Ok(None);
         };
-        let (at, key) = papers.position_and_key(hand, school);
+        let (at, key) = papers.position_and_key(proposer, school);
         let Some(out) = self.offer(at, key)? else {
             return Ok(None);
         };
@@ -233,9 +233,9 @@ impl<R: Roll> Round<R> {
         requires fits { FitsBut papers.now (standings_of R.keys R.seats self.old) (only (student_at papers.now first)) }
         ensures { OnOk result (ChainEnds papers.now (standings_of R.keys R.seats self.old) (standings_of R.keys R.seats self.new) (student_at papers.now first)) }
     {
-        let mut hand = first;
-        while let Some(out) = self.propose(papers, hand)? {
-            hand = out;
+        let mut proposer = first;
+        while let Some(out) = self.propose(papers, proposer)? {
+            proposer = out;
         }
         Ok(())
     }
@@ -347,7 +347,7 @@ impl<R: Roll> Round<R> {
         if self.spent {
             return Err(AllocError);
         }
-        let assignment = choices_stood_at(self.alloc, self.places.as_slice(), papers)?;
+        let assignment = assignment_of(self.alloc, self.places.as_slice(), papers)?;
         Ok(Settled {
             log: self.log,
             assignment,

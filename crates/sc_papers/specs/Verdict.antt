@@ -132,8 +132,8 @@ abbrev pub with_choices : Market → ℕ → List ℕ → Market
 with_choices m i choices = changed_student m i (λ student. record student { choices = choices })
 
 -- the papers with this zone and these siblings for the student
-abbrev pub with_home : Market → ℕ → ℕ → List ℕ → Market
-with_home m i zone siblings = changed_student m i (λ student. record student { zone = zone; siblings = siblings })
+abbrev pub with_zone_and_siblings : Market → ℕ → ℕ → List ℕ → Market
+with_zone_and_siblings m i zone siblings = changed_student m i (λ student. record student { zone = zone; siblings = siblings })
 
 -- the papers with so many seats for the school
 abbrev pub with_seats : Market → ℕ → ℕ → Market
@@ -147,7 +147,7 @@ after m (Withdraw i) = without_student m i
 after m (Rerank i choices) = with_choices m i choices
 after m (Add s count) = with_seats m s (seats_of m s + count)
 after m (Close s count) = with_seats m s (seats_of m s - count)
-after m (Correct i zone siblings) = with_home m i zone siblings
+after m (Correct i zone siblings) = with_zone_and_siblings m i zone siblings
 
 -- what can be said against adding a school, in the order of the tests
 abbrev pub school_verdict : Market → ℕ → Option SchoolRefusal

@@ -61,7 +61,7 @@ impl Papers {
     ghost use Rattle.sc_papers.specs.Market.{Market, school_of, student_of, schools_of, students_of, seats_of, is_school, is_student};
     ghost use Rattle.sc_papers.specs.Key.{key_at, key_of};
     ghost use Rattle.sc_papers.specs.WellFormed.{WellFormed, WithinLimits};
-    ghost use Rattle.sc_papers.specs.Verdict.{first_of, objections_to_add, objections_to_close, objections_to_correct, objections_to_enter, objections_to_rerank, objections_to_withdraw, with_choices, with_home, with_seats, with_student, without_student, school_verdict, with_school, IsSchoolRefusal};
+    ghost use Rattle.sc_papers.specs.Verdict.{first_of, objections_to_add, objections_to_close, objections_to_correct, objections_to_enter, objections_to_rerank, objections_to_withdraw, with_choices, with_zone_and_siblings, with_seats, with_student, without_student, school_verdict, with_school, IsSchoolRefusal};
 
     /// Papers with this seed, no schools and no students. It takes no memory.
     pub fn new(alloc: Global, seed: Seed) -> Self
@@ -286,7 +286,7 @@ impl Papers {
     /// Replaces a student's zone and siblings.
     pub(crate) fn correct(&mut self, number: StudentNumber, zone: Zone, siblings: SchoolList)
         requires { first_of (objections_to_correct self.old number siblings) ≡ None }
-        ensures { self.new ≡ with_home self.old number zone siblings }
+        ensures { self.new ≡ with_zone_and_siblings self.old number zone siblings }
     {
         if let Some(student) = self.students.get_mut(&number) {
             student.zone = zone;

@@ -1,4 +1,4 @@
 pub mod Positions
 pub mod Rewinding
-pub mod GoingOn
+pub mod Resumption
 pub mod Kept

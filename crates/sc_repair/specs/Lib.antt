@@ -1,4 +1,4 @@
 pub mod Standing
 pub mod Inside
 pub mod Rewinding
-pub mod GoingOn
+pub mod Resumption

@@ -11,7 +11,7 @@ use Rattle.sc_papers.specs.WellFormed.{WellFormed}
 use Rattle.sc_papers.specs.declared.amendment.Amendment.{Amendment}
 use Rattle.sc_papers.specs.declared.amendment.Refusal.{Refusal}
 use Rattle.sc_papers.specs.declared.rejection.Rejection.{Rejection}
-use Rattle.sc_repair.specs.GoingOn.{proposals_of_first}
+use Rattle.sc_repair.specs.Resumption.{proposals_of_first}
 
 -- the papers as they stand, who has which school, the rejections that led there in segments, one for
 -- each student in order of entry, and how many proposals the last settling made

@@ -11,7 +11,7 @@ ghost use Rattle.sc_papers.specs.declared.rejection.Rejection.{Rejection};
 ghost use Rattle.sc_checkpoint.specs.Chains.{logs_in, students_in, with_chain};
 ghost use Rattle.sc_engine.specs.Round.{is_spent, standings_of};
 ghost use Rattle.sc_engine.specs.Standing.{has_entered, Enters, Fits};
-ghost use Rattle.sc_repair.specs.GoingOn.{proposals_of_first, GoesOn};
+ghost use Rattle.sc_repair.specs.Resumption.{proposals_of_first, GoesOn};
 
 use sc_checkpoint::Segments;
 use sc_engine::{Round, Settled};

@@ -5,7 +5,7 @@ ghost use Rattle.sc_repair.specs.Standing.{matching_of};
 ghost use Rattle.sc_tallies.specs.Tally.{AreTallies};
 ghost use Rattle.sc_report.specs.Cutoff.{cutoff_by, cutoff_rows};
 
-use crate::order::rising_schools;
+use crate::sorting::rising_schools;
 use sc_papers::{Assignment, Key, Papers, SchoolNo, Seats};
 use sc_repair::Clearing;
 use sc_tallies::{Tally, tallies, tally_of};

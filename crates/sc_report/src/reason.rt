@@ -10,7 +10,7 @@ ghost use Rattle.sc_report.specs.Reason.{reason, reason_by, reason_rows, reasons
 ghost use Rattle.sc_tallies.specs.Tally.{AreTallies};
 
 use crate::cutoff::{Cutoff, cutoff_by};
-use crate::order::rising_students;
+use crate::sorting::rising_students;
 use sc_papers::{Assignment, Key, Papers, SchoolNo, StudentNo};
 use sc_repair::Clearing;
 use sc_tallies::{Tally, tallies};

@@ -7,9 +7,9 @@ ghost use Rattle.sc_report.specs.Text.{assignment_line, assignment_lines, assign
 
 use crate::cutoff::rising_rows;
 use crate::cutoff_lines::push_cutoffs;
-use crate::order::rising_students;
 use crate::reason::reasons_among;
 use crate::reason_lines::push_reasons;
+use crate::sorting::rising_students;
 use sc_decimal::push_number;
 use sc_papers::{Assignment, Papers, StudentNo};
 use sc_repair::Clearing;

@@ -1,6 +1,6 @@
 use Rattle.std.proofs.Common.{◌≡◌, rules, sym}
 use Rattle.std.specs.Option.{option_map}
-use Rattle.sc_audit.specs.Ledger.{set_aside}
+use Rattle.sc_audit.specs.AuditView.{set_aside}
 use Rattle.sc_papers.proofs.Hands.{has-position}
 use Rattle.sc_audit.proofs.Tables.{stand-aside}
 use Rattle.sc_audit.proofs.stands.put_aside.Goals as goal

@@ -3,7 +3,7 @@ use Rattle.sc_papers.specs.Market.{students_of}
 use Rattle.sc_papers.proofs.Choices.{contains-at}
 use Rattle.sc_papers.proofs.Positions.{among-student}
 use Rattle.sc_engine.proofs.Settling.{first-apart}
-use Rattle.sc_repair.proofs.GoingOn.{goes-on-next, goes-on-past}
+use Rattle.sc_repair.proofs.Resumption.{goes-on-next, goes-on-past}
 use Rattle.sc_repair.proofs.settling.enter_rest.Goals as goal
 
 pub enter_next-requires-clause-student : goal.enter_next-requires-clause-student

@@ -1,7 +1,7 @@
 use Rattle.std.proofs.Common.{◌≡◌, false}
 use Rattle.sc_checkpoint.specs.Chains.{logs_in, students_in}
 use Rattle.sc_engine.specs.Round.{is_spent, standings_of}
-use Rattle.sc_repair.specs.GoingOn.{GoesOn}
+use Rattle.sc_repair.specs.Resumption.{GoesOn}
 use Rattle.sc_repair.proofs.settling.enter_rest.Given as goal
 
 abbrev pub invariant-loop-position : goal.invariant-loop-position

@@ -6,8 +6,8 @@ use Rattle.sc_papers.specs.Restriction.{joined}
 use Rattle.sc_checkpoint.specs.Chains.{logs_in, students_in, Chain}
 use Rattle.sc_checkpoint.specs.Standings.{standings_after, stands}
 use Rattle.sc_engine.specs.Round.{standings_of}
-use Rattle.sc_repair.specs.GoingOn.{proposals_of_first}
-use Rattle.sc_repair.proofs.GoingOn.{goes-on-begins, next-all, proposals-all, segments-all, stand-segments}
+use Rattle.sc_repair.specs.Resumption.{proposals_of_first}
+use Rattle.sc_repair.proofs.Resumption.{goes-on-begins, next-all, proposals-all, segments-all, stand-segments}
 use Rattle.sc_repair.proofs.settling.settle_on.Goals as goal
 
 pub resume-requires : goal.resume-requires

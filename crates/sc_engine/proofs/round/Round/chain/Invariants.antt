@@ -6,8 +6,8 @@ use Rattle.sc_engine.proofs.round.Round.chain.Given as goal
 
 abbrev pub invariant-loop-out : goal.invariant-loop-out
 invariant-loop-out g l =
-    (l.hand < length l.papers.students)
-    × ChainGoesOn l.papers (standings_of g.R.Roll.keys g.R.Roll.seats l.fn.self) (standings_of g.R.Roll.keys g.R.Roll.seats l.self) (student_at l.papers l.fn.first) (student_at l.papers l.hand)
+    (l.proposer < length l.papers.students)
+    × ChainGoesOn l.papers (standings_of g.R.Roll.keys g.R.Roll.seats l.fn.self) (standings_of g.R.Roll.keys g.R.Roll.seats l.self) (student_at l.papers l.fn.first) (student_at l.papers l.proposer)
 
 abbrev pub decreases-loop-out : goal.decreases-loop-out
 decreases-loop-out g l = choices_left l.papers l.self.places.items

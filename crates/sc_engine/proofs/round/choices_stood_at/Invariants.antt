@@ -1,5 +1,0 @@
-use Rattle.sc_engine.proofs.Settling.{GivesFirst}
-use Rattle.sc_engine.proofs.round.choices_stood_at.Given as goal
-
-abbrev pub invariant-loop-position : goal.invariant-loop-position
-invariant-loop-position l = GivesFirst l.papers l.places l.assignment l.position
