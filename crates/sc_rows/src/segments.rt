@@ -5,7 +5,7 @@ ghost use Rattle.sc_papers.specs.Market.{students_of};
 ghost use Rattle.sc_checkpoint.specs.Chains.{students_in};
 
 use crate::given::{school, student};
-use sc_checkpoint::{Segments, Standing};
+use sc_checkpoint::{NextChoice, Segments};
 use sc_papers::{
     Amendment, Papers, Refusal, Rejection, SchoolList, SchoolRefusal, Seats, Seed, Zone,
 };
@@ -156,11 +156,11 @@ fn checkpoints_are_copied(rt: HostRuntime) {
 }
 
 /// The students stand at these schools, in order: 0 is none.
-fn expect_standings(rt: &impl Abort, standings: &[Standing], wanted: &[(u32, u32)]) {
-    assert_eq!(rt; standings.len(), wanted.len());
-    for (standing, (number, at)) in standings.iter().zip(wanted.iter()) {
-        assert_eq!(rt; standing.student, student(rt, *number));
-        let next = match standing.next {
+fn expect_each(rt: &impl Abort, next_choices: &[NextChoice], wanted: &[(u32, u32)]) {
+    assert_eq!(rt; next_choices.len(), wanted.len());
+    for (choice, (number, at)) in next_choices.iter().zip(wanted.iter()) {
+        assert_eq!(rt; choice.student, student(rt, *number));
+        let next = match choice.next {
             Some(next) => next.get(),
             None => 0,
         };
@@ -177,12 +177,12 @@ fn expect_next_choices(
     requires papers { students_of papers.now ≡ 1 ∷ 2 ∷ 3 ∷ [] }
     requires segments { students_in segments.now ≡ 1 ∷ 2 ∷ 3 ∷ [] }
 {
-    expect_standings(
+    expect_each(
         rt,
         segments.next_choices_at(papers, 2)?.as_slice(),
         &[(1, 10), (2, 20)],
     );
-    expect_standings(
+    expect_each(
         rt,
         segments.next_choices_at(papers, 3)?.as_slice(),
         &[(1, 20), (2, 0), (3, 10)],
