@@ -16,6 +16,9 @@ use std::io;
 use std::io::{Read, Write};
 use std::rt::Files;
 
+/// The line for a word of the command line that is not UTF-8.
+const NOT_UTF_8: &[u8] = b"clearinghouse: a word of the command line is not UTF-8\n";
+
 /// An input file.
 fn open_input<R: Files>(rt: &R, path: &str, source: Source) -> Result<Watched<R::File>, RunFault> {
     match File::open(rt, path) {
@@ -193,8 +196,6 @@ pub fn end_without_words<E: Write + Drop>(alloc: Global, error: &io::Error, erro
     write_message(NOT_UTF_8, &mut errors);
     2
 }
-
-const NOT_UTF_8: &[u8] = b"clearinghouse: a word of the command line is not UTF-8\n";
 
 /// Writes the ending's line. Where there is no memory for it, nothing more can be told, and the status
 /// stays.
