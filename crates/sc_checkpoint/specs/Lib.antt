@@ -1,5 +1,5 @@
 pub mod NextChoices
 pub mod Chains
 pub mod Cutting
-pub mod Inside
+pub mod Representation
 pub mod Places

@@ -21,7 +21,7 @@ impl Model for Segments {
 
     ghost Value = { List Chain };
 
-    ghost use Rattle.sc_checkpoint.specs.Inside.{chains_of, IsSound};
+    ghost use Rattle.sc_checkpoint.specs.Representation.{chains_of, IsSound};
 
     ghost view = { chains_of };
 

@@ -4,10 +4,10 @@ pub mod Positions
 pub mod Hands
 pub mod Objections
 pub mod Entering
-pub mod InsideLemmas
+pub mod EnteringRepresentation
 pub mod Opening
 pub mod Changing
-pub mod ChangingInside
+pub mod ChangingRepresentation
 pub mod Counting
 pub mod Priority
 pub mod Choices

@@ -8,7 +8,7 @@ use Rattle.std.proofs.lemmas.Bool.Decides.{nat_tests}
 use Rattle.std.proofs.lemmas.Cmp.{nat_eq_equiv}
 use Rattle.std.proofs.lemmas.List.Elements.{All-push}
 use Rattle.std.proofs.lemmas.Map.Keys.{IsDistinct-push}
-use Rattle.sc_papers.specs.Inside.{IsSound, market_of}
+use Rattle.sc_papers.specs.Representation.{IsSound, market_of}
 use Rattle.sc_papers.specs.Market.{Market, is_school, schools_of}
 use Rattle.sc_papers.specs.Verdict.{refuse_if, school_verdict, with_school}
 use Rattle.sc_papers.specs.WellFormed.{WellFormed, WithinLimits}

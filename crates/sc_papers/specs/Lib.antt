@@ -4,7 +4,7 @@ pub mod Key
 pub mod Refusal
 pub mod Verdict
 pub mod WellFormed
-pub mod Inside
+pub mod Representation
 pub mod Assignment
 pub mod Matching
 pub mod Log

@@ -34,7 +34,7 @@ impl Model for Papers {
 
     ghost Value = { Market };
 
-    ghost use Rattle.sc_papers.specs.Inside.{market_of, IsSound};
+    ghost use Rattle.sc_papers.specs.Representation.{market_of, IsSound};
 
     ghost view = { market_of };
 

@@ -1,4 +1,4 @@
 pub mod Standing
-pub mod Inside
+pub mod Representation
 pub mod Rewinding
 pub mod Resumption

@@ -31,7 +31,7 @@ impl Model for Clearing {
 
     ghost Value = { Standing };
 
-    ghost use Rattle.sc_repair.specs.Inside.{standing_of, IsSound};
+    ghost use Rattle.sc_repair.specs.Representation.{standing_of, IsSound};
 
     ghost view = { standing_of };
 

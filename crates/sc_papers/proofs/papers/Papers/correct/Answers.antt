@@ -1,10 +1,10 @@
 use Rattle.std.proofs.Common.{◌≡◌, None, refl, ◌∙◌, ap}
-use Rattle.sc_papers.specs.Inside.{market_of}
+use Rattle.sc_papers.specs.Representation.{market_of}
 use Rattle.sc_papers.specs.Market.{Market}
 use Rattle.sc_papers.specs.Verdict.{first_of, objections_to_correct}
 use Rattle.sc_papers.specs.WellFormed.{IsProper, IsShort}
 use Rattle.sc_papers.proofs.Changing.{All-found, IsProper-corrected, IsShort-corrected}
-use Rattle.sc_papers.proofs.ChangingInside.{IsSound-put_student}
+use Rattle.sc_papers.proofs.ChangingRepresentation.{IsSound-put_student}
 use Rattle.sc_papers.proofs.papers.Papers.correct.Goals as goal
 use Rattle.sc_papers.proofs.papers.Papers.correct.Goals.{in-Some, in_default}
 

@@ -1,9 +1,9 @@
 use Rattle.std.proofs.Common.{◌≡◌, ℕ, None, List, ◌++◌, ◌∷◌, [], refl, ◌∙◌, ap}
-use Rattle.sc_papers.specs.Inside.{market_of}
+use Rattle.sc_papers.specs.Representation.{market_of}
 use Rattle.sc_papers.specs.Market.{Market}
 use Rattle.sc_papers.specs.Verdict.{first_of, objections_to_enter, with_student}
 use Rattle.sc_papers.proofs.Entering.{MayEnter-allowed}
-use Rattle.sc_papers.proofs.InsideLemmas.{IsSound-entered, market_of-entered}
+use Rattle.sc_papers.proofs.EnteringRepresentation.{IsSound-entered, market_of-entered}
 use Rattle.sc_papers.proofs.papers.Papers.enter.Goals as goal
 
 pub invariant_of-self-2 : goal.invariant_of-self-2

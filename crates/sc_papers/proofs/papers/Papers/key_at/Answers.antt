@@ -1,6 +1,6 @@
 use Rattle.std.proofs.Common.{sym, ◌∙◌, ap}
 use Rattle.sc_lottery.specs.Draw.{draw}
-use Rattle.sc_papers.specs.Inside.{market_of}
+use Rattle.sc_papers.specs.Representation.{market_of}
 use Rattle.sc_papers.specs.Key.{key_at}
 use Rattle.sc_papers.specs.Market.{Market}
 use Rattle.sc_papers.proofs.Keys.{draw-there, key-of_places}

@@ -1,5 +1,5 @@
 use Rattle.std.proofs.Common.{◌≡◌, None, refl, ◌∙◌, ap}
-use Rattle.sc_papers.specs.Inside.{market_of}
+use Rattle.sc_papers.specs.Representation.{market_of}
 use Rattle.sc_papers.specs.Market.{Market}
 use Rattle.sc_papers.specs.Verdict.{school_verdict, with_school}
 use Rattle.sc_papers.proofs.Opening.{IsSound-opened, MayOpen-allowed, market_of-opened}

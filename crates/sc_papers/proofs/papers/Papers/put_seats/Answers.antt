@@ -1,5 +1,5 @@
 use Rattle.std.proofs.Common.{refl}
-use Rattle.sc_papers.proofs.ChangingInside.{IsSound-put_school}
+use Rattle.sc_papers.proofs.ChangingRepresentation.{IsSound-put_school}
 use Rattle.sc_papers.proofs.papers.Papers.put_seats.Goals as goal
 use Rattle.sc_papers.proofs.papers.Papers.put_seats.Goals.{in-Some, in_default}
 

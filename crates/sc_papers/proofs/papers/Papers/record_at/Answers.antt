@@ -1,7 +1,7 @@
 use Rattle.std.proofs.Common.{sym, ◌∙◌, ap, slice_get}
 use Rattle.std.specs.Option.{option_and_then}
 use Rattle.sc_papers.specs.Market.{Market, student_of, students_of}
-use Rattle.sc_papers.specs.Inside.{market_of}
+use Rattle.sc_papers.specs.Representation.{market_of}
 use Rattle.sc_papers.proofs.Keys.{record-there}
 use Rattle.sc_papers.proofs.papers.Papers.record_at.Goals as goal
 

@@ -1,5 +1,5 @@
 use Rattle.std.proofs.Common.{refl}
-use Rattle.sc_papers.proofs.ChangingInside.{IsSound-withdrawn}
+use Rattle.sc_papers.proofs.ChangingRepresentation.{IsSound-withdrawn}
 use Rattle.sc_papers.proofs.papers.Papers.withdraw.Goals as goal
 
 pub invariant_of-self : goal.invariant_of-self

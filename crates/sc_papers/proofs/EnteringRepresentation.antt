@@ -3,7 +3,7 @@ use Rattle.std.proofs.Common.{◌≡◌, ℕ, nat_eq, List, [], ◌∷◌, ◌++
 use Rattle.indexmap.specs.IndexMap.{insert_entry}
 use Rattle.indexmap.proofs.CallerLemmas.{insert_entry-new}
 use Rattle.sc_lottery.specs.Draw.{draw}
-use Rattle.sc_papers.specs.Inside.{IsSound, market_of}
+use Rattle.sc_papers.specs.Representation.{IsSound, market_of}
 use Rattle.sc_papers.specs.Market.{students_of}
 use Rattle.sc_papers.specs.Verdict.{with_student}
 use Rattle.sc_papers.specs.declared.papers.Papers.TheInside.{Inside}

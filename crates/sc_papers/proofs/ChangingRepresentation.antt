@@ -4,7 +4,7 @@ use Rattle.std.specs.Prelude.{position, remove}
 use Rattle.std.specs.Map.{keys_of, remove_entry, set_value}
 use Rattle.std.proofs.lemmas.Map.{keys-set_value}
 use Rattle.sc_lottery.specs.Draw.{draw}
-use Rattle.sc_papers.specs.Inside.{IsSound, market_of}
+use Rattle.sc_papers.specs.Representation.{IsSound, market_of}
 use Rattle.sc_papers.specs.Verdict.{without_student}
 use Rattle.sc_papers.specs.WellFormed.{IsProper, IsShort}
 use Rattle.sc_papers.specs.declared.papers.Papers.TheInside.{Inside}
