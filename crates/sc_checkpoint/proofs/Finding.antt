@@ -7,8 +7,8 @@ use Rattle.sc_papers.specs.Market.{Market}
 use Rattle.sc_papers.specs.declared.rejection.Rejection.{Rejection}
 use Rattle.sc_papers.proofs.Choices.{found-is, found-none}
 use Rattle.sc_checkpoint.specs.Places.{has_place}
-use Rattle.sc_checkpoint.specs.Standings.{standings_after}
-use Rattle.sc_checkpoint.specs.declared.standing.Standing.{Standing}
+use Rattle.sc_checkpoint.specs.NextChoices.{next_choices_after}
+use Rattle.sc_checkpoint.specs.declared.next_choice.NextChoice.{NextChoice}
 use Rattle.sc_checkpoint.specs.declared.place_set.PlaceSet.{PlaceSet}
 
 -- up to this place, each place is in the set
@@ -26,11 +26,11 @@ outside-none set choices end test agree below past =
     (λ k t at. ap not (sym (agree k t at) ∙ below.within k (omega (arith, past, slice_get_within choices k t at))))
 
 -- one more student who stands
-pub standings-more : (m : Market) (log : List Rejection) (students : List ℕ) (at i : ℕ) (standing : Standing) → slice_get students at ≡ Some i → standing ≡ record { student = i; next = next_choice m log i } → standings_after m log (take at students) ++ standing ∷ [] ≡ standings_after m log (take (at + 1) students)
-standings-more m log students at i standing here stands =
+pub standings-more : (m : Market) (log : List Rejection) (students : List ℕ) (at i : ℕ) (choice : NextChoice) → slice_get students at ≡ Some i → choice ≡ record { student = i; next = next_choice m log i } → next_choices_after m log (take at students) ++ choice ∷ [] ≡ next_choices_after m log (take (at + 1) students)
+standings-more m log students at i choice here stands =
     let more : take (at + 1) students ≡ take at students ++ i ∷ [] =
     take_more students at i (slice_get_within students at i here)
     ∙ ap (λ j. take at students ++ j ∷ []) (get_or_from_slice_get students at i i here) in
-    ap (λ last. standings_after m log (take at students) ++ last ∷ []) stands
-    ∙ sym (map_push (λ (j : ℕ). let s : Standing = record { student = j; next = next_choice m log j } in s) (take at students) i)
-    ∙ ap (standings_after m log) (sym more)
+    ap (λ last. next_choices_after m log (take at students) ++ last ∷ []) stands
+    ∙ sym (map_push (λ (j : ℕ). let s : NextChoice = record { student = j; next = next_choice m log j } in s) (take at students) i)
+    ∙ ap (next_choices_after m log) (sym more)

@@ -1,4 +1,4 @@
-pub mod Standings
+pub mod NextChoices
 pub mod Chains
 pub mod Cutting
 pub mod Inside

@@ -2,11 +2,11 @@
 //! settling can go on from any position of the order.
 #![tactic(auto)]
 
+mod next_choice;
 mod next_choices;
 mod place_set;
 mod segment;
 mod segments;
-mod standing;
 
+pub use next_choice::NextChoice;
 pub use segments::Segments;
-pub use standing::Standing;

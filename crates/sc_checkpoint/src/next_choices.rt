@@ -5,10 +5,10 @@ ghost use Rattle.sc_papers.specs.Log.{next_choice};
 ghost use Rattle.sc_papers.specs.Market.{students_of, choices_of};
 ghost use Rattle.sc_papers.specs.declared.rejection.Rejection.{Rejection};
 ghost use Rattle.sc_checkpoint.specs.Places.{has_place, AreRejectedPlaces, AreTabled};
-ghost use Rattle.sc_checkpoint.specs.Standings.{standings_after};
+ghost use Rattle.sc_checkpoint.specs.NextChoices.{next_choices_after};
 
+use crate::next_choice::NextChoice;
 use crate::place_set::PlaceSet;
-use crate::standing::Standing;
 use sc_papers::{LONGEST_LIST, Papers, Rejection, SchoolNo, StudentNo};
 use std::alloc::{AllocError, Global};
 
@@ -17,24 +17,24 @@ use std::alloc::{AllocError, Global};
 ///
 /// One pass over the log marks, for each student, which of its choices rejected it, and one over the
 /// students finds the first that did not. An entry costs a look-up and its student's choices.
-pub(crate) fn standings(
+pub(crate) fn next_choices_of_first(
     alloc: Global,
     papers: &Papers,
     log: &[Rejection],
     k: usize,
-) -> Result<Vec<Standing>, AllocError>
+) -> Result<Vec<NextChoice>, AllocError>
     requires { k ≤ length (students_of papers.now) }
-    ensures { IfOk result (λ standings. standings.items ≡ standings_after papers.now log.now (take k (students_of papers.now))) }
+    ensures { IfOk result (λ next_choices. next_choices.items ≡ next_choices_after papers.now log.now (take k (students_of papers.now))) }
 {
     let rejected = rejected_places(alloc, papers, log, k)?;
-    let mut standings = Vec::with_capacity(alloc, k)?;
+    let mut next_choices = Vec::with_capacity(alloc, k)?;
     for position in 0..k {
         let Some(student) = papers.student_at(position) else {
             unreachable!()
         };
-        standings.push_reserved(standing_of(papers, student, position, rejected[position]));
+        next_choices.push_reserved(next_choice_of(papers, student, position, rejected[position]));
     }
-    Ok(standings)
+    Ok(next_choices)
 }
 
 /// For each of the first `k` students, the places of the choices that rejected it.
@@ -81,11 +81,11 @@ fn place_in(choices: &[SchoolNo], school: SchoolNo) -> Option<usize>
 
 /// Where the student at the position stands, by the places of the choices that rejected it.
 #[tactic(auto, unfolding(sc_papers::specs::Log::next_choice))]
-fn standing_of(papers: &Papers, student: StudentNo, at: usize, rejected: PlaceSet) -> Standing
+fn next_choice_of(papers: &Papers, student: StudentNo, at: usize, rejected: PlaceSet) -> NextChoice
     requires { slice_get (students_of papers.now) at ≡ Some student }
     ensures { (log : List Rejection) → AreRejectedPlaces papers.now log student rejected → result ≡ record { student = student; next = next_choice papers.now log student } }
 {
-    Standing {
+    NextChoice {
         student,
         next: first_outside(papers.choices_at(at), rejected),
     }

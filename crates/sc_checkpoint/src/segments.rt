@@ -1,6 +1,6 @@
-use crate::next_choices::standings;
+use crate::next_choice::NextChoice;
+use crate::next_choices::next_choices_of_first;
 use crate::segment::{Segment, end_of_first};
-use crate::standing::Standing;
 use sc_papers::{Papers, Rejection, StudentNo};
 use std::alloc::{AllocError, Global};
 use std::marker::Model;
@@ -32,7 +32,7 @@ impl Segments {
     ghost use Rattle.std.specs.Prelude.{◌≡◌, ◌<◌, ◌≤◌, [], length, take, slice_get, Some, IfOk, OnOk, OnErr};
     ghost use Rattle.sc_papers.specs.Restriction.{joined};
     ghost use Rattle.sc_checkpoint.specs.Chains.{students_in, logs_in, with_chain};
-    ghost use Rattle.sc_checkpoint.specs.Standings.{standings_after};
+    ghost use Rattle.sc_checkpoint.specs.NextChoices.{next_choices_after};
     ghost use Rattle.sc_papers.specs.Market.{students_of};
 
     /// No segments. It takes no memory.
@@ -138,11 +138,11 @@ impl Segments {
     ///
     /// The cost is a look-up and a pass over one list of choices for each entry of that log, and such a
     /// pass for each of the `k` students. Memory is taken for the `k` alone.
-    pub fn next_choices_at(&self, papers: &Papers, k: usize) -> Result<Vec<Standing>, AllocError>
+    pub fn next_choices_at(&self, papers: &Papers, k: usize) -> Result<Vec<NextChoice>, AllocError>
         requires within { k ≤ length self.now }
         requires students { take k (students_in self.now) ≡ take k (students_of papers.now) }
-        ensures { IfOk result (λ standings. standings.items ≡ standings_after papers.now (joined (take k (logs_in self.now))) (take k (students_of papers.now))) }
+        ensures { IfOk result (λ next_choices. next_choices.items ≡ next_choices_after papers.now (joined (take k (logs_in self.now))) (take k (students_of papers.now))) }
     {
-        standings(self.alloc, papers, self.first(k), k)
+        next_choices_of_first(self.alloc, papers, self.first(k), k)
     }
 }

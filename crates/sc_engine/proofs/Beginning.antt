@@ -14,14 +14,14 @@ use Rattle.sc_papers.proofs.Rejections.{is_of, rejected-push, find-agree, has-ag
 use Rattle.sc_papers.proofs.Restriction.{restricted-restricts, next-kept, next-dropped}
 use Rattle.sc_papers.proofs.Subsets.{next-passes}
 use Rattle.sc_papers.proofs.Validity.{along}
-use Rattle.sc_engine.specs.Standing.{Standings, place_of, next_of, has_entered, FitsBut, Fits, only, nobody, entered_papers, Continues, Midway, ChainEnds, Enters, CountsProposals, Extends, RollFits, roll_of}
+use Rattle.sc_engine.specs.RoundView.{RoundView, place_of, next_of, has_entered, FitsBut, Fits, only, nobody, entered_papers, Continues, Midway, ChainEnds, Enters, CountsProposals, Extends, RollFits, roll_of}
 use Rattle.sc_engine.proofs.Tables.{place-apart, place-at, next-by, next-none}
 use Rattle.sc_engine.proofs.Tables as tables
 use Rattle.sc_engine.proofs.Rolls.{roll-fits_still}
 use Rattle.sc_engine.proofs.Proposals.{has-none, not-there, stays, standing-without, standing-others, counted-within}
 
 -- the student goes to a place of its choices, with nothing else changed
-pub record Begun (m : Market) (r r' : Standings) (i at place : ℕ) : Type 0 where
+pub record Begun (m : Market) (r r' : RoundView) (i at place : ℕ) : Type 0 where
   pub fits : Fits m r
   pub student : position (nat_eq i) (students_of m) ≡ Some at
   pub absent : has_entered m r.places i ≡ false
@@ -36,7 +36,7 @@ pub is_some-none : {A : Type 0} (o : Option A) → is_some o ≡ false → o ≡
 is_some-none None e = refl
 is_some-none (Some x) e = absurd (true≢false e)
 
-module _ {m : Market} {r r' : Standings} {i at place : ℕ} (begun : Begun m r r' i at place) where
+module _ {m : Market} {r r' : RoundView} {i at place : ℕ} (begun : Begun m r r' i at place) where
   pub place-begun : place_of m r'.places i ≡ Some place
   place-begun = place-at m r'.places i at begun.student ∙ begun.own
 
@@ -54,14 +54,14 @@ or-same true b off = refl
 or-same false b off = sym off
 
 -- one more has entered
-pub entered-begun : {m : Market} {r r' : Standings} {i at place : ℕ} → Begun m r r' i at place → (j : ℕ) → has_entered m r'.places j ≡ and_one (has_entered m r.places) i j
+pub entered-begun : {m : Market} {r r' : RoundView} {i at place : ℕ} → Begun m r r' i at place → (j : ℕ) → has_entered m r'.places j ≡ and_one (has_entered m r.places) i j
 entered-begun {m} {r} {r'} {i} begun j = elim (cases_eq j i) [
   | inl same ↦ ap (has_entered m r'.places) same ∙ ap is_some (place-begun begun) ∙ sym (or_right (has_entered m r.places j) (j == i) (eq-eqb j i same))
   | inr apart ↦ ap is_some (place-others begun j apart) ∙ or-same (has_entered m r.places j) (j == i) (ne_eqb j i apart)
 ]
 
 -- nothing is counted
-pub counted-begun : {m : Market} {r r' : Standings} {i at place : ℕ} → Begun m r r' i at place → CountsProposals m r nobody r' (only i)
+pub counted-begun : {m : Market} {r r' : RoundView} {i at place : ℕ} → Begun m r r' i at place → CountsProposals m r nobody r' (only i)
 counted-begun {m} {r} {r'} {i} begun =
     omega (
       arith,
@@ -71,7 +71,7 @@ counted-begun {m} {r} {r'} {i} begun =
       standing-others m r.places r'.places i (next-others begun),
     )
 
-stand-alike : {m : Market} {r r' : Standings} {i at place : ℕ} → Begun m r r' i at place → (t j : ℕ) → (has (next_of m r.places) t j && not false) ≡ (has (next_of m r'.places) t j && not (j == i))
+stand-alike : {m : Market} {r r' : RoundView} {i at place : ℕ} → Begun m r r' i at place → (t j : ℕ) → (has (next_of m r.places) t j && not false) ≡ (has (next_of m r'.places) t j && not (j == i))
 stand-alike {m} {r} {r'} {i} begun t j = elim (cases_eq j i) [
   | inl same ↦
       stays (has (next_of m r.places) t j) ∙ has-none (next_of m r.places) t j (ap (next_of m r.places) same ∙ next-absent begun)
@@ -82,7 +82,7 @@ stand-alike {m} {r} {r'} {i} begun t j = elim (cases_eq j i) [
 ]
 
 -- the rolls still fit, with the student away
-pub fits-begun : {m : Market} {r r' : Standings} {i at place : ℕ} → Begun m r r' i at place → FitsBut m r' (only i)
+pub fits-begun : {m : Market} {r r' : RoundView} {i at place : ℕ} → Begun m r r' i at place → FitsBut m r' (only i)
 fits-begun {m} {r} {r'} {i} {at} {place} begun = record {
   well_formed = begun.fits.well_formed;
   within_limits = begun.fits.within_limits;
@@ -116,7 +116,7 @@ unfolding next_choice
 first-choice m log i none = find-agree (λ s. not (is_rejected log i s)) (λ s. true) (λ s. ap not (none s)) (choices_of m i) ∙ find-all (choices_of m i)
 
 -- the chain is in course after each earlier log that the round continued
-pub midway-begun : {m : Market} {r r' : Standings} {i at : ℕ} → Begun m r r' i at 0 → (earlier : List Rejection) → Continues m earlier r → Midway m earlier r' i
+pub midway-begun : {m : Market} {r r' : RoundView} {i at : ℕ} → Begun m r r' i at 0 → (earlier : List Rejection) → Continues m earlier r → Midway m earlier r' i
 midway-begun {m} {r} {r'} {i} begun earlier continues =
     let entered : ℕ → Bool = has_entered m r.places in
     let log : List Rejection = earlier ++ r.log in
@@ -143,7 +143,7 @@ midway-begun {m} {r} {r'} {i} begun earlier continues =
     }
 
 -- a whole chain
-pub enters : {m : Market} {r r' r'' : Standings} {i at : ℕ} → Begun m r r' i at 0 → ChainEnds m r' r'' i → Enters m r r'' i
+pub enters : {m : Market} {r r' r'' : RoundView} {i at : ℕ} → Begun m r r' i at 0 → ChainEnds m r' r'' i → Enters m r r'' i
 enters {m} {r} {r'} {r''} {i} begun ends = record {
   fits = ends.fits;
   entered = λ j. ends.entered j ∙ entered-begun begun j;
@@ -152,11 +152,11 @@ enters {m} {r} {r'} {r''} {i} begun ends = record {
   counted = omega (arith, counted-begun begun, ends.counted);
 }
 
--- the standings with the student at a place of its choices, after room is made for it
-abbrev pub moved : Standings → List (Option ℕ) → ℕ → ℕ → Standings
+-- the round with the student at a place of its choices, after room is made for it
+abbrev pub moved : RoundView → List (Option ℕ) → ℕ → ℕ → RoundView
 moved r room at place = record r { places = set room at (Some place) }
 
-pub begins : (m : Market) (r : Standings) (room : List (Option ℕ)) (i at place : ℕ) → Fits m r → position (nat_eq i) (students_of m) ≡ Some at → has_entered m r.places i ≡ false
+pub begins : (m : Market) (r : RoundView) (room : List (Option ℕ)) (i at place : ℕ) → Fits m r → position (nat_eq i) (students_of m) ≡ Some at → has_entered m r.places i ≡ false
     → at < length room → ((k : ℕ) → get_or room k None ≡ get_or r.places k None) → ((n : ℕ) → at < n → length r.places ≤ n → length room ≤ n) → Begun m r (moved r room at place) i at place
 begins m r room i at place fits found absent low same within = record {
   fits = fits;

@@ -22,8 +22,8 @@ use Rattle.sc_papers.proofs.Restriction.{choices-restricted, counts-restricted, 
 use Rattle.sc_papers.proofs.Rewinding.{key_by, key-by}
 use Rattle.sc_papers.proofs.Students.{how_many-agree}
 use Rattle.sc_papers.proofs.Subsets.{well-cut}
-use Rattle.sc_seats.specs.Roll.{Held}
-use Rattle.sc_engine.specs.Standing.{Standings, Continues, Fits, RollFits, entered_papers, has_entered, next_of, nobody, place_of, roll_of, standing_but}
+use Rattle.sc_seats.specs.Roll.{RollView}
+use Rattle.sc_engine.specs.RoundView.{RoundView, Continues, Fits, RollFits, entered_papers, has_entered, next_of, nobody, place_of, roll_of, standing_but}
 use Rattle.sc_engine.proofs.Rolls.{on-roll}
 use Rattle.sc_engine.proofs.Tables.{entered-among, length-mapped, next-by, next-entered, next-none, place-at}
 
@@ -120,7 +120,7 @@ module _ (m : Market) (test : ℕ → Bool) (places : List (Option ℕ))
       stands i None is holds = absurd (false≢true (sym (ap (λ o. is_some o && not (away i)) is) ∙ holds))
       stands i (Some s) is holds = next-passes i s is
 
-  roll-part : (away : ℕ → Bool) (s : ℕ) (roll : Held) → RollFits (restricted m test) (next_of (restricted m test) places) away s roll → RollFits m (next_of m places) away s roll
+  roll-part : (away : ℕ → Bool) (s : ℕ) (roll : RollView) → RollFits (restricted m test) (next_of (restricted m test) places) away s roll → RollFits m (next_of m places) away s roll
   roll-part away s roll fits = record {
     seats = fits.seats ∙ seats-restricted m test s;
     within = fits.within;
@@ -196,16 +196,16 @@ unfolding cut
 cut-short m k = take-short k m.students
 
 -- the schools are the same, and so are their rolls
-rolls-part : (m : Market) (test : ℕ → Bool) (r : Standings) → Fits (restricted m test) r → length r.rolls ≡ length m.schools
+rolls-part : (m : Market) (test : ℕ → Bool) (r : RoundView) → Fits (restricted m test) r → length r.rolls ≡ length m.schools
 unfolding restricted
 rolls-part m test r part = part.rolls
 
-each-part : (m : Market) (test : ℕ → Bool) (r : Standings) → Fits (restricted m test) r → (s : ℕ) → RollFits (restricted m test) (next_of (restricted m test) r.places) nobody s (roll_of m r.rolls s)
+each-part : (m : Market) (test : ℕ → Bool) (r : RoundView) → Fits (restricted m test) r → (s : ℕ) → RollFits (restricted m test) (next_of (restricted m test) r.places) nobody s (roll_of m r.rolls s)
 unfolding restricted roll_of
 each-part m test r part s = part.each s
 
 -- what is so of the papers cut at k is so of them all
-pub fits-grown : (m : Market) (k : ℕ) (r : Standings) → WellFormed m → WithinLimits m → Fits (cut m k) r → Fits m r
+pub fits-grown : (m : Market) (k : ℕ) (r : RoundView) → WellFormed m → WithinLimits m → Fits (cut m k) r → Fits m r
 fits-grown m k r well within fits =
     let test : ℕ → Bool = is_among_first m k in
     let part : Fits (restricted m test) r = subst (λ n. Fits n r) (cut-restricted m k well) fits in
@@ -220,14 +220,14 @@ fits-grown m k r well within fits =
       proposals = omega (arith, part.proposals, standing-part m test r.places same entered nobody);
     }
 
-pub entered-grown : (m : Market) (k : ℕ) (r : Standings) → WellFormed m → Fits (cut m k) r → (i : ℕ) → has_entered m r.places i ≡ has_entered (cut m k) r.places i
+pub entered-grown : (m : Market) (k : ℕ) (r : RoundView) → WellFormed m → Fits (cut m k) r → (i : ℕ) → has_entered m r.places i ≡ has_entered (cut m k) r.places i
 entered-grown m k r well fits i = sym (ap is_some (place-cut m k well r.places fits.places i))
 
-pub next-grown : (m : Market) (k : ℕ) (r : Standings) → WellFormed m → Fits (cut m k) r → (i : ℕ) → next_of m r.places i ≡ next_of (cut m k) r.places i
+pub next-grown : (m : Market) (k : ℕ) (r : RoundView) → WellFormed m → Fits (cut m k) r → (i : ℕ) → next_of m r.places i ≡ next_of (cut m k) r.places i
 next-grown m k r well fits i =
     sym (ap (λ n. next_of n r.places i) (cut-restricted m k well) ∙ next-part m (is_among_first m k) r.places (place-restricted m k well r.places fits.places) (entered-first m k well r.places fits.places) i)
 
-pub continues-grown : (m : Market) (k : ℕ) (r : Standings) (earlier : List Rejection) → WellFormed m → Fits (cut m k) r → Continues (cut m k) earlier r → Continues m earlier r
+pub continues-grown : (m : Market) (k : ℕ) (r : RoundView) (earlier : List Rejection) → WellFormed m → Fits (cut m k) r → Continues (cut m k) earlier r → Continues m earlier r
 continues-grown m k r earlier well fits continues =
     let papers : entered_papers (cut m k) r.places ≡ entered_papers m r.places =
     ap (λ n. entered_papers n r.places) (cut-restricted m k well) ∙ papers-part m (is_among_first m k) r.places (place-restricted m k well r.places fits.places) (entered-first m k well r.places fits.places) in

@@ -3,7 +3,7 @@ use Rattle.std.proofs.Common.{◌≡◌, ap, sym, ◌∙◌, ℕ, nat_eq, List, 
 use Rattle.std.specs.Option.{option_and_then, option_map_or}
 use Rattle.sc_papers.specs.Market.{Market, choices_of, student_at, students_of}
 use Rattle.sc_papers.proofs.Hands.{student-there}
-use Rattle.sc_engine.specs.Standing.{next_of, place_of}
+use Rattle.sc_engine.specs.RoundView.{next_of, place_of}
 use Rattle.sc_engine.proofs.Tables.{next-none, place-at}
 
 -- none for one who has not entered

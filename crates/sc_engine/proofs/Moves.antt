@@ -4,15 +4,15 @@ use Rattle.sc_papers.specs.Market.{Market, students_of, schools_of}
 use Rattle.sc_papers.specs.Key.{key_of}
 use Rattle.sc_papers.specs.declared.key.Key.{Key}
 use Rattle.sc_papers.specs.declared.rejection.Rejection.{Rejection}
-use Rattle.sc_seats.specs.Roll.{Held}
-use Rattle.sc_engine.specs.Standing.{Standings, place_of, next_of, FitsBut, only, OffersAt, RollFits, roll_at, ChainEnds, ChainGoesOn, Extends, Proposes}
+use Rattle.sc_seats.specs.Roll.{RollView}
+use Rattle.sc_engine.specs.RoundView.{RoundView, place_of, next_of, FitsBut, only, OffersAt, RollFits, roll_at, ChainEnds, ChainGoesOn, Extends, Proposes}
 use Rattle.std.proofs.lemmas.Bool.{eq-eqb}
 use Rattle.sc_engine.proofs.Rolls.{away-off}
 use Rattle.sc_engine.proofs.Tables.{place-low, roll-at, stands-at, StandsAt, position-of, PositionOf}
 use Rattle.sc_engine.proofs.Proposals.{Proposed, put-out, Out, fits-held, fits-ended, counted-ended, counted-held}
 use Rattle.sc_engine.proofs.Steps.{Rejected, entry_of, entered-stays, fits-put_out, counted-put_out, midway-put_out, continues-held, continues-ended, left-put_out}
 
-pub proposed-from : (m : Market) (r : Standings) (proposer s at : ℕ) (key : Key) (rolls : List Held) (out : Option Key) → FitsBut m r (only proposer) → next_of m r.places proposer ≡ Some s → position (nat_eq s) (schools_of m) ≡ Some at → key ≡ key_of m proposer s → OffersAt r.rolls rolls at key out → Proposed m r proposer s at rolls out
+pub proposed-from : (m : Market) (r : RoundView) (proposer s at : ℕ) (key : Key) (rolls : List RollView) (out : Option Key) → FitsBut m r (only proposer) → next_of m r.places proposer ≡ Some s → position (nat_eq s) (schools_of m) ≡ Some at → key ≡ key_of m proposer s → OffersAt r.rolls rolls at key out → Proposed m r proposer s at rolls out
 proposed-from m r proposer s at key rolls out fits stands school is offered = record {
   fits = fits;
   stands = stands;
@@ -21,7 +21,7 @@ proposed-from m r proposer s at key rolls out fits stands school is offered = re
 }
 
 -- the same of what the roll answered
-pub proposed-told : (m : Market) (r : Standings) (proposer s at : ℕ) (key : Key) (rolls : List Held) (told out : Option Key) → FitsBut m r (only proposer) → next_of m r.places proposer ≡ Some s → position (nat_eq s) (schools_of m) ≡ Some at → key ≡ key_of m proposer s → OffersAt r.rolls rolls at key told → told ≡ out → Proposed m r proposer s at rolls out
+pub proposed-told : (m : Market) (r : RoundView) (proposer s at : ℕ) (key : Key) (rolls : List RollView) (told out : Option Key) → FitsBut m r (only proposer) → next_of m r.places proposer ≡ Some s → position (nat_eq s) (schools_of m) ≡ Some at → key ≡ key_of m proposer s → OffersAt r.rolls rolls at key told → told ≡ out → Proposed m r proposer s at rolls out
 proposed-told m r proposer s at key rolls told out fits stands school is offered answer =
     proposed-from m r proposer s at key rolls out fits stands school is (subst (OffersAt r.rolls rolls at key) answer offered)
 
@@ -32,7 +32,7 @@ pub extends-trans : (a b c : List Rejection) → Extends a b → Extends b c →
 extends-trans a b c (first, is_b) (second, is_c) = (first ++ second, is_c ∙ ap (λ l. l ++ second) is_b ∙ append_assoc a first second)
 
 -- the student in hand has no choice left
-pub ends-none : (m : Market) (r : Standings) (proposer : ℕ) → FitsBut m r (only proposer) → next_of m r.places proposer ≡ None → ChainEnds m r r proposer
+pub ends-none : (m : Market) (r : RoundView) (proposer : ℕ) → FitsBut m r (only proposer) → next_of m r.places proposer ≡ None → ChainEnds m r r proposer
 ends-none m r proposer fits none = record {
   fits = fits-ended m r proposer fits none;
   entered = λ i. refl;
@@ -42,7 +42,7 @@ ends-none m r proposer fits none = record {
 }
 
 -- the roll had room
-pub ends-held : (m : Market) (r r' : Standings) (proposer s at : ℕ) → Proposed m r proposer s at r'.rolls None → r'.places ≡ r.places → r'.log ≡ r.log → r'.proposals ≡ r.proposals + 1 → ChainEnds m r r' proposer
+pub ends-held : (m : Market) (r r' : RoundView) (proposer s at : ℕ) → Proposed m r proposer s at r'.rolls None → r'.places ≡ r.places → r'.log ≡ r.log → r'.proposals ≡ r.proposals + 1 → ChainEnds m r r' proposer
 ends-held m r r' proposer s at done same_places same_log one_more = record {
   counted = counted-held m r r' proposer s done.fits.well_formed done.stands same_places same_log one_more;
   fits = fits-held m r r' proposer s at done same_places (counted-held m r r' proposer s done.fits.well_formed done.stands same_places same_log one_more);
@@ -52,7 +52,7 @@ ends-held m r r' proposer s at done same_places same_log one_more = record {
 }
 
 -- a student is put out and moves on
-pub goes-on : (m : Market) (r r' : Standings) (proposer s at : ℕ) (rolls : List Held) (out : Key) → Proposed m r proposer s at rolls (Some out) → r'.rolls ≡ rolls → r'.log ≡ r.log ++ entry_of out.student s ∷ []
+pub goes-on : (m : Market) (r r' : RoundView) (proposer s at : ℕ) (rolls : List RollView) (out : Key) → Proposed m r proposer s at rolls (Some out) → r'.rolls ≡ rolls → r'.log ≡ r.log ++ entry_of out.student s ∷ []
     → ((k place : ℕ) → position (nat_eq out.student) (students_of m) ≡ Some k → place_of m r.places out.student ≡ Some place → r'.places ≡ set r.places k (Some (place + 1)))
     → r'.proposals ≡ r.proposals + 1 → Proposes m r r' proposer (Some out.student)
 goes-on m r r' proposer s at rolls out done same_rolls log moved one_more =
@@ -81,7 +81,7 @@ goes-on m r r' proposer s at rolls out done same_rolls log moved one_more =
     )
 
 -- a chain that has not begun
-pub goes-on_first : (m : Market) (r : Standings) (proposer : ℕ) → FitsBut m r (only proposer) → ChainGoesOn m r r proposer proposer
+pub goes-on_first : (m : Market) (r : RoundView) (proposer : ℕ) → FitsBut m r (only proposer) → ChainGoesOn m r r proposer proposer
 goes-on_first m r proposer fits = record {
   fits = fits;
   entered = λ i. refl;
@@ -90,7 +90,7 @@ goes-on_first m r proposer fits = record {
   extends = extends-same r.log r.log refl;
 }
 
-pub goes-on_more : (m : Market) (a b c : Standings) (i j k : ℕ) → ChainGoesOn m a b i j → ChainGoesOn m b c j k → ChainGoesOn m a c i k
+pub goes-on_more : (m : Market) (a b c : RoundView) (i j k : ℕ) → ChainGoesOn m a b i j → ChainGoesOn m b c j k → ChainGoesOn m a c i k
 goes-on_more m a b c i j k first second = record {
   fits = second.fits;
   entered = λ x. second.entered x ∙ first.entered x;
@@ -99,7 +99,7 @@ goes-on_more m a b c i j k first second = record {
   extends = extends-trans a.log b.log c.log first.extends second.extends;
 }
 
-pub goes-on_ends : (m : Market) (a b c : Standings) (i j : ℕ) → ChainGoesOn m a b i j → ChainEnds m b c j → ChainEnds m a c i
+pub goes-on_ends : (m : Market) (a b c : RoundView) (i j : ℕ) → ChainGoesOn m a b i j → ChainEnds m b c j → ChainEnds m a c i
 goes-on_ends m a b c i j first last = record {
   fits = last.fits;
   entered = λ x. last.entered x ∙ first.entered x;
@@ -109,7 +109,7 @@ goes-on_ends m a b c i j first last = record {
 }
 
 -- what an offer asks of the roll
-pub roll-new : (m : Market) (r : Standings) (proposer s at : ℕ) (key : Key) → FitsBut m r (only proposer) → position (nat_eq s) (schools_of m) ≡ Some at → key ≡ key_of m proposer s → Contains (roll_at r.rolls at).keys key → ⊥
+pub roll-new : (m : Market) (r : RoundView) (proposer s at : ℕ) (key : Key) → FitsBut m r (only proposer) → position (nat_eq s) (schools_of m) ≡ Some at → key ≡ key_of m proposer s → Contains (roll_at r.rolls at).keys key → ⊥
 roll-new m r proposer s at key fits school is held =
     away-off m (next_of m r.places) (only proposer) s (roll_at r.rolls at) proposer (subst (RollFits m (next_of m r.places) (only proposer) s) (roll-at m r.rolls s at school) (fits.each s)) (eq-eqb proposer proposer refl)
     (subst (Contains (roll_at r.rolls at).keys) is held)

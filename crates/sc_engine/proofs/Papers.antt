@@ -8,7 +8,7 @@ use Rattle.sc_papers.specs.declared.limits.TheConstants.{LONGEST_LIST}
 use Rattle.sc_papers.proofs.Choices.{contains-at}
 use Rattle.sc_papers.proofs.Positions.{any-among, among-student}
 use Rattle.sc_papers.proofs.Students.{choice-known, choices-short}
-use Rattle.sc_engine.specs.Standing.{next_of, place_of}
+use Rattle.sc_engine.specs.RoundView.{next_of, place_of}
 use Rattle.sc_engine.proofs.Tables.{stands-at, next-among, next-by}
 
 -- who stands at a choice is a student of the papers, and the choice a school of them

@@ -17,8 +17,8 @@ use Rattle.sc_papers.proofs.Chain.{how_many-split, how_many-split_both}
 use Rattle.sc_papers.proofs.Counting.{contains-cons, contains-head, contains-tail}
 use Rattle.sc_papers.proofs.Rejections.{has-true, has-some}
 use Rattle.sc_papers.proofs.Students.{how_many-agree}
-use Rattle.sc_seats.specs.Roll.{Held}
-use Rattle.sc_engine.specs.Standing.{Standings, next_of, roll_of, roll_at, RollFits, FitsBut, Fits, only, nobody, standing_but, CountsProposals, OffersAt}
+use Rattle.sc_seats.specs.Roll.{RollView}
+use Rattle.sc_engine.specs.RoundView.{RoundView, next_of, roll_of, roll_at, RollFits, FitsBut, Fits, only, nobody, standing_but, CountsProposals, OffersAt}
 use Rattle.sc_engine.proofs.Tables.{length-mapped, next-among, roll-at, roll-kept}
 use Rattle.sc_engine.proofs.Rolls.{on-roll, roll-holds, roll-fits_still, counts-held}
 
@@ -46,7 +46,7 @@ stays true = refl
 stays false = refl
 
 -- a proposal as the code makes it: the student in hand stands at s, and its key is offered to the roll
-pub record Proposed (m : Market) (r : Standings) (proposer s at : ℕ) (rolls : List Held) (out : Option Key) : Type 0 where
+pub record Proposed (m : Market) (r : RoundView) (proposer s at : ℕ) (rolls : List RollView) (out : Option Key) : Type 0 where
   pub fits : FitsBut m r (only proposer)
   pub stands : next_of m r.places proposer ≡ Some s
   pub school : position (nat_eq s) (schools_of m) ≡ Some at
@@ -56,7 +56,7 @@ pub key-student : (m : Market) (i s : ℕ) → (key_of m i s).student ≡ i
 unfolding key_of
 key-student m i s = refl
 
-module _ {m : Market} {r : Standings} {proposer s at : ℕ} {rolls : List Held} {out : Option Key} (done : Proposed m r proposer s at rolls out) where
+module _ {m : Market} {r : RoundView} {proposer s at : ℕ} {rolls : List RollView} {out : Option Key} (done : Proposed m r proposer s at rolls out) where
   -- the school's roll before
   pub roll-before : RollFits m (next_of m r.places) (only proposer) s (roll_at r.rolls at)
   roll-before = subst (RollFits m (next_of m r.places) (only proposer) s) (roll-at m r.rolls s at done.school) (done.fits.each s)
@@ -68,8 +68,8 @@ module _ {m : Market} {r : Standings} {proposer s at : ℕ} {rolls : List Held} 
   pub roll-after : roll_of m rolls s ≡ roll_at rolls at
   roll-after = roll-at m rolls s at done.school
 
--- the proposals stay within what the log and the standings account for
-pub counted-within : (m : Market) (r : Standings) (away : ℕ → Bool) (r' : Standings) (away' : ℕ → Bool) → CountsProposals m r away r' away' → r.proposals ≤ length r.log + standing_but m r.places away → r'.proposals ≤ length r'.log + standing_but m r'.places away'
+-- the proposals stay within what the log and the places account for
+pub counted-within : (m : Market) (r : RoundView) (away : ℕ → Bool) (r' : RoundView) (away' : ℕ → Bool) → CountsProposals m r away r' away' → r.proposals ≤ length r.log + standing_but m r.places away → r'.proposals ≤ length r'.log + standing_but m r'.places away'
 counted-within m r away r' away' counted within = omega (arith, counted, within)
 
 -- one who stands at a choice, and the others
@@ -103,15 +103,15 @@ standing-others m old new i same =
     ])
 
 -- the counts at the end of a chain
-pub counted-ended : (m : Market) (r : Standings) (proposer : ℕ) → next_of m r.places proposer ≡ None → CountsProposals m r (only proposer) r nobody
+pub counted-ended : (m : Market) (r : RoundView) (proposer : ℕ) → next_of m r.places proposer ≡ None → CountsProposals m r (only proposer) r nobody
 counted-ended m r proposer none = ap (λ n. r.proposals + (length r.log + n)) (sym (standing-without m r.places proposer none))
 
-pub counted-held : (m : Market) (r r' : Standings) (proposer s : ℕ) → WellFormed m → next_of m r.places proposer ≡ Some s → r'.places ≡ r.places → r'.log ≡ r.log → r'.proposals ≡ r.proposals + 1 → CountsProposals m r (only proposer) r' nobody
+pub counted-held : (m : Market) (r r' : RoundView) (proposer s : ℕ) → WellFormed m → next_of m r.places proposer ≡ Some s → r'.places ≡ r.places → r'.log ≡ r.log → r'.proposals ≡ r.proposals + 1 → CountsProposals m r (only proposer) r' nobody
 counted-held m r r' proposer s well stands same_places same_log one_more =
     omega (arith, one_more, standing-split m well r.places proposer s stands, ap (λ places. standing_but m places nobody) same_places, ap (λ (l : List Rejection). length l) same_log)
 
 -- nobody is put out: the roll had room
-pub fits-held : (m : Market) (r r' : Standings) (proposer s at : ℕ) → Proposed m r proposer s at r'.rolls None → r'.places ≡ r.places → CountsProposals m r (only proposer) r' nobody → Fits m r'
+pub fits-held : (m : Market) (r r' : RoundView) (proposer s at : ℕ) → Proposed m r proposer s at r'.rolls None → r'.places ≡ r.places → CountsProposals m r (only proposer) r' nobody → Fits m r'
 fits-held m r r' proposer s at done same counted = record {
   proposals = counted-within m r (only proposer) r' nobody counted done.fits.proposals;
   well_formed = done.fits.well_formed;
@@ -146,7 +146,7 @@ fits-held m r r' proposer s at done same counted = record {
     }
 
 -- the student in hand has no choice left
-pub fits-ended : (m : Market) (r : Standings) (proposer : ℕ) → FitsBut m r (only proposer) → next_of m r.places proposer ≡ None → Fits m r
+pub fits-ended : (m : Market) (r : RoundView) (proposer : ℕ) → FitsBut m r (only proposer) → next_of m r.places proposer ≡ None → Fits m r
 fits-ended m r proposer fits none = record {
   well_formed = fits.well_formed;
   within_limits = fits.within_limits;
@@ -168,7 +168,7 @@ before-ahead : (m : Market) (s i j : ℕ) → is_before (key_of m i s) (key_of m
 unfolding is_ahead
 before-ahead m s i j before = before
 
-pub put-out : (m : Market) (r : Standings) (proposer s at : ℕ) (rolls : List Held) (out : Key) → Proposed m r proposer s at rolls (Some out) → Out m (next_of m r.places) proposer s out
+pub put-out : (m : Market) (r : RoundView) (proposer s at : ℕ) (rolls : List RollView) (out : Key) → Proposed m r proposer s at rolls (Some out) → Out m (next_of m r.places) proposer s out
 put-out m r proposer s at rolls out done = record {
   stands = (elim from [
     | inl is_hand ↦ ap next (ap (λ (k : Key). k.student) (sym is_hand) ∙ key-student m proposer s) ∙ done.stands
@@ -189,7 +189,7 @@ put-out m r proposer s at rolls out done = record {
     next : Matching
     next = next_of m r.places
 
-    old : Held
+    old : RollView
     old = roll_at r.rolls at
 
     from : (key_of m proposer s ≡ out) ⊎ Contains (roll_at r.rolls at).keys out

@@ -13,8 +13,8 @@ use Rattle.sc_papers.proofs.Counting.{count-some, some-counted}
 use Rattle.sc_papers.proofs.Sums.{count-all}
 use Rattle.sc_papers.proofs.Students.{how_many-agree, how_many-some, some-of_many}
 use Rattle.sc_papers.proofs.Rejections.{has-true, has-some}
-use Rattle.sc_seats.specs.Roll.{Held}
-use Rattle.sc_engine.specs.Standing.{RollFits}
+use Rattle.sc_seats.specs.Roll.{RollView}
+use Rattle.sc_engine.specs.RoundView.{RollFits}
 
 -- who is on the roll stands at the school and is not away, and the key is its own
 pub record OnRoll (m : Market) (next : Matching) (away : ℕ → Bool) (s : ℕ) (key : Key) : Type 0 where
@@ -22,7 +22,7 @@ pub record OnRoll (m : Market) (next : Matching) (away : ℕ → Bool) (s : ℕ)
   pub present : away key.student ≡ false
   pub own : key ≡ key_of m key.student s
 
-pub on-roll : (m : Market) (next : Matching) (away : ℕ → Bool) (s : ℕ) (roll : Held) (key : Key) → RollFits m next away s roll → Contains roll.keys key → OnRoll m next away s key
+pub on-roll : (m : Market) (next : Matching) (away : ℕ → Bool) (s : ℕ) (roll : RollView) (key : Key) → RollFits m next away s roll → Contains roll.keys key → OnRoll m next away s key
 on-roll m next away s roll key fits held =
     let i : ℕ = key.student in
     let one : 0 < how_many m (λ j. j == i && (has next s j && not (away j))) =
@@ -42,7 +42,7 @@ unfolding key_of
 key-student m i s = refl
 
 -- a student who stands at the school and is not away is on the roll
-pub roll-holds : (m : Market) (next : Matching) (away : ℕ → Bool) (s : ℕ) (roll : Held) (i : ℕ) → RollFits m next away s roll → Contains (students_of m) i → next i ≡ Some s → away i ≡ false → Contains roll.keys (key_of m i s)
+pub roll-holds : (m : Market) (next : Matching) (away : ℕ → Bool) (s : ℕ) (roll : RollView) (i : ℕ) → RollFits m next away s roll → Contains (students_of m) i → next i ≡ Some s → away i ≡ false → Contains roll.keys (key_of m i s)
 roll-holds m next away s roll i fits among stands present =
     let passes : (i == i && (has next s i && not (away i))) ≡ true = and_from (i == i) (has next s i && not (away i)) (eq-eqb i i refl) (and_from (has next s i) (not (away i)) (has-some next s i stands) (ap not present)) in
     let one : 0 < count_by (λ (k : Key). k.student == i) roll.keys =
@@ -53,17 +53,17 @@ roll-holds m next away s roll i fits among stands present =
     subst (Contains roll.keys) (own ∙ ap (λ j. key_of m j s) same) found.1
 
 -- the key of one who is away is not on the roll
-pub away-off : (m : Market) (next : Matching) (away : ℕ → Bool) (s : ℕ) (roll : Held) (i : ℕ) → RollFits m next away s roll → away i ≡ true → Contains roll.keys (key_of m i s) → ⊥
+pub away-off : (m : Market) (next : Matching) (away : ℕ → Bool) (s : ℕ) (roll : RollView) (i : ℕ) → RollFits m next away s roll → away i ≡ true → Contains roll.keys (key_of m i s) → ⊥
 away-off m next away s roll i fits gone held =
     let at : OnRoll m next away s (key_of m i s) = on-roll m next away s roll (key_of m i s) fits held in
     false≢true (sym at.present ∙ ap away (key-student m i s) ∙ gone)
 
 -- how many are on the roll
-pub roll-length : (m : Market) (next : Matching) (away : ℕ → Bool) (s : ℕ) (roll : Held) → RollFits m next away s roll → length roll.keys ≡ how_many m (λ j. has next s j && not (away j))
+pub roll-length : (m : Market) (next : Matching) (away : ℕ → Bool) (s : ℕ) (roll : RollView) → RollFits m next away s roll → length roll.keys ≡ how_many m (λ j. has next s j && not (away j))
 roll-length m next away s roll fits = sym (count-all roll.keys) ∙ fits.exact (λ j. true)
 
 -- a roll that fits still fits where the same stand at the school and are not away
-pub roll-fits_still : (m : Market) (next next' : Matching) (away away' : ℕ → Bool) (s : ℕ) (roll : Held) → ((j : ℕ) → (has next s j && not (away j)) ≡ (has next' s j && not (away' j))) → RollFits m next away s roll → RollFits m next' away' s roll
+pub roll-fits_still : (m : Market) (next next' : Matching) (away away' : ℕ → Bool) (s : ℕ) (roll : RollView) → ((j : ℕ) → (has next s j && not (away j)) ≡ (has next' s j && not (away' j))) → RollFits m next away s roll → RollFits m next' away' s roll
 roll-fits_still m next next' away away' s roll agree fits = record {
   seats = fits.seats;
   within = fits.within;

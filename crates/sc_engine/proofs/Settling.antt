@@ -20,7 +20,7 @@ use Rattle.sc_papers.proofs.Counting.{contains-head, contains-tail}
 use Rattle.sc_papers.proofs.Optimality.{settled-optimal}
 use Rattle.sc_papers.proofs.Rejections.{any-push}
 use Rattle.sc_papers.proofs.Students.{how_many-agree}
-use Rattle.sc_engine.specs.Standing.{Standings, next_of, has_entered, Fits, standing_but, entered_papers, Continues, Enters, SettlesFirst}
+use Rattle.sc_engine.specs.RoundView.{RoundView, next_of, has_entered, Fits, standing_but, entered_papers, Continues, Enters, SettlesFirst}
 use Rattle.sc_engine.proofs.Tables.{next-among, length-mapped}
 use Rattle.sc_papers.proofs.Positions.{any-among}
 use Rattle.sc_engine.proofs.CountingLaws.{exact-none}
@@ -62,7 +62,7 @@ pub first-all : (xs : List ℕ) (j : ℕ) → Contains xs j → among_first xs (
 first-all xs j among = ap (list_any (nat_eq j)) (take-all xs) ∙ any-among xs j among
 
 -- one more student has entered
-pub settles-more : (m : Market) (old new : Standings) (k i : ℕ) → slice_get (students_of m) k ≡ Some i → SettlesFirst m old k → Enters m old new i → SettlesFirst m new (k + 1)
+pub settles-more : (m : Market) (old new : RoundView) (k i : ℕ) → slice_get (students_of m) k ≡ Some i → SettlesFirst m old k → Enters m old new i → SettlesFirst m new (k + 1)
 settles-more m old new k i here before enters = record {
   fits = enters.fits;
   entered = λ j. enters.entered j ∙ ap (λ b. b || j == i) (before.entered j) ∙ sym (first-more (students_of m) k i here j);
@@ -71,7 +71,7 @@ settles-more m old new k i here before enters = record {
 }
 
 -- nobody stands at a choice where nobody has entered
-pub settles-none : (m : Market) (r : Standings) → Fits m r → ((i : ℕ) → has_entered m r.places i ≡ false) → Continues m [] r → r.log ≡ [] → r.proposals ≡ 0 → SettlesFirst m r 0
+pub settles-none : (m : Market) (r : RoundView) → Fits m r → ((i : ℕ) → has_entered m r.places i ≡ false) → Continues m [] r → r.log ≡ [] → r.proposals ≡ 0 → SettlesFirst m r 0
 settles-none m r fits nowhere continues no_log none = record {
   fits = fits;
   entered = nowhere;
@@ -90,22 +90,22 @@ restricted-all : (m : Market) (test : ℕ → Bool) → ((i : ℕ) → Contains 
 unfolding restricted
 restricted-all m test all = λ t. record m { students = filter-all test m.students all t }
 
-pub papers-all : (m : Market) (r : Standings) → SettlesFirst m r (length m.students) → entered_papers m r.places ≡ m
+pub papers-all : (m : Market) (r : RoundView) → SettlesFirst m r (length m.students) → entered_papers m r.places ≡ m
 papers-all m r all = restricted-all m (has_entered m r.places) (λ i among. all.entered i ∙ ap (λ n. among_first (students_of m) n i) (sym (length-mapped (λ (e : ℕ × Student). e.0) m.students)) ∙ first-all (students_of m) i among)
 
 -- the log is settled, and the students stand at their next choices
-pub settled-all : (m : Market) (r : Standings) → SettlesFirst m r (length m.students) → IsSettled m r.log
+pub settled-all : (m : Market) (r : RoundView) → SettlesFirst m r (length m.students) → IsSettled m r.log
 settled-all m r all = subst (λ n. IsSettled n r.log) (papers-all m r all) all.settled.settled
 
-pub next-all : (m : Market) (r : Standings) → SettlesFirst m r (length m.students) → (i : ℕ) → next_of m r.places i ≡ next_choice m r.log i
+pub next-all : (m : Market) (r : RoundView) → SettlesFirst m r (length m.students) → (i : ℕ) → next_of m r.places i ≡ next_choice m r.log i
 next-all m r all i = sym (all.settled.next i) ∙ ap (λ n. next_choice n r.log i) (papers-all m r all)
 
-pub optimal-all : (m : Market) (r : Standings) (given : Matching) → SettlesFirst m r (length m.students) → ((i : ℕ) → given i ≡ next_of m r.places i) → IsStudentOptimal m given
+pub optimal-all : (m : Market) (r : RoundView) (given : Matching) → SettlesFirst m r (length m.students) → ((i : ℕ) → given i ≡ next_of m r.places i) → IsStudentOptimal m given
 optimal-all m r given all is =
     let same : matching_of m r.log ≡ given = λ t i. (sym (is i ∙ next-all m r all i)) t in
     subst (IsStudentOptimal m) same (settled-optimal m all.fits.well_formed r.log (settled-all m r all))
 
-pub placed-all : (m : Market) (r : Standings) (given : Matching) → SettlesFirst m r (length m.students) → ((i : ℕ) → given i ≡ next_of m r.places i) → r.proposals ≡ length r.log + placed m given
+pub placed-all : (m : Market) (r : RoundView) (given : Matching) → SettlesFirst m r (length m.students) → ((i : ℕ) → given i ≡ next_of m r.places i) → r.proposals ≡ length r.log + placed m given
 unfolding standing_but
 placed-all m r given all is =
     let same : how_many m (λ i. is_some (next_of m r.places i) && not false) ≡ placed m given =

@@ -1,4 +1,4 @@
--- The standings before anybody has entered.
+-- A round before anybody has entered.
 use Rattle.std.proofs.Common.{◌≡◌, inl, inr, refl, ap, sym, subst, ◌∙◌, ℕ, ◌+◌, ◌<◌, nat_eq, false, not, ◌&&◌, List, [], ◌∷◌, ◌++◌, length, get_or, map, Option, Some, None, All, is_some, position, slice_get, arith}
 use Rattle.std.specs.Option.{option_map_or}
 use Rattle.std.proofs.lemmas.Bool.{cases_lt, cases_Bool, and_left, and_right, false≢true, true≢false}
@@ -13,15 +13,15 @@ use Rattle.sc_papers.specs.declared.records.School.{School}
 use Rattle.sc_papers.specs.declared.records.Student.{Student}
 use Rattle.sc_papers.proofs.Restriction.{restricted-restricts, next-dropped}
 use Rattle.sc_papers.proofs.Students.{how_many-none}
-use Rattle.sc_seats.specs.Roll.{Held}
-use Rattle.sc_engine.specs.Standing.{Standings, place_of, next_of, has_entered, roll_of, roll_at, no_roll, RollFits, Fits, nobody, Continues, AreEmpty, standing_but, entered_papers}
+use Rattle.sc_seats.specs.Roll.{RollView}
+use Rattle.sc_engine.specs.RoundView.{RoundView, place_of, next_of, has_entered, roll_of, roll_at, no_roll, RollFits, Fits, nobody, Continues, AreEmpty, standing_but, entered_papers}
 use Rattle.sc_engine.proofs.Tables.{next-none, roll-at, length-mapped, get_or-mapped}
 use Rattle.sc_papers.proofs.Positions.{position-at, school-position}
 use Rattle.sc_engine.proofs.Papers.{school-at}
 use Rattle.sc_engine.proofs.Proposals.{has-none}
 
--- standings before anybody has entered
-pub record IsStart (m : Market) (r : Standings) : Type 0 where
+-- a round before anybody has entered
+pub record IsStart (m : Market) (r : RoundView) : Type 0 where
   pub well_formed : WellFormed m
   pub within_limits : WithinLimits m
   pub places : length r.places ≡ length m.students
@@ -49,7 +49,7 @@ no-seats m s unknown = go (school_of m s) unknown
     go None e = refl
     go (Some school) e = absurd (true≢false e)
 
-roll-unknown : (m : Market) (rolls : List Held) (s : ℕ) → is_school m s ≡ false → roll_of m rolls s ≡ no_roll
+roll-unknown : (m : Market) (rolls : List RollView) (s : ℕ) → is_school m s ≡ false → roll_of m rolls s ≡ no_roll
 unfolding roll_of
 roll-unknown m rolls s unknown = go (position (nat_eq s) (schools_of m)) refl
   where
@@ -60,18 +60,18 @@ roll-unknown m rolls s unknown = go (position (nat_eq s) (schools_of m)) refl
         absurd (false≢true (sym unknown ∙ school-at m at s (slice_get-get_or (schools_of m) at s here.0 ∙ ap Some here.1)))
 
 -- nobody is on the roll of a school, which has its seats
-roll-empty : (m : Market) (rolls : List Held) → AreEmpty m rolls (length m.schools) → (s : ℕ) → roll_of m rolls s ≡ record { keys = []; seats = seats_of m s }
+roll-empty : (m : Market) (rolls : List RollView) → AreEmpty m rolls (length m.schools) → (s : ℕ) → roll_of m rolls s ≡ record { keys = []; seats = seats_of m s }
 roll-empty m rolls empty s = elim (cases_Bool (is_school m s)) [
   | inl known ↦
       let (at, found) = school-position m s known in
       let here = position-at (schools_of m) s at found in
       roll-at m rolls s at found
       ∙ empty at s (omega (arith, here.0, length-mapped (λ (e : ℕ × School). e.0) m.schools)) (slice_get-get_or (schools_of m) at s here.0 ∙ ap Some here.1)
-  | inr unknown ↦ roll-unknown m rolls s unknown ∙ ap (λ n. let r : Held = record { keys = []; seats = n } in r) (sym (no-seats m s unknown))
+  | inr unknown ↦ roll-unknown m rolls s unknown ∙ ap (λ n. let r : RollView = record { keys = []; seats = n } in r) (sym (no-seats m s unknown))
 ]
 
 -- the first rolls and one more
-pub are-empty_more : {R : Type 0} (see : R → Held) (m : Market) (rolls : List R) (k : ℕ) (roll : R) → length rolls ≡ k → AreEmpty m (map see rolls) k → (see roll).keys ≡ [] → ((s : ℕ) → slice_get (schools_of m) k ≡ Some s → (see roll).seats ≡ seats_of m s) → AreEmpty m (map see (rolls ++ roll ∷ [])) (k + 1)
+pub are-empty_more : {R : Type 0} (see : R → RollView) (m : Market) (rolls : List R) (k : ℕ) (roll : R) → length rolls ≡ k → AreEmpty m (map see rolls) k → (see roll).keys ≡ [] → ((s : ℕ) → slice_get (schools_of m) k ≡ Some s → (see roll).seats ≡ seats_of m s) → AreEmpty m (map see (rolls ++ roll ∷ [])) (k + 1)
 are-empty_more see m rolls k roll long empty no_keys seats at s low found =
     let more : at < length (rolls ++ roll ∷ []) = omega (arith, low, long, length_push rolls roll) in
     let read = get_or-mapped see (rolls ++ roll ∷ []) at roll no_roll more in
@@ -83,11 +83,11 @@ are-empty_more see m rolls k roll long empty no_keys seats at s low found =
           let here : at ≡ k = omega (arith, past, low) in
           let of_school : (see roll).seats ≡ seats_of m s = seats s (ap (slice_get (schools_of m)) (sym here) ∙ found) in
           read ∙ ap see (get_or_push rolls roll roll at (long ∙ sym here))
-          ∙ (λ t. let seen : Held = record { keys = no_keys t; seats = of_school t } in seen)
+          ∙ (λ t. let seen : RollView = record { keys = no_keys t; seats = of_school t } in seen)
     ]
 
--- the standings fit
-pub fits-start : (m : Market) (r : Standings) → IsStart m r → Fits m r
+-- the round fits
+pub fits-start : (m : Market) (r : RoundView) → IsStart m r → Fits m r
 fits-start m r start = record {
   well_formed = start.well_formed;
   within_limits = start.within_limits;
@@ -107,14 +107,14 @@ fits-start m r start = record {
     nowhere j = next-none m r.places j (no-place m r.places start.places start.nowhere j)
 
 -- nobody stands at a choice
-pub none-standing : (m : Market) (r : Standings) → IsStart m r → standing_but m r.places nobody ≡ 0
+pub none-standing : (m : Market) (r : RoundView) → IsStart m r → standing_but m r.places nobody ≡ 0
 unfolding standing_but
 none-standing m r start =
     how_many-none m (λ j. is_some (next_of m r.places j) && not false)
     (λ j among. and_left (is_some (next_of m r.places j)) (not false) (ap is_some (next-none m r.places j (no-place m r.places start.places start.nowhere j))))
 
 -- and the empty log is settled for nobody
-pub continues-start : (m : Market) (r : Standings) → IsStart m r → Continues m [] r
+pub continues-start : (m : Market) (r : RoundView) → IsStart m r → Continues m [] r
 continues-start m r start =
     let absent : (j : ℕ) → has_entered m r.places j ≡ false = λ j. ap is_some (no-place m r.places start.places start.nowhere j) in
     let none : (j : ℕ) → next_choice (entered_papers m r.places) [] j ≡ None = λ j. next-dropped (restricted-restricts m (has_entered m r.places)) [] j (absent j) in
@@ -127,8 +127,8 @@ continues-start m r start =
       next = λ j. ap (λ log. next_choice (entered_papers m r.places) log j) start.log ∙ none j ∙ sym (next-none m r.places j (no-place m r.places start.places start.nowhere j));
     }
 
--- the standings that the code starts with
-pub starts : {R : Type 0} (m : Market) (places : List (Option ℕ)) (rolls : List R) (see : R → Held) (log : List Rejection) (proposals : ℕ) → WellFormed m → WithinLimits m → length places ≡ length m.students → All (λ place. place ≡ None) places → length rolls ≡ length m.schools → AreEmpty m (map see rolls) (length m.schools) → log ≡ [] → proposals ≡ 0 → IsStart m (record { places = places; rolls = map see rolls; log = log; proposals = proposals })
+-- the round that the code starts with
+pub starts : {R : Type 0} (m : Market) (places : List (Option ℕ)) (rolls : List R) (see : R → RollView) (log : List Rejection) (proposals : ℕ) → WellFormed m → WithinLimits m → length places ≡ length m.students → All (λ place. place ≡ None) places → length rolls ≡ length m.schools → AreEmpty m (map see rolls) (length m.schools) → log ≡ [] → proposals ≡ 0 → IsStart m (record { places = places; rolls = map see rolls; log = log; proposals = proposals })
 starts m places rolls see log proposals well within long nowhere as_many empty no_log none = record {
   well_formed = well;
   within_limits = within;

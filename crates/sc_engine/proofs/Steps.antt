@@ -1,4 +1,4 @@
--- The steps of a chain: what they do to the standings, and to any log that they continue.
+-- The steps of a chain: what they do to the round, and to any log that they continue.
 use Rattle.std.proofs.Common.{◌≡◌, inl, inr, refl, ap, sym, subst, ◌∙◌, ℕ, ◌+◌, ◌-◌, ◌<◌, ◌==◌, nat_eq, Bool, true, false, cond, not, ◌&&◌, List, [], ◌∷◌, ◌++◌, length, set, Option, Some, None, is_some, position, slice_get, append_assoc, arith, length-set}
 use Rattle.std.proofs.lemmas.Bool.{cases_eq, eq-eqb, and_right}
 use Rattle.std.proofs.lemmas.Option.{slice_get_within}
@@ -21,8 +21,8 @@ use Rattle.sc_papers.proofs.Standings.{next-moves}
 use Rattle.sc_papers.proofs.Students.{how_many-agree}
 use Rattle.sc_papers.proofs.Subsets.{well-restricted}
 use Rattle.sc_papers.proofs.Sums.{sum-bump}
-use Rattle.sc_seats.specs.Roll.{Held}
-use Rattle.sc_engine.specs.Standing.{Standings, place_of, next_of, has_entered, roll_of, roll_at, RollFits, FitsBut, only, CountsProposals, entered_papers, Midway, Continues, choices_left, left_at}
+use Rattle.sc_seats.specs.Roll.{RollView}
+use Rattle.sc_engine.specs.RoundView.{RoundView, place_of, next_of, has_entered, roll_of, roll_at, RollFits, FitsBut, only, CountsProposals, entered_papers, Midway, Continues, choices_left, left_at}
 use Rattle.sc_engine.proofs.Tables.{place-written, place-kept, next-by, next-kept, next-among, next-entered}
 use Rattle.sc_engine.proofs.Rolls.{roll-length, roll-fits_still, counts-offered}
 use Rattle.sc_engine.proofs.Proposals.{Proposed, roll-before, roll-after, roll-after_other, has-not, not-there, key-student, Out, put-out, counted-within, standing-split, standing-others}
@@ -36,7 +36,7 @@ abbrev pub entry_of : ℕ → ℕ → Rejection
 entry_of i s = record { student = i; school = s }
 
 -- a rejection as the code makes it: the student moves on by one place
-pub record Rejected (m : Market) (r r' : Standings) (i s at place : ℕ) : Type 0 where
+pub record Rejected (m : Market) (r r' : RoundView) (i s at place : ℕ) : Type 0 where
   pub student : position (nat_eq i) (students_of m) ≡ Some at
   pub low : at < length r.places
   pub stood : place_of m r.places i ≡ Some place
@@ -44,7 +44,7 @@ pub record Rejected (m : Market) (r r' : Standings) (i s at place : ℕ) : Type 
   pub places : r'.places ≡ set r.places at (Some (place + 1))
   pub log : r'.log ≡ r.log ++ entry_of i s ∷ []
 
-module _ {m : Market} {r r' : Standings} {i s at place : ℕ} (moved : Rejected m r r' i s at place) where
+module _ {m : Market} {r r' : RoundView} {i s at place : ℕ} (moved : Rejected m r r' i s at place) where
   pub place-moved : place_of m r'.places i ≡ Some (place + 1)
   place-moved = ap (λ ps. place_of m ps i) moved.places ∙ place-written m r.places i at (Some (place + 1)) moved.student moved.low
 
@@ -64,14 +64,14 @@ module _ {m : Market} {r r' : Standings} {i s at place : ℕ} (moved : Rejected 
   next-stood = next-by m r.places i place moved.stood ∙ moved.choice
 
 -- whoever stands at a school and is not the one put out, stands there after
-stands-after : {m : Market} {r r' : Standings} {i s at place : ℕ} → Rejected m r r' i s at place → (t j : ℕ) → (has (next_of m r'.places) t j && not (j == i)) ≡ (has (next_of m r.places) t j && not (j == i))
+stands-after : {m : Market} {r r' : RoundView} {i s at place : ℕ} → Rejected m r r' i s at place → (t j : ℕ) → (has (next_of m r'.places) t j && not (j == i)) ≡ (has (next_of m r.places) t j && not (j == i))
 stands-after {m} {r} {r'} {i} moved t j = elim (cases_eq j i) [
   | inl same ↦ and_right (has (next_of m r'.places) t j) (not (j == i)) (ap not (eq-eqb j i same)) ∙ sym (and_right (has (next_of m r.places) t j) (not (j == i)) (ap not (eq-eqb j i same)))
   | inr apart ↦ ap (λ b. b && not (j == i)) (has-agree (next_of m r'.places) (next_of m r.places) t j (next-stays moved j apart))
 ]
 
 -- the counts after a student is put out
-pub counted-put_out : (m : Market) (r r' : Standings) (proposer s i place_at place : ℕ) → WellFormed m → next_of m r.places proposer ≡ Some s → Rejected m r r' i s place_at place → r'.proposals ≡ r.proposals + 1 → CountsProposals m r (only proposer) r' (only i)
+pub counted-put_out : (m : Market) (r r' : RoundView) (proposer s i place_at place : ℕ) → WellFormed m → next_of m r.places proposer ≡ Some s → Rejected m r r' i s place_at place → r'.proposals ≡ r.proposals + 1 → CountsProposals m r (only proposer) r' (only i)
 counted-put_out m r r' proposer s i place_at place well stands moved one_more =
     omega (
       arith,
@@ -83,7 +83,7 @@ counted-put_out m r r' proposer s i place_at place well stands moved one_more =
     )
 
 -- the rolls after a student is put out
-pub fits-put_out : (m : Market) (r r' : Standings) (proposer s at : ℕ) (out : Key) (place_at place : ℕ) → Proposed m r proposer s at r'.rolls (Some out) → Rejected m r r' out.student s place_at place → CountsProposals m r (only proposer) r' (only out.student) → FitsBut m r' (only out.student)
+pub fits-put_out : (m : Market) (r r' : RoundView) (proposer s at : ℕ) (out : Key) (place_at place : ℕ) → Proposed m r proposer s at r'.rolls (Some out) → Rejected m r r' out.student s place_at place → CountsProposals m r (only proposer) r' (only out.student) → FitsBut m r' (only out.student)
 fits-put_out m r r' proposer s at out place_at place done moved counted = record {
   proposals = counted-within m r (only proposer) r' (only out.student) counted done.fits.proposals;
   well_formed = done.fits.well_formed;
@@ -113,10 +113,10 @@ fits-put_out m r r' proposer s at out place_at place done moved counted = record
     one_if : Bool → ℕ
     one_if b = cond b 1 0
 
-    old : Held
+    old : RollView
     old = roll_at r.rolls at
 
-    new : Held
+    new : RollView
     new = roll_at r'.rolls at
 
     hand-student : (key_of m proposer s).student ≡ proposer
@@ -140,7 +140,7 @@ fits-put_out m r r' proposer s at out place_at place done moved counted = record
     }
 
 -- how many others stand at the school, by the roll
-held-on_roll : (m : Market) (earlier : List Rejection) (r : Standings) (proposer s : ℕ) (roll : Held) → Midway m earlier r proposer → RollFits m (next_of m r.places) (only proposer) s roll → held_by_others (entered_papers m r.places) (earlier ++ r.log) proposer s ≡ length roll.keys
+held-on_roll : (m : Market) (earlier : List Rejection) (r : RoundView) (proposer s : ℕ) (roll : RollView) → Midway m earlier r proposer → RollFits m (next_of m r.places) (only proposer) s roll → held_by_others (entered_papers m r.places) (earlier ++ r.log) proposer s ≡ length roll.keys
 held-on_roll m earlier r proposer s roll midway fits =
     let n : Market = entered_papers m r.places in
     let log : List Rejection = earlier ++ r.log in
@@ -158,7 +158,7 @@ held-on_roll m earlier r proposer s roll midway fits =
     implied a true c so = ap (λ x. x && c) (so refl)
 
 -- the step of the mechanism that puts a student out
-puts-out : (m : Market) (earlier : List Rejection) (r : Standings) (proposer s at : ℕ) (rolls : List Held) (out : Key) → Proposed m r proposer s at rolls (Some out) → Midway m earlier r proposer → PutsOut (entered_papers m r.places) (earlier ++ r.log) proposer s out.student
+puts-out : (m : Market) (earlier : List Rejection) (r : RoundView) (proposer s at : ℕ) (rolls : List RollView) (out : Key) → Proposed m r proposer s at rolls (Some out) → Midway m earlier r proposer → PutsOut (entered_papers m r.places) (earlier ++ r.log) proposer s out.student
 puts-out m earlier r proposer s at rolls out done midway =
     let n : Market = entered_papers m r.places in
     let gone : Out m (next_of m r.places) proposer s out = put-out m r proposer s at rolls out done in
@@ -179,7 +179,7 @@ puts-out m earlier r proposer s at rolls out done midway =
     }
 
 -- after a student is put out, the chain goes on with it
-pub midway-put_out : (m : Market) (r r' : Standings) (proposer s at : ℕ) (out : Key) (place_at place : ℕ) → Proposed m r proposer s at r'.rolls (Some out) → Rejected m r r' out.student s place_at place → (earlier : List Rejection) → Midway m earlier r proposer → Midway m earlier r' out.student
+pub midway-put_out : (m : Market) (r r' : RoundView) (proposer s at : ℕ) (out : Key) (place_at place : ℕ) → Proposed m r proposer s at r'.rolls (Some out) → Rejected m r r' out.student s place_at place → (earlier : List Rejection) → Midway m earlier r proposer → Midway m earlier r' out.student
 midway-put_out m r r' proposer s at out place_at place done moved earlier midway =
     let i : ℕ = out.student in
     let n : Market = entered_papers m r.places in
@@ -201,7 +201,7 @@ midway-put_out m r r' proposer s at out place_at place done moved earlier midway
     }
 
 -- a chain that ends where the roll had room
-pub continues-held : (m : Market) (r r' : Standings) (proposer s at : ℕ) → Proposed m r proposer s at r'.rolls None → r'.places ≡ r.places → r'.log ≡ r.log → (earlier : List Rejection) → Midway m earlier r proposer → Continues m earlier r'
+pub continues-held : (m : Market) (r r' : RoundView) (proposer s at : ℕ) → Proposed m r proposer s at r'.rolls None → r'.places ≡ r.places → r'.log ≡ r.log → (earlier : List Rejection) → Midway m earlier r proposer → Continues m earlier r'
 continues-held m r r' proposer s at done same_places same_log earlier midway =
     let n : Market = entered_papers m r.places in
     let well : WellFormed n = well-restricted m (has_entered m r.places) done.fits.well_formed in
@@ -221,7 +221,7 @@ continues-held m r r' proposer s at done same_places same_log earlier midway =
     }
 
 -- a chain that ends where the student in hand has no choice left
-pub continues-ended : (m : Market) (r : Standings) (proposer : ℕ) → FitsBut m r (only proposer) → next_of m r.places proposer ≡ None → (earlier : List Rejection) → Midway m earlier r proposer → Continues m earlier r
+pub continues-ended : (m : Market) (r : RoundView) (proposer : ℕ) → FitsBut m r (only proposer) → next_of m r.places proposer ≡ None → (earlier : List Rejection) → Midway m earlier r proposer → Continues m earlier r
 continues-ended m r proposer fits none earlier midway =
     let n : Market = entered_papers m r.places in
     let well : WellFormed n = well-restricted m (has_entered m r.places) fits.well_formed in
@@ -231,7 +231,7 @@ continues-ended m r proposer fits none earlier midway =
     }
 
 -- the student put out has one choice less left
-pub left-put_out : (m : Market) (r r' : Standings) (i s at place : ℕ) → WellFormed m → Rejected m r r' i s at place → choices_left m r.places ≡ 1 + choices_left m r'.places
+pub left-put_out : (m : Market) (r r' : RoundView) (i s at place : ℕ) → WellFormed m → Rejected m r r' i s at place → choices_left m r.places ≡ 1 + choices_left m r'.places
 unfolding choices_left
 left-put_out m r r' i s at place well moved =
     sum-bump (λ j. left_at (choices_of m j) (place_of m r'.places j)) (λ j. left_at (choices_of m j) (place_of m r.places j)) (students_of m) i well.students_differ (next-among m r.places i s (next-stood moved))

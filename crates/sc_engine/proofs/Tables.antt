@@ -4,8 +4,8 @@ use Rattle.std.specs.Option.{option_map_or, option_and_then}
 use Rattle.std.proofs.lemmas.Option.{none-some}
 use Rattle.sc_papers.specs.Market.{Market, students_of, schools_of, choices_of}
 use Rattle.sc_papers.proofs.Positions.{position-among, position-at, position-one}
-use Rattle.sc_seats.specs.Roll.{Held}
-use Rattle.sc_engine.specs.Standing.{place_of, next_of, roll_of, roll_at, no_roll, has_entered}
+use Rattle.sc_seats.specs.Roll.{RollView}
+use Rattle.sc_engine.specs.RoundView.{place_of, next_of, roll_of, roll_at, no_roll, has_entered}
 
 -- what a mapped list has at a place
 pub get_or-mapped : {X Y : Type 0} (f : X → Y) (xs : List X) (k : ℕ) (x : X) (d : Y) → k < length xs → get_or (map f xs) k d ≡ f (get_or xs k x)
@@ -103,12 +103,12 @@ unfolding next_of
 next-kept m old new i same = ap (option_and_then (λ k. slice_get (choices_of m i) k)) same
 
 -- the roll of a school at a known position
-pub roll-at : (m : Market) (rolls : List Held) (s at : ℕ) → position (nat_eq s) (schools_of m) ≡ Some at → roll_of m rolls s ≡ roll_at rolls at
+pub roll-at : (m : Market) (rolls : List RollView) (s at : ℕ) → position (nat_eq s) (schools_of m) ≡ Some at → roll_of m rolls s ≡ roll_at rolls at
 unfolding roll_of
 roll-at m rolls s at found = ap (λ o. option_map_or (roll_at rolls) o no_roll) found
 
 -- the other schools keep theirs
-pub roll-kept : (m : Market) (old new : List Held) (s at : ℕ) → position (nat_eq s) (schools_of m) ≡ Some at → ((other : ℕ) → (other ≡ at → ⊥) → roll_at new other ≡ roll_at old other) → (t : ℕ) → (t ≡ s → ⊥) → roll_of m new t ≡ roll_of m old t
+pub roll-kept : (m : Market) (old new : List RollView) (s at : ℕ) → position (nat_eq s) (schools_of m) ≡ Some at → ((other : ℕ) → (other ≡ at → ⊥) → roll_at new other ≡ roll_at old other) → (t : ℕ) → (t ≡ s → ⊥) → roll_of m new t ≡ roll_of m old t
 unfolding roll_of
 roll-kept m old new s at found others t apart = go (position (nat_eq t) (schools_of m)) refl
   where

@@ -1,4 +1,4 @@
-pub mod Standing
+pub mod RoundView
 pub mod Rolls
 pub mod Round
 pub mod Counting

@@ -2,12 +2,12 @@
 use Rattle.std.specs.Prelude.{ℕ, Bool, List}
 use Rattle.sc_papers.specs.declared.key.Key.{Key}
 use Rattle.sc_engine.specs.Rolls.{rolls_of}
-use Rattle.sc_engine.specs.Standing.{Standings}
+use Rattle.sc_engine.specs.RoundView.{RoundView}
 use Rattle.sc_engine.specs.declared.round.Round.{Round}
 
--- the standings of a round
-abbrev pub standings_of : {R : Type 0} → (R → List Key) → (R → ℕ) → Round R → Standings
-standings_of keys seats r = record {
+-- a round as contracts see it
+abbrev pub view_of : {R : Type 0} → (R → List Key) → (R → ℕ) → Round R → RoundView
+view_of keys seats r = record {
   places = r.places.items;
   rolls = rolls_of keys seats r.rolls.items;
   log = r.log.items;

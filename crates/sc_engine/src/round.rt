@@ -5,7 +5,7 @@ ghost use Rattle.std.specs.Option.{option_map};
 ghost use Rattle.sc_papers.specs.Assignment.{assigned};
 ghost use Rattle.sc_papers.specs.Key.{key_of};
 ghost use Rattle.sc_papers.specs.Market.{choices_of, is_school, is_student, schools_of, seats_of, students_of, student_at};
-ghost use Rattle.sc_engine.specs.Standing.{OffersAt, roll_at, next_of, Fits, FitsBut, only, Proposes, ChainEnds, Enters, Continues, has_entered, AreEmpty};
+ghost use Rattle.sc_engine.specs.RoundView.{OffersAt, roll_at, next_of, Fits, FitsBut, only, Proposes, ChainEnds, Enters, Continues, has_entered, AreEmpty};
 ghost use Rattle.sc_engine.specs.Rolls.{rolls_of};
 
 mod resume;
@@ -175,14 +175,14 @@ fn move_on(places: &mut Vec<Option<usize>>, at: usize)
 }
 
 impl<R: Roll> Round<R> {
-    ghost use Rattle.sc_engine.specs.Round.{standings_of, is_spent};
+    ghost use Rattle.sc_engine.specs.Round.{view_of, is_spent};
 
     /// Offers a seat of the school at the position to the key, which is one proposal.
     fn offer(&mut self, at: usize, key: Key) -> Result<Option<Key>, AllocError>
         requires within { at < length self.old.rolls.items }
         requires count_fits { self.old.proposals + 1 < 2 ^ 64 }
-        requires new { ¬ Contains (roll_at (standings_of R.keys R.seats self.old).rolls at).keys key }
-        ensures offered { IfOk result (λ out. OffersAt (standings_of R.keys R.seats self.old).rolls (standings_of R.keys R.seats self.new).rolls at key out) }
+        requires new { ¬ Contains (roll_at (view_of R.keys R.seats self.old).rolls at).keys key }
+        ensures offered { IfOk result (λ out. OffersAt (view_of R.keys R.seats self.old).rolls (view_of R.keys R.seats self.new).rolls at key out) }
         ensures places { self.new.places.items ≡ self.old.places.items }
         ensures log { self.new.log.items ≡ self.old.log.items }
         ensures proposals { OnOk result (self.new.proposals ≡ self.old.proposals + 1) }
@@ -209,9 +209,9 @@ impl<R: Roll> Round<R> {
     /// of whoever is put out, if anybody.
     fn propose(&mut self, papers: &Papers, proposer: usize) -> Result<Option<usize>, AllocError>
         requires within { proposer < length papers.now.students }
-        requires fits { FitsBut papers.now (standings_of R.keys R.seats self.old) (only (student_at papers.now proposer)) }
+        requires fits { FitsBut papers.now (view_of R.keys R.seats self.old) (only (student_at papers.now proposer)) }
         ensures within { IfOk result (λ out. IfSome out (λ next. next < length papers.now.students)) }
-        ensures proposes { IfOk result (λ out. Proposes papers.now (standings_of R.keys R.seats self.old) (standings_of R.keys R.seats self.new) (student_at papers.now proposer) (option_map (student_at papers.now) out)) }
+        ensures proposes { IfOk result (λ out. Proposes papers.now (view_of R.keys R.seats self.old) (view_of R.keys R.seats self.new) (student_at papers.now proposer) (option_map (student_at papers.now) out)) }
     {
         let Some(school) = choice_at(self.places.as_slice(), papers, proposer) else {
             return Ok(None);
@@ -230,8 +230,8 @@ impl<R: Roll> Round<R> {
     /// nobody is put out or the one put out has no choice left.
     fn chain(&mut self, papers: &Papers, first: usize) -> Result<(), AllocError>
         requires within { first < length papers.now.students }
-        requires fits { FitsBut papers.now (standings_of R.keys R.seats self.old) (only (student_at papers.now first)) }
-        ensures { OnOk result (ChainEnds papers.now (standings_of R.keys R.seats self.old) (standings_of R.keys R.seats self.new) (student_at papers.now first)) }
+        requires fits { FitsBut papers.now (view_of R.keys R.seats self.old) (only (student_at papers.now first)) }
+        ensures { OnOk result (ChainEnds papers.now (view_of R.keys R.seats self.old) (view_of R.keys R.seats self.new) (student_at papers.now first)) }
     {
         let mut proposer = first;
         while let Some(out) = self.propose(papers, proposer)? {
@@ -242,10 +242,10 @@ impl<R: Roll> Round<R> {
 
     /// The student goes to its first choice, and its chain follows.
     fn enter(&mut self, papers: &Papers, student: StudentNo) -> Result<(), AllocError>
-        requires fits { Fits papers.now (standings_of R.keys R.seats self.old) }
+        requires fits { Fits papers.now (view_of R.keys R.seats self.old) }
         requires student { is_student papers.now student ≡ true }
         requires absent { has_entered papers.now self.old.places.items student ≡ false }
-        ensures { OnOk result (Enters papers.now (standings_of R.keys R.seats self.old) (standings_of R.keys R.seats self.new) student) }
+        ensures { OnOk result (Enters papers.now (view_of R.keys R.seats self.old) (view_of R.keys R.seats self.new) student) }
     {
         let at = position_of(papers, student);
         make_room(&mut self.places, at)?;
@@ -257,11 +257,11 @@ impl<R: Roll> Round<R> {
     /// A round in which nobody has entered, or the error of a refused growth. It takes memory for each
     /// student and each school; the rolls take theirs by the offers.
     pub fn start(alloc: Global, papers: &Papers) -> Result<Self, AllocError>
-        ensures fits { IfOk result (λ round. Fits papers.now (standings_of R.keys R.seats round)) }
-        ensures nobody { IfOk result (λ round. (i : ℕ) → has_entered papers.now (standings_of R.keys R.seats round).places i ≡ false) }
-        ensures settled { IfOk result (λ round. Continues papers.now [] (standings_of R.keys R.seats round)) }
-        ensures log { IfOk result (λ round. (standings_of R.keys R.seats round).log ≡ []) }
-        ensures proposals { IfOk result (λ round. (standings_of R.keys R.seats round).proposals ≡ 0) }
+        ensures fits { IfOk result (λ round. Fits papers.now (view_of R.keys R.seats round)) }
+        ensures nobody { IfOk result (λ round. (i : ℕ) → has_entered papers.now (view_of R.keys R.seats round).places i ≡ false) }
+        ensures settled { IfOk result (λ round. Continues papers.now [] (view_of R.keys R.seats round)) }
+        ensures log { IfOk result (λ round. (view_of R.keys R.seats round).log ≡ []) }
+        ensures proposals { IfOk result (λ round. (view_of R.keys R.seats round).proposals ≡ 0) }
         ensures ready { IfOk result (λ round. is_spent round ≡ false) }
     {
         let students = papers.students_len();
@@ -286,10 +286,10 @@ impl<R: Roll> Round<R> {
     pub fn enter_one(&mut self, papers: &Papers, student: StudentNo) -> Result<(), AllocError>
         // Of a round that is not spent: it fits the papers, and the student is in them and has not
         // entered.
-        requires fits { is_spent self.old ≡ false → Fits papers.now (standings_of R.keys R.seats self.old) }
+        requires fits { is_spent self.old ≡ false → Fits papers.now (view_of R.keys R.seats self.old) }
         requires student { is_spent self.old ≡ false → is_student papers.now student ≡ true }
-        requires absent { is_spent self.old ≡ false → has_entered papers.now (standings_of R.keys R.seats self.old).places student ≡ false }
-        ensures enters { OnOk result (Enters papers.now (standings_of R.keys R.seats self.old) (standings_of R.keys R.seats self.new) student) }
+        requires absent { is_spent self.old ≡ false → has_entered papers.now (view_of R.keys R.seats self.old).places student ≡ false }
+        ensures enters { OnOk result (Enters papers.now (view_of R.keys R.seats self.old) (view_of R.keys R.seats self.new) student) }
         ensures was_ready { OnOk result (is_spent self.old ≡ false) }
         ensures ready { OnOk result (is_spent self.new ≡ false) }
         ensures spent { OnErr result (is_spent self.new ≡ true) }
@@ -305,8 +305,8 @@ impl<R: Roll> Round<R> {
     /// The first of the student's choices that has not rejected it, or `None` where there is none or
     /// the student has not entered. In constant time. Of a spent round nothing is said.
     pub fn next_choice(&self, papers: &Papers, student: StudentNo) -> Option<SchoolNo>
-        requires { is_spent self.now ≡ false → Fits papers.now (standings_of R.keys R.seats self.now) }
-        ensures { is_spent self.now ≡ false → result ≡ next_of papers.now (standings_of R.keys R.seats self.now).places student }
+        requires { is_spent self.now ≡ false → Fits papers.now (view_of R.keys R.seats self.now) }
+        ensures { is_spent self.now ≡ false → result ≡ next_of papers.now (view_of R.keys R.seats self.now).places student }
     {
         if self.spent {
             return None;
@@ -316,14 +316,14 @@ impl<R: Roll> Round<R> {
 
     /// The rejections, in the order in which they happened.
     pub fn log(&self) -> &[Rejection]
-        ensures { result.now ≡ (standings_of R.keys R.seats self.now).log }
+        ensures { result.now ≡ (view_of R.keys R.seats self.now).log }
     {
         self.log.as_slice()
     }
 
     /// How many proposals were made.
     pub fn proposals(&self) -> u64
-        ensures { result ≡ (standings_of R.keys R.seats self.now).proposals }
+        ensures { result ≡ (view_of R.keys R.seats self.now).proposals }
     {
         self.proposals
     }
@@ -338,11 +338,11 @@ impl<R: Roll> Round<R> {
     /// The log and the count of proposals of the round, and the choices at which its students stand. A
     /// spent round answers the error. On an error the round is given up.
     pub fn into_settled(self, papers: &Papers) -> Result<Settled, AllocError>
-        requires { is_spent self ≡ false → Fits papers.now (standings_of R.keys R.seats self) }
+        requires { is_spent self ≡ false → Fits papers.now (view_of R.keys R.seats self) }
         ensures was_ready { OnOk result (is_spent self ≡ false) }
-        ensures log { IfOk result (λ settled. settled.log.items ≡ (standings_of R.keys R.seats self).log) }
-        ensures given { IfOk result (λ settled. (i : ℕ) → assigned settled.assignment i ≡ next_of papers.now (standings_of R.keys R.seats self).places i) }
-        ensures proposals { IfOk result (λ settled. settled.proposals ≡ (standings_of R.keys R.seats self).proposals) }
+        ensures log { IfOk result (λ settled. settled.log.items ≡ (view_of R.keys R.seats self).log) }
+        ensures given { IfOk result (λ settled. (i : ℕ) → assigned settled.assignment i ≡ next_of papers.now (view_of R.keys R.seats self).places i) }
+        ensures proposals { IfOk result (λ settled. settled.proposals ≡ (view_of R.keys R.seats self).proposals) }
     {
         if self.spent {
             return Err(AllocError);

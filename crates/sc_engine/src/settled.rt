@@ -7,8 +7,8 @@ ghost use Rattle.sc_papers.specs.Log.{next_choice, IsSettled};
 ghost use Rattle.sc_papers.specs.Market.{students_of};
 ghost use Rattle.sc_papers.specs.Matching.{IsStudentOptimal};
 ghost use Rattle.sc_papers.specs.Progress.{placed};
-ghost use Rattle.sc_engine.specs.Round.{standings_of, is_spent};
-ghost use Rattle.sc_engine.specs.Standing.{Fits, next_of, SettlesFirst};
+ghost use Rattle.sc_engine.specs.Round.{view_of, is_spent};
+ghost use Rattle.sc_engine.specs.RoundView.{Fits, next_of, SettlesFirst};
 
 use crate::round::Round;
 use sc_papers::{Assignment, Papers, Rejection};
@@ -56,9 +56,9 @@ pub(crate) fn settle_over<R: Roll>(alloc: Global, papers: &Papers) -> Result<Set
 
 /// Enters all students in order of entry into a round in which nobody has entered.
 fn enter_all<R: Roll>(round: &mut Round<R>, papers: &Papers) -> Result<(), AllocError>
-    requires first { SettlesFirst papers.now (standings_of R.keys R.seats round.old) 0 }
+    requires first { SettlesFirst papers.now (view_of R.keys R.seats round.old) 0 }
     requires ready { is_spent round.old ≡ false }
-    ensures all { OnOk result (SettlesFirst papers.now (standings_of R.keys R.seats round.new) (length papers.now.students)) }
+    ensures all { OnOk result (SettlesFirst papers.now (view_of R.keys R.seats round.new) (length papers.now.students)) }
     ensures ready { OnOk result (is_spent round.new ≡ false) }
 {
     for position in 0..papers.students_len() {

@@ -17,9 +17,9 @@ use Rattle.sc_papers.proofs.Cutting.{cut-all, cut-restricted, joined-push, segme
 use Rattle.sc_papers.proofs.Students.{how_many-agree}
 use Rattle.sc_papers.proofs.Subsets.{well-cut}
 use Rattle.sc_checkpoint.specs.Chains.{logs_in, students_in, with_chain, Chain}
-use Rattle.sc_checkpoint.specs.Standings.{standings_after, stands, StandAfter}
-use Rattle.sc_checkpoint.specs.declared.standing.Standing.{Standing}
-use Rattle.sc_engine.specs.Standing.{Standings, entered_papers, has_entered, next_of, nobody, standing_but, Continues, Enters, Fits}
+use Rattle.sc_checkpoint.specs.NextChoices.{next_choices_after, stands, AreNextChoices}
+use Rattle.sc_checkpoint.specs.declared.next_choice.NextChoice.{NextChoice}
+use Rattle.sc_engine.specs.RoundView.{RoundView, entered_papers, has_entered, next_of, nobody, standing_but, Continues, Enters, Fits}
 use Rattle.sc_papers.proofs.Positions.{among-student}
 use Rattle.sc_engine.proofs.Proposals.{stays}
 use Rattle.sc_engine.proofs.Settling.{first-more}
@@ -36,25 +36,25 @@ entered-cut m places k well entered =
     ap (restricted m) (λ t i. (entered i ∙ any-turned (take k (students_of m)) i) t) ∙ sym (cut-restricted m k well)
 
 -- who stands after a log
-stands-among : (m : Market) (log : List Rejection) (students : List ℕ) (i : ℕ) → stands (standings_after m log students) i ≡ list_any (λ j. j == i) students
+stands-among : (m : Market) (log : List Rejection) (students : List ℕ) (i : ℕ) → stands (next_choices_after m log students) i ≡ list_any (λ j. j == i) students
 stands-among m log [] i = refl
 stands-among m log (x ∷ xs) i = ap (λ b. (x == i) || b) (stands-among m log xs i)
 
-students-standing : (m : Market) (log : List Rejection) (students : List ℕ) → map (λ (s : Standing). s.student) (standings_after m log students) ≡ students
-students-standing m log [] = refl
-students-standing m log (x ∷ xs) = ap (λ ys. x ∷ ys) (students-standing m log xs)
+students-next : (m : Market) (log : List Rejection) (students : List ℕ) → map (λ (s : NextChoice). s.student) (next_choices_after m log students) ≡ students
+students-next m log [] = refl
+students-next m log (x ∷ xs) = ap (λ ys. x ∷ ys) (students-next m log xs)
 
 -- the first k students stand at their next choices after a log that settles their papers
-pub stand-after : (m : Market) (k : ℕ) (log : List Rejection) → WellFormed m → IsSettled (cut m k) log → StandAfter m log (standings_after m log (take k (students_of m)))
+pub stand-after : (m : Market) (k : ℕ) (log : List Rejection) → WellFormed m → IsSettled (cut m k) log → AreNextChoices m log (next_choices_after m log (take k (students_of m)))
 unfolding cut
 stand-after m k log well settled = record {
-  known = All-map (λ (s : Standing). is_student m s.student ≡ true) stand (take k (students_of m)) (All-take (λ i. is_student m i ≡ true) k (students_of m) (All-weaker (Contains (students_of m)) (λ i. is_student m i ≡ true) (among-student m) (students_of m) (All-contains_itself (students_of m))));
-  different = subst (IsDistinct nat_eq) (sym (students-standing m log (take k (students_of m)))) first_differ;
-  next = All-map (λ (s : Standing). s.next ≡ next_choice m log s.student) stand (take k (students_of m)) (all-refl (take k (students_of m)));
+  known = All-map (λ (s : NextChoice). is_student m s.student ≡ true) stand (take k (students_of m)) (All-take (λ i. is_student m i ≡ true) k (students_of m) (All-weaker (Contains (students_of m)) (λ i. is_student m i ≡ true) (among-student m) (students_of m) (All-contains_itself (students_of m))));
+  different = subst (IsDistinct nat_eq) (sym (students-next m log (take k (students_of m)))) first_differ;
+  next = All-map (λ (s : NextChoice). s.next ≡ next_choice m log s.student) stand (take k (students_of m)) (all-refl (take k (students_of m)));
   settled = subst (λ n. IsSettled n log) (cut-restricted m k well ∙ ap (restricted m) (λ t i. (sym (stands-among m log (take k (students_of m)) i)) t)) settled;
 }
   where
-    stand : ℕ → Standing
+    stand : ℕ → NextChoice
     stand i = record { student = i; next = next_choice m log i }
 
     all-refl : (xs : List ℕ) → All (λ i. next_choice m log i ≡ next_choice m log i) xs
@@ -64,9 +64,9 @@ stand-after m k log well settled = record {
     first_differ = subst (IsDistinct nat_eq) (sym (take-map (λ (e : ℕ × Student). e.0) k m.students)) (well-cut m k well).students_differ
 
 -- it begins: the first k students stand where they stood, and nothing is in the round's log
-pub goes-on-begins : (m : Market) (r : Standings) (students : List ℕ) (kept : List (List Rejection)) (k : ℕ)
+pub goes-on-begins : (m : Market) (r : RoundView) (students : List ℕ) (kept : List (List Rejection)) (k : ℕ)
     → length kept ≡ k → students ≡ take k (students_of m) → IsSegmented (cut m k) kept → Fits m r
-    → ((i : ℕ) → has_entered m r.places i ≡ stands (standings_after m (joined kept) (take k (students_of m))) i)
+    → ((i : ℕ) → has_entered m r.places i ≡ stands (next_choices_after m (joined kept) (take k (students_of m))) i)
     → Continues m (joined kept) r → r.log ≡ [] → r.proposals ≡ 0
     → GoesOn m kept r students kept k
 unfolding standing_but
@@ -92,7 +92,7 @@ goes-on-begins m r students kept k count theirs segmented fits entered continues
     }
 
 -- one more student enters
-pub goes-on-more : (m : Market) (kept : List (List Rejection)) (chain : List Rejection) (r r' : Standings) (students : List ℕ) (segments : List (List Rejection)) (k i : ℕ)
+pub goes-on-more : (m : Market) (kept : List (List Rejection)) (chain : List Rejection) (r r' : RoundView) (students : List ℕ) (segments : List (List Rejection)) (k i : ℕ)
     → slice_get (students_of m) k ≡ Some i → GoesOn m kept r students segments k → Enters m r r' i → r'.log ≡ r.log ++ chain
     → GoesOn m kept r' (students ++ i ∷ []) (segments ++ chain ∷ []) (k + 1)
 goes-on-more m kept chain r r' students segments k i here on enters more =
@@ -122,19 +122,19 @@ length-students m = length-map m.students (λ (e : ℕ × Student). e.0)
 whole-cut : (m : Market) → cut m (length m.students) ≡ m
 whole-cut m = cut-all m (length m.students) (omega (arith, length-students m))
 
-pub segments-all : (m : Market) (kept : List (List Rejection)) (r : Standings) (students : List ℕ) (segments : List (List Rejection)) → GoesOn m kept r students segments (length m.students) → IsSegmented m segments
+pub segments-all : (m : Market) (kept : List (List Rejection)) (r : RoundView) (students : List ℕ) (segments : List (List Rejection)) → GoesOn m kept r students segments (length m.students) → IsSegmented m segments
 segments-all m kept r students segments on = subst (λ n. IsSegmented n segments) (whole-cut m) on.segmented
 
-pub students-all : (m : Market) (kept : List (List Rejection)) (r : Standings) (students : List ℕ) (segments : List (List Rejection)) → GoesOn m kept r students segments (length m.students) → students ≡ students_of m
+pub students-all : (m : Market) (kept : List (List Rejection)) (r : RoundView) (students : List ℕ) (segments : List (List Rejection)) → GoesOn m kept r students segments (length m.students) → students ≡ students_of m
 students-all m kept r students segments on = on.theirs ∙ take_all (length m.students) (students_of m) (omega (arith, length-students m))
 
-pub next-all : (m : Market) (kept : List (List Rejection)) (r : Standings) (students : List ℕ) (segments : List (List Rejection)) → GoesOn m kept r students segments (length m.students) → (i : ℕ) → next_of m r.places i ≡ next_choice m (joined segments) i
+pub next-all : (m : Market) (kept : List (List Rejection)) (r : RoundView) (students : List ℕ) (segments : List (List Rejection)) → GoesOn m kept r students segments (length m.students) → (i : ℕ) → next_of m r.places i ≡ next_choice m (joined segments) i
 next-all m kept r students segments on i =
     sym (on.continues.next i)
     ∙ ap (λ n. next_choice n (joined kept ++ r.log) i) (entered-cut m r.places (length m.students) on.fits.well_formed on.entered ∙ whole-cut m)
     ∙ ap (λ l. next_choice m l i) (sym on.log)
 
-pub proposals-all : (m : Market) (kept : List (List Rejection)) (r : Standings) (students : List ℕ) (segments : List (List Rejection)) (given : Matching)
+pub proposals-all : (m : Market) (kept : List (List Rejection)) (r : RoundView) (students : List ℕ) (segments : List (List Rejection)) (given : Matching)
     → GoesOn m kept r students segments (length m.students) → ((i : ℕ) → given i ≡ next_of m r.places i)
     → r.proposals + proposals_of_first m (length kept) (joined kept) ≡ length (joined segments) + placed m given
 unfolding standing_but
@@ -144,14 +144,14 @@ proposals-all m kept r students segments given on is =
     omega (arith, on.counted, same, ap (λ (l : List Rejection). length l) on.log, length-append (joined kept) r.log)
 
 -- the segments that are kept
-pub stand-segments : (m : Market) (k : ℕ) (kept : List (List Rejection)) (standings : List Standing) → WellFormed m → length kept ≡ k → IsSegmented (cut m k) kept
-    → standings ≡ standings_after m (joined (take k kept)) (take k (students_of m)) → StandAfter m (joined kept) standings
-stand-segments m k kept standings well count segmented is =
-    subst (StandAfter m (joined kept)) (ap (λ l. standings_after m (joined l) (take k (students_of m))) (sym (take_all k kept (omega (arith, count)))) ∙ sym is)
+pub stand-segments : (m : Market) (k : ℕ) (kept : List (List Rejection)) (next_choices : List NextChoice) → WellFormed m → length kept ≡ k → IsSegmented (cut m k) kept
+    → next_choices ≡ next_choices_after m (joined (take k kept)) (take k (students_of m)) → AreNextChoices m (joined kept) next_choices
+stand-segments m k kept next_choices well count segmented is =
+    subst (AreNextChoices m (joined kept)) (ap (λ l. next_choices_after m (joined l) (take k (students_of m))) (sym (take_all k kept (omega (arith, count)))) ∙ sym is)
     (stand-after m k (joined kept) well (segments-settled (cut m k) kept segmented))
 
 -- a student enters, and its chain is put at the end
-pub goes-on-next : (m : Market) (kept : List (List Rejection)) (r r' : Standings) (chains new : List Chain) (k i : ℕ)
+pub goes-on-next : (m : Market) (kept : List (List Rejection)) (r r' : RoundView) (chains new : List Chain) (k i : ℕ)
     → slice_get (students_of m) k ≡ Some i → GoesOn m kept r (students_in chains) (logs_in chains) k → Enters m r r' i
     → (chain : List Rejection) × (r'.log ≡ r.log ++ chain) × (new ≡ with_chain chains i chain)
     → GoesOn m kept r' (students_in new) (logs_in new) (k + 1)
@@ -162,7 +162,7 @@ goes-on-next m kept r r' chains new k i here on enters (chain, more, pushed) =
     (goes-on-more m kept chain r r' (students_in chains) (logs_in chains) k i here on enters more)))
 
 -- past the last student
-pub goes-on-past : (m : Market) (kept : List (List Rejection)) (r : Standings) (students : List ℕ) (segments : List (List Rejection)) (k : ℕ)
+pub goes-on-past : (m : Market) (kept : List (List Rejection)) (r : RoundView) (students : List ℕ) (segments : List (List Rejection)) (k : ℕ)
     → length m.students ≤ k → GoesOn m kept r students segments k → GoesOn m kept r students segments (length m.students)
 goes-on-past m kept r students segments k past on =
     let same : take k (students_of m) ≡ take (length m.students) (students_of m) =

@@ -6,7 +6,7 @@ use Rattle.sc_papers.specs.Market.{Market, students_of}
 use Rattle.sc_papers.specs.Progress.{placed}
 use Rattle.sc_papers.specs.Restriction.{cut, joined, IsSegmented}
 use Rattle.sc_papers.specs.declared.rejection.Rejection.{Rejection}
-use Rattle.sc_engine.specs.Standing.{Standings, has_entered, nobody, standing_but, Continues, Fits}
+use Rattle.sc_engine.specs.RoundView.{RoundView, has_entered, nobody, standing_but, Continues, Fits}
 
 -- how many of the first k students a log places
 abbrev pub placed_first : Market → ℕ → List Rejection → ℕ
@@ -19,7 +19,7 @@ proposals_of_first m k log = length log + placed_first m k log
 -- in the course of a settling that keeps some segments: the first k students, in order of entry, and they
 -- alone have entered, the segments are theirs, and every proposal ended in an entry of the round's log
 -- or in a place, beside those places that there were
-pub record GoesOn (m : Market) (kept : List (List Rejection)) (r : Standings) (students : List ℕ) (segments : List (List Rejection)) (k : ℕ) : Type 0 where
+pub record GoesOn (m : Market) (kept : List (List Rejection)) (r : RoundView) (students : List ℕ) (segments : List (List Rejection)) (k : ℕ) : Type 0 where
   pub fits : Fits m r
   pub entered : (i : ℕ) → has_entered m r.places i ≡ list_any (nat_eq i) (take k (students_of m))
   pub continues : Continues m (joined kept) r

@@ -9,8 +9,8 @@ ghost use Rattle.sc_papers.specs.Restriction.{cut, joined, IsSegmented};
 ghost use Rattle.sc_papers.specs.WellFormed.{WellFormed};
 ghost use Rattle.sc_papers.specs.declared.rejection.Rejection.{Rejection};
 ghost use Rattle.sc_checkpoint.specs.Chains.{logs_in, students_in, with_chain};
-ghost use Rattle.sc_engine.specs.Round.{is_spent, standings_of};
-ghost use Rattle.sc_engine.specs.Standing.{has_entered, Enters, Fits};
+ghost use Rattle.sc_engine.specs.Round.{is_spent, view_of};
+ghost use Rattle.sc_engine.specs.RoundView.{has_entered, Enters, Fits};
 ghost use Rattle.sc_repair.specs.Resumption.{proposals_of_first, GoesOn};
 
 use sc_checkpoint::Segments;
@@ -26,12 +26,12 @@ fn enter_next<R: Roll>(
     segments: &mut Segments,
     student: StudentNo,
 ) -> Result<(), AllocError>
-    requires fits { Fits papers.now (standings_of R.keys R.seats round.old) }
+    requires fits { Fits papers.now (view_of R.keys R.seats round.old) }
     requires student { is_student papers.now student ≡ true }
-    requires absent { has_entered papers.now (standings_of R.keys R.seats round.old).places student ≡ false }
+    requires absent { has_entered papers.now (view_of R.keys R.seats round.old).places student ≡ false }
     requires ready { is_spent round.old ≡ false }
-    ensures enters { OnOk result (Enters papers.now (standings_of R.keys R.seats round.old) (standings_of R.keys R.seats round.new) student) }
-    ensures chain { OnOk result ((chain : List Rejection) × ((standings_of R.keys R.seats round.new).log ≡ (standings_of R.keys R.seats round.old).log ++ chain) × (segments.new ≡ with_chain segments.old student chain)) }
+    ensures enters { OnOk result (Enters papers.now (view_of R.keys R.seats round.old) (view_of R.keys R.seats round.new) student) }
+    ensures chain { OnOk result ((chain : List Rejection) × ((view_of R.keys R.seats round.new).log ≡ (view_of R.keys R.seats round.old).log ++ chain) × (segments.new ≡ with_chain segments.old student chain)) }
     ensures ready { OnOk result (is_spent round.new ≡ false) }
 {
     let before = round.log().len();
@@ -46,9 +46,9 @@ fn enter_rest<R: Roll>(
     papers: &Papers,
     segments: &mut Segments,
 ) -> Result<(), AllocError>
-    requires on { GoesOn papers.now (logs_in segments.old) (standings_of R.keys R.seats round.old) (students_in segments.old) (logs_in segments.old) (length segments.old) }
+    requires on { GoesOn papers.now (logs_in segments.old) (view_of R.keys R.seats round.old) (students_in segments.old) (logs_in segments.old) (length segments.old) }
     requires ready { is_spent round.old ≡ false }
-    ensures on { OnOk result (GoesOn papers.now (logs_in segments.old) (standings_of R.keys R.seats round.new) (students_in segments.new) (logs_in segments.new) (length papers.now.students)) }
+    ensures on { OnOk result (GoesOn papers.now (logs_in segments.old) (view_of R.keys R.seats round.new) (students_in segments.new) (logs_in segments.new) (length papers.now.students)) }
     ensures ready { OnOk result (is_spent round.new ≡ false) }
 {
     for position in segments.len()..papers.students_len() {
@@ -79,8 +79,8 @@ pub fn settle_on<R: Roll>(
     ensures matching { IfOk result (λ settled. (i : ℕ) → assigned settled.assignment i ≡ next_choice papers.now (joined (logs_in segments.new)) i) }
     ensures proposals { IfOk result (λ settled. settled.proposals + proposals_of_first papers.now (length segments.old) (joined (logs_in segments.old)) ≡ length (joined (logs_in segments.new)) + placed papers.now (assigned settled.assignment)) }
 {
-    let standings = segments.next_choices_at(papers, segments.len())?;
-    let mut round: Round<R> = Round::resume(alloc, papers, standings.as_slice())?;
+    let next_choices = segments.next_choices_at(papers, segments.len())?;
+    let mut round: Round<R> = Round::resume(alloc, papers, next_choices.as_slice())?;
     enter_rest(&mut round, papers, segments)?;
     let settled = round.into_settled(papers)?;
     Ok(settled)

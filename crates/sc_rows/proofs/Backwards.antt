@@ -9,11 +9,11 @@ use Rattle.std.proofs.lemmas.List.Folds.{list_any_none}
 use Rattle.std.proofs.lemmas.Map.Keys.{apart_from_distinct}
 use Rattle.sc_papers.specs.Market.{Market, students_of}
 use Rattle.sc_papers.specs.declared.records.Student.{Student}
-use Rattle.sc_engine.specs.Standing.{Standings, Fits, has_entered, Enters}
+use Rattle.sc_engine.specs.RoundView.{RoundView, Fits, has_entered, Enters}
 use Rattle.sc_engine.proofs.Tables.{length-mapped}
 
 -- the students from the k-th on have entered, and nobody else
-pub record EnteredFrom (m : Market) (r : Standings) (spent : Bool) (k : ℕ) : Type 0 where
+pub record EnteredFrom (m : Market) (r : RoundView) (spent : Bool) (k : ℕ) : Type 0 where
   pub ready : spent ≡ false
   pub low : k ≤ length (students_of m)
   pub fits : Fits m r
@@ -25,7 +25,7 @@ or-comm true false = refl
 or-comm false true = refl
 or-comm false false = refl
 
-pub entered-before : (m : Market) (old new : Standings) (spent spent' : Bool) (k i : ℕ) → slice_get (students_of m) k ≡ Some i → EnteredFrom m old spent (k + 1) → Enters m old new i → spent' ≡ false → EnteredFrom m new spent' k
+pub entered-before : (m : Market) (old new : RoundView) (spent spent' : Bool) (k i : ℕ) → slice_get (students_of m) k ≡ Some i → EnteredFrom m old spent (k + 1) → Enters m old new i → spent' ≡ false → EnteredFrom m new spent' k
 entered-before m old new spent spent' k i here before enters ready = record {
   ready = ready;
   low = omega (arith, before.low);
@@ -38,7 +38,7 @@ entered-before m old new spent spent' k i here before enters ready = record {
 }
 
 -- the one before them has not entered
-pub absent-before : (m : Market) (r : Standings) (spent : Bool) (k i : ℕ) → slice_get (students_of m) k ≡ Some i → EnteredFrom m r spent (k + 1) → has_entered m r.places i ≡ false
+pub absent-before : (m : Market) (r : RoundView) (spent : Bool) (k i : ℕ) → slice_get (students_of m) k ≡ Some i → EnteredFrom m r spent (k + 1) → has_entered m r.places i ≡ false
 absent-before m r spent k i here before =
     before.entered i
     ∙ list_any_none (nat_eq i) (drop (k + 1) (students_of m)) (λ j d low.
@@ -54,7 +54,7 @@ drop-length [] = refl
 drop-length (x ∷ xs) = drop-length xs
 
 -- nobody has entered yet
-pub entered-none : (m : Market) (r : Standings) (spent : Bool) → spent ≡ false → Fits m r → ((i : ℕ) → has_entered m r.places i ≡ false) → (k : ℕ) → k ≡ length m.students → EnteredFrom m r spent k
+pub entered-none : (m : Market) (r : RoundView) (spent : Bool) → spent ≡ false → Fits m r → ((i : ℕ) → has_entered m r.places i ≡ false) → (k : ℕ) → k ≡ length m.students → EnteredFrom m r spent k
 entered-none m r spent ready fits nowhere k all =
     let at_end : k ≡ length (students_of m) = all ∙ sym (length-mapped (λ (e : ℕ × Student). e.0) m.students) in
     record {

@@ -2,12 +2,12 @@
 ghost use Rattle.std.specs.Prelude.{◌≡◌, true, false, List, ◌∷◌, [], Some, IfOk, OnOk, length, slice_get, map};
 ghost use Rattle.sc_papers.specs.Market.{is_student, students_of};
 ghost use Rattle.sc_papers.specs.declared.rejection.Rejection.{Rejection};
-ghost use Rattle.sc_checkpoint.specs.Standings.{StandAfter};
-ghost use Rattle.sc_engine.specs.Round.{standings_of, is_spent};
-ghost use Rattle.sc_engine.specs.Standing.{Fits, has_entered, SettlesFirst};
+ghost use Rattle.sc_checkpoint.specs.NextChoices.{AreNextChoices};
+ghost use Rattle.sc_engine.specs.Round.{view_of, is_spent};
+ghost use Rattle.sc_engine.specs.RoundView.{Fits, has_entered, SettlesFirst};
 
 use crate::given::{papers_of, school, student};
-use sc_checkpoint::Standing;
+use sc_checkpoint::NextChoice;
 use sc_engine::{Round, Settled, settle};
 use sc_markets::{FIVE_STUDENTS, Files, MARKET_B_AND_NEWCOMER, TWO_STUDENTS, log_text};
 use sc_papers::{Papers, StudentNo};
@@ -62,21 +62,21 @@ fn first_two_stand<R: Roll>(
     papers: &Papers,
     one: StudentNo,
     two: StudentNo,
-) -> Result<[Standing; 2], AllocError>
+) -> Result<[NextChoice; 2], AllocError>
     requires one { slice_get (students_of papers.now) 0 ≡ Some one }
     requires two { slice_get (students_of papers.now) 1 ≡ Some two }
-    ensures after { IfOk result (λ standings. (earlier : List Rejection) × StandAfter papers.now earlier standings) }
-    ensures students { IfOk result (λ standings. map (λ standing. standing.student) standings ≡ one ∷ two ∷ []) }
+    ensures after { IfOk result (λ next_choices. (earlier : List Rejection) × AreNextChoices papers.now earlier next_choices) }
+    ensures students { IfOk result (λ next_choices. map (λ choice. choice.student) next_choices ≡ one ∷ two ∷ []) }
 {
     let mut round: Round<R> = Round::start(alloc, papers)?;
     round.enter_one(papers, one)?;
     round.enter_one(papers, two)?;
     Ok([
-        Standing {
+        NextChoice {
             student: one,
             next: round.next_choice(papers, one),
         },
-        Standing {
+        NextChoice {
             student: two,
             next: round.next_choice(papers, two),
         },
@@ -92,8 +92,8 @@ fn resume_with_the_third<R: Roll>(alloc: Global, papers: &Papers) -> Result<Sett
     ) else {
         return Err(AllocError);
     };
-    let standings = first_two_stand::<R>(alloc, papers, one, two)?;
-    let mut round: Round<R> = Round::resume(alloc, papers, &standings)?;
+    let next_choices = first_two_stand::<R>(alloc, papers, one, two)?;
+    let mut round: Round<R> = Round::resume(alloc, papers, &next_choices)?;
     round.enter_one(papers, three)?;
     round.into_settled(papers)
 }
@@ -124,10 +124,10 @@ fn settle_backwards<R: Roll>(alloc: Global, papers: &Papers) -> Result<Settled, 
 
 /// Enters all students in order into a round in which nobody has entered.
 fn enter_all<R: Roll>(round: &mut Round<R>, papers: &Papers) -> Result<(), AllocError>
-    requires first { SettlesFirst papers.now (standings_of R.keys R.seats round.old) 0 }
+    requires first { SettlesFirst papers.now (view_of R.keys R.seats round.old) 0 }
     requires ready { is_spent round.old ≡ false }
     ensures ready { OnOk result (is_spent round.new ≡ false) }
-    ensures all { OnOk result (SettlesFirst papers.now (standings_of R.keys R.seats round.new) (length papers.now.students)) }
+    ensures all { OnOk result (SettlesFirst papers.now (view_of R.keys R.seats round.new) (length papers.now.students)) }
 {
     for position in 0..papers.students_len() {
         let Some(student) = papers.student_at(position) else {
@@ -174,10 +174,10 @@ fn spend(
     mut round: Round<SortedRoll>,
     one: StudentNo,
 ) -> Result<(), AllocError>
-    requires fits { Fits papers.now (standings_of (⟦<SortedRoll as Roll>⟧.keys) (⟦<SortedRoll as Roll>⟧.seats) round) }
+    requires fits { Fits papers.now (view_of (⟦<SortedRoll as Roll>⟧.keys) (⟦<SortedRoll as Roll>⟧.seats) round) }
     requires ready { is_spent round ≡ false }
     requires student { is_student papers.now one ≡ true }
-    requires absent { has_entered papers.now (standings_of (⟦<SortedRoll as Roll>⟧.keys) (⟦<SortedRoll as Roll>⟧.seats) round).places one ≡ false }
+    requires absent { has_entered papers.now (view_of (⟦<SortedRoll as Roll>⟧.keys) (⟦<SortedRoll as Roll>⟧.seats) round).places one ≡ false }
 {
     if round.enter_one(papers, one).is_err() {
         assert!(rt; round.is_spent());

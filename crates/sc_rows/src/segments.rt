@@ -5,7 +5,7 @@ ghost use Rattle.sc_papers.specs.Market.{students_of};
 ghost use Rattle.sc_checkpoint.specs.Chains.{students_in};
 
 use crate::given::{school, student};
-use sc_checkpoint::{Segments, Standing};
+use sc_checkpoint::{NextChoice, Segments};
 use sc_papers::{Amendment, Papers, Rejection, SchoolList, Seats, Seed, Zone};
 use std::alloc::{AllocError, Global};
 use std::process::Abort;
@@ -116,11 +116,11 @@ fn checkpoints_are_copied(rt: HostRuntime) -> Result<(), Fail> {
 }
 
 /// The students stand at these schools, in order: 0 is none.
-fn expect_standings(rt: &impl Abort, standings: &[Standing], wanted: &[(u32, u32)]) {
-    assert_eq!(rt; standings.len(), wanted.len());
-    for (standing, (number, at)) in standings.iter().zip(wanted.iter()) {
-        assert_eq!(rt; standing.student, student(rt, *number));
-        assert_eq!(rt; standing.next.map_or(0, |next| next.get()), *at);
+fn expect_choices(rt: &impl Abort, next_choices: &[NextChoice], wanted: &[(u32, u32)]) {
+    assert_eq!(rt; next_choices.len(), wanted.len());
+    for (choice, (number, at)) in next_choices.iter().zip(wanted.iter()) {
+        assert_eq!(rt; choice.student, student(rt, *number));
+        assert_eq!(rt; choice.next.map_or(0, |next| next.get()), *at);
     }
 }
 
@@ -133,12 +133,12 @@ fn expect_next_choices(
     requires papers { students_of papers.now ≡ 1 ∷ 2 ∷ 3 ∷ [] }
     requires segments { students_in segments.now ≡ 1 ∷ 2 ∷ 3 ∷ [] }
 {
-    expect_standings(
+    expect_choices(
         rt,
         segments.next_choices_at(papers, 2)?.as_slice(),
         &[(1, 10), (2, 20)],
     );
-    expect_standings(
+    expect_choices(
         rt,
         segments.next_choices_at(papers, 3)?.as_slice(),
         &[(1, 20), (2, 0), (3, 10)],
@@ -164,7 +164,7 @@ fn expect_growths(rt: &impl Abort, papers: &Papers, segments: &mut Segments)
     assert!(rt;
         segments
             .next_choices_at(papers, 3)
-            .map_or(3, |standings| standings.len())
+            .map_or(3, |next_choices| next_choices.len())
             == 3
     );
     let pushed = segments.push(student(rt, 4), &last_chain(rt)).is_ok();

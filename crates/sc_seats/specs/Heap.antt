@@ -2,12 +2,12 @@
 use Rattle.std.specs.Prelude.{◌≤◌, length}
 use Rattle.std.specs.BinaryHeap.{heap_items, IsHeap}
 use Rattle.sc_papers.specs.Key.{key_cmp}
-use Rattle.sc_seats.specs.Roll.{Held, IsAscending, in_order}
+use Rattle.sc_seats.specs.Roll.{RollView, IsAscending, in_order}
 use Rattle.sc_seats.specs.declared.heap.HeapRoll.TheInside.{Inside}
 
 -- the keys in order, and the seats
-abbrev pub held_of : Inside → Held
-held_of r = record { keys = in_order (heap_items r.keys); seats = r.capacity }
+abbrev pub view_of : Inside → RollView
+view_of r = record { keys = in_order (heap_items r.keys); seats = r.capacity }
 
 -- what is true of the fields: a heap of keys that differ, no more than the seats
 pub record IsKept (r : Inside) : Type 0 where

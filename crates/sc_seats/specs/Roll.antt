@@ -10,12 +10,12 @@ IsAscending [] = ⊤
 IsAscending (key ∷ keys) = All (λ later. is_before key later ≡ true) keys × IsAscending keys
 
 -- what a contract sees of a roll: the keys held and the seats
-pub record Held : Type 0 where
+pub record RollView : Type 0 where
   pub keys : List Key
   pub seats : ℕ
 
 -- what is true of a roll: the keys ascend, and are no more than the seats
-pub record IsRoll (roll : Held) : Type 0 where
+pub record IsRoll (roll : RollView) : Type 0 where
   pub ascending : IsAscending roll.keys
   pub within : length roll.keys ≤ roll.seats
 

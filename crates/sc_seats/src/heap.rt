@@ -20,13 +20,13 @@ pub struct HeapRoll {
 }
 
 impl Model for HeapRoll {
-    ghost use Rattle.sc_seats.specs.Roll.{Held};
+    ghost use Rattle.sc_seats.specs.Roll.{RollView};
 
-    ghost Value = { Held };
+    ghost Value = { RollView };
 
-    ghost use Rattle.sc_seats.specs.Heap.{held_of, IsKept};
+    ghost use Rattle.sc_seats.specs.Heap.{view_of, IsKept};
 
-    ghost view = { held_of };
+    ghost view = { view_of };
 
     ghost invariant = { IsKept };
 }

@@ -16,9 +16,9 @@ pub struct SortedRoll {
 }
 
 impl Model for SortedRoll {
-    ghost use Rattle.sc_seats.specs.Roll.{Held, IsRoll};
+    ghost use Rattle.sc_seats.specs.Roll.{RollView, IsRoll};
 
-    ghost Value = { Held };
+    ghost Value = { RollView };
 
     ghost view = { λ r. record { keys = r.keys.items; seats = r.capacity } };
 

@@ -4,11 +4,11 @@ ghost use Rattle.std.specs.Prelude.{◌≡◌, ℕ, ◌<◌, true, false, List, 
 ghost use Rattle.sc_papers.specs.Market.{choices_of, is_student, seats_of};
 ghost use Rattle.sc_papers.specs.Matching.{held};
 ghost use Rattle.sc_papers.specs.declared.rejection.Rejection.{Rejection};
-ghost use Rattle.sc_checkpoint.specs.Standings.{stands, StandAfter};
-ghost use Rattle.sc_engine.specs.Standing.{Fits, Continues, StandsToo, has_entered, next_of};
+ghost use Rattle.sc_checkpoint.specs.NextChoices.{stands, AreNextChoices};
+ghost use Rattle.sc_engine.specs.RoundView.{Fits, Continues, StandsToo, has_entered, next_of};
 
 use super::{Round, make_room, offer_to, position_of};
-use sc_checkpoint::Standing;
+use sc_checkpoint::NextChoice;
 use sc_papers::{Papers, SchoolNo};
 use sc_seats::Roll;
 use std::alloc::{AllocError, Global};
@@ -28,23 +28,23 @@ fn place_in(choices: &[SchoolNo], school: Option<SchoolNo>) -> usize
 }
 
 impl<R: Roll> Round<R> {
-    ghost use Rattle.sc_engine.specs.Round.{standings_of, is_spent};
+    ghost use Rattle.sc_engine.specs.Round.{view_of, is_spent};
 
     /// Puts the student at its next choice, and on the roll of that school, which has room. That is no
     /// proposal: it was made before.
-    fn put(&mut self, papers: &Papers, standing: Standing) -> Result<(), AllocError>
-        requires fits { Fits papers.now (standings_of R.keys R.seats self.old) }
-        requires student { is_student papers.now standing.student ≡ true }
-        requires absent { has_entered papers.now self.old.places.items standing.student ≡ false }
-        requires listed { IfSome standing.next (λ s. Contains (choices_of papers.now standing.student) s) }
-        requires room { IfSome standing.next (λ s. held papers.now (next_of papers.now self.old.places.items) s < seats_of papers.now s) }
-        ensures stands { OnOk result (StandsToo papers.now (standings_of R.keys R.seats self.old) (standings_of R.keys R.seats self.new) standing.student standing.next) }
+    fn put(&mut self, papers: &Papers, choice: NextChoice) -> Result<(), AllocError>
+        requires fits { Fits papers.now (view_of R.keys R.seats self.old) }
+        requires student { is_student papers.now choice.student ≡ true }
+        requires absent { has_entered papers.now self.old.places.items choice.student ≡ false }
+        requires listed { IfSome choice.next (λ s. Contains (choices_of papers.now choice.student) s) }
+        requires room { IfSome choice.next (λ s. held papers.now (next_of papers.now self.old.places.items) s < seats_of papers.now s) }
+        ensures stands { OnOk result (StandsToo papers.now (view_of R.keys R.seats self.old) (view_of R.keys R.seats self.new) choice.student choice.next) }
         ensures spent { is_spent self.new ≡ is_spent self.old }
     {
-        let at = position_of(papers, standing.student);
+        let at = position_of(papers, choice.student);
         make_room(&mut self.places, at)?;
-        self.places[at] = Some(place_in(papers.choices_at(at), standing.next));
-        let Some(school) = standing.next else {
+        self.places[at] = Some(place_in(papers.choices_at(at), choice.next));
+        let Some(school) = choice.next else {
             return Ok(());
         };
         let (position, key) = papers.position_and_key(at, school);
@@ -55,30 +55,30 @@ impl<R: Roll> Round<R> {
         Ok(())
     }
 
-    /// A round in which the students of the standings have entered and stand at these next choices,
+    /// A round in which the students of these next choices have entered and stand at them,
     /// with an empty log and no proposals counted, or the error of a refused growth. After each earlier
     /// log that leaves them there the round goes on as if it had made that log itself.
     ///
     /// It takes memory for each student and each school of the papers and for the seats held. The cost
-    /// is two look-ups by number, a search among the student's choices and an offer for each standing.
+    /// is two look-ups by number, a search among the student's choices and an offer for each of them.
     pub fn resume(
         alloc: Global,
         papers: &Papers,
-        standings: &[Standing],
+        next_choices: &[NextChoice],
     ) -> Result<Self, AllocError>
         // Some earlier log is settled for the papers of these students alone, who are different
         // students of the papers, and leaves them these next choices.
-        requires { (earlier : List Rejection) × StandAfter papers.now earlier standings.now }
-        ensures fits { IfOk result (λ round. Fits papers.now (standings_of R.keys R.seats round)) }
-        ensures entered { IfOk result (λ round. (i : ℕ) → has_entered papers.now (standings_of R.keys R.seats round).places i ≡ stands standings.now i) }
-        ensures continues { IfOk result (λ round. (earlier : List Rejection) → StandAfter papers.now earlier standings.now → Continues papers.now earlier (standings_of R.keys R.seats round)) }
-        ensures log { IfOk result (λ round. (standings_of R.keys R.seats round).log ≡ []) }
-        ensures proposals { IfOk result (λ round. (standings_of R.keys R.seats round).proposals ≡ 0) }
+        requires { (earlier : List Rejection) × AreNextChoices papers.now earlier next_choices.now }
+        ensures fits { IfOk result (λ round. Fits papers.now (view_of R.keys R.seats round)) }
+        ensures entered { IfOk result (λ round. (i : ℕ) → has_entered papers.now (view_of R.keys R.seats round).places i ≡ stands next_choices.now i) }
+        ensures continues { IfOk result (λ round. (earlier : List Rejection) → AreNextChoices papers.now earlier next_choices.now → Continues papers.now earlier (view_of R.keys R.seats round)) }
+        ensures log { IfOk result (λ round. (view_of R.keys R.seats round).log ≡ []) }
+        ensures proposals { IfOk result (λ round. (view_of R.keys R.seats round).proposals ≡ 0) }
         ensures ready { IfOk result (λ round. is_spent round ≡ false) }
     {
         let mut round: Self = Round::start(alloc, papers)?;
-        for standing in standings {
-            round.put(papers, *standing)?;
+        for choice in next_choices {
+            round.put(papers, *choice)?;
         }
         Ok(round)
     }

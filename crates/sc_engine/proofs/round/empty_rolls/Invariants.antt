@@ -1,5 +1,5 @@
 use Rattle.std.proofs.Common.{◌≡◌, length}
-use Rattle.sc_engine.specs.Standing.{AreEmpty}
+use Rattle.sc_engine.specs.RoundView.{AreEmpty}
 use Rattle.sc_engine.specs.Rolls.{rolls_of}
 use Rattle.sc_engine.proofs.round.empty_rolls.Given as goal
 

@@ -4,8 +4,8 @@ use Rattle.sc_papers.specs.Assignment.{assigned}
 use Rattle.sc_papers.specs.Market.{students_of}
 use Rattle.sc_papers.specs.Restriction.{joined}
 use Rattle.sc_checkpoint.specs.Chains.{logs_in, students_in, Chain}
-use Rattle.sc_checkpoint.specs.Standings.{standings_after, stands}
-use Rattle.sc_engine.specs.Round.{standings_of}
+use Rattle.sc_checkpoint.specs.NextChoices.{next_choices_after, stands}
+use Rattle.sc_engine.specs.Round.{view_of}
 use Rattle.sc_repair.specs.Resumption.{proposals_of_first}
 use Rattle.sc_repair.proofs.Resumption.{goes-on-begins, next-all, proposals-all, segments-all, stand-segments}
 use Rattle.sc_repair.proofs.settling.settle_on.Goals as goal
@@ -14,7 +14,7 @@ pub resume-requires : goal.resume-requires
 resume-requires g c =
     let kept = logs_in c.args.segments.now in
     let count = length-map c.args.segments.now (λ (chain : Chain). chain.rejections) in
-    (joined kept, stand-segments c.args.papers.now (length c.args.segments.now) kept c.as_slice.result.now c.requires.well_formed count c.requires.segmented (c.as_slice.ensures.value ∙ c.in_ok-standings.ensures ∙ ap (λ n. standings_after c.args.papers.now (joined (take n kept)) (take n (students_of c.args.papers.now))) c.len.ensures))
+    (joined kept, stand-segments c.args.papers.now (length c.args.segments.now) kept c.as_slice.result.now c.requires.well_formed count c.requires.segmented (c.as_slice.ensures.value ∙ c.in_ok-next_choices.ensures ∙ ap (λ n. next_choices_after c.args.papers.now (joined (take n kept)) (take n (students_of c.args.papers.now))) c.len.ensures))
 
 pub enter_rest-requires-clause-on : goal.enter_rest-requires-clause-on
 enter_rest-requires-clause-on g c =
@@ -22,10 +22,10 @@ enter_rest-requires-clause-on g c =
     let chains = c.args.segments.now in
     let kept = logs_in chains in
     let count = length-map chains (λ (chain : Chain). chain.rejections) in
-    let standing = c.as_slice.ensures.value ∙ c.in_ok-standings.ensures ∙ ap (λ n. standings_after m (joined (take n kept)) (take n (students_of m))) c.len.ensures in
-    let whole : standings_after m (joined (take (length chains) kept)) (take (length chains) (students_of m)) ≡ standings_after m (joined kept) (take (length chains) (students_of m)) =
-    ap (λ l. standings_after m (joined l) (take (length chains) (students_of m))) (take_all (length chains) kept (omega (arith, count))) in
-    goes-on-begins m (standings_of g.R.Roll.keys g.R.Roll.seats c.in_ok-round.round) (students_in chains) kept (length chains) count c.requires.theirs c.requires.segmented
+    let standing = c.as_slice.ensures.value ∙ c.in_ok-next_choices.ensures ∙ ap (λ n. next_choices_after m (joined (take n kept)) (take n (students_of m))) c.len.ensures in
+    let whole : next_choices_after m (joined (take (length chains) kept)) (take (length chains) (students_of m)) ≡ next_choices_after m (joined kept) (take (length chains) (students_of m)) =
+    ap (λ l. next_choices_after m (joined l) (take (length chains) (students_of m))) (take_all (length chains) kept (omega (arith, count))) in
+    goes-on-begins m (view_of g.R.Roll.keys g.R.Roll.seats c.in_ok-round.round) (students_in chains) kept (length chains) count c.requires.theirs c.requires.segmented
     c.in_ok-round.ensures.fits (λ i. c.in_ok-round.ensures.entered i ∙ ap (λ ss. stands ss i) (standing ∙ whole))
     (c.in_ok-round.ensures.continues (joined kept) (stand-segments m (length chains) kept c.as_slice.result.now c.requires.well_formed count c.requires.segmented standing))
     c.in_ok-round.ensures.log c.in_ok-round.ensures.proposals
@@ -40,5 +40,5 @@ pub returns-clause-proposals : goal.returns-clause-proposals
 returns-clause-proposals g c =
     let count = length-map c.args.segments.now (λ (chain : Chain). chain.rejections) in
     ap (λ n. n + proposals_of_first c.args.papers.now (length c.args.segments.now) (joined (logs_in c.args.segments.now))) c.in_ok-settled.ensures.proposals
-    ∙ ap (λ k. (standings_of g.R.Roll.keys g.R.Roll.seats c.enter_rest.new.round).proposals + proposals_of_first c.args.papers.now k (joined (logs_in c.args.segments.now))) (sym count)
-    ∙ proposals-all c.args.papers.now _ (standings_of g.R.Roll.keys g.R.Roll.seats c.enter_rest.new.round) _ _ (assigned c.in_ok-settled.settled.assignment) c.in_ok-enter_rest.ensures.on c.in_ok-settled.ensures.given
+    ∙ ap (λ k. (view_of g.R.Roll.keys g.R.Roll.seats c.enter_rest.new.round).proposals + proposals_of_first c.args.papers.now k (joined (logs_in c.args.segments.now))) (sym count)
+    ∙ proposals-all c.args.papers.now _ (view_of g.R.Roll.keys g.R.Roll.seats c.enter_rest.new.round) _ _ (assigned c.in_ok-settled.settled.assignment) c.in_ok-enter_rest.ensures.on c.in_ok-settled.ensures.given

@@ -1,7 +1,7 @@
 use Rattle.std.proofs.Common.{◌≡◌, false}
-use Rattle.sc_engine.specs.Round.{standings_of, is_spent}
-use Rattle.sc_engine.specs.Standing.{SettlesFirst}
+use Rattle.sc_engine.specs.Round.{view_of, is_spent}
+use Rattle.sc_engine.specs.RoundView.{SettlesFirst}
 use Rattle.sc_rows.proofs.rounds.enter_all.Given as goal
 
 abbrev pub invariant-loop-position : goal.invariant-loop-position
-invariant-loop-position g l = SettlesFirst l.papers (standings_of g.R.Roll.keys g.R.Roll.seats l.round) l.position × (is_spent l.round ≡ false)
+invariant-loop-position g l = SettlesFirst l.papers (view_of g.R.Roll.keys g.R.Roll.seats l.round) l.position × (is_spent l.round ≡ false)

@@ -1,7 +1,7 @@
 use Rattle.std.proofs.Common.{◌∙◌}
 use Rattle.sc_papers.specs.Market.{students_of}
-use Rattle.sc_engine.specs.Round.{standings_of}
-use Rattle.sc_engine.specs.Standing.{SettlesFirst}
+use Rattle.sc_engine.specs.Round.{view_of}
+use Rattle.sc_engine.specs.RoundView.{SettlesFirst}
 use Rattle.sc_rows.proofs.FirstTwo.{student-at, after-two}
 use Rattle.sc_engine.proofs.Settling.{settles-none, settles-more, first-apart}
 use Rattle.sc_rows.proofs.rounds.first_two_stand.Goals as goal
@@ -13,10 +13,10 @@ pub enter_one-requires-2-clause-student : goal.enter_one-requires-2-clause-stude
 enter_one-requires-2-clause-student g c ready = student-at c.args.papers.now 1 c.args.two c.requires.two
 
 -- the first student has entered
-first : (g : _) (c : goal.After-round-3-1 g) → SettlesFirst c.args.papers.now (standings_of g.R.Roll.keys g.R.Roll.seats c.enter_one.new.self) 1
+first : (g : _) (c : goal.After-round-3-1 g) → SettlesFirst c.args.papers.now (view_of g.R.Roll.keys g.R.Roll.seats c.enter_one.new.self) 1
 first g c =
-    settles-more c.args.papers.now (standings_of g.R.Roll.keys g.R.Roll.seats c.in_ok-round.round) (standings_of g.R.Roll.keys g.R.Roll.seats c.enter_one.new.self) 0 c.args.one c.requires.one
-    (settles-none c.args.papers.now (standings_of g.R.Roll.keys g.R.Roll.seats c.in_ok-round.round) c.in_ok-round.ensures.fits c.in_ok-round.ensures.nobody c.in_ok-round.ensures.settled c.in_ok-round.ensures.log c.in_ok-round.ensures.proposals)
+    settles-more c.args.papers.now (view_of g.R.Roll.keys g.R.Roll.seats c.in_ok-round.round) (view_of g.R.Roll.keys g.R.Roll.seats c.enter_one.new.self) 0 c.args.one c.requires.one
+    (settles-none c.args.papers.now (view_of g.R.Roll.keys g.R.Roll.seats c.in_ok-round.round) c.in_ok-round.ensures.fits c.in_ok-round.ensures.nobody c.in_ok-round.ensures.settled c.in_ok-round.ensures.log c.in_ok-round.ensures.proposals)
     c.in_ok-enter_one.ensures.enters
 
 pub enter_one-requires-2-clause-absent : goal.enter_one-requires-2-clause-absent
@@ -26,9 +26,9 @@ enter_one-requires-2-clause-absent g c ready =
 pub returns-clause-after : goal.returns-clause-after
 returns-clause-after g c =
     let papers = c.args.papers.now in
-    let start = standings_of g.R.Roll.keys g.R.Roll.seats c.in_ok-round.round in
-    let middle = standings_of g.R.Roll.keys g.R.Roll.seats c.enter_one.new.self in
-    let end = standings_of g.R.Roll.keys g.R.Roll.seats c.enter_one-2.new.self in
+    let start = view_of g.R.Roll.keys g.R.Roll.seats c.in_ok-round.round in
+    let middle = view_of g.R.Roll.keys g.R.Roll.seats c.enter_one.new.self in
+    let end = view_of g.R.Roll.keys g.R.Roll.seats c.enter_one-2.new.self in
     let both : SettlesFirst papers end 2 =
     settles-more papers middle end 1 c.args.two c.requires.two
     (settles-more papers start middle 0 c.args.one c.requires.one

@@ -8,5 +8,5 @@ enter_one-requires-clause-student g c ready = student-at c.args.papers.now 2 c.i
 pub enter_one-requires-clause-absent : goal.enter_one-requires-clause-absent
 enter_one-requires-clause-absent g c ready =
     c.in_ok-round.ensures.entered c.in-Some-Some-Some.three
-    ∙ third-apart c.args.papers.now c.in_ok-standings.standings c.in-Some-Some-Some.one c.in-Some-Some-Some.two c.in-Some-Some-Some.three c.in_ok-round.ensures.fits.well_formed
-    (sym c.in-Some-Some-Some.ensures) (sym c.in-Some-Some-Some.ensures') (sym c.in-Some-Some-Some.ensures'') c.in_ok-standings.ensures.students
+    ∙ third-apart c.args.papers.now c.in_ok-next_choices.next_choices c.in-Some-Some-Some.one c.in-Some-Some-Some.two c.in-Some-Some-Some.three c.in_ok-round.ensures.fits.well_formed
+    (sym c.in-Some-Some-Some.ensures) (sym c.in-Some-Some-Some.ensures') (sym c.in-Some-Some-Some.ensures'') c.in_ok-next_choices.ensures.students

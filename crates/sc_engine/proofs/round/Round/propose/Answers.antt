@@ -1,8 +1,8 @@
 use Rattle.std.proofs.Common.{◌≡◌, ℕ, List, sym, ap, ◌∙◌, subst, ◌+◌, [], ◌∷◌, ◌++◌, get_or, set, Some, None, Option, arith}
 use Rattle.std.proofs.lemmas.Option.{same_Some}
 use Rattle.sc_papers.specs.Market.{student_at}
-use Rattle.sc_engine.specs.Standing.{next_of, only, Proposes}
-use Rattle.sc_engine.specs.Round.{standings_of}
+use Rattle.sc_engine.specs.RoundView.{next_of, only, Proposes}
+use Rattle.sc_engine.specs.Round.{view_of}
 use Rattle.sc_engine.specs.Rolls.{rolls_of}
 use Rattle.sc_papers.proofs.Hands.{hand-position, student-there}
 use Rattle.sc_engine.proofs.Papers.{stander-student, stander-school, stander-short}
@@ -15,21 +15,21 @@ pub returns-in_default-clause-proposes : goal.returns-in_default-clause-proposes
 returns-in_default-clause-proposes g c =
     let papers = c.args.papers.now in
     let proposer : ℕ = student_at papers c.args.proposer in
-    ends-none papers (standings_of g.R.Roll.keys g.R.Roll.seats c.args.self.now) proposer c.requires.fits
+    ends-none papers (view_of g.R.Roll.keys g.R.Roll.seats c.args.self.now) proposer c.requires.fits
     (sym (c.in_default.ensures proposer (hand-position papers c.requires.fits.well_formed c.args.proposer c.requires.within) ∙ ap (λ places. next_of papers places proposer) c.as_slice.ensures.value))
 
 pub position_and_key-at-requires-clause-school : goal.position_and_key-at-requires-clause-school
 position_and_key-at-requires-clause-school g c =
     let papers = c.args.papers.now in
     let proposer : ℕ = student_at papers c.args.proposer in
-    let old = standings_of g.R.Roll.keys g.R.Roll.seats c.args.self.now in
+    let old = view_of g.R.Roll.keys g.R.Roll.seats c.args.self.now in
     let stands : next_of papers old.places proposer ≡ Some c.in-Some.school =
     sym (c.in-Some.ensures proposer (hand-position papers c.requires.fits.well_formed c.args.proposer c.requires.within) ∙ ap (λ places. next_of papers places proposer) c.as_slice.ensures.value) in
     stander-school papers old.places proposer c.in-Some.school c.requires.fits.well_formed stands
 
 pub offer-requires-clause-new : goal.offer-requires-clause-new
 offer-requires-clause-new g c =
-    roll-new c.args.papers.now (standings_of g.R.Roll.keys g.R.Roll.seats c.args.self.now) (student_at c.args.papers.now c.args.proposer) c.in-Some.school c.position_and_key-at.result.0 c.position_and_key-at.result.1 c.requires.fits c.position_and_key-at.ensures.position c.position_and_key-at.ensures.key
+    roll-new c.args.papers.now (view_of g.R.Roll.keys g.R.Roll.seats c.args.self.now) (student_at c.args.papers.now c.args.proposer) c.in-Some.school c.position_and_key-at.result.0 c.position_and_key-at.result.1 c.requires.fits c.position_and_key-at.ensures.position c.position_and_key-at.ensures.key
 
 pub offer-requires-clause-count_fits : goal.offer-requires-clause-count_fits
 offer-requires-clause-count_fits g c =
@@ -39,10 +39,10 @@ pub returns-in_default-2-clause-proposes : goal.returns-in_default-2-clause-prop
 returns-in_default-2-clause-proposes g c =
     let papers = c.args.papers.now in
     let proposer : ℕ = student_at papers c.args.proposer in
-    let old = standings_of g.R.Roll.keys g.R.Roll.seats c.args.self.now in
+    let old = view_of g.R.Roll.keys g.R.Roll.seats c.args.self.now in
     let stands : next_of papers old.places proposer ≡ Some c.in-Some.school =
     sym (c.in-Some.ensures proposer (hand-position papers c.requires.fits.well_formed c.args.proposer c.requires.within) ∙ ap (λ places. next_of papers places proposer) c.as_slice.ensures.value) in
-    let new = standings_of g.R.Roll.keys g.R.Roll.seats c.offer.new.self in
+    let new = view_of g.R.Roll.keys g.R.Roll.seats c.offer.new.self in
     ends-held papers old new proposer c.in-Some.school c.position_and_key-at.result.0
     (proposed-told papers old proposer c.in-Some.school c.position_and_key-at.result.0 c.position_and_key-at.result.1 new.rolls c.in_ok-out.field-0 None c.requires.fits stands c.position_and_key-at.ensures.position c.position_and_key-at.ensures.key c.in_ok-out.ensures.offered c.in_default-2.is)
     c.offer.ensures.places c.offer.ensures.log c.in_ok-out.ensures.proposals
@@ -51,7 +51,7 @@ pub position_of-next-requires : goal.position_of-next-requires
 position_of-next-requires g c =
     let papers = c.args.papers.now in
     let proposer : ℕ = student_at papers c.args.proposer in
-    let old = standings_of g.R.Roll.keys g.R.Roll.seats c.args.self.now in
+    let old = view_of g.R.Roll.keys g.R.Roll.seats c.args.self.now in
     let stands : next_of papers old.places proposer ≡ Some c.in-Some.school =
     sym (c.in-Some.ensures proposer (hand-position papers c.requires.fits.well_formed c.args.proposer c.requires.within) ∙ ap (λ places. next_of papers places proposer) c.as_slice.ensures.value) in
     let rolls = rolls_of g.R.Roll.keys g.R.Roll.seats c.offer.new.self.rolls.items in
@@ -64,7 +64,7 @@ pub reject-requires : goal.reject-requires
 reject-requires g c place is =
     let papers = c.args.papers.now in
     let proposer : ℕ = student_at papers c.args.proposer in
-    let old = standings_of g.R.Roll.keys g.R.Roll.seats c.args.self.now in
+    let old = view_of g.R.Roll.keys g.R.Roll.seats c.args.self.now in
     let stands : next_of papers old.places proposer ≡ Some c.in-Some.school =
     sym (c.in-Some.ensures proposer (hand-position papers c.requires.fits.well_formed c.args.proposer c.requires.within) ∙ ap (λ places. next_of papers places proposer) c.as_slice.ensures.value) in
     let rolls = rolls_of g.R.Roll.keys g.R.Roll.seats c.offer.new.self.rolls.items in
@@ -79,7 +79,7 @@ pub returns-clause-proposes : goal.returns-clause-proposes
 returns-clause-proposes g c =
     let papers = c.args.papers.now in
     let proposer : ℕ = student_at papers c.args.proposer in
-    let old = standings_of g.R.Roll.keys g.R.Roll.seats c.args.self.now in
+    let old = view_of g.R.Roll.keys g.R.Roll.seats c.args.self.now in
     let stands : next_of papers old.places proposer ≡ Some c.in-Some.school =
     sym (c.in-Some.ensures proposer (hand-position papers c.requires.fits.well_formed c.args.proposer c.requires.within) ∙ ap (λ places. next_of papers places proposer) c.as_slice.ensures.value) in
     let rolls = rolls_of g.R.Roll.keys g.R.Roll.seats c.offer.new.self.rolls.items in
@@ -87,7 +87,7 @@ returns-clause-proposes g c =
     let proposed : Proposed papers old proposer c.in-Some.school c.position_and_key-at.result.0 rolls (Some c.in-Some-2.out) =
     proposed-told papers old proposer c.in-Some.school c.position_and_key-at.result.0 c.position_and_key-at.result.1 rolls c.in_ok-out.field-0 (Some c.in-Some-2.out) c.requires.fits stands c.position_and_key-at.ensures.position c.position_and_key-at.ensures.key c.in_ok-out.ensures.offered c.in-Some-2.is in
     let next : ℕ = c.position_of-next.result in
-    let new = standings_of g.R.Roll.keys g.R.Roll.seats c.reject.new.self in
+    let new = view_of g.R.Roll.keys g.R.Roll.seats c.reject.new.self in
     subst (λ (i : ℕ). Proposes papers old new proposer (Some i)) (sym (student-there papers out next c.position_of-next.ensures))
     (goes-on papers old new proposer c.in-Some.school c.position_and_key-at.result.0 rolls c.in-Some-2.out proposed
     (ap (rolls_of g.R.Roll.keys g.R.Roll.seats) c.reject.ensures.rolls)

@@ -2,13 +2,13 @@ use Rattle.std.proofs.Common.{sym, ap, subst, Contains, ◌∷◌, length, arith
 use Rattle.std.specs.BinaryHeap.{heap_items}
 use Rattle.std.proofs.lemmas.Bool.{OnTrue_at, OnFalse_at}
 use Rattle.std.proofs.lemmas.List.Sorted.{length_permutation}
-use Rattle.sc_seats.specs.Roll.{Held, in_order}
+use Rattle.sc_seats.specs.Roll.{RollView, in_order}
 use Rattle.sc_seats.proofs.Heaps.{length-in_order, added-together, added-ascending, replaced-together, replaced-ascending, replaced-last, refused-last}
 use Rattle.sc_seats.proofs.heap.HeapRollRoll.offer.Goals as goal
 
 pub invariant_of-self-then-len-get : goal.invariant_of-self-then-len-get
 invariant_of-self-then-len-get c =
-    let fresh : Contains (in_order (heap_items c.self.inside.keys)) c.args.key → ⊥ = subst (λ (h : Held). Contains h.keys c.args.key → ⊥) (sym c.self.view_is) c.requires in
+    let fresh : Contains (in_order (heap_items c.self.inside.keys)) c.args.key → ⊥ = subst (λ (h : RollView). Contains h.keys c.args.key → ⊥) (sym c.self.view_is) c.requires in
     record {
       heap = c.in_ok-add.ensures.heap c.self.invariant.heap;
       ascending = added-ascending (heap_items c.self.inside.keys) (heap_items c.add.new.keys) c.args.key c.self.invariant.ascending fresh c.in_ok-add.ensures.added;
@@ -25,12 +25,12 @@ returns-then-len-get-clause-within c =
 
 pub returns-then-len-get-clause-ascending : goal.returns-then-len-get-clause-ascending
 returns-then-len-get-clause-ascending c =
-    let fresh : Contains (in_order (heap_items c.self.inside.keys)) c.args.key → ⊥ = subst (λ (h : Held). Contains h.keys c.args.key → ⊥) (sym c.self.view_is) c.requires in
+    let fresh : Contains (in_order (heap_items c.self.inside.keys)) c.args.key → ⊥ = subst (λ (h : RollView). Contains h.keys c.args.key → ⊥) (sym c.self.view_is) c.requires in
     added-ascending (heap_items c.self.inside.keys) (heap_items c.add.new.keys) c.args.key c.self.invariant.ascending fresh c.in_ok-add.ensures.added
 
 pub invariant_of-self-then-is_ahead_of_last : goal.invariant_of-self-then-is_ahead_of_last
 invariant_of-self-then-is_ahead_of_last c =
-    let fresh : Contains (in_order (heap_items c.self.inside.keys)) c.args.key → ⊥ = subst (λ (h : Held). Contains h.keys c.args.key → ⊥) (sym c.self.view_is) c.requires in
+    let fresh : Contains (in_order (heap_items c.self.inside.keys)) c.args.key → ⊥ = subst (λ (h : RollView). Contains h.keys c.args.key → ⊥) (sym c.self.view_is) c.requires in
     record {
       heap = c.replace_last.ensures.heap;
       ascending = replaced-ascending (heap_items c.self.inside.keys) (heap_items c.replace_last.new.keys) c.args.key c.replace_last.result c.self.invariant.ascending fresh c.replace_last.ensures.together;
@@ -43,7 +43,7 @@ returns-then-is_ahead_of_last-clause-together c =
 
 pub returns-then-is_ahead_of_last-clause-last : goal.returns-then-is_ahead_of_last-clause-last
 returns-then-is_ahead_of_last-clause-last c =
-    let fresh : Contains (in_order (heap_items c.self.inside.keys)) c.args.key → ⊥ = subst (λ (h : Held). Contains h.keys c.args.key → ⊥) (sym c.self.view_is) c.requires in
+    let fresh : Contains (in_order (heap_items c.self.inside.keys)) c.args.key → ⊥ = subst (λ (h : RollView). Contains h.keys c.args.key → ⊥) (sym c.self.view_is) c.requires in
     let ahead = OnTrue_at c.if-is_ahead_of_last.true c.is_ahead_of_last.ensures.ahead in
     replaced-last (heap_items c.self.inside.keys) (heap_items c.replace_last.new.keys) c.args.key c.replace_last.result ahead.0 c.self.invariant.ascending fresh c.replace_last.ensures.together c.replace_last.ensures.last ahead.1 ahead.2
 
@@ -57,12 +57,12 @@ returns-then-is_ahead_of_last-clause-within c =
 
 pub returns-then-is_ahead_of_last-clause-ascending : goal.returns-then-is_ahead_of_last-clause-ascending
 returns-then-is_ahead_of_last-clause-ascending c =
-    let fresh : Contains (in_order (heap_items c.self.inside.keys)) c.args.key → ⊥ = subst (λ (h : Held). Contains h.keys c.args.key → ⊥) (sym c.self.view_is) c.requires in
+    let fresh : Contains (in_order (heap_items c.self.inside.keys)) c.args.key → ⊥ = subst (λ (h : RollView). Contains h.keys c.args.key → ⊥) (sym c.self.view_is) c.requires in
     replaced-ascending (heap_items c.self.inside.keys) (heap_items c.replace_last.new.keys) c.args.key c.replace_last.result c.self.invariant.ascending fresh c.replace_last.ensures.together
 
 pub returns-clause-last : goal.returns-clause-last
 returns-clause-last c =
-    let fresh : Contains (in_order (heap_items c.self.inside.keys)) c.args.key → ⊥ = subst (λ (h : Held). Contains h.keys c.args.key → ⊥) (sym c.self.view_is) c.requires in
+    let fresh : Contains (in_order (heap_items c.self.inside.keys)) c.args.key → ⊥ = subst (λ (h : RollView). Contains h.keys c.args.key → ⊥) (sym c.self.view_is) c.requires in
     rw (← c.self.view_is) (refused-last (heap_items c.self.inside.keys) c.args.key fresh (OnFalse_at c.if-is_ahead_of_last.false c.is_ahead_of_last.ensures.behind))
 
 pub returns-clause-full : goal.returns-clause-full

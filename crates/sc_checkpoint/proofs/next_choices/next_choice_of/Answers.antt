@@ -5,7 +5,7 @@ use Rattle.sc_papers.proofs.Hands.{hand-is}
 use Rattle.std.proofs.lemmas.Map.Entries.{length-keys_of}
 use Rattle.std.proofs.lemmas.Option.{slice_get_within}
 use Rattle.sc_checkpoint.specs.Places.{has_place}
-use Rattle.sc_checkpoint.proofs.next_choices.standing_of.Goals as goal
+use Rattle.sc_checkpoint.proofs.next_choices.next_choice_of.Goals as goal
 
 pub choices_at-requires : goal.choices_at-requires
 choices_at-requires c = omega (arith, slice_get_within (students_of c.args.papers.now) c.args.at c.args.student c.requires, length-keys_of c.args.papers.now.students)

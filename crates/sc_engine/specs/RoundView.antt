@@ -12,14 +12,14 @@ use Rattle.sc_papers.specs.Restriction.{restricted}
 use Rattle.sc_papers.specs.WellFormed.{WellFormed, WithinLimits}
 use Rattle.sc_papers.specs.declared.key.Key.{Key}
 use Rattle.sc_papers.specs.declared.rejection.Rejection.{Rejection}
-use Rattle.sc_seats.specs.Roll.{Held}
+use Rattle.sc_seats.specs.Roll.{RollView}
 
 -- what a round holds: for each student, by position, the place in its choices at which it stands, or
 -- none where it hasn't entered, as nobody has who comes after the last place; each school's roll, by
 -- position; the log; the count of proposals
-pub record Standings : Type 0 where
+pub record RoundView : Type 0 where
   pub places : List (Option ℕ)
-  pub rolls : List Held
+  pub rolls : List RollView
   pub log : List Rejection
   pub proposals : ℕ
 
@@ -36,24 +36,24 @@ unfoldable pub next_of : Market → List (Option ℕ) → ℕ → Option ℕ
 next_of m places i = option_and_then (λ place. slice_get (choices_of m i) place) (place_of m places i)
 
 -- a roll without keys or seats
-abbrev pub no_roll : Held
+abbrev pub no_roll : RollView
 no_roll = record { keys = []; seats = 0 }
 
 -- the roll at a position
-abbrev pub roll_at : List Held → ℕ → Held
+abbrev pub roll_at : List RollView → ℕ → RollView
 roll_at rolls at = slice_index_or rolls at no_roll
 
 -- a school's roll
-unfoldable pub roll_of : Market → List Held → ℕ → Held
+unfoldable pub roll_of : Market → List RollView → ℕ → RollView
 roll_of m rolls s = option_map_or (roll_at rolls) (position (nat_eq s) (schools_of m)) no_roll
 
 -- the first k rolls have their schools' seats, and nobody is on them
-abbrev pub AreEmpty : Market → List Held → ℕ → Type 0
+abbrev pub AreEmpty : Market → List RollView → ℕ → Type 0
 AreEmpty m rolls k = (at s : ℕ) → at < k → slice_get (schools_of m) at ≡ Some s → roll_at rolls at ≡ record { keys = []; seats = seats_of m s }
 
 -- a roll fits a school: it has the school's seats, and holds exactly the keys of the students who
 -- stand at the school, but for those who are away
-pub record RollFits (m : Market) (next : Matching) (away : ℕ → Bool) (s : ℕ) (roll : Held) : Type 0 where
+pub record RollFits (m : Market) (next : Matching) (away : ℕ → Bool) (s : ℕ) (roll : RollView) : Type 0 where
   pub seats : roll.seats ≡ seats_of m s
   pub within : length roll.keys ≤ roll.seats
   pub keyed : All (λ key. key ≡ key_of m key.student s) roll.keys
@@ -63,8 +63,8 @@ pub record RollFits (m : Market) (next : Matching) (away : ℕ → Bool) (s : �
 unfoldable pub standing_but : Market → List (Option ℕ) → (ℕ → Bool) → ℕ
 standing_but m places away = how_many m (λ i. is_some (next_of m places i) && not (away i))
 
--- the standings fit the papers, but for the students who are away
-pub record FitsBut (m : Market) (r : Standings) (away : ℕ → Bool) : Type 0 where
+-- the round fits the papers, but for the students who are away
+pub record FitsBut (m : Market) (r : RoundView) (away : ℕ → Bool) : Type 0 where
   pub well_formed : WellFormed m
   pub within_limits : WithinLimits m
   pub places : length r.places ≤ length m.students
@@ -80,8 +80,8 @@ nobody = λ j. false
 abbrev pub only : ℕ → ℕ → Bool
 only proposer = λ j. j == proposer
 
--- the standings fit the papers: everyone who has entered and stands at a choice is on its roll
-abbrev pub Fits : Market → Standings → Type 0
+-- the round fits the papers: everyone who has entered and stands at a choice is on its roll
+abbrev pub Fits : Market → RoundView → Type 0
 Fits m r = FitsBut m r nobody
 
 -- the papers of those who have entered
@@ -90,17 +90,17 @@ entered_papers m places = restricted m (has_entered m places)
 
 -- after an earlier log the round's log settles the papers of those who have entered, and the
 -- students stand at their next choices
-pub record Continues (m : Market) (earlier : List Rejection) (r : Standings) : Type 0 where
+pub record Continues (m : Market) (earlier : List Rejection) (r : RoundView) : Type 0 where
   pub settled : IsSettled (entered_papers m r.places) (earlier ++ r.log)
   pub next : (i : ℕ) → next_choice (entered_papers m r.places) (earlier ++ r.log) i ≡ next_of m r.places i
 
 -- the same in the course of a chain, where a student is to propose
-pub record Midway (m : Market) (earlier : List Rejection) (r : Standings) (proposer : ℕ) : Type 0 where
+pub record Midway (m : Market) (earlier : List Rejection) (r : RoundView) (proposer : ℕ) : Type 0 where
   pub chain : InChain (entered_papers m r.places) (earlier ++ r.log) proposer
   pub next : (i : ℕ) → next_choice (entered_papers m r.places) (earlier ++ r.log) i ≡ next_of m r.places i
 
 -- what an offer to the roll at a position does: the others stay
-pub record OffersAt (old new : List Held) (at : ℕ) (key : Key) (out : Option Key) : Type 0 where
+pub record OffersAt (old new : List RollView) (at : ℕ) (key : Key) (out : Option Key) : Type 0 where
   pub together : IsPermutation (key ∷ (roll_at old at).keys) (option_to_list out ++ (roll_at new at).keys)
   pub last : IfSome out (λ worst. All (λ held. is_before held worst ≡ true) (roll_at new at).keys)
   pub full : IsSome out → length (roll_at old at).keys ≡ (roll_at old at).seats
@@ -119,7 +119,7 @@ unfoldable pub choices_left : Market → List (Option ℕ) → ℕ
 choices_left m places = sum_by (λ i. left_at (choices_of m i) (place_of m places i)) (students_of m)
 
 -- the same students have entered
-abbrev pub SameEntered : Market → Standings → Standings → Type 0
+abbrev pub SameEntered : Market → RoundView → RoundView → Type 0
 SameEntered m old new = (i : ℕ) → has_entered m new.places i ≡ has_entered m old.places i
 
 -- the log is the earlier one, and more
@@ -128,12 +128,12 @@ Extends old new = (more : List Rejection) × (new ≡ old ++ more)
 
 -- the count of proposals grows by the entries added to the log and by what is added to the number of
 -- students who stand at a choice
-abbrev pub CountsProposals : Market → Standings → (ℕ → Bool) → Standings → (ℕ → Bool) → Type 0
+abbrev pub CountsProposals : Market → RoundView → (ℕ → Bool) → RoundView → (ℕ → Bool) → Type 0
 CountsProposals m old away new away' =
     new.proposals + (length old.log + standing_but m old.places away) ≡ old.proposals + (length new.log + standing_but m new.places away')
 
 -- the chain of the student who proposes has come to its end
-pub record ChainEnds (m : Market) (old new : Standings) (proposer : ℕ) : Type 0 where
+pub record ChainEnds (m : Market) (old new : RoundView) (proposer : ℕ) : Type 0 where
   pub fits : Fits m new
   pub entered : SameEntered m old new
   pub continues : (earlier : List Rejection) → Midway m earlier old proposer → Continues m earlier new
@@ -141,7 +141,7 @@ pub record ChainEnds (m : Market) (old new : Standings) (proposer : ℕ) : Type 
   pub counted : CountsProposals m old (only proposer) new nobody
 
 -- the chain goes on with another student who is to propose
-pub record ChainGoesOn (m : Market) (old new : Standings) (proposer out : ℕ) : Type 0 where
+pub record ChainGoesOn (m : Market) (old new : RoundView) (proposer out : ℕ) : Type 0 where
   pub fits : FitsBut m new (only out)
   pub entered : SameEntered m old new
   pub continues : (earlier : List Rejection) → Midway m earlier old proposer → Midway m earlier new out
@@ -149,13 +149,13 @@ pub record ChainGoesOn (m : Market) (old new : Standings) (proposer out : ℕ) :
   pub counted : CountsProposals m old (only proposer) new (only out)
 
 -- what one proposal does: whoever is put out proposes next
-abbrev pub Proposes : Market → Standings → Standings → ℕ → Option ℕ → Type 0
+abbrev pub Proposes : Market → RoundView → RoundView → ℕ → Option ℕ → Type 0
 Proposes m old new proposer None = ChainEnds m old new proposer
 Proposes m old new proposer (Some out) = ChainGoesOn m old new proposer out × (choices_left m new.places < choices_left m old.places)
 
 -- one more student has entered by a whole chain: after each earlier log that the round continued, it
 -- still does
-pub record Enters (m : Market) (old new : Standings) (i : ℕ) : Type 0 where
+pub record Enters (m : Market) (old new : RoundView) (i : ℕ) : Type 0 where
   pub fits : Fits m new
   pub entered : (j : ℕ) → has_entered m new.places j ≡ and_one (has_entered m old.places) i j
   pub continues : (earlier : List Rejection) → Continues m earlier old → Continues m earlier new
@@ -164,14 +164,14 @@ pub record Enters (m : Market) (old new : Standings) (i : ℕ) : Type 0 where
 
 -- the first k students, in order of entry, and they alone have entered; the log is settled for them,
 -- and every proposal ended in an entry of the log or in a place
-pub record SettlesFirst (m : Market) (r : Standings) (k : ℕ) : Type 0 where
+pub record SettlesFirst (m : Market) (r : RoundView) (k : ℕ) : Type 0 where
   pub fits : Fits m r
   pub entered : (i : ℕ) → has_entered m r.places i ≡ list_any (nat_eq i) (take k (students_of m))
   pub settled : Continues m [] r
   pub counted : r.proposals ≡ length r.log + standing_but m r.places nobody
 
 -- one more student has entered and stands at this choice, which is no proposal
-pub record StandsToo (m : Market) (old new : Standings) (i : ℕ) (choice : Option ℕ) : Type 0 where
+pub record StandsToo (m : Market) (old new : RoundView) (i : ℕ) (choice : Option ℕ) : Type 0 where
   pub fits : Fits m new
   pub entered : (j : ℕ) → has_entered m new.places j ≡ and_one (has_entered m old.places) i j
   pub own : next_of m new.places i ≡ choice
