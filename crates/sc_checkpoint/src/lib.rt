@@ -8,5 +8,6 @@ mod place_set;
 mod segment;
 mod segments;
 
+pub use next_choice::NextChoice;
 pub use segments::Segments;
 pub use next_choice::NextChoice;

@@ -7,6 +7,7 @@ ghost use Rattle.sc_papers.specs.declared.rejection.Rejection.{Rejection};
 ghost use Rattle.sc_checkpoint.specs.Places.{has_place, AreRejectedPlaces, AreTabled};
 ghost use Rattle.sc_checkpoint.specs.NextChoices.{next_choices_after};
 
+use crate::next_choice::NextChoice;
 use crate::place_set::PlaceSet;
 use crate::next_choice::NextChoice;
 use sc_papers::{LONGEST_LIST, Papers, Rejection, SchoolNo, StudentNo};
