@@ -1,5 +1,5 @@
 #!/usr/bin/env python3
-"""Tries the built program from outside: refused memory, full discs, broken streams, odd inputs, and kills.
+"""Tries the built program from outside: refused memory, full discs, broken streams, odd inputs and words, and kills.
 
     outside.py [--program PATH] [--kills N]
 
@@ -170,6 +170,14 @@ def inputs(trials):
     print("folders, endless inputs, pipes and limits: tried")
 
 
+def words(trials):
+    """Words that are not UTF-8, also beside --help."""
+    line = "clearinghouse: a word of the command line is not UTF-8"
+    for given in ([b"caf\xe9"], ["--help", b"\xff"], [*trials.calls["match"], b"\xc3"]):
+        trials.ended(f"words {given}", trials.run(given), 2, line, b"")
+    print("words that are not UTF-8: tried")
+
+
 def kills(trials, count):
     """A long run, killed at random moments."""
     rng = random.Random(1)
@@ -210,6 +218,7 @@ def main():
         trials = Trials(os.path.abspath(given.program), folder)
         devices(trials)
         inputs(trials)
+        words(trials)
         kills(trials, given.kills)
         refused_growths(trials, folder)
     print(f"{trials.tried} trials, {trials.failed} failed")

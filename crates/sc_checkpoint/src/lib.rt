@@ -10,4 +10,3 @@ mod segments;
 
 pub use next_choice::NextChoice;
 pub use segments::Segments;
-pub use next_choice::NextChoice;

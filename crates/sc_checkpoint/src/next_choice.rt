@@ -1,6 +1,6 @@
 use sc_papers::{SchoolNo, StudentNo};
 
-/// Where a student stands after a log: its next choice, if it has one left.
+/// Where a student stands after a log: their next choice, if they have one left.
 #[derive(Clone, Copy, Debug, PartialEq, Eq)]
 pub struct NextChoice {
     pub student: StudentNo,

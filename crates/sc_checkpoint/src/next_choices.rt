@@ -9,7 +9,6 @@ ghost use Rattle.sc_checkpoint.specs.NextChoices.{next_choices_after};
 
 use crate::next_choice::NextChoice;
 use crate::place_set::PlaceSet;
-use crate::next_choice::NextChoice;
 use sc_papers::{LONGEST_LIST, Papers, Rejection, SchoolNo, StudentNo};
 use std::alloc::{AllocError, Global};
 

@@ -1,6 +1,6 @@
+use crate::next_choice::NextChoice;
 use crate::next_choices::next_choices_of_first;
 use crate::segment::{Segment, end_of_first};
-use crate::next_choice::NextChoice;
 use sc_papers::{Papers, Rejection, StudentNo};
 use std::alloc::{AllocError, Global};
 use std::marker::Model;

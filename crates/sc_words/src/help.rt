@@ -1,7 +1,7 @@
 //! What `--help` says.
 
 pub(crate) const PROGRAM: &str =
-    "Assign school places by the student-optimal stable matching; with no words, of the bundle on standard input";
+    "Assign school places by the student-optimal stable matching; without a subcommand, reads one bundle from standard input";
 
 pub(crate) const STATUSES: &str = "\
 Exit status: 0 done, 1 the log is not certified (audit alone), 2 wrong words or a bad seed, 3 a fault in an
