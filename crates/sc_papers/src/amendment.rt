@@ -1,5 +1,5 @@
-ghost use Rattle.std.specs.Prelude.{◌≡◌};
-ghost use Rattle.sc_papers.specs.Refusal.{code_of};
+ghost use Rattle.std.specs.Prelude.{◌≡◌, Some};
+ghost use Rattle.sc_papers.specs.Refusal.{code_of, name_of, named_school, refusal_words};
 ghost use Rattle.sc_papers.specs.declared.amendment.Refusal.TheVariants.{OutOfMemory};
 
 use crate::count::Count;
@@ -97,22 +97,46 @@ impl Refusal {
             Refusal::OutOfMemory => 11,
         }
     }
+
+    /// The refusal's name, without the school that it may name.
+    pub fn name(self) -> &'static str
+        ensures { result.now ≡ name_of self }
+    {
+        match self {
+            Refusal::Shape => "Shape",
+            Refusal::UnknownStudent => "UnknownStudent",
+            Refusal::StudentExists => "StudentExists",
+            Refusal::EmptyList => "EmptyList",
+            Refusal::ListTooLong => "ListTooLong",
+            Refusal::UnknownSchool { .. } => "UnknownSchool",
+            Refusal::SchoolTwice { .. } => "SchoolTwice",
+            Refusal::RosterFull => "RosterFull",
+            Refusal::TooManySeats => "TooManySeats",
+            Refusal::TooFewSeats => "TooFewSeats",
+            Refusal::OutOfMemory => "OutOfMemory",
+        }
+    }
+
+    /// The school that the refusal names, if it names one.
+    pub fn school(self) -> Option<SchoolNo>
+        ensures { result ≡ named_school self }
+    {
+        match self {
+            Refusal::UnknownSchool { school } | Refusal::SchoolTwice { school } => Some(school),
+            _ => None,
+        }
+    }
 }
 
 impl fmt::Display for Refusal {
+    ghost output = { λ r. Some (refusal_words r) };
+
+    /// The refusal's name, and after a space the school that it names, if any.
     fn fmt<W: fmt::Write>(&self, f: &mut fmt::Formatter<W>) -> fmt::Result {
-        match self {
-            Refusal::Shape => f.write_str("Shape"),
-            Refusal::UnknownStudent => f.write_str("UnknownStudent"),
-            Refusal::StudentExists => f.write_str("StudentExists"),
-            Refusal::EmptyList => f.write_str("EmptyList"),
-            Refusal::ListTooLong => f.write_str("ListTooLong"),
-            Refusal::UnknownSchool { school } => write!(f, "UnknownSchool {}", school.get()),
-            Refusal::SchoolTwice { school } => write!(f, "SchoolTwice {}", school.get()),
-            Refusal::RosterFull => f.write_str("RosterFull"),
-            Refusal::TooManySeats => f.write_str("TooManySeats"),
-            Refusal::TooFewSeats => f.write_str("TooFewSeats"),
-            Refusal::OutOfMemory => f.write_str("OutOfMemory"),
+        f.write_str(self.name())?;
+        match self.school() {
+            Some(school) => write!(f, " {}", school.get()),
+            None => Ok(()),
         }
     }
 }

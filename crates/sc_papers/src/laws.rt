@@ -19,6 +19,24 @@ ghost use Rattle.sc_papers.specs.declared.key.Key.{Key};
 ghost use Rattle.sc_papers.specs.declared.rejection.Rejection.{Rejection};
 ghost use Rattle.std.specs.declared.cmp.Ordering.TheVariants.{Less, Equal, Greater};
 
+use crate::count::Count;
+use crate::limits::{LONGEST_LIST, MOST_SCHOOLS, MOST_STUDENTS};
+use crate::school_no::SchoolNo;
+use crate::seats::Seats;
+use crate::zone::Zone;
+
+/// The limits: 200,000 students, 5,000 schools, 20 schools on a list; school numbers up to 99,999, zones up
+/// to 9,999, 10,000 seats of a school, and as many in one amendment. Every other clause cites them by name.
+pub fn limits_are_these_numbers()
+    ensures students { MOST_STUDENTS ≡ 200000 }
+    ensures schools { MOST_SCHOOLS ≡ 5000 }
+    ensures list { LONGEST_LIST ≡ 20 }
+    ensures school_number { SchoolNo.GREATEST ≡ 99999 }
+    ensures zone { Zone.GREATEST ≡ 9999 }
+    ensures seats { Seats.GREATEST ≡ 10000 }
+    ensures count { Count.GREATEST ≡ 10000 }
+{}
+
 /// At each school being ahead is a strict order: nobody is ahead of themselves, whoever is ahead of one
 /// who is ahead of a third is ahead of the third, and of two different students one is ahead.
 pub fn being_ahead_is_a_strict_order()

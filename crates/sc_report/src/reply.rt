@@ -1,40 +1,10 @@
 //! What a script's record is answered.
 ghost use Rattle.std.specs.Prelude.{◌≡◌, ◌++◌, IfOk, OnOk, codes, decimal};
-ghost use Rattle.sc_report.specs.Reply.{name_of, named_school, named_text, refusal_text, reply_text};
+ghost use Rattle.sc_report.specs.Reply.{named_text, refusal_text, reply_text};
 
 use sc_decimal::push_number;
 use sc_papers::{Refusal, SchoolNo};
 use std::alloc::{AllocError, Global};
-
-/// A refusal's name, without the school that it may name.
-fn name(refusal: Refusal) -> &'static str
-    ensures { result.now ≡ name_of refusal }
-{
-    match refusal {
-        Refusal::Shape => "Shape",
-        Refusal::UnknownStudent => "UnknownStudent",
-        Refusal::StudentExists => "StudentExists",
-        Refusal::EmptyList => "EmptyList",
-        Refusal::ListTooLong => "ListTooLong",
-        Refusal::UnknownSchool { .. } => "UnknownSchool",
-        Refusal::SchoolTwice { .. } => "SchoolTwice",
-        Refusal::RosterFull => "RosterFull",
-        Refusal::TooManySeats => "TooManySeats",
-        Refusal::TooFewSeats => "TooFewSeats",
-        Refusal::OutOfMemory => "OutOfMemory",
-    }
-}
-
-/// The school that a refusal names, if any.
-fn named_school(refusal: Refusal) -> Option<SchoolNo>
-    ensures { result ≡ named_school refusal }
-{
-    match refusal {
-        Refusal::UnknownSchool { school } => Some(school),
-        Refusal::SchoolTwice { school } => Some(school),
-        _ => None,
-    }
-}
 
 /// Adds a comma and a school, where there is one.
 fn push_named(line: &mut Vec<u8>, school: Option<SchoolNo>) -> Result<(), AllocError>
@@ -53,8 +23,8 @@ fn push_refusal(line: &mut Vec<u8>, refusal: &Refusal) -> Result<(), AllocError>
 {
     push_number(line, u64::from(refusal.code()))?;
     line.extend_from_slice(b",")?;
-    line.extend_from_slice(name(*refusal).as_bytes())?;
-    push_named(line, named_school(*refusal))
+    line.extend_from_slice(refusal.name().as_bytes())?;
+    push_named(line, refusal.school())
 }
 
 /// The reply line of a script's record, given its number, counted from 1, and what it was answered:
