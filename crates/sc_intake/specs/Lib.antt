@@ -1,4 +1,5 @@
 pub mod Fault
+pub mod FaultText
 pub mod Field
 pub mod File
 pub mod Cursor

@@ -1,7 +1,8 @@
 //! What can be wrong with an input.
 
-ghost use Rattle.std.specs.Prelude.{◌≡◌};
+ghost use Rattle.std.specs.Prelude.{◌≡◌, Some};
 ghost use Rattle.sc_intake.specs.Fault.{fault_at};
+ghost use Rattle.sc_intake.specs.FaultText.{cause_text, fault_text, source_text};
 ghost use Rattle.sc_intake.specs.declared.fault.Cause.TheVariants.{OutOfMemory};
 
 use sc_papers::Refusal;
@@ -22,6 +23,8 @@ pub enum Source {
 }
 
 impl fmt::Display for Source {
+    ghost output = { λ source. Some (source_text source) };
+
     fn fmt<W: fmt::Write>(&self, f: &mut fmt::Formatter<W>) -> fmt::Result {
         f.write_str(match self {
             Source::Schools => "schools",
@@ -62,6 +65,8 @@ pub enum Cause {
 }
 
 impl fmt::Display for Cause {
+    ghost output = { λ cause. Some (cause_text cause) };
+
     fn fmt<W: fmt::Write>(&self, f: &mut fmt::Formatter<W>) -> fmt::Result {
         match self {
             Cause::TooLong => f.write_str("TooLong"),
@@ -124,6 +129,8 @@ impl IntakeFault {
 }
 
 impl fmt::Display for IntakeFault {
+    ghost output = { λ fault. Some (fault_text fault) };
+
     fn fmt<W: fmt::Write>(&self, f: &mut fmt::Formatter<W>) -> fmt::Result {
         write!(f, "{} row {}: {}", self.source, self.row, self.cause)
     }
