@@ -38,7 +38,7 @@ preferred-listed m a i s blocks = go (a i) blocks.preferred
     go None listed = listed
     go (Some t) (j, k, low, at_j, at_k) = contains-at (choices_of m i) j s at_j
 
--- nothing ends at a place
+-- nothing ends at a rank
 ends-none : (b c : Bool) (s : ℕ) → cond b (Some None) (cond c (Some (Some s)) None) ≡ None → (b ≡ false) × (c ≡ false)
 ends-none true c s none = absurd (none-some None (sym none))
 ends-none false true s none = absurd (none-some (Some s) (sym none))
@@ -63,7 +63,7 @@ ends-given false true s is = absurd (none-some s (sym (inner (Some s) None is)))
     inner x y same = ap (λ o. option_map_or (λ (z : Option ℕ). z) o x) same
 ends-given false false s is = absurd (none-some None is)
 
--- the student's preferred choices don't end before a place
+-- the student's preferred choices don't end before a rank
 pub record PassedOver (m : Market) (a : Matching) (i k : ℕ) : Type 0 where
   pub none : (j t : ℕ) → j < k → slice_get (choices_of m i) j ≡ Some t → end_at m a i t ≡ None
 
@@ -108,7 +108,7 @@ module _ (m : Market) (a : Matching) (well : WellFormed m) (matching : IsMatchin
   ])
 
   module _ (i k : ℕ) (passed : PassedOver m a i k) where
-    -- a choice before the place doesn't block
+    -- a choice before the rank doesn't block
     passed-block : (j t : ℕ) → j < k → slice_get (choices_of m i) j ≡ Some t → Blocks m a i t → ⊥
     passed-block j t low here blocks =
         better-takes i t (ends-none (has a t i) (would_take m a i t) t (passed.none j t low here)).1 blocks.better

@@ -58,9 +58,9 @@ module _ (m : Market) (l : AuditView) (k : ℕ) (all : length m.students ≤ k) 
       (λ i next. elim (cases_Bool (is_kept m l.stands i)) [
         | inl held ↦ held
         | inr aside ↦
-            let (at, place) = student-position m i (among-student m i (next-student m l i t next)) in
-            let low : at < k = omega (arith, all, (position-at (students_of m) i at place).0, length-keys_of m.students) in
-            let here = position-at (students_of m) i at place in
+            let (at, met) = student-position m i (among-student m i (next-student m l i t next)) in
+            let low : at < k = omega (arith, all, (position-at (students_of m) i at met).0, length-keys_of m.students) in
+            let here = position-at (students_of m) i at met in
             let (n, is, le) = found.below at i t low (slice_get-get_or (students_of m) at i here.0 ∙ ap Some here.1) (waits-there m l i t next aside) in
             absurd (omega (arith, le, under n is))
       ])

@@ -54,9 +54,9 @@ kept-aside (Some out) j o = go (nat_eq j out.student) o
     go true (Some stand) = and-false stand.kept
     go false o = and-true (option_map_or (λ (stand : Stand). stand.kept) o false)
 
--- a stand is at its place of the choices
+-- a stand is at its rank of the choices
 abbrev IsPlaced : Market → ℕ → Option Stand → Type 0
-IsPlaced m j o = (stand : Stand) → o ≡ Some stand → slice_get (choices_of m j) stand.place ≡ Some stand.school
+IsPlaced m j o = (stand : Stand) → o ≡ Some stand → slice_get (choices_of m j) stand.rank ≡ Some stand.school
 
 stand-one : (a b : Stand) → Some a ≡ Some b → a ≡ b
 stand-one a b same = ap (λ o. option_map_or (λ (x : Stand). x) o a) same
@@ -68,7 +68,7 @@ placed-aside m (Some out) j o placed = go (nat_eq j out.student) o placed
     go : (b : Bool) (o : Option Stand) → IsPlaced m j o → IsPlaced m j (cond b (option_map set_aside o) o)
     go true None placed stand is = absurd (none-some stand is)
     go true (Some before) placed stand is =
-        let P : Stand → Type 0 = λ x. slice_get (choices_of m j) x.place ≡ Some x.school in
+        let P : Stand → Type 0 = λ x. slice_get (choices_of m j) x.rank ≡ Some x.school in
         subst P (stand-one (set_aside before) stand is) (placed before refl)
     go false o placed stand is = placed stand is
 
@@ -81,27 +81,27 @@ stander-next m stands j s is = go (stand_of m stands j) refl is
     go (Some stand) at there = stander-among m stands j stand at
 
 -- a student comes to a school
-pub record Placing (m : Market) (old : AuditView) (i place s at : ℕ) (keys : List Key) (out : Option Key) (new : AuditView) : Type 0 where
+pub record Placing (m : Market) (old : AuditView) (i rank s at : ℕ) (keys : List Key) (out : Option Key) (new : AuditView) : Type 0 where
   pub fits : Fits m old
   pub known : is_student m i ≡ true
   pub nowhere : stand_of m old.stands i ≡ None
-  pub choice : slice_get (choices_of m i) place ≡ Some s
+  pub choice : slice_get (choices_of m i) rank ≡ Some s
   pub found : position (nat_eq s) (schools_of m) ≡ Some at
   pub heap : IsHeap key_cmp keys
   pub offered : Offers (get_or old.kept at []) (seats_of m s) (key_of m i s) keys out
   pub kept : new.kept ≡ set old.kept at keys
   pub long : length new.stands ≡ length m.students
-  pub stands : (j : ℕ) → stand_of m new.stands j ≡ aside out j (cond (nat_eq j i) (Some (record { place = place; school = s; kept = true })) (stand_of m old.stands j))
+  pub stands : (j : ℕ) → stand_of m new.stands j ≡ aside out j (cond (nat_eq j i) (Some (record { rank = rank; school = s; kept = true })) (stand_of m old.stands j))
 
-module _ {m : Market} {old : AuditView} {i place s at : ℕ} {keys : List Key} {out : Option Key} {new : AuditView} (p : Placing m old i place s at keys out new) where
-  own-stand : stand_of m new.stands i ≡ aside out i (Some (record { place = place; school = s; kept = true }))
-  own-stand = p.stands i ∙ ap (aside out i) (cond-true (nat_eq i i) (Some (record { place = place; school = s; kept = true })) (stand_of m old.stands i) (eq-eqb i i refl))
+module _ {m : Market} {old : AuditView} {i rank s at : ℕ} {keys : List Key} {out : Option Key} {new : AuditView} (p : Placing m old i rank s at keys out new) where
+  own-stand : stand_of m new.stands i ≡ aside out i (Some (record { rank = rank; school = s; kept = true }))
+  own-stand = p.stands i ∙ ap (aside out i) (cond-true (nat_eq i i) (Some (record { rank = rank; school = s; kept = true })) (stand_of m old.stands i) (eq-eqb i i refl))
 
   other-stand : (j : ℕ) → (j ≡ i → ⊥) → stand_of m new.stands j ≡ aside out j (stand_of m old.stands j)
-  other-stand j apart = p.stands j ∙ ap (aside out j) (cond-false (nat_eq j i) (Some (record { place = place; school = s; kept = true })) (stand_of m old.stands j) (ne_eqb j i apart))
+  other-stand j apart = p.stands j ∙ ap (aside out j) (cond-false (nat_eq j i) (Some (record { rank = rank; school = s; kept = true })) (stand_of m old.stands j) (ne_eqb j i apart))
 
   own-next : next_of m new.stands i ≡ Some s
-  own-next = ap (option_map (λ (stand : Stand). stand.school)) own-stand ∙ school-aside out i (Some (record { place = place; school = s; kept = true }))
+  own-next = ap (option_map (λ (stand : Stand). stand.school)) own-stand ∙ school-aside out i (Some (record { rank = rank; school = s; kept = true }))
 
   other-next : (j : ℕ) → (j ≡ i → ⊥) → next_of m new.stands j ≡ next_of m old.stands j
   other-next j apart = ap (option_map (λ (stand : Stand). stand.school)) (other-stand j apart) ∙ school-aside out j (stand_of m old.stands j)
@@ -116,23 +116,23 @@ module _ {m : Market} {old : AuditView} {i place s at : ℕ} {keys : List Key} {
     offered = p.offered;
     here = own-next;
     others = other-next;
-    own_kept = ap (λ o. option_map_or (λ (stand : Stand). stand.kept) o false) own-stand ∙ kept-aside out i (Some (record { place = place; school = s; kept = true }));
+    own_kept = ap (λ o. option_map_or (λ (stand : Stand). stand.kept) o false) own-stand ∙ kept-aside out i (Some (record { rank = rank; school = s; kept = true }));
     others_kept = λ j apart. ap (λ o. option_map_or (λ (stand : Stand). stand.kept) o false) (other-stand j apart) ∙ kept-aside out j (stand_of m old.stands j);
   }
 
-  each-placed : (j : ℕ) (stand : Stand) → stand_of m new.stands j ≡ Some stand → slice_get (choices_of m j) stand.place ≡ Some stand.school
+  each-placed : (j : ℕ) (stand : Stand) → stand_of m new.stands j ≡ Some stand → slice_get (choices_of m j) stand.rank ≡ Some stand.school
   each-placed j stand is = elim (cases_eq j i) [
     | inl same ↦
-        let at_i : slice_get (choices_of m i) stand.place ≡ Some stand.school =
-        placed-aside m out i (Some (record { place = place; school = s; kept = true })) own-placed stand (sym own-stand ∙ ap (stand_of m new.stands) (sym same) ∙ is) in
-        ap (λ n. slice_get (choices_of m n) stand.place) same ∙ at_i
+        let at_i : slice_get (choices_of m i) stand.rank ≡ Some stand.school =
+        placed-aside m out i (Some (record { rank = rank; school = s; kept = true })) own-placed stand (sym own-stand ∙ ap (stand_of m new.stands) (sym same) ∙ is) in
+        ap (λ n. slice_get (choices_of m n) stand.rank) same ∙ at_i
     | inr apart ↦ placed-aside m out j (stand_of m old.stands j) (p.fits.placed j) stand (sym (other-stand j apart) ∙ is)
   ]
     where
-      own-placed : IsPlaced m i (Some (record { place = place; school = s; kept = true }))
+      own-placed : IsPlaced m i (Some (record { rank = rank; school = s; kept = true }))
       own-placed stand is =
-          let P : Stand → Type 0 = λ x. slice_get (choices_of m i) x.place ≡ Some x.school in
-          subst P (stand-one (record { place = place; school = s; kept = true }) stand is) p.choice
+          let P : Stand → Type 0 = λ x. slice_get (choices_of m i) x.rank ≡ Some x.school in
+          subst P (stand-one (record { rank = rank; school = s; kept = true }) stand is) p.choice
 
   each-school : (t : ℕ) → KeepsBest m (next_of m new.stands) (is_kept m new.stands) t (keys_at m new.kept t)
   each-school t =
@@ -149,7 +149,7 @@ module _ {m : Market} {old : AuditView} {i place s at : ℕ} {keys : List Key} {
             (keeps-others m (next_of m old.stands) (next_of m new.stands) (is_kept m old.stands) (is_kept m new.stands) s i (get_or old.kept at []) keys out came t (keys_at m old.kept t) apart (p.fits.each t))
       ]
 
-  pub placing-moves : MovesTo m old i place new
+  pub placing-moves : MovesTo m old i rank new
   placing-moves = record {
     fits = record {
       well_formed = p.fits.well_formed;
@@ -164,9 +164,9 @@ module _ {m : Market} {old : AuditView} {i place s at : ℕ} {keys : List Key} {
     others = other-next;
   }
 
--- a student who has no choice at the place stays nowhere
-pub stays-nowhere : (m : Market) (old : AuditView) (i place : ℕ) → Fits m old → stand_of m old.stands i ≡ None → slice_get (choices_of m i) place ≡ None → MovesTo m old i place old
-stays-nowhere m old i place fits nowhere none = record {
+-- a student who has no choice at the rank stays nowhere
+pub stays-nowhere : (m : Market) (old : AuditView) (i rank : ℕ) → Fits m old → stand_of m old.stands i ≡ None → slice_get (choices_of m i) rank ≡ None → MovesTo m old i rank old
+stays-nowhere m old i rank fits nowhere none = record {
   fits = fits;
   own = ap (option_map (λ (stand : Stand). stand.school)) nowhere ∙ sym none;
   others = λ j apart. refl;

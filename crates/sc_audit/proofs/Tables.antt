@@ -78,7 +78,7 @@ keys-put m kept keys s at long found =
     let low : at < length kept = omega (arith, (position-at (schools_of m) s at found).0, length-keys_of m.schools, long) in
     looked-set (schools_of m) kept [] keys s at found low
 
--- what a mapped list has at a place
+-- what a mapped list has at an index
 pub get_or-mapped : {X Y : Type 0} (f : X → Y) (xs : List X) (k : ℕ) (x : X) (d : Y) → k < length xs → get_or (map f xs) k d ≡ f (get_or xs k x)
 get_or-mapped f [] k x d low = absurd (omega (arith, low))
 get_or-mapped f (y ∷ ys) zero x d low = refl

@@ -11,25 +11,25 @@ use Rattle.sc_papers.specs.declared.rejection.Rejection.{Rejection}
 use Rattle.sc_papers.proofs.Rejections.{next-same}
 use Rattle.sc_papers.proofs.Standings.{next-moves}
 use Rattle.sc_papers.specs.Key.{key_cmp}
-use Rattle.sc_audit.specs.AuditView.{AuditView, stand_of, next_of, is_kept, keys_at, waiting_place, KeepsBest, Fits, MovesTo, Follows}
+use Rattle.sc_audit.specs.AuditView.{AuditView, stand_of, next_of, is_kept, keys_at, waiting_rank, KeepsBest, Fits, MovesTo, Follows}
 use Rattle.sc_audit.specs.declared.stand.Stand.{Stand}
 use Rattle.sc_audit.proofs.Tables.{stander-among}
 use Rattle.sc_audit.proofs.Keeping.{keeps-still}
 use Rattle.sc_audit.proofs.Entries.{waiting-rivals, kept-rivals}
 
 -- a student who stands at a school without being kept
-pub record Waits (m : Market) (l : AuditView) (i s place : ℕ) : Type 0 where
+pub record Waits (m : Market) (l : AuditView) (i s rank : ℕ) : Type 0 where
   pub stand : Stand
   pub is : stand_of m l.stands i ≡ Some stand
   pub aside : stand.kept ≡ false
   pub at : stand.school ≡ s
-  pub placed : stand.place ≡ place
+  pub placed : stand.rank ≡ rank
 
-pub waits-from : (m : Market) (l : AuditView) (i s place : ℕ) → waiting_place (stand_of m l.stands i) s ≡ Some place → Waits m l i s place
-waits-from m l i s place found = go (stand_of m l.stands i) refl found
+pub waits-from : (m : Market) (l : AuditView) (i s rank : ℕ) → waiting_rank (stand_of m l.stands i) s ≡ Some rank → Waits m l i s rank
+waits-from m l i s rank found = go (stand_of m l.stands i) refl found
   where
-    go : (o : Option Stand) → stand_of m l.stands i ≡ o → waiting_place o s ≡ Some place → Waits m l i s place
-    go None is none = absurd (none-some place none)
+    go : (o : Option Stand) → stand_of m l.stands i ≡ o → waiting_rank o s ≡ Some rank → Waits m l i s rank
+    go None is none = absurd (none-some rank none)
     go (Some stand) is there = elim (cases_Bool (not stand.kept && stand.school == s)) [
       | inl holds ↦
           let parts = and_parts (not stand.kept) (stand.school == s) holds in
@@ -38,12 +38,12 @@ waits-from m l i s place found = go (stand_of m l.stands i) refl found
             is = is;
             aside = not-true stand.kept parts.0;
             at = eqb-true stand.school s parts.1;
-            placed = same_Some stand.place place (sym (cond-true (not stand.kept && stand.school == s) (Some stand.place) None holds) ∙ there);
+            placed = same_Some stand.rank rank (sym (cond-true (not stand.kept && stand.school == s) (Some stand.rank) None holds) ∙ there);
           }
-      | inr fails ↦ absurd (none-some place (sym (cond-false (not stand.kept && stand.school == s) (Some stand.place) None fails) ∙ there))
+      | inr fails ↦ absurd (none-some rank (sym (cond-false (not stand.kept && stand.school == s) (Some stand.rank) None fails) ∙ there))
     ]
 
-module _ {m : Market} {l : AuditView} {i s place : ℕ} (waits : Waits m l i s place) where
+module _ {m : Market} {l : AuditView} {i s rank : ℕ} (waits : Waits m l i s rank) where
   pub waits-next : next_of m l.stands i ≡ Some s
   waits-next = ap (option_map (λ (stand : Stand). stand.school)) waits.is ∙ ap Some waits.at
 
@@ -53,7 +53,7 @@ module _ {m : Market} {l : AuditView} {i s place : ℕ} (waits : Waits m l i s p
   pub waits-among : Contains (students_of m) i
   waits-among = stander-among m l.stands i waits.stand waits.is
 
-  pub waits-placed : Fits m l → slice_get (choices_of m i) place ≡ Some s
+  pub waits-placed : Fits m l → slice_get (choices_of m i) rank ≡ Some s
   waits-placed fits = ap (slice_get (choices_of m i)) (sym waits.placed) ∙ fits.placed i waits.stand waits.is ∙ ap Some waits.at
 
   -- the student leaves
@@ -93,20 +93,20 @@ module _ {m : Market} {l : AuditView} {i s place : ℕ} (waits : Waits m l i s p
     }
 
 -- a valid entry
-pub taken-valid : (m : Market) (log : List Rejection) (l : AuditView) (e : Rejection) (place : ℕ) → Follows m log l → Waits m l e.student e.school place → IsValidEntry m log e
-taken-valid m log l e place follows waits = record {
+pub taken-valid : (m : Market) (log : List Rejection) (l : AuditView) (e : Rejection) (rank : ℕ) → Follows m log l → Waits m l e.student e.school rank → IsValidEntry m log e
+taken-valid m log l e rank follows waits = record {
   next = follows.next e.student ∙ waits-next waits;
   full = waiting-rivals m (next_of m l.stands) (is_kept m l.stands) e.school (keys_at m l.kept e.school) (follows.fits.each e.school) log follows.next e.student (waits-next waits) (waits-aside waits);
 }
 
-pub taken-follows : (m : Market) (log : List Rejection) (l mid new : AuditView) (e : Rejection) (place : ℕ) → IsValidLog m log → Follows m log l → Waits m l e.student e.school place
-    → ((j : ℕ) → (j ≡ e.student → ⊥) → next_of m mid.stands j ≡ next_of m l.stands j) → MovesTo m mid e.student (place + 1) new → Follows m (log ++ e ∷ []) new
-taken-follows m log l mid new e place valid follows waits left moves = record {
+pub taken-follows : (m : Market) (log : List Rejection) (l mid new : AuditView) (e : Rejection) (rank : ℕ) → IsValidLog m log → Follows m log l → Waits m l e.student e.school rank
+    → ((j : ℕ) → (j ≡ e.student → ⊥) → next_of m mid.stands j ≡ next_of m l.stands j) → MovesTo m mid e.student (rank + 1) new → Follows m (log ++ e ∷ []) new
+taken-follows m log l mid new e rank valid follows waits left moves = record {
   fits = moves.fits;
   next = λ j. elim (cases_eq j e.student) [
     | inl same ↦
         ap (next_choice m (log ++ e ∷ [])) same
-        ∙ next-moves m follows.fits.well_formed log e place valid (taken-valid m log l e place follows waits) (waits-placed waits follows.fits)
+        ∙ next-moves m follows.fits.well_formed log e rank valid (taken-valid m log l e rank follows waits) (waits-placed waits follows.fits)
         ∙ sym moves.own ∙ ap (next_of m new.stands) (sym same)
     | inr apart ↦ next-same m log e j (λ same. apart (sym same)) ∙ follows.next j ∙ sym (left j apart) ∙ sym (moves.others j apart)
   ];
@@ -117,10 +117,10 @@ and-holds true b first second = absurd (true≢false first)
 and-holds false b first second = second
 
 -- an entry that isn't
-pub not-taken : (m : Market) (log : List Rejection) (l : AuditView) (e : Rejection) → waiting_place (stand_of m l.stands e.student) e.school ≡ None → Follows m log l → IsValidEntry m log e → ⊥
+pub not-taken : (m : Market) (log : List Rejection) (l : AuditView) (e : Rejection) → waiting_rank (stand_of m l.stands e.student) e.school ≡ None → Follows m log l → IsValidEntry m log e → ⊥
 not-taken m log l e none follows valid = go (stand_of m l.stands e.student) refl none (sym (follows.next e.student) ∙ valid.next)
   where
-    go : (o : Option Stand) → stand_of m l.stands e.student ≡ o → waiting_place o e.school ≡ None → next_of m l.stands e.student ≡ Some e.school → ⊥
+    go : (o : Option Stand) → stand_of m l.stands e.student ≡ o → waiting_rank o e.school ≡ None → next_of m l.stands e.student ≡ Some e.school → ⊥
     go None is away at = none-some e.school (sym (ap (option_map (λ (stand : Stand). stand.school)) is) ∙ at)
     go (Some stand) is away at =
         let here : stand.school ≡ e.school = same_Some stand.school e.school (sym (ap (option_map (λ (stand : Stand). stand.school)) is) ∙ at) in
@@ -133,5 +133,5 @@ not-taken m log l e none follows valid = go (stand_of m l.stands e.student) refl
                 kept-rivals m (next_of m l.stands) (is_kept m l.stands) e.school (keys_at m l.kept e.school) (follows.fits.each e.school) log follows.next e.student (stander-among m l.stands e.student stand is) at kept,
               )
           | inr aside ↦
-              none-some stand.place (sym away ∙ cond-true (not stand.kept && stand.school == e.school) (Some stand.place) None (and-holds stand.kept (stand.school == e.school) aside (eq-eqb stand.school e.school here)))
+              none-some stand.rank (sym away ∙ cond-true (not stand.kept && stand.school == e.school) (Some stand.rank) None (and-holds stand.kept (stand.school == e.school) aside (eq-eqb stand.school e.school here)))
         ]

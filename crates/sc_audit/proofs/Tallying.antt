@@ -50,8 +50,8 @@ module _ (m : Market) (a : Matching) (known : (i s : ℕ) → a i ≡ Some s →
     | inl school ↦ elim (cases_lt (seats_of m t) (held m a t)) [
       | inr within ↦ within
       | inl over ↦
-          let (at, place) = school-position m t school in
-          let here = position-at (schools_of m) t at place in
+          let (at, met) = school-position m t school in
+          let here = position-at (schools_of m) t at met in
           let gives : over_at m a t ≡ Some t = sym (over-some m a t (seats_of m t) (held m a t) refl refl over) in
           let (n, is, le) = found.below at t t (omega (arith, here.0, length-keys_of m.schools)) (slice_get-get_or (schools_of m) at t here.0 ∙ ap Some here.1) gives in
           absurd (omega (arith, le, under n is))

@@ -34,12 +34,12 @@ is_kept m stands i = option_map_or (λ (stand : Stand). stand.kept) (stand_of m 
 
 -- a stand at which the student is no longer kept
 abbrev pub set_aside : Stand → Stand
-set_aside stand = record { place = stand.place; school = stand.school; kept = false }
+set_aside stand = record { rank = stand.rank; school = stand.school; kept = false }
 
--- the place of a stand at a school at which the student isn't kept
-abbrev pub waiting_place : Option Stand → ℕ → Option ℕ
-waiting_place None s = None
-waiting_place (Some stand) s = if not stand.kept && stand.school == s then Some stand.place else None
+-- the rank of a stand at a school at which the student isn't kept
+abbrev pub waiting_rank : Option Stand → ℕ → Option ℕ
+waiting_rank None s = None
+waiting_rank (Some stand) s = if not stand.kept && stand.school == s then Some stand.rank else None
 
 -- the school at which a student stands without being kept there
 abbrev pub waiting_at : Option Stand → Option ℕ
@@ -74,13 +74,13 @@ pub record Fits (m : Market) (l : AuditView) : Type 0 where
   pub stands : length l.stands ≡ length m.students
   pub schools : length l.kept ≡ length m.schools
   pub heaps : All (IsHeap key_cmp) l.kept
-  pub placed : (i : ℕ) (stand : Stand) → stand_of m l.stands i ≡ Some stand → slice_get (choices_of m i) stand.place ≡ Some stand.school
+  pub placed : (i : ℕ) (stand : Stand) → stand_of m l.stands i ≡ Some stand → slice_get (choices_of m i) stand.rank ≡ Some stand.school
   pub each : (s : ℕ) → KeepsBest m (next_of m l.stands) (is_kept m l.stands) s (keys_at m l.kept s)
 
--- a student comes to the choice at a place, and the others stay where they were
-pub record MovesTo (m : Market) (old : AuditView) (i place : ℕ) (new : AuditView) : Type 0 where
+-- a student moves to the choice of a rank, and the others stay where they were
+pub record MovesTo (m : Market) (old : AuditView) (i rank : ℕ) (new : AuditView) : Type 0 where
   pub fits : Fits m new
-  pub own : next_of m new.stands i ≡ slice_get (choices_of m i) place
+  pub own : next_of m new.stands i ≡ slice_get (choices_of m i) rank
   pub others : (j : ℕ) → (j ≡ i → ⊥) → next_of m new.stands j ≡ next_of m old.stands j
 
 -- the state follows a log: each student stands at the next choice

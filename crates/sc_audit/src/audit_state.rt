@@ -40,24 +40,24 @@ fn no_keys(alloc: Global, count: usize) -> Result<Vec<BinaryHeap<Key>>, AllocErr
 
 impl AuditState {
     ghost use Rattle.sc_audit.specs.AuditState.{view_of};
-    ghost use Rattle.sc_audit.specs.AuditView.{stand_of, next_of, waiting_place, waiting_at, Fits, MovesTo, Follows, Finds};
+    ghost use Rattle.sc_audit.specs.AuditView.{stand_of, next_of, waiting_rank, waiting_at, Fits, MovesTo, Follows, Finds};
     ghost use Rattle.std.specs.Option.{option_map};
     ghost use Rattle.std.specs.Prelude.{◌≡◌, ℕ, ◌<◌, List, [], length, nat_eq, position, slice_index_or, Some, None, IfOk, OnOk, IfSome, IfNone};
 
-    /// The student at the position comes to the choice at a place, if there is one there.
-    fn move_to(&mut self, papers: &Papers, student: usize, place: usize) -> Result<(), AllocError>
+    /// The student at the position moves to the choice of a rank, if there is one of it.
+    fn move_to(&mut self, papers: &Papers, student: usize, rank: usize) -> Result<(), AllocError>
         requires fits { Fits papers.now (view_of self.old) }
         requires within { student < length papers.now.students }
         requires nowhere { stand_of papers.now self.old.stands.items (student_at papers.now student) ≡ None }
-        ensures { OnOk result (MovesTo papers.now (view_of self.old) (student_at papers.now student) place (view_of self.new)) }
+        ensures { OnOk result (MovesTo papers.now (view_of self.old) (student_at papers.now student) rank (view_of self.new)) }
     {
-        let Some(school) = choice_at(papers, student, place) else {
+        let Some(school) = choice_at(papers, student, rank) else {
             return Ok(());
         };
         let (at, key) = papers.position_and_key(student, school);
         let out = offer(&mut self.kept[at], papers.seats_of(school), key)?;
         self.stands[student] = Some(Stand {
-            place,
+            rank,
             school,
             kept: true,
         });
@@ -81,7 +81,7 @@ impl AuditState {
         Ok(state)
     }
 
-    /// All students, who stand nowhere, come to their first choices.
+    /// All students, who stand nowhere, move to their first choices.
     fn start_all(&mut self, papers: &Papers) -> Result<(), AllocError>
         requires fits { Fits papers.now (view_of self.old) }
         requires nowhere { (i : ℕ) → stand_of papers.now self.old.stands.items i ≡ None }
@@ -94,30 +94,30 @@ impl AuditState {
     }
 
     /// Takes one more entry of a log, if it is valid after those before: the student leaves the school
-    /// and comes to the next choice. The cost is at most four look-ups by number and an offer.
+    /// and moves to the next choice. The cost is at most four look-ups by number and an offer.
     pub(crate) fn take(&mut self, papers: &Papers, entry: Rejection) -> Result<bool, AllocError>
         requires fits { Fits papers.now (view_of self.old) }
         ensures { IfOk result (λ valid. (log : List Rejected) → IsValidLog papers.now log → Follows papers.now log (view_of self.old) → Finds papers.now log entry valid (view_of self.new)) }
     {
-        let Some((student, place)) = self.waiting_place(papers, entry) else {
+        let Some((student, rank)) = self.waiting_rank(papers, entry) else {
             return Ok(false);
         };
         self.stands[student] = None;
-        self.move_to(papers, student, place + 1)?;
+        self.move_to(papers, student, rank + 1)?;
         Ok(true)
     }
 
-    /// The student's position, and the place in its choices at which it stands at the entry's school
+    /// The student's position, and the rank in its choices at which it stands at the entry's school
     /// without being kept there.
-    fn waiting_place(&self, papers: &Papers, entry: Rejection) -> Option<(usize, usize)>
+    fn waiting_rank(&self, papers: &Papers, entry: Rejection) -> Option<(usize, usize)>
         requires { length self.now.stands.items ≡ length papers.now.students }
         ensures position { IfSome result (λ found. position (nat_eq entry.student) (students_of papers.now) ≡ Some found.0) }
-        ensures place { option_map (λ found. found.1) result ≡ waiting_place (stand_of papers.now self.now.stands.items entry.student) entry.school }
+        ensures rank { option_map (λ found. found.1) result ≡ waiting_rank (stand_of papers.now self.now.stands.items entry.student) entry.school }
     {
         let student = papers.student_position(entry.student)?;
         match self.stands[student] {
             Some(stand) if !stand.kept && stand.school == entry.school => {
-                Some((student, stand.place))
+                Some((student, stand.rank))
             }
             _ => None,
         }

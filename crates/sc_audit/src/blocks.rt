@@ -70,8 +70,8 @@ fn earliest_block(
     ensures none { IfNone result ((s : ℕ) → ¬ Blocks papers.now (assigned assignment.now) (student_at papers.now position) s) }
 {
     let choices = papers.choices_at(position);
-    for place in 0..choices.len() {
-        if let Some(end) = end_at(tallies, papers, assignment, position, choices[place]) {
+    for rank in 0..choices.len() {
+        if let Some(end) = end_at(tallies, papers, assignment, position, choices[rank]) {
             return end;
         }
     }

@@ -4,10 +4,10 @@ ghost use Rattle.sc_papers.specs.Market.{choices_of, student_at};
 
 use sc_papers::{Papers, SchoolNo};
 
-/// The choice at a place, from 0, of the student at the position.
-pub(crate) fn choice_at(papers: &Papers, student: usize, place: usize) -> Option<SchoolNo>
+/// The choice of a rank, from 0, of the student at the position.
+pub(crate) fn choice_at(papers: &Papers, student: usize, rank: usize) -> Option<SchoolNo>
     requires { student < length papers.now.students }
-    ensures { result ≡ slice_get (choices_of papers.now (student_at papers.now student)) place }
+    ensures { result ≡ slice_get (choices_of papers.now (student_at papers.now student)) rank }
 {
-    papers.choices_at(student).get(place).copied()
+    papers.choices_at(student).get(rank).copied()
 }

@@ -36,7 +36,7 @@ end-within zero start finish segments cover = cover-forward start finish segment
 end-within (suc k) start finish [] cover = omega (arith, cover)
 end-within (suc k) start finish (s ∷ rest) cover = end-within k s.end finish rest cover.1
 
--- a part of two logs that agree up to a place at or past its end
+-- a part of two logs that agree up to an index at or past its end
 between-agree : (start end finish : ℕ) (log other : List Rejection) → end ≤ finish → take finish log ≡ take finish other → slice_range log start end ≡ slice_range other start end
 between-agree start end finish log other low agree =
     between_is log start end
@@ -89,7 +89,7 @@ chains-push log more i finish segments cover end =
     ∙ ap (with_chain (chains_from 0 (log ++ more) segments) i) whole
     ∙ ap (λ chains. with_chain chains i more) (chains-agree 0 (length log) (log ++ more) log segments cover (take-append-le (length log) log more (omega arith)))
 
--- the student of the segment at a place
+-- the student of the segment at an index
 pub student-at : (k start : ℕ) (log : List Rejection) (segments : List Segment) (s : Segment) → slice_get segments k ≡ Some s → slice_get (students_in (chains_from start log segments)) k ≡ Some s.student
 student-at k start log [] s here = absurd (none-some s here)
 student-at zero start log (first ∷ rest) s here = ap (λ (segment : Segment). Some segment.student) (same_Some first s here)

@@ -1,4 +1,4 @@
--- The first choice whose place is not in a set, and where students stand.
+-- The first choice whose rank is not in a set, and where students stand.
 use Rattle.std.proofs.Common.{◌≡◌, ap, sym, ◌∙◌, ℕ, ◌<◌, ◌≤◌, Bool, true, false, not, List, [], ◌∷◌, ◌++◌, ◌+◌, length, take, Some, None, find, slice_get, arith}
 use Rattle.std.proofs.lemmas.List.{take_more, map_push}
 use Rattle.std.proofs.lemmas.Option.{slice_get_within, get_or_from_slice_get}
@@ -6,21 +6,21 @@ use Rattle.sc_papers.specs.Log.{next_choice}
 use Rattle.sc_papers.specs.Market.{Market}
 use Rattle.sc_papers.specs.declared.rejection.Rejection.{Rejection}
 use Rattle.sc_papers.proofs.Choices.{found-is, found-none}
-use Rattle.sc_checkpoint.specs.Places.{has_place}
+use Rattle.sc_checkpoint.specs.Ranks.{has_rank}
 use Rattle.sc_checkpoint.specs.NextChoices.{next_choices_after}
 use Rattle.sc_checkpoint.specs.declared.next_choice.NextChoice.{NextChoice}
-use Rattle.sc_checkpoint.specs.declared.place_set.PlaceSet.{PlaceSet}
+use Rattle.sc_checkpoint.specs.declared.rank_set.RankSet.{RankSet}
 
--- up to this place, each place is in the set
-pub record AllBelow (set : PlaceSet) (end : ℕ) : Type 0 where
-  pub within : (place : ℕ) → place < end → has_place set place ≡ true
+-- up to this rank, each rank is in the set
+pub record AllBelow (set : RankSet) (end : ℕ) : Type 0 where
+  pub within : (rank : ℕ) → rank < end → has_rank set rank ≡ true
 
-pub outside-found : (set : PlaceSet) (choices : List ℕ) (place s : ℕ) (test : ℕ → Bool) → ((k t : ℕ) → slice_get choices k ≡ Some t → has_place set k ≡ test t) → AllBelow set place → slice_get choices place ≡ Some s → has_place set place ≡ false → find (λ t. not (test t)) choices ≡ Some s
-outside-found set choices place s test agree below here outside =
-    found-is (λ t. not (test t)) choices place s here (ap not (sym (agree place s here) ∙ outside))
+pub outside-found : (set : RankSet) (choices : List ℕ) (rank s : ℕ) (test : ℕ → Bool) → ((k t : ℕ) → slice_get choices k ≡ Some t → has_rank set k ≡ test t) → AllBelow set rank → slice_get choices rank ≡ Some s → has_rank set rank ≡ false → find (λ t. not (test t)) choices ≡ Some s
+outside-found set choices rank s test agree below here outside =
+    found-is (λ t. not (test t)) choices rank s here (ap not (sym (agree rank s here) ∙ outside))
     (λ k t low at. ap not (sym (agree k t at) ∙ below.within k low))
 
-pub outside-none : (set : PlaceSet) (choices : List ℕ) (end : ℕ) (test : ℕ → Bool) → ((k t : ℕ) → slice_get choices k ≡ Some t → has_place set k ≡ test t) → AllBelow set end → length choices ≤ end → find (λ t. not (test t)) choices ≡ None
+pub outside-none : (set : RankSet) (choices : List ℕ) (end : ℕ) (test : ℕ → Bool) → ((k t : ℕ) → slice_get choices k ≡ Some t → has_rank set k ≡ test t) → AllBelow set end → length choices ≤ end → find (λ t. not (test t)) choices ≡ None
 outside-none set choices end test agree below past =
     found-none (λ t. not (test t)) choices
     (λ k t at. ap not (sym (agree k t at) ∙ below.within k (omega (arith, past, slice_get_within choices k t at))))

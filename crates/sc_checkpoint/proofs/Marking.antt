@@ -1,4 +1,4 @@
--- One more entry of a log, put into a table of places.
+-- One more entry of a log, put into a table of ranks.
 use Rattle.std.proofs.Common.{◌≡◌, inl, inr, refl, ap, sym, ◌∙◌, ℕ, ◌<◌, ◌≤◌, ◌==◌, nat_eq, nat_lt, Bool, true, false, ◌&&◌, ◌||◌, List, [], ◌∷◌, ◌++◌, length, get_or, set, replicate, Option, Some, None, slice_get, position, arith, length-set}
 use Rattle.std.specs.List.{position_or_len}
 use Rattle.std.specs.Option.{option_and_then, option_map_or}
@@ -15,8 +15,8 @@ use Rattle.sc_papers.specs.declared.rejection.Rejection.{Rejection}
 use Rattle.sc_papers.proofs.Choices.{one-place}
 use Rattle.sc_papers.proofs.Rejections.{is_of, rejected-push}
 use Rattle.sc_papers.proofs.Students.{choices-differ}
-use Rattle.sc_checkpoint.specs.Places.{has_place, AreTabled}
-use Rattle.sc_checkpoint.specs.declared.place_set.PlaceSet.{PlaceSet}
+use Rattle.sc_checkpoint.specs.Ranks.{has_rank, AreTabled}
+use Rattle.sc_checkpoint.specs.declared.rank_set.RankSet.{RankSet}
 
 or-false : (b : Bool) → (b || false) ≡ b
 or-false true = refl
@@ -57,25 +57,25 @@ other-kept log e i s apart =
     rejected-push log e i s ∙ ap (λ b. is_rejected log i s || b) (other-entry e i s apart) ∙ or-false (is_rejected log i s)
 
 -- an entry of no student of the table, or of a school that its student doesn't list
-pub table-kept : (m : Market) (log : List Rejection) (e : Rejection) (table : List PlaceSet) → ((at place : ℕ) → at < length table → slice_get (students_of m) at ≡ Some e.student → slice_get (choices_of m e.student) place ≡ Some e.school → ⊥) → AreTabled m log table → AreTabled m (log ++ e ∷ []) table
+pub table-kept : (m : Market) (log : List Rejection) (e : Rejection) (table : List RankSet) → ((at rank : ℕ) → at < length table → slice_get (students_of m) at ≡ Some e.student → slice_get (choices_of m e.student) rank ≡ Some e.school → ⊥) → AreTabled m log table → AreTabled m (log ++ e ∷ []) table
 table-kept m log e table apart before = record {
-  at = λ at i places at_student at_table place s at_school.
-      before.at at i places at_student at_table place s at_school
+  at = λ at i ranks at_student at_table rank s at_school.
+      before.at at i ranks at_student at_table rank s at_school
       ∙ sym (other-kept log e i s (λ same_student same_school.
-      apart at place (slice_get_within table at places at_table)
+      apart at rank (slice_get_within table at ranks at_table)
       (at_student ∙ ap Some (sym same_student))
-      (ap (λ j. slice_get (choices_of m j) place) same_student ∙ at_school ∙ ap Some (sym same_school))));
+      (ap (λ j. slice_get (choices_of m j) rank) same_student ∙ at_school ∙ ap Some (sym same_school))));
 }
 
-pub table-unknown : (m : Market) (log : List Rejection) (e : Rejection) (table : List PlaceSet) → position (nat_eq e.student) (students_of m) ≡ None → AreTabled m log table → AreTabled m (log ++ e ∷ []) table
+pub table-unknown : (m : Market) (log : List Rejection) (e : Rejection) (table : List RankSet) → position (nat_eq e.student) (students_of m) ≡ None → AreTabled m log table → AreTabled m (log ++ e ∷ []) table
 table-unknown m log e table none =
-    table-kept m log e table (λ at place low at_student at_school.
+    table-kept m log e table (λ at rank low at_student at_school.
     absurd (false≢true (sym (position-none (nat_eq e.student) (students_of m) at e.student none at_student) ∙ eq-eqb e.student e.student refl)))
 
-pub table-unlisted : (m : Market) (log : List Rejection) (e : Rejection) (table : List PlaceSet) → position (λ s. s == e.school) (choices_of m e.student) ≡ None → AreTabled m log table → AreTabled m (log ++ e ∷ []) table
+pub table-unlisted : (m : Market) (log : List Rejection) (e : Rejection) (table : List RankSet) → position (λ s. s == e.school) (choices_of m e.student) ≡ None → AreTabled m log table → AreTabled m (log ++ e ∷ []) table
 table-unlisted m log e table none =
-    table-kept m log e table (λ at place low at_student at_school.
-    absurd (false≢true (sym (position-none (λ s. s == e.school) (choices_of m e.student) place e.school none at_school) ∙ eq-eqb e.school e.school refl)))
+    table-kept m log e table (λ at rank low at_student at_school.
+    absurd (false≢true (sym (position-none (λ s. s == e.school) (choices_of m e.student) rank e.school none at_school) ∙ eq-eqb e.school e.school refl)))
 
 -- the entry's student stands at its position
 student-here : (m : Market) (i at : ℕ) → position (nat_eq i) (students_of m) ≡ Some at → slice_get (students_of m) at ≡ Some i
@@ -83,80 +83,80 @@ student-here m i at found =
     let here = position-here (nat_eq i) (students_of m) at found in
     here.1 ∙ ap Some (sym (eqb-true i here.0 here.2))
 
-school-here : (m : Market) (i s place : ℕ) → position (λ t. t == s) (choices_of m i) ≡ Some place → slice_get (choices_of m i) place ≡ Some s
-school-here m i s place found =
-    let here = position-here (λ t. t == s) (choices_of m i) place found in
+school-here : (m : Market) (i s rank : ℕ) → position (λ t. t == s) (choices_of m i) ≡ Some rank → slice_get (choices_of m i) rank ≡ Some s
+school-here m i s rank found =
+    let here = position-here (λ t. t == s) (choices_of m i) rank found in
     here.1 ∙ ap Some (eqb-true here.0 s here.2)
 
 -- an entry of a student past the table
-pub table-past : (m : Market) (log : List Rejection) (e : Rejection) (table : List PlaceSet) (position_of : ℕ) → WellFormed m → position (nat_eq e.student) (students_of m) ≡ Some position_of → length table ≤ position_of → AreTabled m log table → AreTabled m (log ++ e ∷ []) table
+pub table-past : (m : Market) (log : List Rejection) (e : Rejection) (table : List RankSet) (position_of : ℕ) → WellFormed m → position (nat_eq e.student) (students_of m) ≡ Some position_of → length table ≤ position_of → AreTabled m log table → AreTabled m (log ++ e ∷ []) table
 table-past m log e table position_of well found past =
-    table-kept m log e table (λ at place low at_student at_school.
+    table-kept m log e table (λ at rank low at_student at_school.
     absurd (omega (arith, past, low, one-place (students_of m) at position_of e.student well.students_differ at_student (student-here m e.student position_of found))))
 
--- of the choices of the entry's student, the one at the entry's place is the entry's school
-place-of-entry : (m : Market) (e : Rejection) (i s place place_of : ℕ) → WellFormed m → e.student ≡ i → slice_get (choices_of m i) place ≡ Some s → slice_get (choices_of m i) place_of ≡ Some e.school → (place == place_of) ≡ is_of e i s
-place-of-entry m e i s place place_of well is_student at_school listed =
-    elim (cases_eq place place_of) [
+-- of the choices of the entry's student, the one at the entry's rank is the entry's school
+rank-of-entry : (m : Market) (e : Rejection) (i s rank rank_of : ℕ) → WellFormed m → e.student ≡ i → slice_get (choices_of m i) rank ≡ Some s → slice_get (choices_of m i) rank_of ≡ Some e.school → (rank == rank_of) ≡ is_of e i s
+rank-of-entry m e i s rank rank_of well is_student at_school listed =
+    elim (cases_eq rank rank_of) [
       | inl same ↦
           let is_school : e.school ≡ s = same_Some e.school s (sym listed ∙ ap (slice_get (choices_of m i)) (sym same) ∙ at_school) in
-          eq-eqb place place_of same
+          eq-eqb rank rank_of same
           ∙ sym (ap (λ b. b && e.school == s) (eq-eqb e.student i is_student) ∙ eq-eqb e.school s is_school)
       | inr apart ↦
-          ne_eqb place place_of apart
+          ne_eqb rank rank_of apart
           ∙ sym (other-entry e i s (λ same_student same_school.
-          apart (one-place (choices_of m i) place place_of s (choices-differ m well i) at_school (listed ∙ ap Some same_school))))
+          apart (one-place (choices_of m i) rank rank_of s (choices-differ m well i) at_school (listed ∙ ap Some same_school))))
     ]
 
 -- an entry put into the table
-pub table-marked : (m : Market) (log : List Rejection) (e : Rejection) (table : List PlaceSet) (position_of place_of : ℕ) (old new : PlaceSet)
+pub table-marked : (m : Market) (log : List Rejection) (e : Rejection) (table : List RankSet) (position_of rank_of : ℕ) (old new : RankSet)
     → WellFormed m
     → position (nat_eq e.student) (students_of m) ≡ Some position_of
-    → position (λ s. s == e.school) (choices_of m e.student) ≡ Some place_of
+    → position (λ s. s == e.school) (choices_of m e.student) ≡ Some rank_of
     → slice_get table position_of ≡ Some old
-    → ((other : ℕ) → has_place new other ≡ (has_place old other || other == place_of))
+    → ((other : ℕ) → has_rank new other ≡ (has_rank old other || other == rank_of))
     → AreTabled m log table → AreTabled m (log ++ e ∷ []) (set table position_of new)
-table-marked m log e table position_of place_of old new well student school old_at added before = record {
-  at = λ at i places at_student at_table place s at_school.
+table-marked m log e table position_of rank_of old new well student school old_at added before = record {
+  at = λ at i ranks at_student at_table rank s at_school.
       elim (cases_eq at position_of) [
-        | inl same ↦ marked_row at i places at_student at_table place s at_school same
-        | inr apart ↦ other_row at i places at_student at_table place s at_school apart
+        | inl same ↦ marked_row at i ranks at_student at_table rank s at_school same
+        | inr apart ↦ other_row at i ranks at_student at_table rank s at_school apart
       ];
 }
   where
-    marked_row : (at i : ℕ) (places : PlaceSet) → slice_get (students_of m) at ≡ Some i → slice_get (set table position_of new) at ≡ Some places → (place s : ℕ) → slice_get (choices_of m i) place ≡ Some s → at ≡ position_of → has_place places place ≡ is_rejected (log ++ e ∷ []) i s
-    marked_row at i places at_student at_table place s at_school same =
+    marked_row : (at i : ℕ) (ranks : RankSet) → slice_get (students_of m) at ≡ Some i → slice_get (set table position_of new) at ≡ Some ranks → (rank s : ℕ) → slice_get (choices_of m i) rank ≡ Some s → at ≡ position_of → has_rank ranks rank ≡ is_rejected (log ++ e ∷ []) i s
+    marked_row at i ranks at_student at_table rank s at_school same =
         let low : position_of < length table = slice_get_within table position_of old old_at in
         let long : position_of < length (set table position_of new) = omega (arith, low, length-set table position_of new) in
         let written : slice_get (set table position_of new) position_of ≡ Some new =
         slice_get-get_or (set table position_of new) position_of new long ∙ ap Some (get_or-set_same table position_of new new low) in
-        let is_new : places ≡ new = same_Some places new (sym at_table ∙ ap (slice_get (set table position_of new)) same ∙ written) in
+        let is_new : ranks ≡ new = same_Some ranks new (sym at_table ∙ ap (slice_get (set table position_of new)) same ∙ written) in
         let at_position : slice_get (students_of m) position_of ≡ Some i = ap (slice_get (students_of m)) (sym same) ∙ at_student in
         let is_student : e.student ≡ i = same_Some e.student i (sym (student-here m e.student position_of student) ∙ at_position) in
-        let listed : slice_get (choices_of m i) place_of ≡ Some e.school =
-        ap (λ j. slice_get (choices_of m j) place_of) (sym is_student) ∙ school-here m e.student e.school place_of school in
-        ap (λ set_of. has_place set_of place) is_new
-        ∙ added place
-        ∙ ap (λ b. b || place == place_of) (before.at position_of i old at_position old_at place s at_school)
-        ∙ ap (λ b. is_rejected log i s || b) (place-of-entry m e i s place place_of well is_student at_school listed)
+        let listed : slice_get (choices_of m i) rank_of ≡ Some e.school =
+        ap (λ j. slice_get (choices_of m j) rank_of) (sym is_student) ∙ school-here m e.student e.school rank_of school in
+        ap (λ set_of. has_rank set_of rank) is_new
+        ∙ added rank
+        ∙ ap (λ b. b || rank == rank_of) (before.at position_of i old at_position old_at rank s at_school)
+        ∙ ap (λ b. is_rejected log i s || b) (rank-of-entry m e i s rank rank_of well is_student at_school listed)
         ∙ sym (rejected-push log e i s)
 
-    other_row : (at i : ℕ) (places : PlaceSet) → slice_get (students_of m) at ≡ Some i → slice_get (set table position_of new) at ≡ Some places → (place s : ℕ) → slice_get (choices_of m i) place ≡ Some s → (at ≡ position_of → ⊥) → has_place places place ≡ is_rejected (log ++ e ∷ []) i s
-    other_row at i places at_student at_table place s at_school apart =
-        let low : at < length table = omega (arith, slice_get_within (set table position_of new) at places at_table, length-set table position_of new) in
-        let here : slice_get table at ≡ Some places =
-        slice_get-get_or table at places low
-        ∙ ap Some (sym (get_or-set_other table position_of at new places apart) ∙ get_or_from_slice_get (set table position_of new) at places places at_table) in
-        before.at at i places at_student here place s at_school
+    other_row : (at i : ℕ) (ranks : RankSet) → slice_get (students_of m) at ≡ Some i → slice_get (set table position_of new) at ≡ Some ranks → (rank s : ℕ) → slice_get (choices_of m i) rank ≡ Some s → (at ≡ position_of → ⊥) → has_rank ranks rank ≡ is_rejected (log ++ e ∷ []) i s
+    other_row at i ranks at_student at_table rank s at_school apart =
+        let low : at < length table = omega (arith, slice_get_within (set table position_of new) at ranks at_table, length-set table position_of new) in
+        let here : slice_get table at ≡ Some ranks =
+        slice_get-get_or table at ranks low
+        ∙ ap Some (sym (get_or-set_other table position_of at new ranks apart) ∙ get_or_from_slice_get (set table position_of new) at ranks ranks at_table) in
+        before.at at i ranks at_student here rank s at_school
         ∙ sym (other-kept log e i s (λ same_student same_school.
         apart (one-place (students_of m) at position_of i well.students_differ at_student (student-here m e.student position_of student ∙ ap Some same_student))))
 
 -- before the first entry
-pub table-new : (m : Market) (k : ℕ) (places : PlaceSet) (table : List PlaceSet) → ((place : ℕ) → has_place places place ≡ false) → table ≡ replicate k places → AreTabled m [] table
-table-new m k places table none made = record {
-  at = λ at i row at_student at_table place s at_school.
-      let low : at < k = omega (arith, slice_get_within table at row at_table, ap length made, length-replicate k places) in
-      let is_row : row ≡ places =
-      same_Some row places (sym at_table ∙ ap (λ rows. slice_get rows at) made ∙ slice_get-get_or (replicate k places) at places (omega (arith, low, length-replicate k places)) ∙ ap Some (get_or-replicate k at places places low)) in
-      ap (λ set_of. has_place set_of place) is_row ∙ none place;
+pub table-new : (m : Market) (k : ℕ) (ranks : RankSet) (table : List RankSet) → ((rank : ℕ) → has_rank ranks rank ≡ false) → table ≡ replicate k ranks → AreTabled m [] table
+table-new m k ranks table none made = record {
+  at = λ at i row at_student at_table rank s at_school.
+      let low : at < k = omega (arith, slice_get_within table at row at_table, ap length made, length-replicate k ranks) in
+      let is_row : row ≡ ranks =
+      same_Some row ranks (sym at_table ∙ ap (λ rows. slice_get rows at) made ∙ slice_get-get_or (replicate k ranks) at ranks (omega (arith, low, length-replicate k ranks)) ∙ ap Some (get_or-replicate k at ranks ranks low)) in
+      ap (λ set_of. has_rank set_of rank) is_row ∙ none rank;
 }

@@ -1,4 +1,4 @@
--- A log and the places at which it is cut into segments.
+-- A log and the indices at which it is cut into segments.
 use Rattle.std.specs.Prelude.{◌≡◌, ℕ, ◌≤◌, List, [], ◌∷◌, slice_range}
 use Rattle.sc_papers.specs.declared.rejection.Rejection.{Rejection}
 use Rattle.sc_checkpoint.specs.Chains.{Chain}

@@ -2,4 +2,4 @@ pub mod NextChoices
 pub mod Chains
 pub mod Cutting
 pub mod Representation
-pub mod Places
+pub mod Ranks

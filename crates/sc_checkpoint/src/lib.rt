@@ -4,7 +4,7 @@
 
 mod next_choice;
 mod next_choices;
-mod place_set;
+mod rank_set;
 mod segment;
 mod segments;
 

@@ -4,11 +4,11 @@ ghost use Rattle.std.specs.Prelude.{◌≡◌, ℕ, ◌<◌, ◌≤◌, ◌==◌
 ghost use Rattle.sc_papers.specs.Log.{next_choice};
 ghost use Rattle.sc_papers.specs.Market.{students_of, choices_of};
 ghost use Rattle.sc_papers.specs.declared.rejection.Rejection.{Rejection};
-ghost use Rattle.sc_checkpoint.specs.Places.{has_place, AreRejectedPlaces, AreTabled};
+ghost use Rattle.sc_checkpoint.specs.Ranks.{has_rank, AreRejectedRanks, AreTabled};
 ghost use Rattle.sc_checkpoint.specs.NextChoices.{next_choices_after};
 
 use crate::next_choice::NextChoice;
-use crate::place_set::PlaceSet;
+use crate::rank_set::RankSet;
 use sc_papers::{LONGEST_LIST, Papers, Rejection, SchoolNo, StudentNo};
 use std::alloc::{AllocError, Global};
 
@@ -26,7 +26,7 @@ pub(crate) fn next_choices_of_first(
     requires { k ≤ length (students_of papers.now) }
     ensures { IfOk result (λ next_choices. next_choices.items ≡ next_choices_after papers.now log.now (take k (students_of papers.now))) }
 {
-    let rejected = rejected_places(alloc, papers, log, k)?;
+    let rejected = rejected_ranks(alloc, papers, log, k)?;
     let mut next_choices = Vec::with_capacity(alloc, k)?;
     for position in 0..k {
         let Some(student) = papers.student_at(position) else {
@@ -37,53 +37,53 @@ pub(crate) fn next_choices_of_first(
     Ok(next_choices)
 }
 
-/// For each of the first `k` students, the places of the choices that rejected it.
-fn rejected_places(
+/// For each of the first `k` students, the ranks of the choices that rejected it.
+fn rejected_ranks(
     alloc: Global,
     papers: &Papers,
     log: &[Rejection],
     k: usize,
-) -> Result<Vec<PlaceSet>, AllocError>
+) -> Result<Vec<RankSet>, AllocError>
     ensures count { IfOk result (λ table. length table.items ≡ k) }
     ensures tabled { IfOk result (λ table. AreTabled papers.now log.now table.items) }
 {
-    let mut table = vec![in alloc; PlaceSet::new(); k]?;
+    let mut table = vec![in alloc; RankSet::new(); k]?;
     for entry in log {
         mark(papers, &mut table, *entry);
     }
     Ok(table)
 }
 
-/// Puts the entry's school among the places of the entry's student, where the student is in the table
+/// Puts the entry's school among the ranks of the entry's student, where the student is in the table
 /// and lists the school.
-fn mark(papers: &Papers, table: &mut [PlaceSet], entry: Rejection)
+fn mark(papers: &Papers, table: &mut [RankSet], entry: Rejection)
     ensures { (log : List Rejection) → AreTabled papers.now log table.old → AreTabled papers.now (log ++ entry ∷ []) table.new }
 {
     let Some(position) = papers.student_position(entry.student) else {
         return;
     };
-    let Some(place) = place_in(papers.choices_at(position), entry.school) else {
+    let Some(rank) = rank_in(papers.choices_at(position), entry.school) else {
         return;
     };
     // This call tells that the papers are well-formed: no number and no choice stands twice.
     prove!(position < papers.students_len());
     if position < table.len() {
-        table[position] = table[position].with(place);
+        table[position] = table[position].with(rank);
     }
 }
 
-/// The school's place among the choices.
-fn place_in(choices: &[SchoolNo], school: SchoolNo) -> Option<usize>
+/// The school's rank among the choices.
+fn rank_in(choices: &[SchoolNo], school: SchoolNo) -> Option<usize>
     ensures { result ≡ position (λ s. s == school) choices.now }
 {
     choices.iter().position(|choice| *choice == school)
 }
 
-/// Where the student at the position stands, by the places of the choices that rejected it.
+/// Where the student at the position stands, by the ranks of the choices that rejected it.
 #[tactic(auto, unfolding(sc_papers::specs::Log::next_choice))]
-fn next_choice_of(papers: &Papers, student: StudentNo, at: usize, rejected: PlaceSet) -> NextChoice
+fn next_choice_of(papers: &Papers, student: StudentNo, at: usize, rejected: RankSet) -> NextChoice
     requires { slice_get (students_of papers.now) at ≡ Some student }
-    ensures { (log : List Rejection) → AreRejectedPlaces papers.now log student rejected → result ≡ record { student = student; next = next_choice papers.now log student } }
+    ensures { (log : List Rejection) → AreRejectedRanks papers.now log student rejected → result ≡ record { student = student; next = next_choice papers.now log student } }
 {
     NextChoice {
         student,
@@ -91,13 +91,13 @@ fn next_choice_of(papers: &Papers, student: StudentNo, at: usize, rejected: Plac
     }
 }
 
-/// The first of the choices whose place is not in the set.
-fn first_outside(choices: &[SchoolNo], places: PlaceSet) -> Option<SchoolNo>
+/// The first of the choices whose rank is not in the set.
+fn first_outside(choices: &[SchoolNo], ranks: RankSet) -> Option<SchoolNo>
     requires { length choices.now ≤ LONGEST_LIST }
-    ensures { (test : ℕ → Bool) → ((place s : ℕ) → slice_get choices.now place ≡ Some s → has_place places place ≡ test s) → result ≡ find (λ s. not (test s)) choices.now }
+    ensures { (test : ℕ → Bool) → ((rank s : ℕ) → slice_get choices.now rank ≡ Some s → has_rank ranks rank ≡ test s) → result ≡ find (λ s. not (test s)) choices.now }
 {
-    for (place, school) in choices.iter().enumerate() {
-        if !places.contains(place) {
+    for (rank, school) in choices.iter().enumerate() {
+        if !ranks.contains(rank) {
             return Some(*school);
         }
     }

@@ -14,20 +14,20 @@ use Rattle.sc_papers.proofs.Rejections.{is_of, rejected-push, find-agree, has-ag
 use Rattle.sc_papers.proofs.Restriction.{restricted-restricts, next-kept, next-dropped}
 use Rattle.sc_papers.proofs.Subsets.{next-passes}
 use Rattle.sc_papers.proofs.Validity.{along}
-use Rattle.sc_engine.specs.RoundView.{RoundView, place_of, next_of, has_entered, FitsBut, Fits, only, nobody, entered_papers, Continues, Midway, ChainEnds, Enters, CountsProposals, Extends, RollFits, roll_of}
-use Rattle.sc_engine.proofs.Tables.{place-apart, place-at, next-by, next-none}
+use Rattle.sc_engine.specs.RoundView.{RoundView, rank_of, next_of, has_entered, FitsBut, Fits, only, nobody, entered_papers, Continues, Midway, ChainEnds, Enters, CountsProposals, Extends, RollFits, roll_of}
+use Rattle.sc_engine.proofs.Tables.{rank-apart, rank-at, next-by, next-none}
 use Rattle.sc_engine.proofs.Tables as tables
 use Rattle.sc_engine.proofs.Rolls.{roll-fits_still}
 use Rattle.sc_engine.proofs.Proposals.{has-none, not-there, stays, standing-without, standing-others, counted-within}
 
--- the student goes to a place of its choices, with nothing else changed
-pub record Begun (m : Market) (r r' : RoundView) (i at place : ℕ) : Type 0 where
+-- the student goes to a rank of its choices, with nothing else changed
+pub record Begun (m : Market) (r r' : RoundView) (i at rank : ℕ) : Type 0 where
   pub fits : Fits m r
   pub student : position (nat_eq i) (students_of m) ≡ Some at
-  pub absent : has_entered m r.places i ≡ false
-  pub own : get_or r'.places at None ≡ Some place
-  pub others : (k : ℕ) → (k ≡ at → ⊥) → get_or r'.places k None ≡ get_or r.places k None
-  pub within : length r'.places ≤ length m.students
+  pub absent : has_entered m r.ranks i ≡ false
+  pub own : get_or r'.ranks at None ≡ Some rank
+  pub others : (k : ℕ) → (k ≡ at → ⊥) → get_or r'.ranks k None ≡ get_or r.ranks k None
+  pub within : length r'.ranks ≤ length m.students
   pub rolls : r'.rolls ≡ r.rolls
   pub log : r'.log ≡ r.log
   pub proposals : r'.proposals ≡ r.proposals
@@ -36,60 +36,60 @@ pub is_some-none : {A : Type 0} (o : Option A) → is_some o ≡ false → o ≡
 is_some-none None e = refl
 is_some-none (Some x) e = absurd (true≢false e)
 
-module _ {m : Market} {r r' : RoundView} {i at place : ℕ} (begun : Begun m r r' i at place) where
-  pub place-begun : place_of m r'.places i ≡ Some place
-  place-begun = place-at m r'.places i at begun.student ∙ begun.own
+module _ {m : Market} {r r' : RoundView} {i at rank : ℕ} (begun : Begun m r r' i at rank) where
+  pub rank-begun : rank_of m r'.ranks i ≡ Some rank
+  rank-begun = rank-at m r'.ranks i at begun.student ∙ begun.own
 
-  pub place-others : (j : ℕ) → (j ≡ i → ⊥) → place_of m r'.places j ≡ place_of m r.places j
-  place-others j apart = place-apart m r.places r'.places i at begun.student begun.others j apart
+  pub rank-others : (j : ℕ) → (j ≡ i → ⊥) → rank_of m r'.ranks j ≡ rank_of m r.ranks j
+  rank-others j apart = rank-apart m r.ranks r'.ranks i at begun.student begun.others j apart
 
-  pub next-others : (j : ℕ) → (j ≡ i → ⊥) → next_of m r'.places j ≡ next_of m r.places j
-  next-others j apart = tables.next-kept m r.places r'.places j (place-others j apart)
+  pub next-others : (j : ℕ) → (j ≡ i → ⊥) → next_of m r'.ranks j ≡ next_of m r.ranks j
+  next-others j apart = tables.next-kept m r.ranks r'.ranks j (rank-others j apart)
 
-  pub next-absent : next_of m r.places i ≡ None
-  next-absent = next-none m r.places i (is_some-none (place_of m r.places i) begun.absent)
+  pub next-absent : next_of m r.ranks i ≡ None
+  next-absent = next-none m r.ranks i (is_some-none (rank_of m r.ranks i) begun.absent)
 
 or-same : (a b : Bool) → b ≡ false → a ≡ (a || b)
 or-same true b off = refl
 or-same false b off = sym off
 
 -- one more has entered
-pub entered-begun : {m : Market} {r r' : RoundView} {i at place : ℕ} → Begun m r r' i at place → (j : ℕ) → has_entered m r'.places j ≡ and_one (has_entered m r.places) i j
+pub entered-begun : {m : Market} {r r' : RoundView} {i at rank : ℕ} → Begun m r r' i at rank → (j : ℕ) → has_entered m r'.ranks j ≡ and_one (has_entered m r.ranks) i j
 entered-begun {m} {r} {r'} {i} begun j = elim (cases_eq j i) [
-  | inl same ↦ ap (has_entered m r'.places) same ∙ ap is_some (place-begun begun) ∙ sym (or_right (has_entered m r.places j) (j == i) (eq-eqb j i same))
-  | inr apart ↦ ap is_some (place-others begun j apart) ∙ or-same (has_entered m r.places j) (j == i) (ne_eqb j i apart)
+  | inl same ↦ ap (has_entered m r'.ranks) same ∙ ap is_some (rank-begun begun) ∙ sym (or_right (has_entered m r.ranks j) (j == i) (eq-eqb j i same))
+  | inr apart ↦ ap is_some (rank-others begun j apart) ∙ or-same (has_entered m r.ranks j) (j == i) (ne_eqb j i apart)
 ]
 
 -- nothing is counted
-pub counted-begun : {m : Market} {r r' : RoundView} {i at place : ℕ} → Begun m r r' i at place → CountsProposals m r nobody r' (only i)
+pub counted-begun : {m : Market} {r r' : RoundView} {i at rank : ℕ} → Begun m r r' i at rank → CountsProposals m r nobody r' (only i)
 counted-begun {m} {r} {r'} {i} begun =
     omega (
       arith,
       begun.proposals,
       ap (λ (l : List Rejection). length l) begun.log,
-      standing-without m r.places i (next-absent begun),
-      standing-others m r.places r'.places i (next-others begun),
+      standing-without m r.ranks i (next-absent begun),
+      standing-others m r.ranks r'.ranks i (next-others begun),
     )
 
-stand-alike : {m : Market} {r r' : RoundView} {i at place : ℕ} → Begun m r r' i at place → (t j : ℕ) → (has (next_of m r.places) t j && not false) ≡ (has (next_of m r'.places) t j && not (j == i))
+stand-alike : {m : Market} {r r' : RoundView} {i at rank : ℕ} → Begun m r r' i at rank → (t j : ℕ) → (has (next_of m r.ranks) t j && not false) ≡ (has (next_of m r'.ranks) t j && not (j == i))
 stand-alike {m} {r} {r'} {i} begun t j = elim (cases_eq j i) [
   | inl same ↦
-      stays (has (next_of m r.places) t j) ∙ has-none (next_of m r.places) t j (ap (next_of m r.places) same ∙ next-absent begun)
-      ∙ sym (and_right (has (next_of m r'.places) t j) (not (j == i)) (ap not (eq-eqb j i same)))
+      stays (has (next_of m r.ranks) t j) ∙ has-none (next_of m r.ranks) t j (ap (next_of m r.ranks) same ∙ next-absent begun)
+      ∙ sym (and_right (has (next_of m r'.ranks) t j) (not (j == i)) (ap not (eq-eqb j i same)))
   | inr apart ↦
-      stays (has (next_of m r.places) t j) ∙ sym (has-agree (next_of m r'.places) (next_of m r.places) t j (next-others begun j apart))
-      ∙ sym (not-there (has (next_of m r'.places) t j) j i (λ same. absurd (apart same)))
+      stays (has (next_of m r.ranks) t j) ∙ sym (has-agree (next_of m r'.ranks) (next_of m r.ranks) t j (next-others begun j apart))
+      ∙ sym (not-there (has (next_of m r'.ranks) t j) j i (λ same. absurd (apart same)))
 ]
 
 -- the rolls still fit, with the student away
-pub fits-begun : {m : Market} {r r' : RoundView} {i at place : ℕ} → Begun m r r' i at place → FitsBut m r' (only i)
-fits-begun {m} {r} {r'} {i} {at} {place} begun = record {
+pub fits-begun : {m : Market} {r r' : RoundView} {i at rank : ℕ} → Begun m r r' i at rank → FitsBut m r' (only i)
+fits-begun {m} {r} {r'} {i} {at} {rank} begun = record {
   well_formed = begun.fits.well_formed;
   within_limits = begun.fits.within_limits;
-  places = begun.within;
+  ranks = begun.within;
   rolls = ap length begun.rolls ∙ begun.fits.rolls;
-  each = λ t. subst (λ rolls. RollFits m (next_of m r'.places) (only i) t (roll_of m rolls t)) (sym begun.rolls)
-      (roll-fits_still m (next_of m r.places) (next_of m r'.places) nobody (only i) t (roll_of m r.rolls t) (stand-alike begun t) (begun.fits.each t));
+  each = λ t. subst (λ rolls. RollFits m (next_of m r'.ranks) (only i) t (roll_of m rolls t)) (sym begun.rolls)
+      (roll-fits_still m (next_of m r.ranks) (next_of m r'.ranks) nobody (only i) t (roll_of m r.rolls t) (stand-alike begun t) (begun.fits.each t));
   proposals = counted-within m r nobody r' (only i) (counted-begun begun) begun.fits.proposals;
 }
 
@@ -118,17 +118,17 @@ first-choice m log i none = find-agree (λ s. not (is_rejected log i s)) (λ s. 
 -- the chain is in course after each earlier log that the round continued
 pub midway-begun : {m : Market} {r r' : RoundView} {i at : ℕ} → Begun m r r' i at 0 → (earlier : List Rejection) → Continues m earlier r → Midway m earlier r' i
 midway-begun {m} {r} {r'} {i} begun earlier continues =
-    let entered : ℕ → Bool = has_entered m r.places in
+    let entered : ℕ → Bool = has_entered m r.ranks in
     let log : List Rejection = earlier ++ r.log in
     let n : Market = restricted m entered in
     let n' : Market = restricted m (and_one entered i) in
-    let same_papers : entered_papers m r'.places ≡ n' = λ t. restricted m (λ j. entered-begun begun j t) in
+    let same_papers : entered_papers m r'.ranks ≡ n' = λ t. restricted m (λ j. entered-begun begun j t) in
     let same_log : earlier ++ r'.log ≡ log = ap (λ l. earlier ++ l) begun.log in
-    let own : next_choice n' log i ≡ next_of m r'.places i =
+    let own : next_choice n' log i ≡ next_of m r'.ranks i =
     next-kept (restricted-restricts m (and_one entered i)) log i (or_right (entered i) (i == i) (eq-eqb i i refl))
     ∙ first-choice m log i (absent-unrejected m entered i log begun.absent continues.settled)
-    ∙ sym (next-by m r'.places i 0 (place-begun begun)) in
-    let others : (j : ℕ) → (j ≡ i → ⊥) → next_choice n' log j ≡ next_of m r'.places j = λ j apart.
+    ∙ sym (next-by m r'.ranks i 0 (rank-begun begun)) in
+    let others : (j : ℕ) → (j ≡ i → ⊥) → next_choice n' log j ≡ next_of m r'.ranks j = λ j apart.
     let same : and_one entered i j ≡ entered j = sym (or-same (entered j) (j == i) (ne_eqb j i apart)) in
     (elim (cases_Bool (entered j)) [
       | inl here ↦ next-kept (restricted-restricts m (and_one entered i)) log j (same ∙ here) ∙ sym (next-kept (restricted-restricts m entered) log j here)
@@ -137,7 +137,7 @@ midway-begun {m} {r} {r'} {i} begun earlier continues =
     record {
       chain = subst (λ p. InChain p (earlier ++ r'.log) i) (sym same_papers) (subst (λ l. InChain n' l i) (sym same_log) (chain-begins m entered i log continues.settled));
       next = λ j. ap (λ p. next_choice p (earlier ++ r'.log) j) same_papers ∙ ap (λ l. next_choice n' l j) same_log ∙ elim (cases_eq j i) [
-        | inl same ↦ ap (next_choice n' log) same ∙ own ∙ ap (next_of m r'.places) (sym same)
+        | inl same ↦ ap (next_choice n' log) same ∙ own ∙ ap (next_of m r'.ranks) (sym same)
         | inr apart ↦ others j apart
       ];
     }
@@ -152,21 +152,21 @@ enters {m} {r} {r'} {r''} {i} begun ends = record {
   counted = omega (arith, counted-begun begun, ends.counted);
 }
 
--- the round with the student at a place of its choices, after room is made for it
+-- the round with the student at a rank of its choices, after room is made for it
 abbrev pub moved : RoundView → List (Option ℕ) → ℕ → ℕ → RoundView
-moved r room at place = record r { places = set room at (Some place) }
+moved r room at rank = record r { ranks = set room at (Some rank) }
 
-pub begins : (m : Market) (r : RoundView) (room : List (Option ℕ)) (i at place : ℕ) → Fits m r → position (nat_eq i) (students_of m) ≡ Some at → has_entered m r.places i ≡ false
-    → at < length room → ((k : ℕ) → get_or room k None ≡ get_or r.places k None) → ((n : ℕ) → at < n → length r.places ≤ n → length room ≤ n) → Begun m r (moved r room at place) i at place
-begins m r room i at place fits found absent low same within = record {
+pub begins : (m : Market) (r : RoundView) (room : List (Option ℕ)) (i at rank : ℕ) → Fits m r → position (nat_eq i) (students_of m) ≡ Some at → has_entered m r.ranks i ≡ false
+    → at < length room → ((k : ℕ) → get_or room k None ≡ get_or r.ranks k None) → ((n : ℕ) → at < n → length r.ranks ≤ n → length room ≤ n) → Begun m r (moved r room at rank) i at rank
+begins m r room i at rank fits found absent low same within = record {
   fits = fits;
   student = found;
   absent = absent;
-  own = get_or-set_same room at (Some place) None low;
-  others = λ k other. get_or-set_other room at k (Some place) None other ∙ same k;
+  own = get_or-set_same room at (Some rank) None low;
+  others = λ k other. get_or-set_other room at k (Some rank) None other ∙ same k;
   within =
       let here : at < length m.students = omega (arith, (position-at (students_of m) i at found).0, tables.length-mapped (λ (e : ℕ × Student). e.0) m.students) in
-      omega (arith, length-set room at (Some place), within (length m.students) here fits.places);
+      omega (arith, length-set room at (Some rank), within (length m.students) here fits.ranks);
   rolls = refl;
   log = refl;
   proposals = refl;

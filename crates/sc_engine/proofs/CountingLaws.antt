@@ -11,39 +11,39 @@ use Rattle.sc_papers.proofs.Progress.{log-bounded}
 use Rattle.sc_papers.proofs.Restriction.{counts-restricted}
 use Rattle.sc_papers.proofs.Students.{how_many-agree, how_many-none}
 use Rattle.sc_engine.specs.Counting.{CountsExactly}
-use Rattle.sc_engine.specs.RoundView.{RoundView, Continues, Enters, Fits, entered_papers, has_entered, next_of, nobody, place_of, standing_but}
+use Rattle.sc_engine.specs.RoundView.{RoundView, Continues, Enters, Fits, entered_papers, has_entered, next_of, nobody, rank_of, standing_but}
 use Rattle.sc_papers.proofs.Subsets.{well-restricted}
 use Rattle.sc_engine.proofs.Beginning.{is_some-none}
 use Rattle.sc_engine.proofs.Proposals.{stays}
 use Rattle.sc_engine.proofs.Tables.{next-none}
 
 -- who stands at a choice has entered
-stands-entered : (f : ℕ → Option ℕ) (place : Option ℕ) → (is_some place && is_some (option_and_then f place)) ≡ (is_some (option_and_then f place) && not false)
+stands-entered : (f : ℕ → Option ℕ) (rank : Option ℕ) → (is_some rank && is_some (option_and_then f rank)) ≡ (is_some (option_and_then f rank) && not false)
 stands-entered f None = refl
 stands-entered f (Some at) = sym (stays (is_some (f at)))
 
 pub standing-placed : (m : Market) (r : RoundView) (earlier : List Rejection) → Continues m earlier r
-    → placed (entered_papers m r.places) (matching_of (entered_papers m r.places) (earlier ++ r.log)) ≡ standing_but m r.places nobody
+    → placed (entered_papers m r.ranks) (matching_of (entered_papers m r.ranks) (earlier ++ r.log)) ≡ standing_but m r.ranks nobody
 unfolding standing_but next_of
 standing-placed m r earlier continues =
-    let n : Market = entered_papers m r.places in
-    how_many-agree n (λ i. is_some (matching_of n (earlier ++ r.log) i)) (λ i. is_some (next_of m r.places i)) (λ i. ap is_some (continues.next i))
-    ∙ counts-restricted m (has_entered m r.places) (λ i. is_some (next_of m r.places i))
-    ∙ how_many-agree m (λ i. has_entered m r.places i && is_some (next_of m r.places i)) (λ i. is_some (next_of m r.places i) && not false)
-    (λ i. stands-entered (λ place. slice_get (choices_of m i) place) (place_of m r.places i))
+    let n : Market = entered_papers m r.ranks in
+    how_many-agree n (λ i. is_some (matching_of n (earlier ++ r.log) i)) (λ i. is_some (next_of m r.ranks i)) (λ i. ap is_some (continues.next i))
+    ∙ counts-restricted m (has_entered m r.ranks) (λ i. is_some (next_of m r.ranks i))
+    ∙ how_many-agree m (λ i. has_entered m r.ranks i && is_some (next_of m r.ranks i)) (λ i. is_some (next_of m r.ranks i) && not false)
+    (λ i. stands-entered (λ rank. slice_get (choices_of m i) rank) (rank_of m r.ranks i))
 
-pub proposals-bounded : (m : Market) (r : RoundView) (earlier : List Rejection) → Fits m r → Continues m earlier r → r.proposals ≤ all_choices (entered_papers m r.places)
+pub proposals-bounded : (m : Market) (r : RoundView) (earlier : List Rejection) → Fits m r → Continues m earlier r → r.proposals ≤ all_choices (entered_papers m r.ranks)
 proposals-bounded m r earlier fits continues =
-    let n : Market = entered_papers m r.places in
-    let bounded = log-bounded n (well-restricted m (has_entered m r.places) fits.well_formed) (earlier ++ r.log) continues.settled.valid in
+    let n : Market = entered_papers m r.ranks in
+    let bounded = log-bounded n (well-restricted m (has_entered m r.ranks) fits.well_formed) (earlier ++ r.log) continues.settled.valid in
     omega (arith, fits.proposals, bounded, standing-placed m r earlier continues, length-append earlier r.log)
 
 pub exact-entered : (m : Market) (old new : RoundView) (i : ℕ) → CountsExactly m old → Enters m old new i → CountsExactly m new
 exact-entered m old new i before enters = omega (arith, before, enters.counted)
 
-pub exact-none : (m : Market) (r : RoundView) → ((i : ℕ) → has_entered m r.places i ≡ false) → r.log ≡ [] → r.proposals ≡ 0 → CountsExactly m r
+pub exact-none : (m : Market) (r : RoundView) → ((i : ℕ) → has_entered m r.ranks i ≡ false) → r.log ≡ [] → r.proposals ≡ 0 → CountsExactly m r
 unfolding standing_but
 exact-none m r nowhere no_log none =
-    let choice : how_many m (λ i. is_some (next_of m r.places i) && not false) ≡ 0 =
-    how_many-none m (λ i. is_some (next_of m r.places i) && not false) (λ i among. stays (is_some (next_of m r.places i)) ∙ ap is_some (next-none m r.places i (is_some-none (place_of m r.places i) (nowhere i)))) in
+    let choice : how_many m (λ i. is_some (next_of m r.ranks i) && not false) ≡ 0 =
+    how_many-none m (λ i. is_some (next_of m r.ranks i) && not false) (λ i among. stays (is_some (next_of m r.ranks i)) ∙ ap is_some (next-none m r.ranks i (is_some-none (rank_of m r.ranks i) (nowhere i)))) in
     omega (arith, choice, none, ap (λ (l : List Rejection). length l) no_log)

@@ -23,9 +23,9 @@ use Rattle.sc_papers.proofs.Rewinding.{key_by, key-by}
 use Rattle.sc_papers.proofs.Students.{how_many-agree}
 use Rattle.sc_papers.proofs.Subsets.{well-cut}
 use Rattle.sc_seats.specs.Roll.{RollView}
-use Rattle.sc_engine.specs.RoundView.{RoundView, Continues, Fits, RollFits, entered_papers, has_entered, next_of, nobody, place_of, roll_of, standing_but}
+use Rattle.sc_engine.specs.RoundView.{RoundView, Continues, Fits, RollFits, entered_papers, has_entered, next_of, nobody, rank_of, roll_of, standing_but}
 use Rattle.sc_engine.proofs.Rolls.{on-roll}
-use Rattle.sc_engine.proofs.Tables.{entered-among, length-mapped, next-by, next-entered, next-none, place-at}
+use Rattle.sc_engine.proofs.Tables.{entered-among, length-mapped, next-by, next-entered, next-none, rank-at}
 
 slice-take : {X : Type 0} (k : ℕ) (xs : List X) (at : ℕ) → at < length (take k xs) → slice_get (take k xs) at ≡ slice_get xs at
 slice-take zero xs at low = absurd (omega (arith, low))
@@ -38,7 +38,7 @@ take-short zero xs = omega arith
 take-short (suc k) [] = omega arith
 take-short (suc k) (x ∷ xs) = omega (arith, take-short k xs)
 
-get_or-past : (places : List (Option ℕ)) (at : ℕ) → length places ≤ at → get_or places at None ≡ None
+get_or-past : (ranks : List (Option ℕ)) (at : ℕ) → length ranks ≤ at → get_or ranks at None ≡ None
 get_or-past [] at past = refl
 get_or-past (p ∷ ps) zero past = absurd (omega (arith, past))
 get_or-past (p ∷ ps) (suc at) past = get_or-past ps at (omega (arith, past))
@@ -71,28 +71,28 @@ filter-twice test kept (x ∷ xs) weaker = elim (cases_Bool (kept x)) [
 ]
 
 -- papers restricted to a test that everyone passes who has entered
-module _ (m : Market) (test : ℕ → Bool) (places : List (Option ℕ))
-    (same : (i : ℕ) → place_of (restricted m test) places i ≡ place_of m places i)
-    (entered : (i : ℕ) → has_entered m places i ≡ true → test i ≡ true) where
-  entered-part : (i : ℕ) → has_entered (restricted m test) places i ≡ has_entered m places i
+module _ (m : Market) (test : ℕ → Bool) (ranks : List (Option ℕ))
+    (same : (i : ℕ) → rank_of (restricted m test) ranks i ≡ rank_of m ranks i)
+    (entered : (i : ℕ) → has_entered m ranks i ≡ true → test i ≡ true) where
+  entered-part : (i : ℕ) → has_entered (restricted m test) ranks i ≡ has_entered m ranks i
   entered-part i = ap is_some (same i)
 
   choices-part : (i : ℕ) → test i ≡ true → choices_of (restricted m test) i ≡ choices_of m i
   choices-part i passes = choices-restricted m test i ∙ cond-true (test i) (choices_of m i) [] passes
 
-  next-part : (i : ℕ) → next_of (restricted m test) places i ≡ next_of m places i
-  next-part i = go (place_of m places i) refl
+  next-part : (i : ℕ) → next_of (restricted m test) ranks i ≡ next_of m ranks i
+  next-part i = go (rank_of m ranks i) refl
     where
-      go : (o : Option ℕ) → place_of m places i ≡ o → next_of (restricted m test) places i ≡ next_of m places i
-      go None is = next-none (restricted m test) places i (same i ∙ is) ∙ sym (next-none m places i is)
-      go (Some place) is =
-          next-by (restricted m test) places i place (same i ∙ is)
-          ∙ ap (λ choices. slice_get choices place) (choices-part i (entered i (ap is_some is)))
-          ∙ sym (next-by m places i place is)
+      go : (o : Option ℕ) → rank_of m ranks i ≡ o → next_of (restricted m test) ranks i ≡ next_of m ranks i
+      go None is = next-none (restricted m test) ranks i (same i ∙ is) ∙ sym (next-none m ranks i is)
+      go (Some rank) is =
+          next-by (restricted m test) ranks i rank (same i ∙ is)
+          ∙ ap (λ choices. slice_get choices rank) (choices-part i (entered i (ap is_some is)))
+          ∙ sym (next-by m ranks i rank is)
 
   -- who has a next choice passes
-  next-passes : (i s : ℕ) → next_of m places i ≡ Some s → test i ≡ true
-  next-passes i s next = entered i (next-entered m places i s next)
+  next-passes : (i s : ℕ) → next_of m ranks i ≡ Some s → test i ≡ true
+  next-passes i s next = entered i (next-entered m ranks i s next)
 
   key-part : (i s : ℕ) → test i ≡ true → key_of (restricted m test) i s ≡ key_of m i s
   unfolding restricted
@@ -110,46 +110,46 @@ module _ (m : Market) (test : ℕ → Bool) (places : List (Option ℕ))
       both true b off = refl
       both false b off = sym off
 
-  standing-part : (away : ℕ → Bool) → standing_but (restricted m test) places away ≡ standing_but m places away
+  standing-part : (away : ℕ → Bool) → standing_but (restricted m test) ranks away ≡ standing_but m ranks away
   unfolding standing_but
   standing-part away =
-      how_many-agree (restricted m test) (λ i. is_some (next_of (restricted m test) places i) && not (away i)) (λ i. is_some (next_of m places i) && not (away i)) (λ i. ap (λ o. is_some o && not (away i)) (next-part i))
-      ∙ part-counts (λ i. is_some (next_of m places i) && not (away i)) (λ i holds. stands i (next_of m places i) refl holds)
+      how_many-agree (restricted m test) (λ i. is_some (next_of (restricted m test) ranks i) && not (away i)) (λ i. is_some (next_of m ranks i) && not (away i)) (λ i. ap (λ o. is_some o && not (away i)) (next-part i))
+      ∙ part-counts (λ i. is_some (next_of m ranks i) && not (away i)) (λ i holds. stands i (next_of m ranks i) refl holds)
     where
-      stands : (i : ℕ) (o : Option ℕ) → next_of m places i ≡ o → (is_some (next_of m places i) && not (away i)) ≡ true → test i ≡ true
+      stands : (i : ℕ) (o : Option ℕ) → next_of m ranks i ≡ o → (is_some (next_of m ranks i) && not (away i)) ≡ true → test i ≡ true
       stands i None is holds = absurd (false≢true (sym (ap (λ o. is_some o && not (away i)) is) ∙ holds))
       stands i (Some s) is holds = next-passes i s is
 
-  roll-part : (away : ℕ → Bool) (s : ℕ) (roll : RollView) → RollFits (restricted m test) (next_of (restricted m test) places) away s roll → RollFits m (next_of m places) away s roll
+  roll-part : (away : ℕ → Bool) (s : ℕ) (roll : RollView) → RollFits (restricted m test) (next_of (restricted m test) ranks) away s roll → RollFits m (next_of m ranks) away s roll
   roll-part away s roll fits = record {
     seats = fits.seats ∙ seats-restricted m test s;
     within = fits.within;
     keyed = All-weaker (Contains roll.keys) (λ (key : Key). key ≡ key_of m key.student s) (λ key held.
-        let on = on-roll (restricted m test) (next_of (restricted m test) places) away s roll key fits held in
+        let on = on-roll (restricted m test) (next_of (restricted m test) ranks) away s roll key fits held in
         on.own ∙ key-part key.student s (next-passes key.student s (sym (next-part key.student) ∙ on.stands))) roll.keys (All-contains_itself roll.keys);
     exact = λ p.
         fits.exact p
-        ∙ how_many-agree (restricted m test) (λ j. p j && (has (next_of (restricted m test) places) s j && not (away j))) (λ j. p j && (has (next_of m places) s j && not (away j)))
+        ∙ how_many-agree (restricted m test) (λ j. p j && (has (next_of (restricted m test) ranks) s j && not (away j))) (λ j. p j && (has (next_of m ranks) s j && not (away j)))
         (λ j. ap (λ o. p j && (option_map_or (λ t. t == s) o false && not (away j))) (next-part j))
-        ∙ part-counts (λ j. p j && (has (next_of m places) s j && not (away j))) (λ j holds. held p j (has (next_of m places) s j) refl holds);
+        ∙ part-counts (λ j. p j && (has (next_of m ranks) s j && not (away j))) (λ j holds. held p j (has (next_of m ranks) s j) refl holds);
   }
     where
-      held : (p : ℕ → Bool) (j : ℕ) (b : Bool) → has (next_of m places) s j ≡ b → (p j && (has (next_of m places) s j && not (away j))) ≡ true → test j ≡ true
-      held p j true is holds = next-passes j s (has-true (next_of m places) s j is)
+      held : (p : ℕ → Bool) (j : ℕ) (b : Bool) → has (next_of m ranks) s j ≡ b → (p j && (has (next_of m ranks) s j && not (away j))) ≡ true → test j ≡ true
+      held p j true is holds = next-passes j s (has-true (next_of m ranks) s j is)
       held p j false is holds = absurd (false≢true (sym (ap (λ b. p j && (b && not (away j))) is ∙ off (p j)) ∙ holds))
         where
           off : (a : Bool) → (a && false) ≡ false
           off true = refl
           off false = refl
 
-  papers-part : entered_papers (restricted m test) places ≡ entered_papers m places
+  papers-part : entered_papers (restricted m test) ranks ≡ entered_papers m ranks
   unfolding restricted
   papers-part =
       (λ t. let n : Market = record m { students = filter (λ e. entered-part e.0 t) (filter (λ e. test e.0) m.students) } in n)
-      ∙ (λ t. let n : Market = record m { students = filter-twice (λ (e : ℕ × Student). test e.0) (λ e. has_entered m places e.0) m.students (λ e. entered e.0) t } in n)
+      ∙ (λ t. let n : Market = record m { students = filter-twice (λ (e : ℕ × Student). test e.0) (λ e. has_entered m ranks e.0) m.students (λ e. entered e.0) t } in n)
 
 -- papers cut at k: everyone who has entered is among the first k
-module _ (m : Market) (k : ℕ) (well : WellFormed m) (places : List (Option ℕ)) (short : length places ≤ length (cut m k).students) where
+module _ (m : Market) (k : ℕ) (well : WellFormed m) (ranks : List (Option ℕ)) (short : length ranks ≤ length (cut m k).students) where
   students-cut : students_of (cut m k) ≡ take k (students_of m)
   unfolding cut
   students-cut = sym (take-map (λ e. e.0) k m.students)
@@ -157,39 +157,39 @@ module _ (m : Market) (k : ℕ) (well : WellFormed m) (places : List (Option ℕ
   here-first : (at : ℕ) → at < length (students_of (cut m k)) → slice_get (students_of (cut m k)) at ≡ slice_get (students_of m) at
   here-first at low = ap (λ xs. slice_get xs at) students-cut ∙ slice-take k (students_of m) at (subst (λ xs. at < length xs) students-cut low)
 
-  place-cut : (i : ℕ) → place_of (cut m k) places i ≡ place_of m places i
-  unfolding place_of
-  place-cut i = go (position (nat_eq i) (students_of (cut m k))) refl
+  rank-cut : (i : ℕ) → rank_of (cut m k) ranks i ≡ rank_of m ranks i
+  unfolding rank_of
+  rank-cut i = go (position (nat_eq i) (students_of (cut m k))) refl
     where
-      nowhere : position (nat_eq i) (students_of (cut m k)) ≡ None → (o : Option ℕ) → position (nat_eq i) (students_of m) ≡ o → place_of m places i ≡ None
-      nowhere none None is = ap (λ o. option_map_or (λ at. get_or places at None) o None) is
-      nowhere none (Some at) is = place-at m places i at is ∙ elim (cases_lt at (length places)) [
+      nowhere : position (nat_eq i) (students_of (cut m k)) ≡ None → (o : Option ℕ) → position (nat_eq i) (students_of m) ≡ o → rank_of m ranks i ≡ None
+      nowhere none None is = ap (λ o. option_map_or (λ at. get_or ranks at None) o None) is
+      nowhere none (Some at) is = rank-at m ranks i at is ∙ elim (cases_lt at (length ranks)) [
         | inl low ↦
             let low' : at < length (students_of (cut m k)) = omega (arith, low, short, length-mapped (λ (e : ℕ × Student). e.0) (cut m k).students) in
             let there : slice_get (students_of (cut m k)) at ≡ Some i = here-first at low' ∙ position-there (students_of m) i at is in
             absurd (none-some at (sym none ∙ place-position (cut m k) (well-cut m k well) at i there))
-        | inr past ↦ get_or-past places at (omega (arith, past))
+        | inr past ↦ get_or-past ranks at (omega (arith, past))
       ]
 
-      none-of : position (nat_eq i) (students_of (cut m k)) ≡ None → place_of (cut m k) places i ≡ None
-      none-of none = ap (λ o. option_map_or (λ at. get_or places at None) o None) none
+      none-of : position (nat_eq i) (students_of (cut m k)) ≡ None → rank_of (cut m k) ranks i ≡ None
+      none-of none = ap (λ o. option_map_or (λ at. get_or ranks at None) o None) none
 
-      go : (o : Option ℕ) → position (nat_eq i) (students_of (cut m k)) ≡ o → place_of (cut m k) places i ≡ place_of m places i
+      go : (o : Option ℕ) → position (nat_eq i) (students_of (cut m k)) ≡ o → rank_of (cut m k) ranks i ≡ rank_of m ranks i
       go None is = none-of is ∙ sym (nowhere is (position (nat_eq i) (students_of m)) refl)
       go (Some at) is =
           let low = (position-at (students_of (cut m k)) i at is).0 in
-          place-at (cut m k) places i at is
-          ∙ sym (place-at m places i at (place-position m well at i (sym (here-first at low) ∙ position-there (students_of (cut m k)) i at is)))
+          rank-at (cut m k) ranks i at is
+          ∙ sym (rank-at m ranks i at (place-position m well at i (sym (here-first at low) ∙ position-there (students_of (cut m k)) i at is)))
 
-  place-restricted : (i : ℕ) → place_of (restricted m (is_among_first m k)) places i ≡ place_of m places i
-  place-restricted i = ap (λ n. place_of n places i) (sym (cut-restricted m k well)) ∙ place-cut i
+  rank-restricted : (i : ℕ) → rank_of (restricted m (is_among_first m k)) ranks i ≡ rank_of m ranks i
+  rank-restricted i = ap (λ n. rank_of n ranks i) (sym (cut-restricted m k well)) ∙ rank-cut i
 
-  entered-first : (i : ℕ) → has_entered m places i ≡ true → is_among_first m k i ≡ true
-  entered-first i here = go (place_of (cut m k) places i) refl
+  entered-first : (i : ℕ) → has_entered m ranks i ≡ true → is_among_first m k i ≡ true
+  entered-first i here = go (rank_of (cut m k) ranks i) refl
     where
-      go : (o : Option ℕ) → place_of (cut m k) places i ≡ o → is_among_first m k i ≡ true
-      go None is = absurd (false≢true (sym (ap is_some (sym (place-cut i) ∙ is)) ∙ here))
-      go (Some place) is = any-there (take k (students_of m)) i (subst (λ xs. Contains xs i) students-cut (entered-among (cut m k) places i place is))
+      go : (o : Option ℕ) → rank_of (cut m k) ranks i ≡ o → is_among_first m k i ≡ true
+      go None is = absurd (false≢true (sym (ap is_some (sym (rank-cut i) ∙ is)) ∙ here))
+      go (Some rank) is = any-there (take k (students_of m)) i (subst (λ xs. Contains xs i) students-cut (entered-among (cut m k) ranks i rank is))
 
 cut-short : (m : Market) (k : ℕ) → length (cut m k).students ≤ length m.students
 unfolding cut
@@ -200,7 +200,7 @@ rolls-part : (m : Market) (test : ℕ → Bool) (r : RoundView) → Fits (restri
 unfolding restricted
 rolls-part m test r part = part.rolls
 
-each-part : (m : Market) (test : ℕ → Bool) (r : RoundView) → Fits (restricted m test) r → (s : ℕ) → RollFits (restricted m test) (next_of (restricted m test) r.places) nobody s (roll_of m r.rolls s)
+each-part : (m : Market) (test : ℕ → Bool) (r : RoundView) → Fits (restricted m test) r → (s : ℕ) → RollFits (restricted m test) (next_of (restricted m test) r.ranks) nobody s (roll_of m r.rolls s)
 unfolding restricted roll_of
 each-part m test r part s = part.each s
 
@@ -209,28 +209,28 @@ pub fits-grown : (m : Market) (k : ℕ) (r : RoundView) → WellFormed m → Wit
 fits-grown m k r well within fits =
     let test : ℕ → Bool = is_among_first m k in
     let part : Fits (restricted m test) r = subst (λ n. Fits n r) (cut-restricted m k well) fits in
-    let same = place-restricted m k well r.places fits.places in
-    let entered = entered-first m k well r.places fits.places in
+    let same = rank-restricted m k well r.ranks fits.ranks in
+    let entered = entered-first m k well r.ranks fits.ranks in
     record {
       well_formed = well;
       within_limits = within;
-      places = omega (arith, fits.places, cut-short m k);
+      ranks = omega (arith, fits.ranks, cut-short m k);
       rolls = rolls-part m test r part;
-      each = λ s. roll-part m test r.places same entered nobody s (roll_of m r.rolls s) (each-part m test r part s);
-      proposals = omega (arith, part.proposals, standing-part m test r.places same entered nobody);
+      each = λ s. roll-part m test r.ranks same entered nobody s (roll_of m r.rolls s) (each-part m test r part s);
+      proposals = omega (arith, part.proposals, standing-part m test r.ranks same entered nobody);
     }
 
-pub entered-grown : (m : Market) (k : ℕ) (r : RoundView) → WellFormed m → Fits (cut m k) r → (i : ℕ) → has_entered m r.places i ≡ has_entered (cut m k) r.places i
-entered-grown m k r well fits i = sym (ap is_some (place-cut m k well r.places fits.places i))
+pub entered-grown : (m : Market) (k : ℕ) (r : RoundView) → WellFormed m → Fits (cut m k) r → (i : ℕ) → has_entered m r.ranks i ≡ has_entered (cut m k) r.ranks i
+entered-grown m k r well fits i = sym (ap is_some (rank-cut m k well r.ranks fits.ranks i))
 
-pub next-grown : (m : Market) (k : ℕ) (r : RoundView) → WellFormed m → Fits (cut m k) r → (i : ℕ) → next_of m r.places i ≡ next_of (cut m k) r.places i
+pub next-grown : (m : Market) (k : ℕ) (r : RoundView) → WellFormed m → Fits (cut m k) r → (i : ℕ) → next_of m r.ranks i ≡ next_of (cut m k) r.ranks i
 next-grown m k r well fits i =
-    sym (ap (λ n. next_of n r.places i) (cut-restricted m k well) ∙ next-part m (is_among_first m k) r.places (place-restricted m k well r.places fits.places) (entered-first m k well r.places fits.places) i)
+    sym (ap (λ n. next_of n r.ranks i) (cut-restricted m k well) ∙ next-part m (is_among_first m k) r.ranks (rank-restricted m k well r.ranks fits.ranks) (entered-first m k well r.ranks fits.ranks) i)
 
 pub continues-grown : (m : Market) (k : ℕ) (r : RoundView) (earlier : List Rejection) → WellFormed m → Fits (cut m k) r → Continues (cut m k) earlier r → Continues m earlier r
 continues-grown m k r earlier well fits continues =
-    let papers : entered_papers (cut m k) r.places ≡ entered_papers m r.places =
-    ap (λ n. entered_papers n r.places) (cut-restricted m k well) ∙ papers-part m (is_among_first m k) r.places (place-restricted m k well r.places fits.places) (entered-first m k well r.places fits.places) in
+    let papers : entered_papers (cut m k) r.ranks ≡ entered_papers m r.ranks =
+    ap (λ n. entered_papers n r.ranks) (cut-restricted m k well) ∙ papers-part m (is_among_first m k) r.ranks (rank-restricted m k well r.ranks fits.ranks) (entered-first m k well r.ranks fits.ranks) in
     record {
       settled = subst (λ n. IsSettled n (earlier ++ r.log)) papers continues.settled;
       next = λ i. ap (λ n. next_choice n (earlier ++ r.log) i) (sym papers) ∙ continues.next i ∙ sym (next-grown m k r well fits i);

@@ -3,21 +3,21 @@ use Rattle.std.proofs.Common.{◌≡◌, ap, sym, ◌∙◌, ℕ, nat_eq, List, 
 use Rattle.std.specs.Option.{option_and_then, option_map_or}
 use Rattle.sc_papers.specs.Market.{Market, choices_of, student_at, students_of}
 use Rattle.sc_papers.proofs.Hands.{student-there}
-use Rattle.sc_engine.specs.RoundView.{next_of, place_of}
-use Rattle.sc_engine.proofs.Tables.{next-none, place-at}
+use Rattle.sc_engine.specs.RoundView.{next_of, rank_of}
+use Rattle.sc_engine.proofs.Tables.{next-none, rank-at}
 
 -- none for one who has not entered
-pub next-absent : (m : Market) (places : List (Option ℕ)) (i at : ℕ) → position (nat_eq i) (students_of m) ≡ Some at → get_or places at None ≡ None → next_of m places i ≡ None
+pub next-absent : (m : Market) (ranks : List (Option ℕ)) (i at : ℕ) → position (nat_eq i) (students_of m) ≡ Some at → get_or ranks at None ≡ None → next_of m ranks i ≡ None
 unfolding next_of
-next-absent m places i at found absent = ap (option_and_then (λ k. slice_get (choices_of m i) k)) (place-at m places i at found ∙ absent)
+next-absent m ranks i at found absent = ap (option_and_then (λ k. slice_get (choices_of m i) k)) (rank-at m ranks i at found ∙ absent)
 
-pub next-chosen : (m : Market) (places : List (Option ℕ)) (i at place : ℕ) → position (nat_eq i) (students_of m) ≡ Some at → get_or places at None ≡ Some place → next_of m places i ≡ slice_get (choices_of m (student_at m at)) place
+pub next-chosen : (m : Market) (ranks : List (Option ℕ)) (i at rank : ℕ) → position (nat_eq i) (students_of m) ≡ Some at → get_or ranks at None ≡ Some rank → next_of m ranks i ≡ slice_get (choices_of m (student_at m at)) rank
 unfolding next_of
-next-chosen m places i at place found here =
-    ap (option_and_then (λ k. slice_get (choices_of m i) k)) (place-at m places i at found ∙ here)
-    ∙ ap (λ j. slice_get (choices_of m j) place) (sym (student-there m i at found))
+next-chosen m ranks i at rank found here =
+    ap (option_and_then (λ k. slice_get (choices_of m i) k)) (rank-at m ranks i at found ∙ here)
+    ∙ ap (λ j. slice_get (choices_of m j) rank) (sym (student-there m i at found))
 
 -- nor for one who is not in the papers
-pub next-nowhere : (m : Market) (places : List (Option ℕ)) (i : ℕ) → None ≡ position (nat_eq i) (students_of m) → next_of m places i ≡ None
-unfolding place_of
-next-nowhere m places i none = next-none m places i (ap (λ o. option_map_or (λ at. get_or places at None) o None) (sym none))
+pub next-nowhere : (m : Market) (ranks : List (Option ℕ)) (i : ℕ) → None ≡ position (nat_eq i) (students_of m) → next_of m ranks i ≡ None
+unfolding rank_of
+next-nowhere m ranks i none = next-none m ranks i (ap (λ o. option_map_or (λ at. get_or ranks at None) o None) (sym none))

@@ -5,14 +5,14 @@ use Rattle.sc_papers.specs.Key.{key_of}
 use Rattle.sc_papers.specs.declared.key.Key.{Key}
 use Rattle.sc_papers.specs.declared.rejection.Rejection.{Rejection}
 use Rattle.sc_seats.specs.Roll.{RollView}
-use Rattle.sc_engine.specs.RoundView.{RoundView, place_of, next_of, FitsBut, only, OffersAt, RollFits, roll_at, ChainEnds, ChainGoesOn, Extends, Proposes}
+use Rattle.sc_engine.specs.RoundView.{RoundView, rank_of, next_of, FitsBut, only, OffersAt, RollFits, roll_at, ChainEnds, ChainGoesOn, Extends, Proposes}
 use Rattle.std.proofs.lemmas.Bool.{eq-eqb}
 use Rattle.sc_engine.proofs.Rolls.{away-off}
-use Rattle.sc_engine.proofs.Tables.{place-low, roll-at, stands-at, StandsAt, position-of, PositionOf}
+use Rattle.sc_engine.proofs.Tables.{rank-low, roll-at, stands-at, StandsAt, position-of, PositionOf}
 use Rattle.sc_engine.proofs.Proposals.{Proposed, put-out, Out, fits-held, fits-ended, counted-ended, counted-held}
 use Rattle.sc_engine.proofs.Steps.{Rejected, entry_of, entered-stays, fits-put_out, counted-put_out, midway-put_out, continues-held, continues-ended, left-put_out}
 
-pub proposed-from : (m : Market) (r : RoundView) (proposer s at : ℕ) (key : Key) (rolls : List RollView) (out : Option Key) → FitsBut m r (only proposer) → next_of m r.places proposer ≡ Some s → position (nat_eq s) (schools_of m) ≡ Some at → key ≡ key_of m proposer s → OffersAt r.rolls rolls at key out → Proposed m r proposer s at rolls out
+pub proposed-from : (m : Market) (r : RoundView) (proposer s at : ℕ) (key : Key) (rolls : List RollView) (out : Option Key) → FitsBut m r (only proposer) → next_of m r.ranks proposer ≡ Some s → position (nat_eq s) (schools_of m) ≡ Some at → key ≡ key_of m proposer s → OffersAt r.rolls rolls at key out → Proposed m r proposer s at rolls out
 proposed-from m r proposer s at key rolls out fits stands school is offered = record {
   fits = fits;
   stands = stands;
@@ -21,7 +21,7 @@ proposed-from m r proposer s at key rolls out fits stands school is offered = re
 }
 
 -- the same of what the roll answered
-pub proposed-told : (m : Market) (r : RoundView) (proposer s at : ℕ) (key : Key) (rolls : List RollView) (told out : Option Key) → FitsBut m r (only proposer) → next_of m r.places proposer ≡ Some s → position (nat_eq s) (schools_of m) ≡ Some at → key ≡ key_of m proposer s → OffersAt r.rolls rolls at key told → told ≡ out → Proposed m r proposer s at rolls out
+pub proposed-told : (m : Market) (r : RoundView) (proposer s at : ℕ) (key : Key) (rolls : List RollView) (told out : Option Key) → FitsBut m r (only proposer) → next_of m r.ranks proposer ≡ Some s → position (nat_eq s) (schools_of m) ≡ Some at → key ≡ key_of m proposer s → OffersAt r.rolls rolls at key told → told ≡ out → Proposed m r proposer s at rolls out
 proposed-told m r proposer s at key rolls told out fits stands school is offered answer =
     proposed-from m r proposer s at key rolls out fits stands school is (subst (OffersAt r.rolls rolls at key) answer offered)
 
@@ -32,7 +32,7 @@ pub extends-trans : (a b c : List Rejection) → Extends a b → Extends b c →
 extends-trans a b c (first, is_b) (second, is_c) = (first ++ second, is_c ∙ ap (λ l. l ++ second) is_b ∙ append_assoc a first second)
 
 -- the student in hand has no choice left
-pub ends-none : (m : Market) (r : RoundView) (proposer : ℕ) → FitsBut m r (only proposer) → next_of m r.places proposer ≡ None → ChainEnds m r r proposer
+pub ends-none : (m : Market) (r : RoundView) (proposer : ℕ) → FitsBut m r (only proposer) → next_of m r.ranks proposer ≡ None → ChainEnds m r r proposer
 ends-none m r proposer fits none = record {
   fits = fits-ended m r proposer fits none;
   entered = λ i. refl;
@@ -42,42 +42,42 @@ ends-none m r proposer fits none = record {
 }
 
 -- the roll had room
-pub ends-held : (m : Market) (r r' : RoundView) (proposer s at : ℕ) → Proposed m r proposer s at r'.rolls None → r'.places ≡ r.places → r'.log ≡ r.log → r'.proposals ≡ r.proposals + 1 → ChainEnds m r r' proposer
-ends-held m r r' proposer s at done same_places same_log one_more = record {
-  counted = counted-held m r r' proposer s done.fits.well_formed done.stands same_places same_log one_more;
-  fits = fits-held m r r' proposer s at done same_places (counted-held m r r' proposer s done.fits.well_formed done.stands same_places same_log one_more);
-  entered = λ i. ap (λ places. is_some (place_of m places i)) same_places;
-  continues = continues-held m r r' proposer s at done same_places same_log;
+pub ends-held : (m : Market) (r r' : RoundView) (proposer s at : ℕ) → Proposed m r proposer s at r'.rolls None → r'.ranks ≡ r.ranks → r'.log ≡ r.log → r'.proposals ≡ r.proposals + 1 → ChainEnds m r r' proposer
+ends-held m r r' proposer s at done same_ranks same_log one_more = record {
+  counted = counted-held m r r' proposer s done.fits.well_formed done.stands same_ranks same_log one_more;
+  fits = fits-held m r r' proposer s at done same_ranks (counted-held m r r' proposer s done.fits.well_formed done.stands same_ranks same_log one_more);
+  entered = λ i. ap (λ ranks. is_some (rank_of m ranks i)) same_ranks;
+  continues = continues-held m r r' proposer s at done same_ranks same_log;
   extends = extends-same r.log r'.log same_log;
 }
 
 -- a student is put out and moves on
 pub goes-on : (m : Market) (r r' : RoundView) (proposer s at : ℕ) (rolls : List RollView) (out : Key) → Proposed m r proposer s at rolls (Some out) → r'.rolls ≡ rolls → r'.log ≡ r.log ++ entry_of out.student s ∷ []
-    → ((k place : ℕ) → position (nat_eq out.student) (students_of m) ≡ Some k → place_of m r.places out.student ≡ Some place → r'.places ≡ set r.places k (Some (place + 1)))
+    → ((k rank : ℕ) → position (nat_eq out.student) (students_of m) ≡ Some k → rank_of m r.ranks out.student ≡ Some rank → r'.ranks ≡ set r.ranks k (Some (rank + 1)))
     → r'.proposals ≡ r.proposals + 1 → Proposes m r r' proposer (Some out.student)
 goes-on m r r' proposer s at rolls out done same_rolls log moved one_more =
-    let gone : Out m (next_of m r.places) proposer s out = put-out m r proposer s at rolls out done in
-    let stood : StandsAt m r.places out.student s = stands-at m r.places out.student s gone.stands in
-    let where_is : PositionOf m r.places out.student stood.place = position-of m r.places out.student stood.place stood.entered in
+    let gone : Out m (next_of m r.ranks) proposer s out = put-out m r proposer s at rolls out done in
+    let stood : StandsAt m r.ranks out.student s = stands-at m r.ranks out.student s gone.stands in
+    let where_is : PositionOf m r.ranks out.student stood.rank = position-of m r.ranks out.student stood.rank stood.entered in
     let done' : Proposed m r proposer s at r'.rolls (Some out) = subst (λ rs. Proposed m r proposer s at rs (Some out)) (sym same_rolls) done in
-    let low : where_is.at < length r.places = place-low r.places where_is.at stood.place where_is.here in
-    let step : Rejected m r r' out.student s where_is.at stood.place = record {
+    let low : where_is.at < length r.ranks = rank-low r.ranks where_is.at stood.rank where_is.here in
+    let step : Rejected m r r' out.student s where_is.at stood.rank = record {
       student = where_is.found;
       low = low;
       stood = stood.entered;
       choice = stood.choice;
-      places = moved where_is.at stood.place where_is.found stood.entered;
+      ranks = moved where_is.at stood.rank where_is.found stood.entered;
       log = log;
     } in
-    let counted = counted-put_out m r r' proposer s out.student where_is.at stood.place done.fits.well_formed done.stands step one_more in (
+    let counted = counted-put_out m r r' proposer s out.student where_is.at stood.rank done.fits.well_formed done.stands step one_more in (
       record {
         counted = counted;
-        fits = fits-put_out m r r' proposer s at out where_is.at stood.place done' step counted;
+        fits = fits-put_out m r r' proposer s at out where_is.at stood.rank done' step counted;
         entered = entered-stays step;
-        continues = midway-put_out m r r' proposer s at out where_is.at stood.place done' step;
+        continues = midway-put_out m r r' proposer s at out where_is.at stood.rank done' step;
         extends = (entry_of out.student s ∷ [], log);
       },
-      omega (arith, left-put_out m r r' out.student s where_is.at stood.place done.fits.well_formed step),
+      omega (arith, left-put_out m r r' out.student s where_is.at stood.rank done.fits.well_formed step),
     )
 
 -- a chain that has not begun
@@ -111,5 +111,5 @@ goes-on_ends m a b c i j first last = record {
 -- what an offer asks of the roll
 pub roll-new : (m : Market) (r : RoundView) (proposer s at : ℕ) (key : Key) → FitsBut m r (only proposer) → position (nat_eq s) (schools_of m) ≡ Some at → key ≡ key_of m proposer s → Contains (roll_at r.rolls at).keys key → ⊥
 roll-new m r proposer s at key fits school is held =
-    away-off m (next_of m r.places) (only proposer) s (roll_at r.rolls at) proposer (subst (RollFits m (next_of m r.places) (only proposer) s) (roll-at m r.rolls s at school) (fits.each s)) (eq-eqb proposer proposer refl)
+    away-off m (next_of m r.ranks) (only proposer) s (roll_at r.rolls at) proposer (subst (RollFits m (next_of m r.ranks) (only proposer) s) (roll-at m r.rolls s at school) (fits.each s)) (eq-eqb proposer proposer refl)
     (subst (Contains (roll_at r.rolls at).keys) is held)

@@ -8,21 +8,21 @@ use Rattle.sc_papers.specs.declared.limits.TheConstants.{LONGEST_LIST}
 use Rattle.sc_papers.proofs.Choices.{contains-at}
 use Rattle.sc_papers.proofs.Positions.{any-among, among-student}
 use Rattle.sc_papers.proofs.Students.{choice-known, choices-short}
-use Rattle.sc_engine.specs.RoundView.{next_of, place_of}
+use Rattle.sc_engine.specs.RoundView.{next_of, rank_of}
 use Rattle.sc_engine.proofs.Tables.{stands-at, next-among, next-by}
 
 -- who stands at a choice is a student of the papers, and the choice a school of them
-pub stander-student : (m : Market) (places : List (Option ℕ)) (i s : ℕ) → next_of m places i ≡ Some s → is_student m i ≡ true
-stander-student m places i s next = among-student m i (next-among m places i s next)
+pub stander-student : (m : Market) (ranks : List (Option ℕ)) (i s : ℕ) → next_of m ranks i ≡ Some s → is_student m i ≡ true
+stander-student m ranks i s next = among-student m i (next-among m ranks i s next)
 
-pub stander-school : (m : Market) (places : List (Option ℕ)) (i s : ℕ) → WellFormed m → next_of m places i ≡ Some s → is_school m s ≡ true
-stander-school m places i s well next =
-    let at = stands-at m places i s next in choice-known m well i s (contains-at (choices_of m i) at.place s at.choice)
+pub stander-school : (m : Market) (ranks : List (Option ℕ)) (i s : ℕ) → WellFormed m → next_of m ranks i ≡ Some s → is_school m s ≡ true
+stander-school m ranks i s well next =
+    let at = stands-at m ranks i s next in choice-known m well i s (contains-at (choices_of m i) at.rank s at.choice)
 
--- and its place is below the length of the longest list
-pub stander-short : (m : Market) (places : List (Option ℕ)) (i s place : ℕ) → WithinLimits m → next_of m places i ≡ Some s → place_of m places i ≡ Some place → place < LONGEST_LIST
-stander-short m places i s place within next is =
-    omega (arith, slice_get_within (choices_of m i) place s (sym (next-by m places i place is) ∙ next), choices-short m within i)
+-- and its rank is below the length of the longest list
+pub stander-short : (m : Market) (ranks : List (Option ℕ)) (i s rank : ℕ) → WithinLimits m → next_of m ranks i ≡ Some s → rank_of m ranks i ≡ Some rank → rank < LONGEST_LIST
+stander-short m ranks i s rank within next is =
+    omega (arith, slice_get_within (choices_of m i) rank s (sym (next-by m ranks i rank is) ∙ next), choices-short m within i)
 
 -- a school at a position is a school of the papers
 pub school-at : (m : Market) (at s : ℕ) → slice_get (schools_of m) at ≡ Some s → is_school m s ≡ true

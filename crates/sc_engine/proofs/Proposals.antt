@@ -48,7 +48,7 @@ stays false = refl
 -- a proposal as the code makes it: the student in hand stands at s, and its key is offered to the roll
 pub record Proposed (m : Market) (r : RoundView) (proposer s at : ℕ) (rolls : List RollView) (out : Option Key) : Type 0 where
   pub fits : FitsBut m r (only proposer)
-  pub stands : next_of m r.places proposer ≡ Some s
+  pub stands : next_of m r.ranks proposer ≡ Some s
   pub school : position (nat_eq s) (schools_of m) ≡ Some at
   pub offered : OffersAt r.rolls rolls at (key_of m proposer s) out
 
@@ -58,8 +58,8 @@ key-student m i s = refl
 
 module _ {m : Market} {r : RoundView} {proposer s at : ℕ} {rolls : List RollView} {out : Option Key} (done : Proposed m r proposer s at rolls out) where
   -- the school's roll before
-  pub roll-before : RollFits m (next_of m r.places) (only proposer) s (roll_at r.rolls at)
-  roll-before = subst (RollFits m (next_of m r.places) (only proposer) s) (roll-at m r.rolls s at done.school) (done.fits.each s)
+  pub roll-before : RollFits m (next_of m r.ranks) (only proposer) s (roll_at r.rolls at)
+  roll-before = subst (RollFits m (next_of m r.ranks) (only proposer) s) (roll-at m r.rolls s at done.school) (done.fits.each s)
 
   -- the other schools' rolls stay
   pub roll-after_other : (t : ℕ) → (t ≡ s → ⊥) → roll_of m rolls t ≡ roll_of m r.rolls t
@@ -68,29 +68,29 @@ module _ {m : Market} {r : RoundView} {proposer s at : ℕ} {rolls : List RollVi
   pub roll-after : roll_of m rolls s ≡ roll_at rolls at
   roll-after = roll-at m rolls s at done.school
 
--- the proposals stay within what the log and the places account for
-pub counted-within : (m : Market) (r : RoundView) (away : ℕ → Bool) (r' : RoundView) (away' : ℕ → Bool) → CountsProposals m r away r' away' → r.proposals ≤ length r.log + standing_but m r.places away → r'.proposals ≤ length r'.log + standing_but m r'.places away'
+-- the proposals stay within what the log and the ranks account for
+pub counted-within : (m : Market) (r : RoundView) (away : ℕ → Bool) (r' : RoundView) (away' : ℕ → Bool) → CountsProposals m r away r' away' → r.proposals ≤ length r.log + standing_but m r.ranks away → r'.proposals ≤ length r'.log + standing_but m r'.ranks away'
 counted-within m r away r' away' counted within = omega (arith, counted, within)
 
 -- one who stands at a choice, and the others
-pub standing-split : (m : Market) → WellFormed m → (places : List (Option ℕ)) (i s : ℕ) → next_of m places i ≡ Some s → standing_but m places nobody ≡ 1 + standing_but m places (only i)
+pub standing-split : (m : Market) → WellFormed m → (ranks : List (Option ℕ)) (i s : ℕ) → next_of m ranks i ≡ Some s → standing_but m ranks nobody ≡ 1 + standing_but m ranks (only i)
 unfolding standing_but
-standing-split m well places i s stands =
-    how_many-agree m (λ j. is_some (next_of m places j) && not false) (λ j. is_some (next_of m places j)) (λ j. stays (is_some (next_of m places j)))
-    ∙ how_many-split m well (λ j. is_some (next_of m places j)) i (next-among m places i s stands) (ap is_some stands)
+standing-split m well ranks i s stands =
+    how_many-agree m (λ j. is_some (next_of m ranks j) && not false) (λ j. is_some (next_of m ranks j)) (λ j. stays (is_some (next_of m ranks j)))
+    ∙ how_many-split m well (λ j. is_some (next_of m ranks j)) i (next-among m ranks i s stands) (ap is_some stands)
 
 -- no more stand at a choice than there are students
-pub standing-most : (m : Market) (places : List (Option ℕ)) (away : ℕ → Bool) → WithinLimits m → standing_but m places away ≤ MOST_STUDENTS
+pub standing-most : (m : Market) (ranks : List (Option ℕ)) (away : ℕ → Bool) → WithinLimits m → standing_but m ranks away ≤ MOST_STUDENTS
 unfolding standing_but how_many
-standing-most m places away within =
-    omega (arith, within.students, length-mapped (λ (e : ℕ × Student). e.0) m.students, count_by-le-length (λ i. is_some (next_of m places i) && not (away i)) (students_of m))
+standing-most m ranks away within =
+    omega (arith, within.students, length-mapped (λ (e : ℕ × Student). e.0) m.students, count_by-le-length (λ i. is_some (next_of m ranks i) && not (away i)) (students_of m))
 
 -- leaving out one who stands nowhere
-pub standing-without : (m : Market) (places : List (Option ℕ)) (i : ℕ) → next_of m places i ≡ None → standing_but m places nobody ≡ standing_but m places (only i)
+pub standing-without : (m : Market) (ranks : List (Option ℕ)) (i : ℕ) → next_of m ranks i ≡ None → standing_but m ranks nobody ≡ standing_but m ranks (only i)
 unfolding standing_but
-standing-without m places i none =
-    how_many-agree m (λ j. is_some (next_of m places j) && not false) (λ j. is_some (next_of m places j) && not (j == i))
-    (λ j. stays (is_some (next_of m places j)) ∙ sym (not-there (is_some (next_of m places j)) j i (λ same. ap is_some (ap (next_of m places) same ∙ none))))
+standing-without m ranks i none =
+    how_many-agree m (λ j. is_some (next_of m ranks j) && not false) (λ j. is_some (next_of m ranks j) && not (j == i))
+    (λ j. stays (is_some (next_of m ranks j)) ∙ sym (not-there (is_some (next_of m ranks j)) j i (λ same. ap is_some (ap (next_of m ranks) same ∙ none))))
 
 -- leaving out one student, where the others stay
 pub standing-others : (m : Market) (old new : List (Option ℕ)) (i : ℕ) → ((j : ℕ) → (j ≡ i → ⊥) → next_of m new j ≡ next_of m old j) → standing_but m new (only i) ≡ standing_but m old (only i)
@@ -103,22 +103,22 @@ standing-others m old new i same =
     ])
 
 -- the counts at the end of a chain
-pub counted-ended : (m : Market) (r : RoundView) (proposer : ℕ) → next_of m r.places proposer ≡ None → CountsProposals m r (only proposer) r nobody
-counted-ended m r proposer none = ap (λ n. r.proposals + (length r.log + n)) (sym (standing-without m r.places proposer none))
+pub counted-ended : (m : Market) (r : RoundView) (proposer : ℕ) → next_of m r.ranks proposer ≡ None → CountsProposals m r (only proposer) r nobody
+counted-ended m r proposer none = ap (λ n. r.proposals + (length r.log + n)) (sym (standing-without m r.ranks proposer none))
 
-pub counted-held : (m : Market) (r r' : RoundView) (proposer s : ℕ) → WellFormed m → next_of m r.places proposer ≡ Some s → r'.places ≡ r.places → r'.log ≡ r.log → r'.proposals ≡ r.proposals + 1 → CountsProposals m r (only proposer) r' nobody
-counted-held m r r' proposer s well stands same_places same_log one_more =
-    omega (arith, one_more, standing-split m well r.places proposer s stands, ap (λ places. standing_but m places nobody) same_places, ap (λ (l : List Rejection). length l) same_log)
+pub counted-held : (m : Market) (r r' : RoundView) (proposer s : ℕ) → WellFormed m → next_of m r.ranks proposer ≡ Some s → r'.ranks ≡ r.ranks → r'.log ≡ r.log → r'.proposals ≡ r.proposals + 1 → CountsProposals m r (only proposer) r' nobody
+counted-held m r r' proposer s well stands same_ranks same_log one_more =
+    omega (arith, one_more, standing-split m well r.ranks proposer s stands, ap (λ ranks. standing_but m ranks nobody) same_ranks, ap (λ (l : List Rejection). length l) same_log)
 
 -- nobody is put out: the roll had room
-pub fits-held : (m : Market) (r r' : RoundView) (proposer s at : ℕ) → Proposed m r proposer s at r'.rolls None → r'.places ≡ r.places → CountsProposals m r (only proposer) r' nobody → Fits m r'
+pub fits-held : (m : Market) (r r' : RoundView) (proposer s at : ℕ) → Proposed m r proposer s at r'.rolls None → r'.ranks ≡ r.ranks → CountsProposals m r (only proposer) r' nobody → Fits m r'
 fits-held m r r' proposer s at done same counted = record {
   proposals = counted-within m r (only proposer) r' nobody counted done.fits.proposals;
   well_formed = done.fits.well_formed;
   within_limits = done.fits.within_limits;
-  places = omega (arith, ap (λ (l : List (Option ℕ)). length l) same, done.fits.places);
+  ranks = omega (arith, ap (λ (l : List (Option ℕ)). length l) same, done.fits.ranks);
   rolls = done.offered.same_length ∙ done.fits.rolls;
-  each = λ t. subst (λ places. RollFits m (next_of m places) nobody t (roll_of m r'.rolls t)) (sym same) (elim (cases_eq t s) [
+  each = λ t. subst (λ ranks. RollFits m (next_of m ranks) nobody t (roll_of m r'.rolls t)) (sym same) (elim (cases_eq t s) [
     | inl at_s ↦ subst (λ u. RollFits m next nobody u (roll_of m r'.rolls u)) (sym at_s) (subst (RollFits m next nobody s) (sym (roll-after done)) here)
     | inr apart ↦ subst (RollFits m next nobody t) (sym (roll-after_other done t apart))
         (roll-fits_still m next next (only proposer) nobody t (roll_of m r.rolls t)
@@ -128,7 +128,7 @@ fits-held m r r' proposer s at done same counted = record {
 }
   where
     next : Matching
-    next = next_of m r.places
+    next = next_of m r.ranks
 
     here : RollFits m next nobody s (roll_at r'.rolls at)
     here = record {
@@ -139,22 +139,22 @@ fits-held m r r' proposer s at done same counted = record {
       exact = λ p.
           let now : count_by (λ (k : Key). p k.student) (roll_at r'.rolls at).keys ≡ cond (p proposer) 1 0 + count_by (λ (k : Key). p k.student) (roll_at r.rolls at).keys =
           counts-held p (key_of m proposer s) (roll_at r.rolls at).keys (roll_at r'.rolls at).keys done.offered.together ∙ ap (λ i. cond (p i) 1 0 + count_by (λ (k : Key). p k.student) (roll_at r.rolls at).keys) (key-student m proposer s) in
-          let split = how_many-split_both m done.fits.well_formed p (has next s) proposer (next-among m r.places proposer s done.stands) (has-some next s proposer done.stands) in
+          let split = how_many-split_both m done.fits.well_formed p (has next s) proposer (next-among m r.ranks proposer s done.stands) (has-some next s proposer done.stands) in
           let still : how_many m (λ j. p j && has next s j) ≡ how_many m (λ j. p j && (has next s j && not false)) =
           how_many-agree m (λ j. p j && has next s j) (λ j. p j && (has next s j && not false)) (λ j. ap (λ b. p j && b) (sym (stays (has next s j)))) in
           omega (arith, now, split, still, (roll-before done).exact p);
     }
 
 -- the student in hand has no choice left
-pub fits-ended : (m : Market) (r : RoundView) (proposer : ℕ) → FitsBut m r (only proposer) → next_of m r.places proposer ≡ None → Fits m r
+pub fits-ended : (m : Market) (r : RoundView) (proposer : ℕ) → FitsBut m r (only proposer) → next_of m r.ranks proposer ≡ None → Fits m r
 fits-ended m r proposer fits none = record {
   well_formed = fits.well_formed;
   within_limits = fits.within_limits;
-  places = fits.places;
+  ranks = fits.ranks;
   rolls = fits.rolls;
   proposals = counted-within m r (only proposer) r nobody (counted-ended m r proposer none) fits.proposals;
-  each = λ t. roll-fits_still m (next_of m r.places) (next_of m r.places) (only proposer) nobody t (roll_of m r.rolls t)
-      (λ j. not-there (has (next_of m r.places) t j) j proposer (λ is_hand. has-none (next_of m r.places) t j (ap (next_of m r.places) is_hand ∙ none)) ∙ sym (stays (has (next_of m r.places) t j)))
+  each = λ t. roll-fits_still m (next_of m r.ranks) (next_of m r.ranks) (only proposer) nobody t (roll_of m r.rolls t)
+      (λ j. not-there (has (next_of m r.ranks) t j) j proposer (λ is_hand. has-none (next_of m r.ranks) t j (ap (next_of m r.ranks) is_hand ∙ none)) ∙ sym (stays (has (next_of m r.ranks) t j)))
       (fits.each t);
 }
 
@@ -168,7 +168,7 @@ before-ahead : (m : Market) (s i j : ℕ) → is_before (key_of m i s) (key_of m
 unfolding is_ahead
 before-ahead m s i j before = before
 
-pub put-out : (m : Market) (r : RoundView) (proposer s at : ℕ) (rolls : List RollView) (out : Key) → Proposed m r proposer s at rolls (Some out) → Out m (next_of m r.places) proposer s out
+pub put-out : (m : Market) (r : RoundView) (proposer s at : ℕ) (rolls : List RollView) (out : Key) → Proposed m r proposer s at rolls (Some out) → Out m (next_of m r.ranks) proposer s out
 put-out m r proposer s at rolls out done = record {
   stands = (elim from [
     | inl is_hand ↦ ap next (ap (λ (k : Key). k.student) (sym is_hand) ∙ key-student m proposer s) ∙ done.stands
@@ -178,7 +178,7 @@ put-out m r proposer s at rolls out done = record {
   last = λ j stands apart.
       let among : Contains (key_of m proposer s ∷ old.keys) (key_of m j s) = elim (cases_eq j proposer) [
         | inl is_hand ↦ subst (λ i. Contains (key_of m proposer s ∷ old.keys) (key_of m i s)) (sym is_hand) (contains-head (key_of m proposer s) old.keys)
-        | inr other ↦ contains-tail (key_of m proposer s) old.keys (key_of m j s) (roll-holds m next (only proposer) s old j (roll-before done) (next-among m r.places j s stands) stands (ne_eqb j proposer other))
+        | inr other ↦ contains-tail (key_of m proposer s) old.keys (key_of m j s) (roll-holds m next (only proposer) s old j (roll-before done) (next-among m r.ranks j s stands) stands (ne_eqb j proposer other))
       ] in
       elim (contains-cons out (roll_at rolls at).keys (key_of m j s) (Contains-permutation (key_of m proposer s ∷ old.keys) (out ∷ (roll_at rolls at).keys) (key_of m j s) done.offered.together among)) [
         | inl is_out ↦ absurd (apart (sym (key-student m j s) ∙ ap (λ (k : Key). k.student) (sym is_out)))
@@ -187,7 +187,7 @@ put-out m r proposer s at rolls out done = record {
 }
   where
     next : Matching
-    next = next_of m r.places
+    next = next_of m r.ranks
 
     old : RollView
     old = roll_at r.rolls at
@@ -202,5 +202,5 @@ put-out m r proposer s at rolls out done = record {
         (Contains-permutation (out ∷ (roll_at rolls at).keys) (key_of m proposer s ∷ (roll_at r.rolls at).keys) out
         (IsPermutation-sym (key_of m proposer s ∷ (roll_at r.rolls at).keys) (out ∷ (roll_at rolls at).keys) done.offered.together) (contains-head out (roll_at rolls at).keys))) [
           | inl is_hand ↦ sym is_hand ∙ ap (λ i. key_of m i s) (sym (key-student m proposer s) ∙ ap (λ (k : Key). k.student) is_hand)
-          | inr held ↦ (on-roll m (next_of m r.places) (only proposer) s (roll_at r.rolls at) out (roll-before done) held).own
+          | inr held ↦ (on-roll m (next_of m r.ranks) (only proposer) s (roll_at r.rolls at) out (roll-before done) held).own
         ]

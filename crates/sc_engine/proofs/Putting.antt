@@ -4,19 +4,19 @@ use Rattle.sc_papers.specs.Market.{Market, choices_of, schools_of, seats_of, is_
 use Rattle.sc_papers.specs.Matching.{Matching, has, held}
 use Rattle.sc_papers.proofs.Choices.{contains-at}
 use Rattle.sc_papers.proofs.Students.{how_many-agree}
-use Rattle.sc_engine.specs.RoundView.{RoundView, place_of, next_of, Fits, nobody, roll_at, RollFits, StandsToo}
+use Rattle.sc_engine.specs.RoundView.{RoundView, rank_of, next_of, Fits, nobody, roll_at, RollFits, StandsToo}
 use Rattle.sc_engine.proofs.Tables.{roll-at, next-by}
 use Rattle.sc_engine.proofs.Rolls.{roll-length}
 use Rattle.sc_papers.proofs.Students.{choice-known}
 use Rattle.sc_engine.proofs.Proposals.{Proposed, stays, fits-held, fits-ended, counted-held}
-use Rattle.sc_engine.proofs.Beginning.{Begun, place-begun, next-others, entered-begun, fits-begun}
+use Rattle.sc_engine.proofs.Beginning.{Begun, rank-begun, next-others, entered-begun, fits-begun}
 
--- the student stands at the choice of its place
-pub next-begun : {m : Market} {r r' : RoundView} {i at place : ℕ} → Begun m r r' i at place → (choice : Option ℕ) → slice_get (choices_of m i) place ≡ choice → next_of m r'.places i ≡ choice
-next-begun {m} {r} {r'} {i} {at} {place} begun choice here = next-by m r'.places i place (place-begun begun) ∙ here
+-- the student stands at the choice of its rank
+pub next-begun : {m : Market} {r r' : RoundView} {i at rank : ℕ} → Begun m r r' i at rank → (choice : Option ℕ) → slice_get (choices_of m i) rank ≡ choice → next_of m r'.ranks i ≡ choice
+next-begun {m} {r} {r'} {i} {at} {rank} begun choice here = next-by m r'.ranks i rank (rank-begun begun) ∙ here
 
 -- a student who has no choice left is on no roll
-pub put-nowhere : {m : Market} {r r' : RoundView} {i at place : ℕ} → Begun m r r' i at place → (choice : Option ℕ) → slice_get (choices_of m i) place ≡ choice → choice ≡ None → StandsToo m r r' i choice
+pub put-nowhere : {m : Market} {r r' : RoundView} {i at rank : ℕ} → Begun m r r' i at rank → (choice : Option ℕ) → slice_get (choices_of m i) rank ≡ choice → choice ≡ None → StandsToo m r r' i choice
 put-nowhere {m} {r} {r'} {i} begun choice here none = record {
   fits = fits-ended m r' i (fits-begun begun) (next-begun begun choice here ∙ none);
   entered = entered-begun begun;
@@ -27,13 +27,13 @@ put-nowhere {m} {r} {r'} {i} begun choice here none = record {
 }
 
 -- the school that a student stands at is in the papers
-pub put-school : (m : Market) (r : RoundView) (i place s : ℕ) → Fits m r → slice_get (choices_of m i) place ≡ Some s → is_school m s ≡ true
-put-school m r i place s fits here = choice-known m fits.well_formed i s (contains-at (choices_of m i) place s here)
+pub put-school : (m : Market) (r : RoundView) (i rank s : ℕ) → Fits m r → slice_get (choices_of m i) rank ≡ Some s → is_school m s ≡ true
+put-school m r i rank s fits here = choice-known m fits.well_formed i s (contains-at (choices_of m i) rank s here)
 
 -- a school at which fewer stand than it has seats has room on its roll
-pub roll-open : (m : Market) (r : RoundView) (s at : ℕ) → Fits m r → position (nat_eq s) (schools_of m) ≡ Some at → held m (next_of m r.places) s < seats_of m s → length (roll_at r.rolls at).keys < (roll_at r.rolls at).seats
+pub roll-open : (m : Market) (r : RoundView) (s at : ℕ) → Fits m r → position (nat_eq s) (schools_of m) ≡ Some at → held m (next_of m r.ranks) s < seats_of m s → length (roll_at r.rolls at).keys < (roll_at r.rolls at).seats
 roll-open m r s at fits school room =
-    let next : Matching = next_of m r.places in
+    let next : Matching = next_of m r.ranks in
     let roll : RollFits m next nobody s (roll_at r.rolls at) = subst (RollFits m next nobody s) (roll-at m r.rolls s at school) (fits.each s) in
     omega (
       arith,
@@ -44,19 +44,19 @@ roll-open m r s at fits school room =
     )
 
 -- a student who is put on the roll of its school, where nobody is put out
-pub put-on_roll : {m : Market} {r r' : RoundView} {i at place : ℕ} → Begun m r r' i at place → (r'' : RoundView) (choice : Option ℕ) (s school : ℕ) → slice_get (choices_of m i) place ≡ choice → choice ≡ Some s → Proposed m r' i s school r''.rolls None → r''.places ≡ r'.places → r''.log ≡ r'.log → r''.proposals ≡ r'.proposals → StandsToo m r r'' i choice
-put-on_roll {m} {r} {r'} {i} begun r'' choice s school here is done same_places same_log same_proposals = record {
+pub put-on_roll : {m : Market} {r r' : RoundView} {i at rank : ℕ} → Begun m r r' i at rank → (r'' : RoundView) (choice : Option ℕ) (s school : ℕ) → slice_get (choices_of m i) rank ≡ choice → choice ≡ Some s → Proposed m r' i s school r''.rolls None → r''.ranks ≡ r'.ranks → r''.log ≡ r'.log → r''.proposals ≡ r'.proposals → StandsToo m r r'' i choice
+put-on_roll {m} {r} {r'} {i} begun r'' choice s school here is done same_ranks same_log same_proposals = record {
   fits = record {
     well_formed = counted_fits.well_formed;
     within_limits = counted_fits.within_limits;
-    places = counted_fits.places;
+    ranks = counted_fits.ranks;
     rolls = counted_fits.rolls;
     each = counted_fits.each;
     proposals = omega (arith, counted_fits.proposals, same_proposals);
   };
-  entered = λ j. ap (λ places. is_some (place_of m places j)) same_places ∙ entered-begun begun j;
-  own = ap (λ places. next_of m places i) same_places ∙ next-begun begun choice here;
-  others = λ j apart. ap (λ places. next_of m places j) same_places ∙ next-others begun j apart;
+  entered = λ j. ap (λ ranks. is_some (rank_of m ranks j)) same_ranks ∙ entered-begun begun j;
+  own = ap (λ ranks. next_of m ranks i) same_ranks ∙ next-begun begun choice here;
+  others = λ j apart. ap (λ ranks. next_of m ranks j) same_ranks ∙ next-others begun j apart;
   log = same_log ∙ begun.log;
   proposals = same_proposals ∙ begun.proposals;
 }
@@ -66,5 +66,5 @@ put-on_roll {m} {r} {r'} {i} begun r'' choice s school here is done same_places 
     counted = record r'' { proposals = r'.proposals + 1 }
 
     counted_fits : Fits m counted
-    counted_fits = fits-held m r' counted i s school done same_places
-        (counted-held m r' counted i s done.fits.well_formed done.stands same_places same_log refl)
+    counted_fits = fits-held m r' counted i s school done same_ranks
+        (counted-held m r' counted i s done.fits.well_formed done.stands same_ranks same_log refl)

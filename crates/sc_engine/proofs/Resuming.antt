@@ -18,7 +18,7 @@ use Rattle.sc_papers.proofs.Students.{how_many-lt}
 use Rattle.sc_papers.proofs.Validity.{next-listed, next-among}
 use Rattle.sc_checkpoint.specs.NextChoices.{stands, AreNextChoices}
 use Rattle.sc_checkpoint.specs.declared.next_choice.NextChoice.{NextChoice}
-use Rattle.sc_engine.specs.RoundView.{RoundView, Fits, has_entered, place_of, next_of, StandsToo, Continues, entered_papers}
+use Rattle.sc_engine.specs.RoundView.{RoundView, Fits, has_entered, rank_of, next_of, StandsToo, Continues, entered_papers}
 use Rattle.sc_engine.proofs.Tables.{next-entered, next-none}
 use Rattle.sc_engine.proofs.Beginning.{is_some-none}
 use Rattle.sc_engine.proofs.Proposals.{has-none}
@@ -27,8 +27,8 @@ use Rattle.sc_engine.proofs.Settling.{among_first, first-apart, first-more}
 -- the first k of those who stand have entered, and nobody else, and each stands at its choice
 pub record PutFirst (m : Market) (next_choices : List NextChoice) (r : RoundView) (spent : Bool) (k : ℕ) : Type 0 where
   pub fits : Fits m r
-  pub entered : (i : ℕ) → has_entered m r.places i ≡ stands (take k next_choices) i
-  pub next : (at : ℕ) (choice : NextChoice) → at < k → slice_get next_choices at ≡ Some choice → next_of m r.places choice.student ≡ choice.next
+  pub entered : (i : ℕ) → has_entered m r.ranks i ≡ stands (take k next_choices) i
+  pub next : (at : ℕ) (choice : NextChoice) → at < k → slice_get next_choices at ≡ Some choice → next_of m r.ranks choice.student ≡ choice.next
   pub log : r.log ≡ []
   pub proposals : r.proposals ≡ 0
   pub ready : spent ≡ false
@@ -65,24 +65,24 @@ stands-apart next_choices k choice different here =
     ∙ first-apart (numbers next_choices) k choice.student different (get-mapped (λ (s : NextChoice). s.student) next_choices k choice here)
 
 -- who stands has a choice
-stands-place : (next_choices : List NextChoice) (k i : ℕ) → stands (take k next_choices) i ≡ true → (at : ℕ) × (choice : NextChoice) × (at < k) × (slice_get next_choices at ≡ Some choice) × (choice.student ≡ i)
-stands-place next_choices zero i there = absurd (false≢true there)
-stands-place [] (suc k) i there = absurd (false≢true there)
-stands-place (choice ∷ rest) (suc k) i there = elim (or_cases (choice.student == i) (stands (take k rest) i) there) [
+stands-rank : (next_choices : List NextChoice) (k i : ℕ) → stands (take k next_choices) i ≡ true → (at : ℕ) × (choice : NextChoice) × (at < k) × (slice_get next_choices at ≡ Some choice) × (choice.student ≡ i)
+stands-rank next_choices zero i there = absurd (false≢true there)
+stands-rank [] (suc k) i there = absurd (false≢true there)
+stands-rank (choice ∷ rest) (suc k) i there = elim (or_cases (choice.student == i) (stands (take k rest) i) there) [
   | inl same ↦ (0, choice, omega arith, refl, eqb-true choice.student i same)
   | inr later ↦
-      let (at, found, low, here, is) = stands-place rest k i later in
+      let (at, found, low, here, is) = stands-rank rest k i later in
       (suc at, found, omega (arith, low), here, is)
 ]
 
 -- and who has one stands
-place-stands : (next_choices : List NextChoice) (k at : ℕ) (choice : NextChoice) → at < k → slice_get next_choices at ≡ Some choice → stands (take k next_choices) choice.student ≡ true
-place-stands next_choices zero at choice low here = absurd (omega (arith, low))
-place-stands [] (suc k) at choice low here = absurd (none-some choice here)
-place-stands (first ∷ rest) (suc k) zero choice low here =
+rank-stands : (next_choices : List NextChoice) (k at : ℕ) (choice : NextChoice) → at < k → slice_get next_choices at ≡ Some choice → stands (take k next_choices) choice.student ≡ true
+rank-stands next_choices zero at choice low here = absurd (omega (arith, low))
+rank-stands [] (suc k) at choice low here = absurd (none-some choice here)
+rank-stands (first ∷ rest) (suc k) zero choice low here =
     or_left (first.student == choice.student) (stands (take k rest) choice.student) (eq-eqb first.student choice.student (ap (λ (s : NextChoice). s.student) (same_Some first choice here)))
-place-stands (first ∷ rest) (suc k) (suc at) choice low here =
-    or_right (first.student == choice.student) (stands (take k rest) choice.student) (place-stands rest k at choice (omega (arith, low)) here)
+rank-stands (first ∷ rest) (suc k) (suc at) choice low here =
+    or_right (first.student == choice.student) (stands (take k rest) choice.student) (rank-stands rest k at choice (omega (arith, low)) here)
 
 module _ {m : Market} {earlier : List Rejection} {next_choices : List NextChoice} (after : AreNextChoices m earlier next_choices) where
   -- where a choice says that its student stands
@@ -99,46 +99,46 @@ module _ {m : Market} {earlier : List Rejection} {next_choices : List NextChoice
 
   module _ {r : RoundView} {spent : Bool} {k : ℕ} (put : PutFirst m next_choices r spent k) where
     -- who has entered stands at its next choice after the earlier log
-    pub next-put : (i : ℕ) → stands (take k next_choices) i ≡ true → next_of m r.places i ≡ next_choice m earlier i
+    pub next-put : (i : ℕ) → stands (take k next_choices) i ≡ true → next_of m r.ranks i ≡ next_choice m earlier i
     next-put i there =
-        let (at, choice, low, here, is) = stands-place next_choices k i there in
-        ap (next_of m r.places) (sym is) ∙ put.next at choice low here ∙ next-after at choice here ∙ ap (next_choice m earlier) is
+        let (at, choice, low, here, is) = stands-rank next_choices k i there in
+        ap (next_of m r.ranks) (sym is) ∙ put.next at choice low here ∙ next-after at choice here ∙ ap (next_choice m earlier) is
 
     -- the next one has not entered
-    pub absent-put : (choice : NextChoice) → slice_get next_choices k ≡ Some choice → has_entered m r.places choice.student ≡ false
+    pub absent-put : (choice : NextChoice) → slice_get next_choices k ≡ Some choice → has_entered m r.ranks choice.student ≡ false
     absent-put choice here = put.entered choice.student ∙ stands-apart next_choices k choice after.different here
 
     -- and its school has room
-    pub room-put : (choice : NextChoice) (s : ℕ) → slice_get next_choices k ≡ Some choice → choice.next ≡ Some s → held m (next_of m r.places) s < seats_of m s
+    pub room-put : (choice : NextChoice) (s : ℕ) → slice_get next_choices k ≡ Some choice → choice.next ≡ Some s → held m (next_of m r.ranks) s < seats_of m s
     room-put choice s here is =
         let i : ℕ = choice.student in
         let test : ℕ → Bool = stands next_choices in
         let n : Market = restricted m test in
-        let next : Matching = next_of m r.places in
+        let next : Matching = next_of m r.ranks in
         let all : take (length next_choices) next_choices ≡ next_choices = take_all (length next_choices) next_choices (omega arith) in
         let within : k < length next_choices = slice_get_within next_choices k choice here in
         let own : next_choice m earlier i ≡ Some s = sym (next-after k choice here) ∙ is in
         let wider : (j : ℕ) → stands (take k next_choices) j ≡ true → test j ≡ true = λ j there.
-        let (at, found, low, place, same) = stands-place next_choices k j there in
-        ap test (sym same) ∙ ap (λ xs. stands xs found.student) (sym all) ∙ place-stands next_choices (length next_choices) at found (omega (arith, low, within)) place in
-        let here_too : test i ≡ true = ap (λ xs. stands xs i) (sym all) ∙ place-stands next_choices (length next_choices) k choice within here in
+        let (at, found, low, rank, same) = stands-rank next_choices k j there in
+        ap test (sym same) ∙ ap (λ xs. stands xs found.student) (sym all) ∙ rank-stands next_choices (length next_choices) at found (omega (arith, low, within)) rank in
+        let here_too : test i ≡ true = ap (λ xs. stands xs i) (sym all) ∙ rank-stands next_choices (length next_choices) k choice within here in
         let passes : (j : ℕ) → test j ≡ true → next_choice m earlier j ≡ Some s → (test j && has (matching_of n earlier) s j) ≡ true = λ j there chosen.
         and_from (test j) (has (matching_of n earlier) s j) there (has-some (matching_of n earlier) s j (next-kept (restricted-restricts m test) earlier j there ∙ chosen)) in
         let fewer : held m next s < how_many m (λ j. test j && has (matching_of n earlier) s j) =
         how_many-lt m (has next s) (λ j. test j && has (matching_of n earlier) s j)
         (λ j there.
         let stood : next j ≡ Some s = has-true next s j there in
-        let entered : stands (take k next_choices) j ≡ true = sym (put.entered j) ∙ next-entered m r.places j s stood in
+        let entered : stands (take k next_choices) j ≡ true = sym (put.entered j) ∙ next-entered m r.ranks j s stood in
         passes j (wider j entered) (sym (next-put j entered) ∙ stood))
         i (next-among m earlier i s own)
-        (has-none next s i (next-none m r.places i (is_some-none (place_of m r.places i) (absent-put choice here))))
+        (has-none next s i (next-none m r.ranks i (is_some-none (rank_of m r.ranks i) (absent-put choice here))))
         (passes i here_too own) in
         omega (arith, fewer, after.settled.within_seats s, counts-restricted m test (has (matching_of n earlier) s), seats-restricted m test s)
 
-    pub room-put_if : (choice : NextChoice) → slice_get next_choices k ≡ Some choice → IfSome choice.next (λ s. held m (next_of m r.places) s < seats_of m s)
+    pub room-put_if : (choice : NextChoice) → slice_get next_choices k ≡ Some choice → IfSome choice.next (λ s. held m (next_of m r.ranks) s < seats_of m s)
     room-put_if choice here = go choice.next refl
       where
-        go : (o : Option ℕ) → choice.next ≡ o → IfSome o (λ s. held m (next_of m r.places) s < seats_of m s)
+        go : (o : Option ℕ) → choice.next ≡ o → IfSome o (λ s. held m (next_of m r.ranks) s < seats_of m s)
         go None is = tt
         go (Some s) is = room-put choice s here is
 
@@ -147,12 +147,12 @@ module _ {m : Market} {earlier : List Rejection} {next_choices : List NextChoice
     put-more r' spent' choice here too same = record {
       fits = too.fits;
       entered = λ i. too.entered i ∙ ap (λ b. b || i == choice.student) (put.entered i) ∙ sym (stands-more next_choices k choice here i);
-      next = λ at found low place. elim (cases_lt at k) [
-        | inl below ↦ too.others found.student (λ is. false≢true (sym (stands-apart next_choices k choice after.different here) ∙ ap (stands (take k next_choices)) (sym is) ∙ place-stands next_choices k at found below place)) ∙ put.next at found below place
+      next = λ at found low rank. elim (cases_lt at k) [
+        | inl below ↦ too.others found.student (λ is. false≢true (sym (stands-apart next_choices k choice after.different here) ∙ ap (stands (take k next_choices)) (sym is) ∙ rank-stands next_choices k at found below rank)) ∙ put.next at found below rank
         | inr past ↦
             let at_k : at ≡ k = omega (arith, past, low) in
-            let same_one : found ≡ choice = same_Some found choice (sym place ∙ ap (slice_get next_choices) at_k ∙ here) in
-            ap (λ (s : NextChoice). next_of m r'.places s.student) same_one ∙ too.own ∙ ap (λ (s : NextChoice). s.next) (sym same_one)
+            let same_one : found ≡ choice = same_Some found choice (sym rank ∙ ap (slice_get next_choices) at_k ∙ here) in
+            ap (λ (s : NextChoice). next_of m r'.ranks s.student) same_one ∙ too.own ∙ ap (λ (s : NextChoice). s.next) (sym same_one)
       ];
       log = too.log ∙ put.log;
       proposals = too.proposals ∙ put.proposals;
@@ -165,13 +165,13 @@ continues-put m earlier next_choices r spent k all put after =
     let test : ℕ → Bool = stands next_choices in
     let n : Market = restricted m test in
     let whole : take k next_choices ≡ next_choices = take_all k next_choices (omega (arith, all)) in
-    let entered : (i : ℕ) → has_entered m r.places i ≡ test i = λ i. put.entered i ∙ ap (λ xs. stands xs i) whole in
-    let same_papers : entered_papers m r.places ≡ n = λ t. restricted m (λ i. entered i t) in
+    let entered : (i : ℕ) → has_entered m r.ranks i ≡ test i = λ i. put.entered i ∙ ap (λ xs. stands xs i) whole in
+    let same_papers : entered_papers m r.ranks ≡ n = λ t. restricted m (λ i. entered i t) in
     let same_log : earlier ++ r.log ≡ earlier = ap (λ log. earlier ++ log) put.log ∙ append-nil earlier in
     record {
       settled = subst (λ p. IsSettled p (earlier ++ r.log)) (sym same_papers) (subst (IsSettled n) (sym same_log) after.settled);
       next = λ i. ap (λ p. next_choice p (earlier ++ r.log) i) same_papers ∙ ap (λ log. next_choice n log i) same_log ∙ elim (cases_Bool (test i)) [
         | inl there ↦ next-kept (restricted-restricts m test) earlier i there ∙ sym (next-put after put i (ap (λ xs. stands xs i) whole ∙ there))
-        | inr gone ↦ next-dropped (restricted-restricts m test) earlier i gone ∙ sym (next-none m r.places i (is_some-none (place_of m r.places i) (entered i ∙ gone)))
+        | inr gone ↦ next-dropped (restricted-restricts m test) earlier i gone ∙ sym (next-none m r.ranks i (is_some-none (rank_of m r.ranks i) (entered i ∙ gone)))
       ];
     }

@@ -71,7 +71,7 @@ settles-more m old new k i here before enters = record {
 }
 
 -- nobody stands at a choice where nobody has entered
-pub settles-none : (m : Market) (r : RoundView) → Fits m r → ((i : ℕ) → has_entered m r.places i ≡ false) → Continues m [] r → r.log ≡ [] → r.proposals ≡ 0 → SettlesFirst m r 0
+pub settles-none : (m : Market) (r : RoundView) → Fits m r → ((i : ℕ) → has_entered m r.ranks i ≡ false) → Continues m [] r → r.log ≡ [] → r.proposals ≡ 0 → SettlesFirst m r 0
 settles-none m r fits nowhere continues no_log none = record {
   fits = fits;
   entered = nowhere;
@@ -90,64 +90,64 @@ restricted-all : (m : Market) (test : ℕ → Bool) → ((i : ℕ) → Contains 
 unfolding restricted
 restricted-all m test all = λ t. record m { students = filter-all test m.students all t }
 
-pub papers-all : (m : Market) (r : RoundView) → SettlesFirst m r (length m.students) → entered_papers m r.places ≡ m
-papers-all m r all = restricted-all m (has_entered m r.places) (λ i among. all.entered i ∙ ap (λ n. among_first (students_of m) n i) (sym (length-mapped (λ (e : ℕ × Student). e.0) m.students)) ∙ first-all (students_of m) i among)
+pub papers-all : (m : Market) (r : RoundView) → SettlesFirst m r (length m.students) → entered_papers m r.ranks ≡ m
+papers-all m r all = restricted-all m (has_entered m r.ranks) (λ i among. all.entered i ∙ ap (λ n. among_first (students_of m) n i) (sym (length-mapped (λ (e : ℕ × Student). e.0) m.students)) ∙ first-all (students_of m) i among)
 
 -- the log is settled, and the students stand at their next choices
 pub settled-all : (m : Market) (r : RoundView) → SettlesFirst m r (length m.students) → IsSettled m r.log
 settled-all m r all = subst (λ n. IsSettled n r.log) (papers-all m r all) all.settled.settled
 
-pub next-all : (m : Market) (r : RoundView) → SettlesFirst m r (length m.students) → (i : ℕ) → next_of m r.places i ≡ next_choice m r.log i
+pub next-all : (m : Market) (r : RoundView) → SettlesFirst m r (length m.students) → (i : ℕ) → next_of m r.ranks i ≡ next_choice m r.log i
 next-all m r all i = sym (all.settled.next i) ∙ ap (λ n. next_choice n r.log i) (papers-all m r all)
 
-pub optimal-all : (m : Market) (r : RoundView) (given : Matching) → SettlesFirst m r (length m.students) → ((i : ℕ) → given i ≡ next_of m r.places i) → IsStudentOptimal m given
+pub optimal-all : (m : Market) (r : RoundView) (given : Matching) → SettlesFirst m r (length m.students) → ((i : ℕ) → given i ≡ next_of m r.ranks i) → IsStudentOptimal m given
 optimal-all m r given all is =
     let same : matching_of m r.log ≡ given = λ t i. (sym (is i ∙ next-all m r all i)) t in
     subst (IsStudentOptimal m) same (settled-optimal m all.fits.well_formed r.log (settled-all m r all))
 
-pub placed-all : (m : Market) (r : RoundView) (given : Matching) → SettlesFirst m r (length m.students) → ((i : ℕ) → given i ≡ next_of m r.places i) → r.proposals ≡ length r.log + placed m given
+pub placed-all : (m : Market) (r : RoundView) (given : Matching) → SettlesFirst m r (length m.students) → ((i : ℕ) → given i ≡ next_of m r.ranks i) → r.proposals ≡ length r.log + placed m given
 unfolding standing_but
 placed-all m r given all is =
-    let same : how_many m (λ i. is_some (next_of m r.places i) && not false) ≡ placed m given =
-    how_many-agree m (λ i. is_some (next_of m r.places i) && not false) (λ i. is_some (given i)) (λ i. stays (is_some (next_of m r.places i)) ∙ ap is_some (sym (is i))) in
+    let same : how_many m (λ i. is_some (next_of m r.ranks i) && not false) ≡ placed m given =
+    how_many-agree m (λ i. is_some (next_of m r.ranks i) && not false) (λ i. is_some (given i)) (λ i. stays (is_some (next_of m r.ranks i)) ∙ ap is_some (sym (is i))) in
     omega (arith, all.counted, same)
 
 -- what the first students have
 abbrev pub GivesFirst : Market → List (Option ℕ) → List (ℕ × ℕ) → ℕ → Type 0
-GivesFirst m places pairs k = (j : ℕ) → assigned pairs j ≡ cond (among_first (students_of m) k j) (next_of m places j) None
+GivesFirst m ranks pairs k = (j : ℕ) → assigned pairs j ≡ cond (among_first (students_of m) k j) (next_of m ranks j) None
 
-pub gives-more : (m : Market) (places : List (Option ℕ)) (old new : List (ℕ × ℕ)) (k i : ℕ) → slice_get (students_of m) k ≡ Some i → GivesFirst m places old k → ((j : ℕ) → assigned new j ≡ cond (nat_eq j i) (next_of m places i) (assigned old j)) → GivesFirst m places new (k + 1)
-gives-more m places old new k i here before given j =
+pub gives-more : (m : Market) (ranks : List (Option ℕ)) (old new : List (ℕ × ℕ)) (k i : ℕ) → slice_get (students_of m) k ≡ Some i → GivesFirst m ranks old k → ((j : ℕ) → assigned new j ≡ cond (nat_eq j i) (next_of m ranks i) (assigned old j)) → GivesFirst m ranks new (k + 1)
+gives-more m ranks old new k i here before given j =
     given j ∙ elim (cases_Bool (nat_eq j i)) [
       | inl same ↦
-          cond-true (nat_eq j i) (next_of m places i) (assigned old j) same ∙ ap (next_of m places) (sym (eqb-true j i same))
-          ∙ sym (cond-true (among_first (students_of m) (k + 1) j) (next_of m places j) None (first-more (students_of m) k i here j ∙ or_right (among_first (students_of m) k j) (j == i) same))
+          cond-true (nat_eq j i) (next_of m ranks i) (assigned old j) same ∙ ap (next_of m ranks) (sym (eqb-true j i same))
+          ∙ sym (cond-true (among_first (students_of m) (k + 1) j) (next_of m ranks j) None (first-more (students_of m) k i here j ∙ or_right (among_first (students_of m) k j) (j == i) same))
       | inr apart ↦
-          cond-false (nat_eq j i) (next_of m places i) (assigned old j) apart ∙ before j
-          ∙ ap (λ b. cond b (next_of m places j) None) (sym (first-more (students_of m) k i here j ∙ without (among_first (students_of m) k j) (j == i) apart))
+          cond-false (nat_eq j i) (next_of m ranks i) (assigned old j) apart ∙ before j
+          ∙ ap (λ b. cond b (next_of m ranks j) None) (sym (first-more (students_of m) k i here j ∙ without (among_first (students_of m) k j) (j == i) apart))
     ]
   where
     without : (a b : Bool) → b ≡ false → (a || b) ≡ a
     without true b off = refl
     without false b off = off
 
-pub gives-none : (m : Market) (places : List (Option ℕ)) (pairs : List (ℕ × ℕ)) (k i : ℕ) → WellFormed m → slice_get (students_of m) k ≡ Some i → GivesFirst m places pairs k → assigned pairs i ≡ None
-gives-none m places pairs k i well here gives =
-    gives i ∙ cond-false (among_first (students_of m) k i) (next_of m places i) None (first-apart (students_of m) k i well.students_differ here)
+pub gives-none : (m : Market) (ranks : List (Option ℕ)) (pairs : List (ℕ × ℕ)) (k i : ℕ) → WellFormed m → slice_get (students_of m) k ≡ Some i → GivesFirst m ranks pairs k → assigned pairs i ≡ None
+gives-none m ranks pairs k i well here gives =
+    gives i ∙ cond-false (among_first (students_of m) k i) (next_of m ranks i) None (first-apart (students_of m) k i well.students_differ here)
 
-pub gives-all : (m : Market) (places : List (Option ℕ)) (pairs : List (ℕ × ℕ)) → GivesFirst m places pairs (length m.students) → (i : ℕ) → assigned pairs i ≡ next_of m places i
-gives-all m places pairs gives i = gives i ∙ go (next_of m places i) refl
+pub gives-all : (m : Market) (ranks : List (Option ℕ)) (pairs : List (ℕ × ℕ)) → GivesFirst m ranks pairs (length m.students) → (i : ℕ) → assigned pairs i ≡ next_of m ranks i
+gives-all m ranks pairs gives i = gives i ∙ go (next_of m ranks i) refl
   where
-    go : (o : Option ℕ) → next_of m places i ≡ o → cond (among_first (students_of m) (length m.students) i) (next_of m places i) None ≡ next_of m places i
-    go None is = both (among_first (students_of m) (length m.students) i) (next_of m places i) is
+    go : (o : Option ℕ) → next_of m ranks i ≡ o → cond (among_first (students_of m) (length m.students) i) (next_of m ranks i) None ≡ next_of m ranks i
+    go None is = both (among_first (students_of m) (length m.students) i) (next_of m ranks i) is
       where
         both : (b : Bool) (o : Option ℕ) → o ≡ None → cond b o None ≡ o
         both true o e = refl
         both false o e = sym e
-    go (Some s) is = cond-true (among_first (students_of m) (length m.students) i) (next_of m places i) None
-        (ap (λ n. among_first (students_of m) n i) (sym (length-mapped (λ (e : ℕ × Student). e.0) m.students)) ∙ first-all (students_of m) i (next-among m places i s is))
+    go (Some s) is = cond-true (among_first (students_of m) (length m.students) i) (next_of m ranks i) None
+        (ap (λ n. among_first (students_of m) n i) (sym (length-mapped (λ (e : ℕ × Student). e.0) m.students)) ∙ first-all (students_of m) i (next-among m ranks i s is))
 
--- one more place given, or none to one who had none
+-- one more rank given, or none to one who had none
 pub given-some : (old : List (ℕ × ℕ)) (i s j : ℕ) → assigned (with_place old i s) j ≡ cond (nat_eq j i) (Some s) (assigned old j)
 given-some old i s j = assigned-with_place old i s j
 

@@ -14,7 +14,7 @@ use Rattle.sc_papers.specs.declared.records.Student.{Student}
 use Rattle.sc_papers.proofs.Restriction.{restricted-restricts, next-dropped}
 use Rattle.sc_papers.proofs.Students.{how_many-none}
 use Rattle.sc_seats.specs.Roll.{RollView}
-use Rattle.sc_engine.specs.RoundView.{RoundView, place_of, next_of, has_entered, roll_of, roll_at, no_roll, RollFits, Fits, nobody, Continues, AreEmpty, standing_but, entered_papers}
+use Rattle.sc_engine.specs.RoundView.{RoundView, rank_of, next_of, has_entered, roll_of, roll_at, no_roll, RollFits, Fits, nobody, Continues, AreEmpty, standing_but, entered_papers}
 use Rattle.sc_engine.proofs.Tables.{next-none, roll-at, length-mapped, get_or-mapped}
 use Rattle.sc_papers.proofs.Positions.{position-at, school-position}
 use Rattle.sc_engine.proofs.Papers.{school-at}
@@ -24,19 +24,19 @@ use Rattle.sc_engine.proofs.Proposals.{has-none}
 pub record IsStart (m : Market) (r : RoundView) : Type 0 where
   pub well_formed : WellFormed m
   pub within_limits : WithinLimits m
-  pub places : length r.places ≡ length m.students
-  pub nowhere : All (λ place. place ≡ None) r.places
+  pub ranks : length r.ranks ≡ length m.students
+  pub nowhere : All (λ rank. rank ≡ None) r.ranks
   pub rolls : length r.rolls ≡ length m.schools
   pub empty : AreEmpty m r.rolls (length m.schools)
   pub log : r.log ≡ []
   pub proposals : r.proposals ≡ 0
 
--- nobody has a place
-pub no-place : (m : Market) (places : List (Option ℕ)) → length places ≡ length m.students → All (λ place. place ≡ None) places → (i : ℕ) → place_of m places i ≡ None
-unfolding place_of
-no-place m places long nowhere i = go (position (nat_eq i) (students_of m)) refl
+-- nobody has a rank
+pub no-rank : (m : Market) (ranks : List (Option ℕ)) → length ranks ≡ length m.students → All (λ rank. rank ≡ None) ranks → (i : ℕ) → rank_of m ranks i ≡ None
+unfolding rank_of
+no-rank m ranks long nowhere i = go (position (nat_eq i) (students_of m)) refl
   where
-    go : (o : Option ℕ) → position (nat_eq i) (students_of m) ≡ o → option_map_or (λ at. get_or places at None) o None ≡ None
+    go : (o : Option ℕ) → position (nat_eq i) (students_of m) ≡ o → option_map_or (λ at. get_or ranks at None) o None ≡ None
     go None is = refl
     go (Some at) is = nowhere at None (omega (arith, (position-at (students_of m) i at is).0, length-mapped (λ (e : ℕ × Student). e.0) m.students, long))
 
@@ -91,48 +91,48 @@ pub fits-start : (m : Market) (r : RoundView) → IsStart m r → Fits m r
 fits-start m r start = record {
   well_formed = start.well_formed;
   within_limits = start.within_limits;
-  places = omega (arith, start.places);
+  ranks = omega (arith, start.ranks);
   rolls = start.rolls;
-  each = λ s. subst (RollFits m (next_of m r.places) nobody s) (sym (roll-empty m r.rolls start.empty s)) (record {
+  each = λ s. subst (RollFits m (next_of m r.ranks) nobody s) (sym (roll-empty m r.rolls start.empty s)) (record {
     seats = refl;
     within = omega arith;
     keyed = λ k d low. absurd (omega (arith, low));
-    exact = λ p. sym (how_many-none m (λ j. p j && (has (next_of m r.places) s j && not false))
-        (λ j among. and_right (p j) (has (next_of m r.places) s j && not false) (and_left (has (next_of m r.places) s j) (not false) (has-none (next_of m r.places) s j (nowhere j)))));
+    exact = λ p. sym (how_many-none m (λ j. p j && (has (next_of m r.ranks) s j && not false))
+        (λ j among. and_right (p j) (has (next_of m r.ranks) s j && not false) (and_left (has (next_of m r.ranks) s j) (not false) (has-none (next_of m r.ranks) s j (nowhere j)))));
   });
   proposals = omega (arith, start.proposals);
 }
   where
-    nowhere : (j : ℕ) → next_of m r.places j ≡ None
-    nowhere j = next-none m r.places j (no-place m r.places start.places start.nowhere j)
+    nowhere : (j : ℕ) → next_of m r.ranks j ≡ None
+    nowhere j = next-none m r.ranks j (no-rank m r.ranks start.ranks start.nowhere j)
 
 -- nobody stands at a choice
-pub none-standing : (m : Market) (r : RoundView) → IsStart m r → standing_but m r.places nobody ≡ 0
+pub none-standing : (m : Market) (r : RoundView) → IsStart m r → standing_but m r.ranks nobody ≡ 0
 unfolding standing_but
 none-standing m r start =
-    how_many-none m (λ j. is_some (next_of m r.places j) && not false)
-    (λ j among. and_left (is_some (next_of m r.places j)) (not false) (ap is_some (next-none m r.places j (no-place m r.places start.places start.nowhere j))))
+    how_many-none m (λ j. is_some (next_of m r.ranks j) && not false)
+    (λ j among. and_left (is_some (next_of m r.ranks j)) (not false) (ap is_some (next-none m r.ranks j (no-rank m r.ranks start.ranks start.nowhere j))))
 
 -- and the empty log is settled for nobody
 pub continues-start : (m : Market) (r : RoundView) → IsStart m r → Continues m [] r
 continues-start m r start =
-    let absent : (j : ℕ) → has_entered m r.places j ≡ false = λ j. ap is_some (no-place m r.places start.places start.nowhere j) in
-    let none : (j : ℕ) → next_choice (entered_papers m r.places) [] j ≡ None = λ j. next-dropped (restricted-restricts m (has_entered m r.places)) [] j (absent j) in
-    let settled : IsSettled (entered_papers m r.places) [] = record {
+    let absent : (j : ℕ) → has_entered m r.ranks j ≡ false = λ j. ap is_some (no-rank m r.ranks start.ranks start.nowhere j) in
+    let none : (j : ℕ) → next_choice (entered_papers m r.ranks) [] j ≡ None = λ j. next-dropped (restricted-restricts m (has_entered m r.ranks)) [] j (absent j) in
+    let settled : IsSettled (entered_papers m r.ranks) [] = record {
       valid = tt;
-      within_seats = λ s. omega (arith, how_many-none (entered_papers m r.places) (has (matching_of (entered_papers m r.places) []) s) (λ j among. has-none (matching_of (entered_papers m r.places) []) s j (none j)));
+      within_seats = λ s. omega (arith, how_many-none (entered_papers m r.ranks) (has (matching_of (entered_papers m r.ranks) []) s) (λ j among. has-none (matching_of (entered_papers m r.ranks) []) s j (none j)));
     } in
     record {
-      settled = subst (IsSettled (entered_papers m r.places)) (sym start.log) settled;
-      next = λ j. ap (λ log. next_choice (entered_papers m r.places) log j) start.log ∙ none j ∙ sym (next-none m r.places j (no-place m r.places start.places start.nowhere j));
+      settled = subst (IsSettled (entered_papers m r.ranks)) (sym start.log) settled;
+      next = λ j. ap (λ log. next_choice (entered_papers m r.ranks) log j) start.log ∙ none j ∙ sym (next-none m r.ranks j (no-rank m r.ranks start.ranks start.nowhere j));
     }
 
 -- the round that the code starts with
-pub starts : {R : Type 0} (m : Market) (places : List (Option ℕ)) (rolls : List R) (see : R → RollView) (log : List Rejection) (proposals : ℕ) → WellFormed m → WithinLimits m → length places ≡ length m.students → All (λ place. place ≡ None) places → length rolls ≡ length m.schools → AreEmpty m (map see rolls) (length m.schools) → log ≡ [] → proposals ≡ 0 → IsStart m (record { places = places; rolls = map see rolls; log = log; proposals = proposals })
-starts m places rolls see log proposals well within long nowhere as_many empty no_log none = record {
+pub starts : {R : Type 0} (m : Market) (ranks : List (Option ℕ)) (rolls : List R) (see : R → RollView) (log : List Rejection) (proposals : ℕ) → WellFormed m → WithinLimits m → length ranks ≡ length m.students → All (λ rank. rank ≡ None) ranks → length rolls ≡ length m.schools → AreEmpty m (map see rolls) (length m.schools) → log ≡ [] → proposals ≡ 0 → IsStart m (record { ranks = ranks; rolls = map see rolls; log = log; proposals = proposals })
+starts m ranks rolls see log proposals well within long nowhere as_many empty no_log none = record {
   well_formed = well;
   within_limits = within;
-  places = long;
+  ranks = long;
   nowhere = nowhere;
   rolls = length-mapped see rolls ∙ as_many;
   empty = empty;

@@ -5,9 +5,9 @@ use Rattle.std.proofs.lemmas.Option.{none-some}
 use Rattle.sc_papers.specs.Market.{Market, students_of, schools_of, choices_of}
 use Rattle.sc_papers.proofs.Positions.{position-among, position-at, position-one}
 use Rattle.sc_seats.specs.Roll.{RollView}
-use Rattle.sc_engine.specs.RoundView.{place_of, next_of, roll_of, roll_at, no_roll, has_entered}
+use Rattle.sc_engine.specs.RoundView.{rank_of, next_of, roll_of, roll_at, no_roll, has_entered}
 
--- what a mapped list has at a place
+-- what a mapped list has at an index
 pub get_or-mapped : {X Y : Type 0} (f : X → Y) (xs : List X) (k : ℕ) (x : X) (d : Y) → k < length xs → get_or (map f xs) k d ≡ f (get_or xs k x)
 get_or-mapped f [] k x d low = absurd (omega (arith, low))
 get_or-mapped f (y ∷ ys) zero x d low = refl
@@ -22,83 +22,83 @@ map-set f [] k v = refl
 map-set f (x ∷ xs) zero v = refl
 map-set f (x ∷ xs) (suc k) v = ap (λ ys. f x ∷ ys) (map-set f xs k v)
 
--- the place of the student whose place is written
-pub place-written : (m : Market) (places : List (Option ℕ)) (i at : ℕ) (place : Option ℕ) → position (nat_eq i) (students_of m) ≡ Some at → at < length places → place_of m (set places at place) i ≡ place
-unfolding place_of
-place-written m places i at place found low =
-    ap (λ o. option_map_or (λ k. get_or (set places at place) k None) o None) found ∙ get_or-set_same places at place None low
+-- the rank of the student whose rank is written
+pub rank-written : (m : Market) (ranks : List (Option ℕ)) (i at : ℕ) (rank : Option ℕ) → position (nat_eq i) (students_of m) ≡ Some at → at < length ranks → rank_of m (set ranks at rank) i ≡ rank
+unfolding rank_of
+rank-written m ranks i at rank found low =
+    ap (λ o. option_map_or (λ k. get_or (set ranks at rank) k None) o None) found ∙ get_or-set_same ranks at rank None low
 
--- the places of the others, where the other positions are as before
-pub place-apart : (m : Market) (old new : List (Option ℕ)) (i at : ℕ) → position (nat_eq i) (students_of m) ≡ Some at → ((k : ℕ) → (k ≡ at → ⊥) → get_or new k None ≡ get_or old k None) → (j : ℕ) → (j ≡ i → ⊥) → place_of m new j ≡ place_of m old j
-unfolding place_of
-place-apart m old new i at found others j apart = go (position (nat_eq j) (students_of m)) refl
+-- the ranks of the others, where the other positions are as before
+pub rank-apart : (m : Market) (old new : List (Option ℕ)) (i at : ℕ) → position (nat_eq i) (students_of m) ≡ Some at → ((k : ℕ) → (k ≡ at → ⊥) → get_or new k None ≡ get_or old k None) → (j : ℕ) → (j ≡ i → ⊥) → rank_of m new j ≡ rank_of m old j
+unfolding rank_of
+rank-apart m old new i at found others j apart = go (position (nat_eq j) (students_of m)) refl
   where
     go : (o : Option ℕ) → position (nat_eq j) (students_of m) ≡ o → option_map_or (λ k. get_or new k None) o None ≡ option_map_or (λ k. get_or old k None) o None
     go None is = refl
     go (Some k) is = others k (λ same. apart (position-one (students_of m) i j at found (is ∙ ap Some same)))
 
 -- the others keep theirs
-pub place-kept : (m : Market) (places : List (Option ℕ)) (i at : ℕ) (place : Option ℕ) → position (nat_eq i) (students_of m) ≡ Some at → (j : ℕ) → (j ≡ i → ⊥) → place_of m (set places at place) j ≡ place_of m places j
-place-kept m places i at place found j apart = place-apart m places (set places at place) i at found (λ k other. get_or-set_other places at k place None other) j apart
+pub rank-kept : (m : Market) (ranks : List (Option ℕ)) (i at : ℕ) (rank : Option ℕ) → position (nat_eq i) (students_of m) ≡ Some at → (j : ℕ) → (j ≡ i → ⊥) → rank_of m (set ranks at rank) j ≡ rank_of m ranks j
+rank-kept m ranks i at rank found j apart = rank-apart m ranks (set ranks at rank) i at found (λ k other. get_or-set_other ranks at k rank None other) j apart
 
--- a place stands within the list
-pub place-low : (places : List (Option ℕ)) (at place : ℕ) → get_or places at None ≡ Some place → at < length places
-place-low [] at place is = absurd (none-some place is)
-place-low (p ∷ ps) zero place is = omega arith
-place-low (p ∷ ps) (suc at) place is = omega (arith, place-low ps at place is)
+-- a rank stands within the list
+pub rank-low : (ranks : List (Option ℕ)) (at rank : ℕ) → get_or ranks at None ≡ Some rank → at < length ranks
+rank-low [] at rank is = absurd (none-some rank is)
+rank-low (p ∷ ps) zero rank is = omega arith
+rank-low (p ∷ ps) (suc at) rank is = omega (arith, rank-low ps at rank is)
 
 -- one position more, at which nobody stands
-pub place-room : (places : List (Option ℕ)) (k : ℕ) → get_or (places ++ None ∷ []) k None ≡ get_or places k None
-place-room [] zero = refl
-place-room [] (suc k) = refl
-place-room (p ∷ ps) zero = refl
-place-room (p ∷ ps) (suc k) = place-room ps k
+pub rank-room : (ranks : List (Option ℕ)) (k : ℕ) → get_or (ranks ++ None ∷ []) k None ≡ get_or ranks k None
+rank-room [] zero = refl
+rank-room [] (suc k) = refl
+rank-room (p ∷ ps) zero = refl
+rank-room (p ∷ ps) (suc k) = rank-room ps k
 
--- the place of a student at a known position
-pub place-at : (m : Market) (places : List (Option ℕ)) (i at : ℕ) → position (nat_eq i) (students_of m) ≡ Some at → place_of m places i ≡ get_or places at None
-unfolding place_of
-place-at m places i at found = ap (λ o. option_map_or (λ k. get_or places k None) o None) found
+-- the rank of a student at a known position
+pub rank-at : (m : Market) (ranks : List (Option ℕ)) (i at : ℕ) → position (nat_eq i) (students_of m) ≡ Some at → rank_of m ranks i ≡ get_or ranks at None
+unfolding rank_of
+rank-at m ranks i at found = ap (λ o. option_map_or (λ k. get_or ranks k None) o None) found
 
 -- who has entered is a student of the papers
-pub entered-among : (m : Market) (places : List (Option ℕ)) (i place : ℕ) → place_of m places i ≡ Some place → Contains (students_of m) i
-unfolding place_of
-entered-among m places i place is = go (position (nat_eq i) (students_of m)) refl is
+pub entered-among : (m : Market) (ranks : List (Option ℕ)) (i rank : ℕ) → rank_of m ranks i ≡ Some rank → Contains (students_of m) i
+unfolding rank_of
+entered-among m ranks i rank is = go (position (nat_eq i) (students_of m)) refl is
   where
-    go : (o : Option ℕ) → position (nat_eq i) (students_of m) ≡ o → option_map_or (λ k. get_or places k None) o None ≡ Some place → Contains (students_of m) i
-    go None at none = absurd (none-some place none)
+    go : (o : Option ℕ) → position (nat_eq i) (students_of m) ≡ o → option_map_or (λ k. get_or ranks k None) o None ≡ Some rank → Contains (students_of m) i
+    go None at none = absurd (none-some rank none)
     go (Some k) at there = position-among (students_of m) i k at
 
--- a student with a next choice stands at a place of its choices
-pub record StandsAt (m : Market) (places : List (Option ℕ)) (i s : ℕ) : Type 0 where
-  pub place : ℕ
-  pub entered : place_of m places i ≡ Some place
-  pub choice : slice_get (choices_of m i) place ≡ Some s
+-- a student with a next choice stands at a rank of its choices
+pub record StandsAt (m : Market) (ranks : List (Option ℕ)) (i s : ℕ) : Type 0 where
+  pub rank : ℕ
+  pub entered : rank_of m ranks i ≡ Some rank
+  pub choice : slice_get (choices_of m i) rank ≡ Some s
 
-pub stands-at : (m : Market) (places : List (Option ℕ)) (i s : ℕ) → next_of m places i ≡ Some s → StandsAt m places i s
+pub stands-at : (m : Market) (ranks : List (Option ℕ)) (i s : ℕ) → next_of m ranks i ≡ Some s → StandsAt m ranks i s
 unfolding next_of
-stands-at m places i s next = go (place_of m places i) refl next
+stands-at m ranks i s next = go (rank_of m ranks i) refl next
   where
-    go : (o : Option ℕ) → place_of m places i ≡ o → option_and_then (λ place. slice_get (choices_of m i) place) o ≡ Some s → StandsAt m places i s
+    go : (o : Option ℕ) → rank_of m ranks i ≡ o → option_and_then (λ rank. slice_get (choices_of m i) rank) o ≡ Some s → StandsAt m ranks i s
     go None is none = absurd (none-some s none)
-    go (Some place) is there = record { place = place; entered = is; choice = there }
+    go (Some rank) is there = record { rank = rank; entered = is; choice = there }
 
-pub next-entered : (m : Market) (places : List (Option ℕ)) (i s : ℕ) → next_of m places i ≡ Some s → has_entered m places i ≡ true
-next-entered m places i s next = ap is_some (stands-at m places i s next).entered
+pub next-entered : (m : Market) (ranks : List (Option ℕ)) (i s : ℕ) → next_of m ranks i ≡ Some s → has_entered m ranks i ≡ true
+next-entered m ranks i s next = ap is_some (stands-at m ranks i s next).entered
 
-pub next-among : (m : Market) (places : List (Option ℕ)) (i s : ℕ) → next_of m places i ≡ Some s → Contains (students_of m) i
-next-among m places i s next = let at = stands-at m places i s next in entered-among m places i at.place at.entered
+pub next-among : (m : Market) (ranks : List (Option ℕ)) (i s : ℕ) → next_of m ranks i ≡ Some s → Contains (students_of m) i
+next-among m ranks i s next = let at = stands-at m ranks i s next in entered-among m ranks i at.rank at.entered
 
--- a place gives the next choice
-pub next-by : (m : Market) (places : List (Option ℕ)) (i place : ℕ) → place_of m places i ≡ Some place → next_of m places i ≡ slice_get (choices_of m i) place
+-- a rank gives the next choice
+pub next-by : (m : Market) (ranks : List (Option ℕ)) (i rank : ℕ) → rank_of m ranks i ≡ Some rank → next_of m ranks i ≡ slice_get (choices_of m i) rank
 unfolding next_of
-next-by m places i place is = ap (option_and_then (λ k. slice_get (choices_of m i) k)) is
+next-by m ranks i rank is = ap (option_and_then (λ k. slice_get (choices_of m i) k)) is
 
-pub next-none : (m : Market) (places : List (Option ℕ)) (i : ℕ) → place_of m places i ≡ None → next_of m places i ≡ None
+pub next-none : (m : Market) (ranks : List (Option ℕ)) (i : ℕ) → rank_of m ranks i ≡ None → next_of m ranks i ≡ None
 unfolding next_of
-next-none m places i is = ap (option_and_then (λ k. slice_get (choices_of m i) k)) is
+next-none m ranks i is = ap (option_and_then (λ k. slice_get (choices_of m i) k)) is
 
--- equal places give equal next choices
-pub next-kept : (m : Market) (old new : List (Option ℕ)) (i : ℕ) → place_of m new i ≡ place_of m old i → next_of m new i ≡ next_of m old i
+-- equal ranks give equal next choices
+pub next-kept : (m : Market) (old new : List (Option ℕ)) (i : ℕ) → rank_of m new i ≡ rank_of m old i → next_of m new i ≡ next_of m old i
 unfolding next_of
 next-kept m old new i same = ap (option_and_then (λ k. slice_get (choices_of m i) k)) same
 
@@ -117,16 +117,16 @@ roll-kept m old new s at found others t apart = go (position (nat_eq t) (schools
     go (Some k) is = others k (λ same. apart (position-one (schools_of m) s t at found (is ∙ ap Some same)))
 
 -- the position of one who has entered
-pub record PositionOf (m : Market) (places : List (Option ℕ)) (i place : ℕ) : Type 0 where
+pub record PositionOf (m : Market) (ranks : List (Option ℕ)) (i rank : ℕ) : Type 0 where
   pub at : ℕ
   pub found : position (nat_eq i) (students_of m) ≡ Some at
   pub low : at < length (students_of m)
-  pub here : get_or places at None ≡ Some place
+  pub here : get_or ranks at None ≡ Some rank
 
-pub position-of : (m : Market) (places : List (Option ℕ)) (i place : ℕ) → place_of m places i ≡ Some place → PositionOf m places i place
-unfolding place_of
-position-of m places i place is = go (position (nat_eq i) (students_of m)) refl is
+pub position-of : (m : Market) (ranks : List (Option ℕ)) (i rank : ℕ) → rank_of m ranks i ≡ Some rank → PositionOf m ranks i rank
+unfolding rank_of
+position-of m ranks i rank is = go (position (nat_eq i) (students_of m)) refl is
   where
-    go : (o : Option ℕ) → position (nat_eq i) (students_of m) ≡ o → option_map_or (λ k. get_or places k None) o None ≡ Some place → PositionOf m places i place
-    go None at none = absurd (none-some place none)
+    go : (o : Option ℕ) → position (nat_eq i) (students_of m) ≡ o → option_map_or (λ k. get_or ranks k None) o None ≡ Some rank → PositionOf m ranks i rank
+    go None at none = absurd (none-some rank none)
     go (Some k) at there = record { at = k; found = at; low = (position-at (students_of m) i k at).0; here = there }

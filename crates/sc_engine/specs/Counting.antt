@@ -6,4 +6,4 @@ use Rattle.sc_engine.specs.RoundView.{RoundView, nobody, standing_but}
 -- every proposal came to an entry of the log or to a student who stands at a choice, and each of these
 -- to one proposal
 abbrev pub CountsExactly : Market → RoundView → Type 0
-CountsExactly m r = r.proposals ≡ length r.log + standing_but m r.places nobody
+CountsExactly m r = r.proposals ≡ length r.log + standing_but m r.ranks nobody

@@ -14,26 +14,26 @@ use Rattle.sc_papers.specs.declared.key.Key.{Key}
 use Rattle.sc_papers.specs.declared.rejection.Rejection.{Rejection}
 use Rattle.sc_seats.specs.Roll.{RollView}
 
--- what a round holds: for each student, by position, the place in its choices at which it stands, or
--- none where it hasn't entered, as nobody has who comes after the last place; each school's roll, by
+-- what a round holds: for each student, by position, the rank in its choices at which it stands, or
+-- none where it hasn't entered, as nobody has who comes after the last of these; each school's roll, by
 -- position; the log; the count of proposals
 pub record RoundView : Type 0 where
-  pub places : List (Option ℕ)
+  pub ranks : List (Option ℕ)
   pub rolls : List RollView
   pub log : List Rejection
   pub proposals : ℕ
 
--- the place in its choices at which a student stands, if the student has entered
-unfoldable pub place_of : Market → List (Option ℕ) → ℕ → Option ℕ
-place_of m places i = option_map_or (λ at. slice_index_or places at None) (position (nat_eq i) (students_of m)) None
+-- the rank in its choices at which a student stands, if the student has entered
+unfoldable pub rank_of : Market → List (Option ℕ) → ℕ → Option ℕ
+rank_of m ranks i = option_map_or (λ at. slice_index_or ranks at None) (position (nat_eq i) (students_of m)) None
 
 -- whether a student has entered
 abbrev pub has_entered : Market → List (Option ℕ) → ℕ → Bool
-has_entered m places i = is_some (place_of m places i)
+has_entered m ranks i = is_some (rank_of m ranks i)
 
 -- the choice at which a student stands: none after the last, and none for one who hasn't entered
 unfoldable pub next_of : Market → List (Option ℕ) → ℕ → Option ℕ
-next_of m places i = option_and_then (λ place. slice_get (choices_of m i) place) (place_of m places i)
+next_of m ranks i = option_and_then (λ rank. slice_get (choices_of m i) rank) (rank_of m ranks i)
 
 -- a roll without keys or seats
 abbrev pub no_roll : RollView
@@ -61,16 +61,16 @@ pub record RollFits (m : Market) (next : Matching) (away : ℕ → Bool) (s : �
 
 -- how many students stand at a choice, but for those who are away
 unfoldable pub standing_but : Market → List (Option ℕ) → (ℕ → Bool) → ℕ
-standing_but m places away = how_many m (λ i. is_some (next_of m places i) && not (away i))
+standing_but m ranks away = how_many m (λ i. is_some (next_of m ranks i) && not (away i))
 
 -- the round fits the papers, but for the students who are away
 pub record FitsBut (m : Market) (r : RoundView) (away : ℕ → Bool) : Type 0 where
   pub well_formed : WellFormed m
   pub within_limits : WithinLimits m
-  pub places : length r.places ≤ length m.students
+  pub ranks : length r.ranks ≤ length m.students
   pub rolls : length r.rolls ≡ length m.schools
-  pub each : (s : ℕ) → RollFits m (next_of m r.places) away s (roll_of m r.rolls s)
-  pub proposals : r.proposals ≤ length r.log + standing_but m r.places away
+  pub each : (s : ℕ) → RollFits m (next_of m r.ranks) away s (roll_of m r.rolls s)
+  pub proposals : r.proposals ≤ length r.log + standing_but m r.ranks away
 
 -- nobody is away
 abbrev pub nobody : ℕ → Bool
@@ -86,18 +86,18 @@ Fits m r = FitsBut m r nobody
 
 -- the papers of those who have entered
 abbrev pub entered_papers : Market → List (Option ℕ) → Market
-entered_papers m places = restricted m (has_entered m places)
+entered_papers m ranks = restricted m (has_entered m ranks)
 
 -- after an earlier log the round's log settles the papers of those who have entered, and the
 -- students stand at their next choices
 pub record Continues (m : Market) (earlier : List Rejection) (r : RoundView) : Type 0 where
-  pub settled : IsSettled (entered_papers m r.places) (earlier ++ r.log)
-  pub next : (i : ℕ) → next_choice (entered_papers m r.places) (earlier ++ r.log) i ≡ next_of m r.places i
+  pub settled : IsSettled (entered_papers m r.ranks) (earlier ++ r.log)
+  pub next : (i : ℕ) → next_choice (entered_papers m r.ranks) (earlier ++ r.log) i ≡ next_of m r.ranks i
 
 -- the same in the course of a chain, where a student is to propose
 pub record Midway (m : Market) (earlier : List Rejection) (r : RoundView) (proposer : ℕ) : Type 0 where
-  pub chain : InChain (entered_papers m r.places) (earlier ++ r.log) proposer
-  pub next : (i : ℕ) → next_choice (entered_papers m r.places) (earlier ++ r.log) i ≡ next_of m r.places i
+  pub chain : InChain (entered_papers m r.ranks) (earlier ++ r.log) proposer
+  pub next : (i : ℕ) → next_choice (entered_papers m r.ranks) (earlier ++ r.log) i ≡ next_of m r.ranks i
 
 -- what an offer to the roll at a position does: the others stay
 pub record OffersAt (old new : List RollView) (at : ℕ) (key : Key) (out : Option Key) : Type 0 where
@@ -109,18 +109,18 @@ pub record OffersAt (old new : List RollView) (at : ℕ) (key : Key) (out : Opti
   pub others : (other : ℕ) → (other ≡ at → ⊥) → roll_at new other ≡ roll_at old other
   pub same_length : length new ≡ length old
 
--- how many choices a student at a place has left, from that place on
+-- how many choices a student at a rank has left, from that rank on
 abbrev pub left_at : List ℕ → Option ℕ → ℕ
 left_at choices None = 0
-left_at choices (Some place) = length choices - place
+left_at choices (Some rank) = length choices - rank
 
 -- how many choices the students who have entered have left, from those at which they stand on
 unfoldable pub choices_left : Market → List (Option ℕ) → ℕ
-choices_left m places = sum_by (λ i. left_at (choices_of m i) (place_of m places i)) (students_of m)
+choices_left m ranks = sum_by (λ i. left_at (choices_of m i) (rank_of m ranks i)) (students_of m)
 
 -- the same students have entered
 abbrev pub SameEntered : Market → RoundView → RoundView → Type 0
-SameEntered m old new = (i : ℕ) → has_entered m new.places i ≡ has_entered m old.places i
+SameEntered m old new = (i : ℕ) → has_entered m new.ranks i ≡ has_entered m old.ranks i
 
 -- the log is the earlier one, and more
 abbrev pub Extends : List Rejection → List Rejection → Type 0
@@ -130,7 +130,7 @@ Extends old new = (more : List Rejection) × (new ≡ old ++ more)
 -- students who stand at a choice
 abbrev pub CountsProposals : Market → RoundView → (ℕ → Bool) → RoundView → (ℕ → Bool) → Type 0
 CountsProposals m old away new away' =
-    new.proposals + (length old.log + standing_but m old.places away) ≡ old.proposals + (length new.log + standing_but m new.places away')
+    new.proposals + (length old.log + standing_but m old.ranks away) ≡ old.proposals + (length new.log + standing_but m new.ranks away')
 
 -- the chain of the student who proposes has come to its end
 pub record ChainEnds (m : Market) (old new : RoundView) (proposer : ℕ) : Type 0 where
@@ -151,13 +151,13 @@ pub record ChainGoesOn (m : Market) (old new : RoundView) (proposer out : ℕ) :
 -- what one proposal does: whoever is put out proposes next
 abbrev pub Proposes : Market → RoundView → RoundView → ℕ → Option ℕ → Type 0
 Proposes m old new proposer None = ChainEnds m old new proposer
-Proposes m old new proposer (Some out) = ChainGoesOn m old new proposer out × (choices_left m new.places < choices_left m old.places)
+Proposes m old new proposer (Some out) = ChainGoesOn m old new proposer out × (choices_left m new.ranks < choices_left m old.ranks)
 
 -- one more student has entered by a whole chain: after each earlier log that the round continued, it
 -- still does
 pub record Enters (m : Market) (old new : RoundView) (i : ℕ) : Type 0 where
   pub fits : Fits m new
-  pub entered : (j : ℕ) → has_entered m new.places j ≡ and_one (has_entered m old.places) i j
+  pub entered : (j : ℕ) → has_entered m new.ranks j ≡ and_one (has_entered m old.ranks) i j
   pub continues : (earlier : List Rejection) → Continues m earlier old → Continues m earlier new
   pub extends : Extends old.log new.log
   pub counted : CountsProposals m old nobody new nobody
@@ -166,15 +166,15 @@ pub record Enters (m : Market) (old new : RoundView) (i : ℕ) : Type 0 where
 -- and every proposal ended in an entry of the log or in a place
 pub record SettlesFirst (m : Market) (r : RoundView) (k : ℕ) : Type 0 where
   pub fits : Fits m r
-  pub entered : (i : ℕ) → has_entered m r.places i ≡ list_any (nat_eq i) (take k (students_of m))
+  pub entered : (i : ℕ) → has_entered m r.ranks i ≡ list_any (nat_eq i) (take k (students_of m))
   pub settled : Continues m [] r
-  pub counted : r.proposals ≡ length r.log + standing_but m r.places nobody
+  pub counted : r.proposals ≡ length r.log + standing_but m r.ranks nobody
 
 -- one more student has entered and stands at this choice, which is no proposal
 pub record StandsToo (m : Market) (old new : RoundView) (i : ℕ) (choice : Option ℕ) : Type 0 where
   pub fits : Fits m new
-  pub entered : (j : ℕ) → has_entered m new.places j ≡ and_one (has_entered m old.places) i j
-  pub own : next_of m new.places i ≡ choice
-  pub others : (j : ℕ) → (j ≡ i → ⊥) → next_of m new.places j ≡ next_of m old.places j
+  pub entered : (j : ℕ) → has_entered m new.ranks j ≡ and_one (has_entered m old.ranks) i j
+  pub own : next_of m new.ranks i ≡ choice
+  pub others : (j : ℕ) → (j ≡ i → ⊥) → next_of m new.ranks j ≡ next_of m old.ranks j
   pub log : new.log ≡ old.log
   pub proposals : new.proposals ≡ old.proposals

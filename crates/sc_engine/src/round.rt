@@ -20,9 +20,9 @@ use std::alloc::{AllocError, Global};
 #[derive(Drop)]
 pub struct Round<R: Roll> {
     alloc: Global,
-    // By position of the student: the place in the choices at which the student stands, if it has
+    // By position of the student: the rank in the choices at which the student stands, if it has
     // entered. Nobody has who comes after the last of these positions.
-    places: Vec<Option<usize>>,
+    ranks: Vec<Option<usize>>,
     // By position of the school.
     rolls: Vec<R>,
     log: Vec<Rejection>,
@@ -31,16 +31,16 @@ pub struct Round<R: Roll> {
     spent: bool,
 }
 
-/// Places at which nobody has entered.
-fn no_places(alloc: Global, count: usize) -> Result<Vec<Option<usize>>, AllocError>
-    ensures length { IfOk result (λ places. length places.items ≡ count) }
-    ensures nobody { IfOk result (λ places. All (λ place. place ≡ None) places.items) }
+/// Ranks at which nobody has entered.
+fn no_ranks(alloc: Global, count: usize) -> Result<Vec<Option<usize>>, AllocError>
+    ensures length { IfOk result (λ ranks. length ranks.items ≡ count) }
+    ensures nobody { IfOk result (λ ranks. All (λ rank. rank ≡ None) ranks.items) }
 {
-    let mut places = Vec::with_capacity(alloc, count)?;
+    let mut ranks = Vec::with_capacity(alloc, count)?;
     for _added in 0..count {
-        places.push(None)?;
+        ranks.push(None)?;
     }
-    Ok(places)
+    Ok(ranks)
 }
 
 /// The seats of the school at the position.
@@ -69,10 +69,10 @@ fn empty_rolls<R: Roll>(alloc: Global, papers: &Papers) -> Result<Vec<R>, AllocE
 /// Each student's choice, in order of entry.
 fn assignment_of(
     alloc: Global,
-    places: &[Option<usize>],
+    ranks: &[Option<usize>],
     papers: &Papers,
 ) -> Result<Assignment, AllocError>
-    ensures { IfOk result (λ assignment. (i : ℕ) → assigned assignment i ≡ next_of papers.now places.now i) }
+    ensures { IfOk result (λ assignment. (i : ℕ) → assigned assignment i ≡ next_of papers.now ranks.now i) }
 {
     let mut assignment = Assignment::new(alloc);
     for position in 0..papers.students_len() {
@@ -82,7 +82,7 @@ fn assignment_of(
         give(
             &mut assignment,
             student,
-            choice_at(places, papers, position),
+            choice_at(ranks, papers, position),
         )?;
     }
     Ok(assignment)
@@ -103,43 +103,43 @@ fn give(
     Ok(())
 }
 
-/// The place of the choices at which the student at the position stands: none past the last place.
-fn place_at(places: &[Option<usize>], at: usize) -> Option<usize>
-    ensures place { result ≡ slice_index_or places.now at None }
-    ensures within { IsSome result → at < length places.now }
+/// The rank of the choice at which the student at the position stands: none past the end.
+fn rank_at(ranks: &[Option<usize>], at: usize) -> Option<usize>
+    ensures rank { result ≡ slice_index_or ranks.now at None }
+    ensures within { IsSome result → at < length ranks.now }
 {
-    match places.get(at) {
-        Some(place) => *place,
+    match ranks.get(at) {
+        Some(rank) => *rank,
         None => None,
     }
 }
 
 /// Makes room for a position. Nobody stands there yet, nor at those that come before it.
-fn make_room(places: &mut Vec<Option<usize>>, at: usize) -> Result<(), AllocError>
-    ensures room { OnOk result (at < length places.new.items) }
-    ensures same { OnOk result ((k : ℕ) → slice_index_or places.new.items k None ≡ slice_index_or places.old.items k None) }
-    ensures within { OnOk result ((n : ℕ) → at < n → length places.old.items ≤ n → length places.new.items ≤ n) }
+fn make_room(ranks: &mut Vec<Option<usize>>, at: usize) -> Result<(), AllocError>
+    ensures room { OnOk result (at < length ranks.new.items) }
+    ensures same { OnOk result ((k : ℕ) → slice_index_or ranks.new.items k None ≡ slice_index_or ranks.old.items k None) }
+    ensures within { OnOk result ((n : ℕ) → at < n → length ranks.old.items ≤ n → length ranks.new.items ≤ n) }
 {
-    while places.len() <= at {
-        places.push(None)?;
+    while ranks.len() <= at {
+        ranks.push(None)?;
     }
     Ok(())
 }
 
 /// The choice at which the student at the position stands.
-fn choice_at(places: &[Option<usize>], papers: &Papers, at: usize) -> Option<SchoolNo>
+fn choice_at(ranks: &[Option<usize>], papers: &Papers, at: usize) -> Option<SchoolNo>
     requires { at < length papers.now.students }
-    ensures { (i : ℕ) → position (nat_eq i) (students_of papers.now) ≡ Some at → result ≡ next_of papers.now places.now i }
+    ensures { (i : ℕ) → position (nat_eq i) (students_of papers.now) ≡ Some at → result ≡ next_of papers.now ranks.now i }
 {
-    let place = place_at(places, at)?;
-    papers.choices_at(at).get(place).copied()
+    let rank = rank_at(ranks, at)?;
+    papers.choices_at(at).get(rank).copied()
 }
 
 /// The choice at which the student stands.
-fn next_in(places: &[Option<usize>], papers: &Papers, student: StudentNo) -> Option<SchoolNo>
-    ensures { result ≡ next_of papers.now places.now student }
+fn next_in(ranks: &[Option<usize>], papers: &Papers, student: StudentNo) -> Option<SchoolNo>
+    ensures { result ≡ next_of papers.now ranks.now student }
 {
-    choice_at(places, papers, papers.student_position(student)?)
+    choice_at(ranks, papers, papers.student_position(student)?)
 }
 
 /// The position of a student of the papers.
@@ -164,13 +164,13 @@ fn offer_to<R: Roll>(rolls: &mut Vec<R>, at: usize, key: Key) -> Result<Option<K
     Ok(out)
 }
 
-/// The student at the position moves on to the next place of its choices.
-fn move_on(places: &mut Vec<Option<usize>>, at: usize)
-    requires { (place : ℕ) → slice_index_or places.old.items at None ≡ Some place → place < LONGEST_LIST }
-    ensures { (place : ℕ) → slice_index_or places.old.items at None ≡ Some place → places.new.items ≡ slice_set places.old.items at (Some (place + 1)) }
+/// The student at the position moves on to the next rank of its choices.
+fn move_on(ranks: &mut Vec<Option<usize>>, at: usize)
+    requires { (rank : ℕ) → slice_index_or ranks.old.items at None ≡ Some rank → rank < LONGEST_LIST }
+    ensures { (rank : ℕ) → slice_index_or ranks.old.items at None ≡ Some rank → ranks.new.items ≡ slice_set ranks.old.items at (Some (rank + 1)) }
 {
-    if let Some(place) = place_at(places.as_slice(), at) {
-        places[at] = Some(place + 1);
+    if let Some(rank) = rank_at(ranks.as_slice(), at) {
+        ranks[at] = Some(rank + 1);
     }
 }
 
@@ -183,7 +183,7 @@ impl<R: Roll> Round<R> {
         requires count_fits { self.old.proposals + 1 < 2 ^ 64 }
         requires new { ¬ Contains (roll_at (view_of R.keys R.seats self.old).rolls at).keys key }
         ensures offered { IfOk result (λ out. OffersAt (view_of R.keys R.seats self.old).rolls (view_of R.keys R.seats self.new).rolls at key out) }
-        ensures places { self.new.places.items ≡ self.old.places.items }
+        ensures ranks { self.new.ranks.items ≡ self.old.ranks.items }
         ensures log { self.new.log.items ≡ self.old.log.items }
         ensures proposals { OnOk result (self.new.proposals ≡ self.old.proposals + 1) }
     {
@@ -194,14 +194,14 @@ impl<R: Roll> Round<R> {
 
     /// Notes that the school rejects the student at the position, who moves on to the next choice.
     fn reject(&mut self, at: usize, entry: Rejection) -> Result<(), AllocError>
-        requires { (place : ℕ) → slice_index_or self.old.places.items at None ≡ Some place → place < LONGEST_LIST }
+        requires { (rank : ℕ) → slice_index_or self.old.ranks.items at None ≡ Some rank → rank < LONGEST_LIST }
         ensures log { OnOk result (self.new.log.items ≡ self.old.log.items ++ entry ∷ []) }
-        ensures moved { OnOk result ((place : ℕ) → slice_index_or self.old.places.items at None ≡ Some place → self.new.places.items ≡ slice_set self.old.places.items at (Some (place + 1))) }
+        ensures moved { OnOk result ((rank : ℕ) → slice_index_or self.old.ranks.items at None ≡ Some rank → self.new.ranks.items ≡ slice_set self.old.ranks.items at (Some (rank + 1))) }
         ensures rolls { self.new.rolls.items ≡ self.old.rolls.items }
         ensures proposals { self.new.proposals ≡ self.old.proposals }
     {
         self.log.push(entry)?;
-        move_on(&mut self.places, at);
+        move_on(&mut self.ranks, at);
         Ok(())
     }
 
@@ -213,7 +213,7 @@ impl<R: Roll> Round<R> {
         ensures within { IfOk result (λ out. IfSome out (λ next. next < length papers.now.students)) }
         ensures proposes { IfOk result (λ out. Proposes papers.now (view_of R.keys R.seats self.old) (view_of R.keys R.seats self.new) (student_at papers.now proposer) (option_map (student_at papers.now) out)) }
     {
-        let Some(school) = choice_at(self.places.as_slice(), papers, proposer) else {
+        let Some(school) = choice_at(self.ranks.as_slice(), papers, proposer) else {
             return Ok(None);
         };
         let (at, key) = papers.position_and_key(proposer, school);
@@ -244,12 +244,12 @@ impl<R: Roll> Round<R> {
     fn enter(&mut self, papers: &Papers, student: StudentNo) -> Result<(), AllocError>
         requires fits { Fits papers.now (view_of R.keys R.seats self.old) }
         requires student { is_student papers.now student ≡ true }
-        requires absent { has_entered papers.now self.old.places.items student ≡ false }
+        requires absent { has_entered papers.now self.old.ranks.items student ≡ false }
         ensures { OnOk result (Enters papers.now (view_of R.keys R.seats self.old) (view_of R.keys R.seats self.new) student) }
     {
         let at = position_of(papers, student);
-        make_room(&mut self.places, at)?;
-        self.places[at] = Some(0);
+        make_room(&mut self.ranks, at)?;
+        self.ranks[at] = Some(0);
         self.chain(papers, at)?;
         Ok(())
     }
@@ -258,7 +258,7 @@ impl<R: Roll> Round<R> {
     /// student and each school; the rolls take theirs by the offers.
     pub fn start(alloc: Global, papers: &Papers) -> Result<Self, AllocError>
         ensures fits { IfOk result (λ round. Fits papers.now (view_of R.keys R.seats round)) }
-        ensures nobody { IfOk result (λ round. (i : ℕ) → has_entered papers.now (view_of R.keys R.seats round).places i ≡ false) }
+        ensures nobody { IfOk result (λ round. (i : ℕ) → has_entered papers.now (view_of R.keys R.seats round).ranks i ≡ false) }
         ensures settled { IfOk result (λ round. Continues papers.now [] (view_of R.keys R.seats round)) }
         ensures log { IfOk result (λ round. (view_of R.keys R.seats round).log ≡ []) }
         ensures proposals { IfOk result (λ round. (view_of R.keys R.seats round).proposals ≡ 0) }
@@ -267,7 +267,7 @@ impl<R: Roll> Round<R> {
         let students = papers.students_len();
         Ok(Round {
             alloc,
-            places: no_places(alloc, students)?,
+            ranks: no_ranks(alloc, students)?,
             rolls: empty_rolls(alloc, papers)?,
             log: Vec::new(alloc),
             proposals: 0,
@@ -288,7 +288,7 @@ impl<R: Roll> Round<R> {
         // entered.
         requires fits { is_spent self.old ≡ false → Fits papers.now (view_of R.keys R.seats self.old) }
         requires student { is_spent self.old ≡ false → is_student papers.now student ≡ true }
-        requires absent { is_spent self.old ≡ false → has_entered papers.now (view_of R.keys R.seats self.old).places student ≡ false }
+        requires absent { is_spent self.old ≡ false → has_entered papers.now (view_of R.keys R.seats self.old).ranks student ≡ false }
         ensures enters { OnOk result (Enters papers.now (view_of R.keys R.seats self.old) (view_of R.keys R.seats self.new) student) }
         ensures was_ready { OnOk result (is_spent self.old ≡ false) }
         ensures ready { OnOk result (is_spent self.new ≡ false) }
@@ -306,12 +306,12 @@ impl<R: Roll> Round<R> {
     /// the student has not entered. In constant time. Of a spent round nothing is said.
     pub fn next_choice(&self, papers: &Papers, student: StudentNo) -> Option<SchoolNo>
         requires { is_spent self.now ≡ false → Fits papers.now (view_of R.keys R.seats self.now) }
-        ensures { is_spent self.now ≡ false → result ≡ next_of papers.now (view_of R.keys R.seats self.now).places student }
+        ensures { is_spent self.now ≡ false → result ≡ next_of papers.now (view_of R.keys R.seats self.now).ranks student }
     {
         if self.spent {
             return None;
         }
-        next_in(self.places.as_slice(), papers, student)
+        next_in(self.ranks.as_slice(), papers, student)
     }
 
     /// The rejections, in the order in which they happened.
@@ -341,13 +341,13 @@ impl<R: Roll> Round<R> {
         requires { is_spent self ≡ false → Fits papers.now (view_of R.keys R.seats self) }
         ensures was_ready { OnOk result (is_spent self ≡ false) }
         ensures log { IfOk result (λ settled. settled.log.items ≡ (view_of R.keys R.seats self).log) }
-        ensures given { IfOk result (λ settled. (i : ℕ) → assigned settled.assignment i ≡ next_of papers.now (view_of R.keys R.seats self).places i) }
+        ensures given { IfOk result (λ settled. (i : ℕ) → assigned settled.assignment i ≡ next_of papers.now (view_of R.keys R.seats self).ranks i) }
         ensures proposals { IfOk result (λ settled. settled.proposals ≡ (view_of R.keys R.seats self).proposals) }
     {
         if self.spent {
             return Err(AllocError);
         }
-        let assignment = assignment_of(self.alloc, self.places.as_slice(), papers)?;
+        let assignment = assignment_of(self.alloc, self.ranks.as_slice(), papers)?;
         Ok(Settled {
             log: self.log,
             assignment,

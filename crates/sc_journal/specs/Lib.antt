@@ -4,3 +4,4 @@ pub mod Journal
 pub mod Reading
 pub mod Replaying
 pub mod Representation
+pub mod FaultText

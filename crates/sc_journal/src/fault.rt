@@ -1,5 +1,6 @@
 //! What can be wrong with a journal.
-ghost use Rattle.std.specs.Prelude.{◌≡◌};
+ghost use Rattle.std.specs.Prelude.{◌≡◌, Some};
+ghost use Rattle.sc_journal.specs.FaultText.{cause_text, fault_text};
 ghost use Rattle.sc_journal.specs.Journal.{no_memory};
 ghost use Rattle.sc_journal.specs.Replaying.{line_of};
 
@@ -23,6 +24,8 @@ pub enum JournalCause {
 }
 
 impl fmt::Display for JournalCause {
+    ghost output = { λ cause. Some (cause_text cause) };
+
     fn fmt<W: fmt::Write>(&self, f: &mut fmt::Formatter<W>) -> fmt::Result {
         match self {
             JournalCause::Shape => f.write_str("Shape"),
@@ -43,6 +46,8 @@ pub struct JournalFault {
 }
 
 impl fmt::Display for JournalFault {
+    ghost output = { λ fault. Some (fault_text fault) };
+
     fn fmt<W: fmt::Write>(&self, f: &mut fmt::Formatter<W>) -> fmt::Result {
         write!(f, "journal line {}: {}", self.line, self.cause)
     }

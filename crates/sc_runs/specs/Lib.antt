@@ -9,3 +9,4 @@ pub mod TwoWriters
 pub mod Run
 pub mod Auditing
 pub mod Replaying
+pub mod FaultLine

@@ -1,7 +1,8 @@
 //! How the program ends: its exit status, and its line on standard error.
 
-ghost use Rattle.std.specs.Prelude.{◌≡◌};
+ghost use Rattle.std.specs.Prelude.{◌≡◌, Some, IfOk};
 ghost use Rattle.sc_runs.specs.Ending.{status_of, status_of_fault};
+ghost use Rattle.sc_runs.specs.FaultLine.{ending_words, fault_line};
 
 use crate::fault::RunFault;
 use sc_lottery::SeedError;
@@ -26,6 +27,8 @@ pub enum Ending {
 }
 
 impl fmt::Display for Ending {
+    ghost output = { λ ending. Some (ending_words ending) };
+
     fn fmt<W: fmt::Write>(&self, f: &mut fmt::Formatter<W>) -> fmt::Result {
         match self {
             Ending::Done | Ending::NotCertified => Ok(()),
@@ -68,7 +71,9 @@ fn status_of_fault(fault: &RunFault) -> u8
 
 /// The line for standard error, with its newline; empty where all was done or the log is not
 /// certified. The only error is want of memory.
-pub fn fault_line(alloc: Global, ending: &Ending) -> Result<Vec<u8>, AllocError> {
+pub fn fault_line(alloc: Global, ending: &Ending) -> Result<Vec<u8>, AllocError>
+    ensures { IfOk result (λ line. line.items ≡ fault_line ending.now) }
+{
     match ending {
         Ending::Done | Ending::NotCertified => Ok(Vec::new(alloc)),
         _ => Ok(format!(in alloc; "clearinghouse: {ending}\n")?.into_bytes()),

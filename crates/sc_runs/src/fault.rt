@@ -1,33 +1,46 @@
 //! Why a run ended early.
 
-ghost use Rattle.std.specs.Prelude.{◌≡◌};
+ghost use Rattle.std.specs.Prelude.{◌≡◌, Some};
+ghost use Rattle.sc_runs.specs.FaultLine.{fault_words};
 
 use sc_intake::{Cause, IntakeFault, Source};
 use sc_journal::{JournalCause, JournalFault};
-use thiserror::Error;
+use std::error::Error;
+use std::fmt;
 
 /// Why a call of the program ended early.
-#[derive(Clone, Copy, Debug, PartialEq, Eq, Error)]
+#[derive(Clone, Copy, Debug, PartialEq, Eq)]
 pub enum RunFault {
     /// An input could not be read to its end.
-    #[error("cannot read {source}")]
     Read { source: Source },
     /// An input is faulty.
-    #[error("{0}")]
     Intake(IntakeFault),
     /// The journal is faulty, or full.
-    #[error("{0}")]
     Journal(JournalFault),
     /// The output could not be written.
-    #[error("cannot write output")]
     WriteOut,
     /// The journal could not be written.
-    #[error("cannot write journal")]
     WriteJournal,
     /// A growth was refused, in whatever layer.
-    #[error("out of memory")]
     OutOfMemory,
 }
+
+impl fmt::Display for RunFault {
+    ghost output = { λ fault. Some (fault_words fault) };
+
+    fn fmt<W: fmt::Write>(&self, f: &mut fmt::Formatter<W>) -> fmt::Result {
+        match self {
+            RunFault::Read { source } => write!(f, "cannot read {source}"),
+            RunFault::Intake(fault) => write!(f, "{fault}"),
+            RunFault::Journal(fault) => write!(f, "{fault}"),
+            RunFault::WriteOut => f.write_str("cannot write output"),
+            RunFault::WriteJournal => f.write_str("cannot write journal"),
+            RunFault::OutOfMemory => f.write_str("out of memory"),
+        }
+    }
+}
+
+impl Error for RunFault {}
 
 impl From<IntakeFault> for RunFault {
     ghost use Rattle.sc_runs.specs.Opening.{run_fault};

@@ -13,18 +13,18 @@ use sc_papers::{Papers, SchoolNo};
 use sc_seats::Roll;
 use std::alloc::{AllocError, Global};
 
-/// The place of the school among the choices, or the place after the last where there is no school.
-fn place_in(choices: &[SchoolNo], school: Option<SchoolNo>) -> usize
+/// The rank of the school among the choices, or the rank after the last where there is no school.
+fn rank_in(choices: &[SchoolNo], school: Option<SchoolNo>) -> usize
     requires { IfSome school (λ s. Contains choices.now s) }
     ensures { slice_get choices.now result ≡ school }
 {
     let Some(school) = school else {
         return choices.len();
     };
-    let Some(place) = choices.iter().position(|choice| *choice == school) else {
+    let Some(rank) = choices.iter().position(|choice| *choice == school) else {
         unreachable!()
     };
-    place
+    rank
 }
 
 impl<R: Roll> Round<R> {
@@ -35,15 +35,15 @@ impl<R: Roll> Round<R> {
     fn put(&mut self, papers: &Papers, choice: NextChoice) -> Result<(), AllocError>
         requires fits { Fits papers.now (view_of R.keys R.seats self.old) }
         requires student { is_student papers.now choice.student ≡ true }
-        requires absent { has_entered papers.now self.old.places.items choice.student ≡ false }
+        requires absent { has_entered papers.now self.old.ranks.items choice.student ≡ false }
         requires listed { IfSome choice.next (λ s. Contains (choices_of papers.now choice.student) s) }
-        requires room { IfSome choice.next (λ s. held papers.now (next_of papers.now self.old.places.items) s < seats_of papers.now s) }
+        requires room { IfSome choice.next (λ s. held papers.now (next_of papers.now self.old.ranks.items) s < seats_of papers.now s) }
         ensures stands { OnOk result (StandsToo papers.now (view_of R.keys R.seats self.old) (view_of R.keys R.seats self.new) choice.student choice.next) }
         ensures spent { is_spent self.new ≡ is_spent self.old }
     {
         let at = position_of(papers, choice.student);
-        make_room(&mut self.places, at)?;
-        self.places[at] = Some(place_in(papers.choices_at(at), choice.next));
+        make_room(&mut self.ranks, at)?;
+        self.ranks[at] = Some(rank_in(papers.choices_at(at), choice.next));
         let Some(school) = choice.next else {
             return Ok(());
         };
@@ -70,7 +70,7 @@ impl<R: Roll> Round<R> {
         // students of the papers, and leaves them these next choices.
         requires { (earlier : List Rejection) × AreNextChoices papers.now earlier next_choices.now }
         ensures fits { IfOk result (λ round. Fits papers.now (view_of R.keys R.seats round)) }
-        ensures entered { IfOk result (λ round. (i : ℕ) → has_entered papers.now (view_of R.keys R.seats round).places i ≡ stands next_choices.now i) }
+        ensures entered { IfOk result (λ round. (i : ℕ) → has_entered papers.now (view_of R.keys R.seats round).ranks i ≡ stands next_choices.now i) }
         ensures continues { IfOk result (λ round. (earlier : List Rejection) → AreNextChoices papers.now earlier next_choices.now → Continues papers.now earlier (view_of R.keys R.seats round)) }
         ensures log { IfOk result (λ round. (view_of R.keys R.seats round).log ≡ []) }
         ensures proposals { IfOk result (λ round. (view_of R.keys R.seats round).proposals ≡ 0) }

@@ -5,10 +5,10 @@ use Rattle.sc_checkpoint.proofs.next_choices.first_outside.Goals as goal
 
 pub returns-then-not-contains : goal.returns-then-not-contains
 returns-then-not-contains c = λ test agree.
-    sym (outside-found c.args.places c.args.choices.now c.loop-place.place c.index-choices-place.result test agree c.loop-place.invariant
-    (slice_get_read c.args.choices.now (length c.args.choices.now) c.loop-place.place c.index-choices-place.result refl c.loop-place-test.true c.index-choices-place.is)
+    sym (outside-found c.args.ranks c.args.choices.now c.loop-rank.rank c.index-choices-rank.result test agree c.loop-rank.invariant
+    (slice_get_read c.args.choices.now (length c.args.choices.now) c.loop-rank.rank c.index-choices-rank.result refl c.loop-rank-test.true c.index-choices-rank.is)
     (sym c.contains.ensures ∙ c.if-not-contains.true))
 
 pub returns : goal.returns
 returns c = λ test agree.
-    sym (outside-none c.args.places c.args.choices.now c.loop-place.place test agree c.loop-place.invariant c.loop-place-test.false)
+    sym (outside-none c.args.ranks c.args.choices.now c.loop-rank.rank test agree c.loop-rank.invariant c.loop-rank-test.false)

@@ -12,13 +12,13 @@ returns-in_default c = λ log before.
 pub choices_at-requires : goal.choices_at-requires
 choices_at-requires c = position-low c.args.papers.now c.args.entry.student c.in-Some.position (sym c.student_position.ensures ∙ c.in-Some.is)
 
-pub returns-in_default-place_in : goal.returns-in_default-place_in
-returns-in_default-place_in c = λ log before.
+pub returns-in_default-rank_in : goal.returns-in_default-rank_in
+returns-in_default-rank_in c = λ log before.
     let m = c.args.papers.now in
     let e = c.args.entry in
     let own = student-there m e.student c.in-Some.position (sym c.student_position.ensures ∙ c.in-Some.is) in
     let none : position (λ s. s == e.school) (choices_of m e.student) ≡ None =
-    ap (position (λ s. s == e.school)) (sym (c.choices_at.ensures.choices ∙ ap (choices_of m) own)) ∙ sym c.place_in.ensures ∙ c.in_default-place_in.is in
+    ap (position (λ s. s == e.school)) (sym (c.choices_at.ensures.choices ∙ ap (choices_of m) own)) ∙ sym c.rank_in.ensures ∙ c.in_default-rank_in.is in
     table-unlisted m log e c.args.table.now none before
 
 pub returns-then-position-table : goal.returns-then-position-table
@@ -27,10 +27,10 @@ returns-then-position-table c = λ log before.
     let e = c.args.entry in
     let found = sym c.student_position.ensures ∙ c.in-Some.is in
     let own = student-there m e.student c.in-Some.position found in
-    let place : position (λ s. s == e.school) (choices_of m e.student) ≡ Some c.in-Some-place_in.place =
-    ap (position (λ s. s == e.school)) (sym (c.choices_at.ensures.choices ∙ ap (choices_of m) own)) ∙ sym c.place_in.ensures ∙ c.in-Some-place_in.is in
-    table-marked m log e c.args.table.now c.in-Some.position c.in-Some-place_in.place _ c.with.result c.students_len.ensures.well_formed
-    found place (slice_get-get_or c.args.table.now c.in-Some.position _ c.if-position-table.true) c.with.ensures before
+    let rank : position (λ s. s == e.school) (choices_of m e.student) ≡ Some c.in-Some-rank_in.rank =
+    ap (position (λ s. s == e.school)) (sym (c.choices_at.ensures.choices ∙ ap (choices_of m) own)) ∙ sym c.rank_in.ensures ∙ c.in-Some-rank_in.is in
+    table-marked m log e c.args.table.now c.in-Some.position c.in-Some-rank_in.rank _ c.with.result c.students_len.ensures.well_formed
+    found rank (slice_get-get_or c.args.table.now c.in-Some.position _ c.if-position-table.true) c.with.ensures before
 
 pub returns-else-position-table : goal.returns-else-position-table
 returns-else-position-table c = λ log before.

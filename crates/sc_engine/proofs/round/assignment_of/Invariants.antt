@@ -2,4 +2,4 @@ use Rattle.sc_engine.proofs.Settling.{GivesFirst}
 use Rattle.sc_engine.proofs.round.assignment_of.Given as goal
 
 abbrev pub invariant-loop-position : goal.invariant-loop-position
-invariant-loop-position l = GivesFirst l.papers l.places l.assignment l.position
+invariant-loop-position l = GivesFirst l.papers l.ranks l.assignment l.position

@@ -3,4 +3,4 @@ use Rattle.sc_engine.proofs.Hands.{next-nowhere}
 use Rattle.sc_engine.proofs.round.next_in.Goals as goal
 
 pub returns-in_err-student_position : goal.returns-in_err-student_position
-returns-in_err-student_position c = c.from_residual.ensures ∙ sym (next-nowhere c.args.papers.now c.args.places.now c.args.student c.in_err-student_position.ensures)
+returns-in_err-student_position c = c.from_residual.ensures ∙ sym (next-nowhere c.args.papers.now c.args.ranks.now c.args.student c.in_err-student_position.ensures)

@@ -18,7 +18,7 @@ pub position_and_key-at-requires-clause-school : goal.position_and_key-at-requir
 position_and_key-at-requires-clause-school c =
     let m = c.args.papers.now in
     let i : ℕ = student_at m c.args.student in
-    choice-known m c.requires.fits.well_formed i c.in-Some.school (contains-at (choices_of m i) c.args.place c.in-Some.school (sym c.in-Some.ensures))
+    choice-known m c.requires.fits.well_formed i c.in-Some.school (contains-at (choices_of m i) c.args.rank c.in-Some.school (sym c.in-Some.ensures))
 
 pub offer-requires-clause-heap : goal.offer-requires-clause-heap
 offer-requires-clause-heap c =
@@ -61,8 +61,8 @@ returns-in-Some-out c =
       offered = offer-seen heap_items m c.args.self.now.kept.items (student_at c.args.papers.now c.args.student) c.in-Some.school at c.index_mut.result.now c.seats_of.result c.position_and_key-at.result.1 (heap_items c.offer.new.keys) (Some c.in-Some-out.last) low c.index_mut.ensures.value c.seats_of.ensures c.position_and_key-at.ensures.key
           (subst (Offers (heap_items c.index_mut.result.now) c.seats_of.result c.position_and_key-at.result.1 (heap_items c.offer.new.keys)) c.in-Some-out.is c.in_ok-out.ensures.offered);
       kept = map-set heap_items c.args.self.now.kept.items at c.offer.new.keys;
-      long = c.put_aside.ensures.length ∙ length-set c.args.self.now.stands.items c.args.student (Some (record { place = c.args.place; school = c.in-Some.school; kept = true })) ∙ c.requires.fits.stands;
-      stands = λ j. c.put_aside.ensures.stands j ∙ ap (λ o. cond (nat_eq j c.in-Some-out.last.student) (option_map set_aside o) o) (stand-put m c.args.self.now.stands.items (Some (record { place = c.args.place; school = c.in-Some.school; kept = true })) (student_at m c.args.student) c.args.student c.requires.fits.stands (hand-position m c.requires.fits.well_formed c.args.student c.requires.within) j);
+      long = c.put_aside.ensures.length ∙ length-set c.args.self.now.stands.items c.args.student (Some (record { rank = c.args.rank; school = c.in-Some.school; kept = true })) ∙ c.requires.fits.stands;
+      stands = λ j. c.put_aside.ensures.stands j ∙ ap (λ o. cond (nat_eq j c.in-Some-out.last.student) (option_map set_aside o) o) (stand-put m c.args.self.now.stands.items (Some (record { rank = c.args.rank; school = c.in-Some.school; kept = true })) (student_at m c.args.student) c.args.student c.requires.fits.stands (hand-position m c.requires.fits.well_formed c.args.student c.requires.within) j);
     })
 
 pub returns-in_default-out : goal.returns-in_default-out
@@ -80,6 +80,6 @@ returns-in_default-out c =
       offered = offer-seen heap_items m c.args.self.now.kept.items (student_at c.args.papers.now c.args.student) c.in-Some.school at c.index_mut.result.now c.seats_of.result c.position_and_key-at.result.1 (heap_items c.offer.new.keys) None low c.index_mut.ensures.value c.seats_of.ensures c.position_and_key-at.ensures.key
           (subst (Offers (heap_items c.index_mut.result.now) c.seats_of.result c.position_and_key-at.result.1 (heap_items c.offer.new.keys)) c.in_default-out.is c.in_ok-out.ensures.offered);
       kept = map-set heap_items c.args.self.now.kept.items at c.offer.new.keys;
-      long = length-set c.args.self.now.stands.items c.args.student (Some (record { place = c.args.place; school = c.in-Some.school; kept = true })) ∙ c.requires.fits.stands;
-      stands = stand-put m c.args.self.now.stands.items (Some (record { place = c.args.place; school = c.in-Some.school; kept = true })) (student_at m c.args.student) c.args.student c.requires.fits.stands (hand-position m c.requires.fits.well_formed c.args.student c.requires.within);
+      long = length-set c.args.self.now.stands.items c.args.student (Some (record { rank = c.args.rank; school = c.in-Some.school; kept = true })) ∙ c.requires.fits.stands;
+      stands = stand-put m c.args.self.now.stands.items (Some (record { rank = c.args.rank; school = c.in-Some.school; kept = true })) (student_at m c.args.student) c.args.student c.requires.fits.stands (hand-position m c.requires.fits.well_formed c.args.student c.requires.within);
     })

@@ -11,16 +11,16 @@ use Rattle.sc_audit.proofs.Takings.{waits-from, waits-placed, left-fits, left-ne
 use Rattle.sc_audit.proofs.audit_state.AuditState.take.Goals as goal
 
 pub returns-in_default : goal.returns-in_default
-returns-in_default c = λ log valid follows. not-taken c.args.papers.now log (view_of c.args.self.now) c.args.entry (sym c.in_default.ensures.place) follows
+returns-in_default c = λ log valid follows. not-taken c.args.papers.now log (view_of c.args.self.now) c.args.entry (sym c.in_default.ensures.rank) follows
 
 pub index_mut-requires : goal.index_mut-requires
 index_mut-requires c = omega (arith, position-low c.args.papers.now c.args.entry.student c.in-Some.student c.in-Some.ensures.position, c.requires.fits.stands)
 
-pub overflow_add-place : goal.overflow_add-place
-overflow_add-place c =
+pub overflow_add-rank : goal.overflow_add-rank
+overflow_add-rank c =
     let m = c.args.papers.now in
-    let listed = slice_get_within (choices_of m c.args.entry.student) c.in-Some.place c.args.entry.school
-    (waits-placed (waits-from c.args.papers.now (view_of c.args.self.now) c.args.entry.student c.args.entry.school c.in-Some.place (sym c.in-Some.ensures.place)) c.requires.fits) in
+    let listed = slice_get_within (choices_of m c.args.entry.student) c.in-Some.rank c.args.entry.school
+    (waits-placed (waits-from c.args.papers.now (view_of c.args.self.now) c.args.entry.student c.args.entry.school c.in-Some.rank (sym c.in-Some.ensures.rank)) c.requires.fits) in
     omega (arith, listed, choices-short m c.requires.fits.within_limits c.args.entry.student)
 
 pub move_to-requires-clause-fits : goal.move_to-requires-clause-fits
@@ -28,7 +28,7 @@ move_to-requires-clause-fits c =
     let m = c.args.papers.now in
     let old = view_of c.args.self.now in
     let stands = c.args.self.now.stands.items in
-    left-fits (waits-from m old c.args.entry.student c.args.entry.school c.in-Some.place (sym c.in-Some.ensures.place))
+    left-fits (waits-from m old c.args.entry.student c.args.entry.school c.in-Some.rank (sym c.in-Some.ensures.rank))
     (record { stands = set stands c.in-Some.student None; kept = old.kept }) c.requires.fits refl (length-set stands c.in-Some.student None)
     (stand-put m stands None c.args.entry.student c.in-Some.student c.requires.fits.stands c.in-Some.ensures.position)
 
@@ -41,7 +41,7 @@ move_to-requires-clause-nowhere c =
     let old = view_of c.args.self.now in
     let stands = c.args.self.now.stands.items in
     ap (stand_of m (set stands c.in-Some.student None)) (student-there m c.args.entry.student c.in-Some.student c.in-Some.ensures.position)
-    ∙ left-nowhere (waits-from m old c.args.entry.student c.args.entry.school c.in-Some.place (sym c.in-Some.ensures.place))
+    ∙ left-nowhere (waits-from m old c.args.entry.student c.args.entry.school c.in-Some.rank (sym c.in-Some.ensures.rank))
     (record { stands = set stands c.in-Some.student None; kept = old.kept }) c.requires.fits refl (length-set stands c.in-Some.student None)
     (stand-put m stands None c.args.entry.student c.in-Some.student c.requires.fits.stands c.in-Some.ensures.position)
 
@@ -50,10 +50,10 @@ returns c = λ log valid follows.
     let m = c.args.papers.now in
     let old = view_of c.args.self.now in
     let stands = c.args.self.now.stands.items in
-    let waits = waits-from m old c.args.entry.student c.args.entry.school c.in-Some.place (sym c.in-Some.ensures.place) in
+    let waits = waits-from m old c.args.entry.student c.args.entry.school c.in-Some.rank (sym c.in-Some.ensures.rank) in
     let mid : AuditView = record { stands = set stands c.in-Some.student None; kept = old.kept } in (
-      taken-valid m log old c.args.entry c.in-Some.place follows waits,
-      taken-follows m log old mid (view_of c.move_to.new.self) c.args.entry c.in-Some.place valid follows waits
+      taken-valid m log old c.args.entry c.in-Some.rank follows waits,
+      taken-follows m log old mid (view_of c.move_to.new.self) c.args.entry c.in-Some.rank valid follows waits
           (left-next waits mid c.requires.fits refl (length-set stands c.in-Some.student None) (stand-put m stands None c.args.entry.student c.in-Some.student c.requires.fits.stands c.in-Some.ensures.position))
-          (subst (λ i. MovesTo m mid i (c.in-Some.place + 1) (view_of c.move_to.new.self)) (student-there m c.args.entry.student c.in-Some.student c.in-Some.ensures.position) c.in_ok-move_to.ensures),
+          (subst (λ i. MovesTo m mid i (c.in-Some.rank + 1) (view_of c.move_to.new.self)) (student-there m c.args.entry.student c.in-Some.student c.in-Some.ensures.position) c.in_ok-move_to.ensures),
     )

@@ -8,7 +8,7 @@ use Rattle.sc_papers.proofs.Hands.{hand-position, student-there}
 use Rattle.sc_engine.proofs.Papers.{stander-student, stander-school, stander-short}
 use Rattle.sc_engine.proofs.Proposals.{Proposed, put-out, standing-most}
 use Rattle.sc_engine.proofs.Moves.{proposed-told, roll-new, ends-none, ends-held, goes-on}
-use Rattle.sc_engine.proofs.Tables.{place-at}
+use Rattle.sc_engine.proofs.Tables.{rank-at}
 use Rattle.sc_engine.proofs.round.Round.propose.Goals as goal
 
 pub returns-in_default-clause-proposes : goal.returns-in_default-clause-proposes
@@ -16,16 +16,16 @@ returns-in_default-clause-proposes g c =
     let papers = c.args.papers.now in
     let proposer : ℕ = student_at papers c.args.proposer in
     ends-none papers (view_of g.R.Roll.keys g.R.Roll.seats c.args.self.now) proposer c.requires.fits
-    (sym (c.in_default.ensures proposer (hand-position papers c.requires.fits.well_formed c.args.proposer c.requires.within) ∙ ap (λ places. next_of papers places proposer) c.as_slice.ensures.value))
+    (sym (c.in_default.ensures proposer (hand-position papers c.requires.fits.well_formed c.args.proposer c.requires.within) ∙ ap (λ ranks. next_of papers ranks proposer) c.as_slice.ensures.value))
 
 pub position_and_key-at-requires-clause-school : goal.position_and_key-at-requires-clause-school
 position_and_key-at-requires-clause-school g c =
     let papers = c.args.papers.now in
     let proposer : ℕ = student_at papers c.args.proposer in
     let old = view_of g.R.Roll.keys g.R.Roll.seats c.args.self.now in
-    let stands : next_of papers old.places proposer ≡ Some c.in-Some.school =
-    sym (c.in-Some.ensures proposer (hand-position papers c.requires.fits.well_formed c.args.proposer c.requires.within) ∙ ap (λ places. next_of papers places proposer) c.as_slice.ensures.value) in
-    stander-school papers old.places proposer c.in-Some.school c.requires.fits.well_formed stands
+    let stands : next_of papers old.ranks proposer ≡ Some c.in-Some.school =
+    sym (c.in-Some.ensures proposer (hand-position papers c.requires.fits.well_formed c.args.proposer c.requires.within) ∙ ap (λ ranks. next_of papers ranks proposer) c.as_slice.ensures.value) in
+    stander-school papers old.ranks proposer c.in-Some.school c.requires.fits.well_formed stands
 
 pub offer-requires-clause-new : goal.offer-requires-clause-new
 offer-requires-clause-new g c =
@@ -33,55 +33,55 @@ offer-requires-clause-new g c =
 
 pub offer-requires-clause-count_fits : goal.offer-requires-clause-count_fits
 offer-requires-clause-count_fits g c =
-    omega (arith, c.requires.fits.proposals, standing-most c.args.papers.now c.args.self.now.places.items (only (student_at c.args.papers.now c.args.proposer)) c.requires.fits.within_limits, c.args.self.now.log.small, c.args.self.now.log.ok)
+    omega (arith, c.requires.fits.proposals, standing-most c.args.papers.now c.args.self.now.ranks.items (only (student_at c.args.papers.now c.args.proposer)) c.requires.fits.within_limits, c.args.self.now.log.small, c.args.self.now.log.ok)
 
 pub returns-in_default-2-clause-proposes : goal.returns-in_default-2-clause-proposes
 returns-in_default-2-clause-proposes g c =
     let papers = c.args.papers.now in
     let proposer : ℕ = student_at papers c.args.proposer in
     let old = view_of g.R.Roll.keys g.R.Roll.seats c.args.self.now in
-    let stands : next_of papers old.places proposer ≡ Some c.in-Some.school =
-    sym (c.in-Some.ensures proposer (hand-position papers c.requires.fits.well_formed c.args.proposer c.requires.within) ∙ ap (λ places. next_of papers places proposer) c.as_slice.ensures.value) in
+    let stands : next_of papers old.ranks proposer ≡ Some c.in-Some.school =
+    sym (c.in-Some.ensures proposer (hand-position papers c.requires.fits.well_formed c.args.proposer c.requires.within) ∙ ap (λ ranks. next_of papers ranks proposer) c.as_slice.ensures.value) in
     let new = view_of g.R.Roll.keys g.R.Roll.seats c.offer.new.self in
     ends-held papers old new proposer c.in-Some.school c.position_and_key-at.result.0
     (proposed-told papers old proposer c.in-Some.school c.position_and_key-at.result.0 c.position_and_key-at.result.1 new.rolls c.in_ok-out.field-0 None c.requires.fits stands c.position_and_key-at.ensures.position c.position_and_key-at.ensures.key c.in_ok-out.ensures.offered c.in_default-2.is)
-    c.offer.ensures.places c.offer.ensures.log c.in_ok-out.ensures.proposals
+    c.offer.ensures.ranks c.offer.ensures.log c.in_ok-out.ensures.proposals
 
 pub position_of-next-requires : goal.position_of-next-requires
 position_of-next-requires g c =
     let papers = c.args.papers.now in
     let proposer : ℕ = student_at papers c.args.proposer in
     let old = view_of g.R.Roll.keys g.R.Roll.seats c.args.self.now in
-    let stands : next_of papers old.places proposer ≡ Some c.in-Some.school =
-    sym (c.in-Some.ensures proposer (hand-position papers c.requires.fits.well_formed c.args.proposer c.requires.within) ∙ ap (λ places. next_of papers places proposer) c.as_slice.ensures.value) in
+    let stands : next_of papers old.ranks proposer ≡ Some c.in-Some.school =
+    sym (c.in-Some.ensures proposer (hand-position papers c.requires.fits.well_formed c.args.proposer c.requires.within) ∙ ap (λ ranks. next_of papers ranks proposer) c.as_slice.ensures.value) in
     let rolls = rolls_of g.R.Roll.keys g.R.Roll.seats c.offer.new.self.rolls.items in
     let out : ℕ = c.in-Some-2.out.student in
     let proposed : Proposed papers old proposer c.in-Some.school c.position_and_key-at.result.0 rolls (Some c.in-Some-2.out) =
     proposed-told papers old proposer c.in-Some.school c.position_and_key-at.result.0 c.position_and_key-at.result.1 rolls c.in_ok-out.field-0 (Some c.in-Some-2.out) c.requires.fits stands c.position_and_key-at.ensures.position c.position_and_key-at.ensures.key c.in_ok-out.ensures.offered c.in-Some-2.is in
-    stander-student papers old.places out c.in-Some.school (put-out papers old proposer c.in-Some.school c.position_and_key-at.result.0 rolls c.in-Some-2.out proposed).stands
+    stander-student papers old.ranks out c.in-Some.school (put-out papers old proposer c.in-Some.school c.position_and_key-at.result.0 rolls c.in-Some-2.out proposed).stands
 
 pub reject-requires : goal.reject-requires
-reject-requires g c place is =
+reject-requires g c rank is =
     let papers = c.args.papers.now in
     let proposer : ℕ = student_at papers c.args.proposer in
     let old = view_of g.R.Roll.keys g.R.Roll.seats c.args.self.now in
-    let stands : next_of papers old.places proposer ≡ Some c.in-Some.school =
-    sym (c.in-Some.ensures proposer (hand-position papers c.requires.fits.well_formed c.args.proposer c.requires.within) ∙ ap (λ places. next_of papers places proposer) c.as_slice.ensures.value) in
+    let stands : next_of papers old.ranks proposer ≡ Some c.in-Some.school =
+    sym (c.in-Some.ensures proposer (hand-position papers c.requires.fits.well_formed c.args.proposer c.requires.within) ∙ ap (λ ranks. next_of papers ranks proposer) c.as_slice.ensures.value) in
     let rolls = rolls_of g.R.Roll.keys g.R.Roll.seats c.offer.new.self.rolls.items in
     let out : ℕ = c.in-Some-2.out.student in
     let proposed : Proposed papers old proposer c.in-Some.school c.position_and_key-at.result.0 rolls (Some c.in-Some-2.out) =
     proposed-told papers old proposer c.in-Some.school c.position_and_key-at.result.0 c.position_and_key-at.result.1 rolls c.in_ok-out.field-0 (Some c.in-Some-2.out) c.requires.fits stands c.position_and_key-at.ensures.position c.position_and_key-at.ensures.key c.in_ok-out.ensures.offered c.in-Some-2.is in
     let next : ℕ = c.position_of-next.result in
-    stander-short papers old.places out c.in-Some.school place c.requires.fits.within_limits (put-out papers old proposer c.in-Some.school c.position_and_key-at.result.0 rolls c.in-Some-2.out proposed).stands
-    (place-at papers old.places out next c.position_of-next.ensures ∙ ap (λ (places : List (Option ℕ)). get_or places next None) (sym c.offer.ensures.places) ∙ is)
+    stander-short papers old.ranks out c.in-Some.school rank c.requires.fits.within_limits (put-out papers old proposer c.in-Some.school c.position_and_key-at.result.0 rolls c.in-Some-2.out proposed).stands
+    (rank-at papers old.ranks out next c.position_of-next.ensures ∙ ap (λ (ranks : List (Option ℕ)). get_or ranks next None) (sym c.offer.ensures.ranks) ∙ is)
 
 pub returns-clause-proposes : goal.returns-clause-proposes
 returns-clause-proposes g c =
     let papers = c.args.papers.now in
     let proposer : ℕ = student_at papers c.args.proposer in
     let old = view_of g.R.Roll.keys g.R.Roll.seats c.args.self.now in
-    let stands : next_of papers old.places proposer ≡ Some c.in-Some.school =
-    sym (c.in-Some.ensures proposer (hand-position papers c.requires.fits.well_formed c.args.proposer c.requires.within) ∙ ap (λ places. next_of papers places proposer) c.as_slice.ensures.value) in
+    let stands : next_of papers old.ranks proposer ≡ Some c.in-Some.school =
+    sym (c.in-Some.ensures proposer (hand-position papers c.requires.fits.well_formed c.args.proposer c.requires.within) ∙ ap (λ ranks. next_of papers ranks proposer) c.as_slice.ensures.value) in
     let rolls = rolls_of g.R.Roll.keys g.R.Roll.seats c.offer.new.self.rolls.items in
     let out : ℕ = c.in-Some-2.out.student in
     let proposed : Proposed papers old proposer c.in-Some.school c.position_and_key-at.result.0 rolls (Some c.in-Some-2.out) =
@@ -92,9 +92,9 @@ returns-clause-proposes g c =
     (goes-on papers old new proposer c.in-Some.school c.position_and_key-at.result.0 rolls c.in-Some-2.out proposed
     (ap (rolls_of g.R.Roll.keys g.R.Roll.seats) c.reject.ensures.rolls)
     (c.in_ok-reject.ensures.log ∙ ap (λ log. log ++ record { student = out; school = c.in-Some.school } ∷ []) c.offer.ensures.log)
-    (λ at place found is.
+    (λ at rank found is.
     let same : next ≡ at = same_Some next at (sym c.position_of-next.ensures ∙ found) in
-    c.in_ok-reject.ensures.moved place (ap (λ (places : List (Option ℕ)). get_or places next None) c.offer.ensures.places ∙ sym (place-at papers old.places out next c.position_of-next.ensures) ∙ is)
-    ∙ ap (λ places. set places next (Some (place + 1))) c.offer.ensures.places
-    ∙ ap (λ k. set old.places k (Some (place + 1))) same)
+    c.in_ok-reject.ensures.moved rank (ap (λ (ranks : List (Option ℕ)). get_or ranks next None) c.offer.ensures.ranks ∙ sym (rank-at papers old.ranks out next c.position_of-next.ensures) ∙ is)
+    ∙ ap (λ ranks. set ranks next (Some (rank + 1))) c.offer.ensures.ranks
+    ∙ ap (λ k. set old.ranks k (Some (rank + 1))) same)
     (c.reject.ensures.proposals ∙ c.in_ok-out.ensures.proposals))

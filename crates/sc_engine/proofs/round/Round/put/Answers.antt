@@ -11,8 +11,8 @@ use Rattle.sc_engine.proofs.Moves.{roll-new, proposed-told}
 use Rattle.sc_engine.proofs.Putting.{next-begun, put-nowhere, put-school, roll-open, put-on_roll}
 use Rattle.sc_engine.proofs.round.Round.put.Goals as goal
 
-pub place_in-requires : goal.place_in-requires
-place_in-requires g c =
+pub rank_in-requires : goal.rank_in-requires
+rank_in-requires g c =
     let papers = c.args.papers.now in
     subst (λ (choices : List ℕ). IfSome c.args.choice.next (λ s. Contains choices s))
     (sym (c.choices_at.ensures.choices ∙ ap (choices_of papers) (student-there papers c.args.choice.student c.position_of-at.result c.position_of-at.ensures))) c.requires.listed
@@ -22,13 +22,13 @@ returns-in_default-clause-stands g c =
     let papers = c.args.papers.now in
     let student = c.args.choice.student in
     let at = c.position_of-at.result in
-    let place = c.place_in.result in
-    let room = c.make_room.new.places.items in
+    let rank = c.rank_in.result in
+    let room = c.make_room.new.ranks.items in
     let old = view_of g.R.Roll.keys g.R.Roll.seats c.args.self.now in
     let there : student_at papers at ≡ student = student-there papers student at c.position_of-at.ensures in
-    let here : slice_get (choices_of papers student) place ≡ c.args.choice.next =
-    ap (λ choices. slice_get choices place) (sym (c.choices_at.ensures.choices ∙ ap (choices_of papers) there)) ∙ c.place_in.ensures in
-    let begun : Begun papers old (moved old room at place) student at place = begins papers old room student at place c.requires.fits c.position_of-at.ensures c.requires.absent c.in_ok-make_room.ensures.room c.in_ok-make_room.ensures.same c.in_ok-make_room.ensures.within in
+    let here : slice_get (choices_of papers student) rank ≡ c.args.choice.next =
+    ap (λ choices. slice_get choices rank) (sym (c.choices_at.ensures.choices ∙ ap (choices_of papers) there)) ∙ c.rank_in.ensures in
+    let begun : Begun papers old (moved old room at rank) student at rank = begins papers old room student at rank c.requires.fits c.position_of-at.ensures c.requires.absent c.in_ok-make_room.ensures.room c.in_ok-make_room.ensures.same c.in_ok-make_room.ensures.within in
     put-nowhere begun c.args.choice.next here c.in_default.is
 
 pub position_and_key-position-requires-clause-school : goal.position_and_key-position-requires-clause-school
@@ -36,36 +36,36 @@ position_and_key-position-requires-clause-school g c =
     let papers = c.args.papers.now in
     let student = c.args.choice.student in
     let at = c.position_of-at.result in
-    let place = c.place_in.result in
-    let room = c.make_room.new.places.items in
+    let rank = c.rank_in.result in
+    let room = c.make_room.new.ranks.items in
     let old = view_of g.R.Roll.keys g.R.Roll.seats c.args.self.now in
     let there : student_at papers at ≡ student = student-there papers student at c.position_of-at.ensures in
-    let here : slice_get (choices_of papers student) place ≡ c.args.choice.next =
-    ap (λ choices. slice_get choices place) (sym (c.choices_at.ensures.choices ∙ ap (choices_of papers) there)) ∙ c.place_in.ensures in
-    let begun : Begun papers old (moved old room at place) student at place = begins papers old room student at place c.requires.fits c.position_of-at.ensures c.requires.absent c.in_ok-make_room.ensures.room c.in_ok-make_room.ensures.same c.in_ok-make_room.ensures.within in
-    put-school papers old student place c.in-Some.school c.requires.fits (here ∙ c.in-Some.is)
+    let here : slice_get (choices_of papers student) rank ≡ c.args.choice.next =
+    ap (λ choices. slice_get choices rank) (sym (c.choices_at.ensures.choices ∙ ap (choices_of papers) there)) ∙ c.rank_in.ensures in
+    let begun : Begun papers old (moved old room at rank) student at rank = begins papers old room student at rank c.requires.fits c.position_of-at.ensures c.requires.absent c.in_ok-make_room.ensures.room c.in_ok-make_room.ensures.same c.in_ok-make_room.ensures.within in
+    put-school papers old student rank c.in-Some.school c.requires.fits (here ∙ c.in-Some.is)
 
 pub offer_to-requires-clause-new : goal.offer_to-requires-clause-new
 offer_to-requires-clause-new g c =
     let papers = c.args.papers.now in
     let student = c.args.choice.student in
     let at = c.position_of-at.result in
-    let place = c.place_in.result in
-    let room = c.make_room.new.places.items in
+    let rank = c.rank_in.result in
+    let room = c.make_room.new.ranks.items in
     let old = view_of g.R.Roll.keys g.R.Roll.seats c.args.self.now in
     let there : student_at papers at ≡ student = student-there papers student at c.position_of-at.ensures in
-    let here : slice_get (choices_of papers student) place ≡ c.args.choice.next =
-    ap (λ choices. slice_get choices place) (sym (c.choices_at.ensures.choices ∙ ap (choices_of papers) there)) ∙ c.place_in.ensures in
-    let begun : Begun papers old (moved old room at place) student at place = begins papers old room student at place c.requires.fits c.position_of-at.ensures c.requires.absent c.in_ok-make_room.ensures.room c.in_ok-make_room.ensures.same c.in_ok-make_room.ensures.within in
+    let here : slice_get (choices_of papers student) rank ≡ c.args.choice.next =
+    ap (λ choices. slice_get choices rank) (sym (c.choices_at.ensures.choices ∙ ap (choices_of papers) there)) ∙ c.rank_in.ensures in
+    let begun : Begun papers old (moved old room at rank) student at rank = begins papers old room student at rank c.requires.fits c.position_of-at.ensures c.requires.absent c.in_ok-make_room.ensures.room c.in_ok-make_room.ensures.same c.in_ok-make_room.ensures.within in
     let key = c.position_and_key-position.ensures.key ∙ ap (λ i. key_of papers i c.in-Some.school) there in
-    roll-new papers (moved old room at place) student c.in-Some.school c.position_and_key-position.result.0 c.position_and_key-position.result.1 (fits-begun begun) c.position_and_key-position.ensures.position key
+    roll-new papers (moved old room at rank) student c.in-Some.school c.position_and_key-position.result.0 c.position_and_key-position.result.1 (fits-begun begun) c.position_and_key-position.ensures.position key
 
 pub unreachable-requires : goal.unreachable-requires
 unreachable-requires g c =
     let papers = c.args.papers.now in
     let old = view_of g.R.Roll.keys g.R.Roll.seats c.args.self.now in
-    let room : held papers (next_of papers old.places) c.in-Some.school < seats_of papers c.in-Some.school =
-    subst (λ (o : Option ℕ). IfSome o (λ s. held papers (next_of papers old.places) s < seats_of papers s)) c.in-Some.is c.requires.room in
+    let room : held papers (next_of papers old.ranks) c.in-Some.school < seats_of papers c.in-Some.school =
+    subst (λ (o : Option ℕ). IfSome o (λ s. held papers (next_of papers old.ranks) s < seats_of papers s)) c.in-Some.is c.requires.room in
     omega (
       arith,
       roll-open papers old c.in-Some.school c.position_and_key-position.result.0 c.requires.fits c.position_and_key-position.ensures.position room,
@@ -77,17 +77,17 @@ returns-clause-stands g c =
     let papers = c.args.papers.now in
     let student = c.args.choice.student in
     let at = c.position_of-at.result in
-    let place = c.place_in.result in
-    let room = c.make_room.new.places.items in
+    let rank = c.rank_in.result in
+    let room = c.make_room.new.ranks.items in
     let old = view_of g.R.Roll.keys g.R.Roll.seats c.args.self.now in
     let there : student_at papers at ≡ student = student-there papers student at c.position_of-at.ensures in
-    let here : slice_get (choices_of papers student) place ≡ c.args.choice.next =
-    ap (λ choices. slice_get choices place) (sym (c.choices_at.ensures.choices ∙ ap (choices_of papers) there)) ∙ c.place_in.ensures in
-    let begun : Begun papers old (moved old room at place) student at place = begins papers old room student at place c.requires.fits c.position_of-at.ensures c.requires.absent c.in_ok-make_room.ensures.room c.in_ok-make_room.ensures.same c.in_ok-make_room.ensures.within in
+    let here : slice_get (choices_of papers student) rank ≡ c.args.choice.next =
+    ap (λ choices. slice_get choices rank) (sym (c.choices_at.ensures.choices ∙ ap (choices_of papers) there)) ∙ c.rank_in.ensures in
+    let begun : Begun papers old (moved old room at rank) student at rank = begins papers old room student at rank c.requires.fits c.position_of-at.ensures c.requires.absent c.in_ok-make_room.ensures.room c.in_ok-make_room.ensures.same c.in_ok-make_room.ensures.within in
     let key = c.position_and_key-position.ensures.key ∙ ap (λ i. key_of papers i c.in-Some.school) there in
     let rolls = rolls_of g.R.Roll.keys g.R.Roll.seats c.offer_to.new.rolls.items in
-    put-on_roll begun (record (moved old room at place) { rolls = rolls }) c.args.choice.next c.in-Some.school c.position_and_key-position.result.0 here c.in-Some.is
-    (proposed-told papers (moved old room at place) student c.in-Some.school c.position_and_key-position.result.0 c.position_and_key-position.result.1 rolls c.in_ok-out.out None
+    put-on_roll begun (record (moved old room at rank) { rolls = rolls }) c.args.choice.next c.in-Some.school c.position_and_key-position.result.0 here c.in-Some.is
+    (proposed-told papers (moved old room at rank) student c.in-Some.school c.position_and_key-position.result.0 c.position_and_key-position.result.1 rolls c.in_ok-out.out None
     (fits-begun begun) (next-begun begun c.args.choice.next here ∙ c.in-Some.is) c.position_and_key-position.ensures.position key c.in_ok-out.ensures
     (is_some-none c.in_ok-out.out (sym c.is_some.ensures ∙ c.if-is_some.false)))
     refl refl refl

@@ -1,6 +1,6 @@
 use Rattle.std.proofs.Common.{◌≡◌, length, take}
-use Rattle.sc_checkpoint.specs.Places.{AreTabled}
-use Rattle.sc_checkpoint.proofs.next_choices.rejected_places.Given as goal
+use Rattle.sc_checkpoint.specs.Ranks.{AreTabled}
+use Rattle.sc_checkpoint.proofs.next_choices.rejected_ranks.Given as goal
 
 abbrev pub invariant-loop-entry : goal.invariant-loop-entry
 invariant-loop-entry l = AreTabled l.papers (take l.entry-index l.log) l.table.items × (length l.table.items ≡ l.k)

@@ -1,0 +1,40 @@
+-- The line that the program writes on standard error.
+use Rattle.std.specs.Prelude.{List, ℕ, [], ◌++◌, codes}
+use Rattle.sc_lottery.specs.Seed.{refusal_text}
+use Rattle.sc_intake.specs.FaultText.{fault_text, source_text}
+use Rattle.sc_journal.specs.FaultText as journal
+use Rattle.sc_runs.specs.declared.ending.Ending.{Ending}
+use Rattle.sc_runs.specs.declared.ending.Ending.TheVariants.{Done, NotCertified, Torn, BadSeed, BadBundle, Fault}
+use Rattle.sc_runs.specs.declared.fault.RunFault.{RunFault}
+use Rattle.sc_runs.specs.declared.fault.RunFault.TheVariants.{Read, Intake, Journal, WriteOut, WriteJournal, OutOfMemory}
+
+-- why a call ended early, in words
+abbrev pub fault_words : RunFault → List ℕ
+fault_words (Read source) = codes "cannot read " ++ source_text source
+fault_words (Intake fault) = fault_text fault
+fault_words (Journal fault) = journal.fault_text fault
+fault_words WriteOut = codes "cannot write output"
+fault_words WriteJournal = codes "cannot write journal"
+fault_words OutOfMemory = codes "out of memory"
+
+-- an ending in words; done and not certified have none
+abbrev pub ending_words : Ending → List ℕ
+ending_words Done = []
+ending_words NotCertified = []
+ending_words Torn = codes "journal torn"
+ending_words (BadSeed error) = codes "seed: " ++ refusal_text error
+ending_words BadBundle = codes "bundle"
+ending_words (Fault fault) = fault_words fault
+
+-- a line: the program's name, a colon, the words, and a line end
+abbrev pub line_with : List ℕ → List ℕ
+line_with words = codes "clearinghouse: " ++ words ++ codes "\n"
+
+-- the line of an ending, which has none where all was done or the log is not certified
+abbrev pub fault_line : Ending → List ℕ
+fault_line Done = []
+fault_line NotCertified = []
+fault_line Torn = line_with (ending_words Torn)
+fault_line (BadSeed error) = line_with (ending_words (BadSeed error))
+fault_line BadBundle = line_with (ending_words BadBundle)
+fault_line (Fault fault) = line_with (ending_words (Fault fault))
