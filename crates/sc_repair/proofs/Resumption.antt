@@ -31,8 +31,8 @@ any-turned [] i = refl
 any-turned (x ∷ xs) i = ap (λ b. b || list_any (nat_eq i) xs) (nat_eq_equiv.symm i x) ∙ ap (λ b. (x == i) || b) (any-turned xs i)
 
 -- the papers of the first k students, if they alone have entered
-entered-cut : (m : Market) (places : List (Option ℕ)) (k : ℕ) → WellFormed m → ((i : ℕ) → has_entered m places i ≡ list_any (nat_eq i) (take k (students_of m))) → entered_papers m places ≡ cut m k
-entered-cut m places k well entered =
+entered-cut : (m : Market) (ranks : List (Option ℕ)) (k : ℕ) → WellFormed m → ((i : ℕ) → has_entered m ranks i ≡ list_any (nat_eq i) (take k (students_of m))) → entered_papers m ranks ≡ cut m k
+entered-cut m ranks k well entered =
     ap (restricted m) (λ t i. (entered i ∙ any-turned (take k (students_of m)) i) t) ∙ sym (cut-restricted m k well)
 
 -- who stands after a log
@@ -66,18 +66,18 @@ stand-after m k log well settled = record {
 -- it begins: the first k students stand where they stood, and nothing is in the round's log
 pub goes-on-begins : (m : Market) (r : RoundView) (students : List ℕ) (kept : List (List Rejection)) (k : ℕ)
     → length kept ≡ k → students ≡ take k (students_of m) → IsSegmented (cut m k) kept → Fits m r
-    → ((i : ℕ) → has_entered m r.places i ≡ stands (next_choices_after m (joined kept) (take k (students_of m))) i)
+    → ((i : ℕ) → has_entered m r.ranks i ≡ stands (next_choices_after m (joined kept) (take k (students_of m))) i)
     → Continues m (joined kept) r → r.log ≡ [] → r.proposals ≡ 0
     → GoesOn m kept r students kept k
 unfolding standing_but
 goes-on-begins m r students kept k count theirs segmented fits entered continues no_log none =
-    let first : (i : ℕ) → has_entered m r.places i ≡ list_any (nat_eq i) (take k (students_of m)) =
+    let first : (i : ℕ) → has_entered m r.ranks i ≡ list_any (nat_eq i) (take k (students_of m)) =
     λ i. entered i ∙ stands-among m (joined kept) (take k (students_of m)) i ∙ sym (any-turned (take k (students_of m)) i) in
     let nothing : joined kept ++ r.log ≡ joined kept = ap (λ l. joined kept ++ l) no_log ∙ append-nil (joined kept) in
-    let next : (i : ℕ) → next_of m r.places i ≡ next_choice (cut m k) (joined kept) i =
-    λ i. sym (continues.next i) ∙ ap (λ l. next_choice (entered_papers m r.places) l i) nothing ∙ ap (λ n. next_choice n (joined kept) i) (entered-cut m r.places k fits.well_formed first) in
-    let standing : standing_but m r.places nobody ≡ placed_first m k (joined kept) =
-    how_many-agree m (λ i. is_some (next_of m r.places i) && not false) (λ i. is_some (next_choice (cut m k) (joined kept) i)) (λ i. stays (is_some (next_of m r.places i)) ∙ ap is_some (next i)) in
+    let next : (i : ℕ) → next_of m r.ranks i ≡ next_choice (cut m k) (joined kept) i =
+    λ i. sym (continues.next i) ∙ ap (λ l. next_choice (entered_papers m r.ranks) l i) nothing ∙ ap (λ n. next_choice n (joined kept) i) (entered-cut m r.ranks k fits.well_formed first) in
+    let standing : standing_but m r.ranks nobody ≡ placed_first m k (joined kept) =
+    how_many-agree m (λ i. is_some (next_of m r.ranks i) && not false) (λ i. is_some (next_choice (cut m k) (joined kept) i)) (λ i. stays (is_some (next_of m r.ranks i)) ∙ ap is_some (next i)) in
     record {
       fits = fits;
       entered = first;
@@ -96,7 +96,7 @@ pub goes-on-more : (m : Market) (kept : List (List Rejection)) (chain : List Rej
     → slice_get (students_of m) k ≡ Some i → GoesOn m kept r students segments k → Enters m r r' i → r'.log ≡ r.log ++ chain
     → GoesOn m kept r' (students ++ i ∷ []) (segments ++ chain ∷ []) (k + 1)
 goes-on-more m kept chain r r' students segments k i here on enters more =
-    let entered : (j : ℕ) → has_entered m r'.places j ≡ list_any (nat_eq j) (take (k + 1) (students_of m)) =
+    let entered : (j : ℕ) → has_entered m r'.ranks j ≡ list_any (nat_eq j) (take (k + 1) (students_of m)) =
     λ j. enters.entered j ∙ ap (λ b. b || j == i) (on.entered j) ∙ sym (first-more (students_of m) k i here j) in
     let continues = enters.continues (joined kept) on.continues in
     let log : joined segments ++ chain ≡ joined kept ++ r'.log = ap (λ l. l ++ chain) on.log ∙ append_assoc (joined kept) r.log chain ∙ ap (λ l. joined kept ++ l) (sym more) in
@@ -109,7 +109,7 @@ goes-on-more m kept chain r r' students segments k i here on enters more =
           ap (λ xs. xs ++ i ∷ []) on.theirs
           ∙ sym (take_more (students_of m) k i (slice_get_within (students_of m) k i here) ∙ ap (λ n. take k (students_of m) ++ n ∷ []) (get_or_from_slice_get (students_of m) k i i here));
       segmented = segments-more m k i segments chain here on.segmented
-          (subst (IsSettled (cut m (k + 1))) (sym log) (subst (λ n. IsSettled n (joined kept ++ r'.log)) (entered-cut m r'.places (k + 1) enters.fits.well_formed entered) continues.settled));
+          (subst (IsSettled (cut m (k + 1))) (sym log) (subst (λ n. IsSettled n (joined kept ++ r'.log)) (entered-cut m r'.ranks (k + 1) enters.fits.well_formed entered) continues.settled));
       stays = take-append-le (length kept) segments (chain ∷ []) room ∙ on.stays;
       log = joined-push segments chain ∙ log;
       counted = omega (arith, on.counted, enters.counted);
@@ -128,19 +128,19 @@ segments-all m kept r students segments on = subst (λ n. IsSegmented n segments
 pub students-all : (m : Market) (kept : List (List Rejection)) (r : RoundView) (students : List ℕ) (segments : List (List Rejection)) → GoesOn m kept r students segments (length m.students) → students ≡ students_of m
 students-all m kept r students segments on = on.theirs ∙ take_all (length m.students) (students_of m) (omega (arith, length-students m))
 
-pub next-all : (m : Market) (kept : List (List Rejection)) (r : RoundView) (students : List ℕ) (segments : List (List Rejection)) → GoesOn m kept r students segments (length m.students) → (i : ℕ) → next_of m r.places i ≡ next_choice m (joined segments) i
+pub next-all : (m : Market) (kept : List (List Rejection)) (r : RoundView) (students : List ℕ) (segments : List (List Rejection)) → GoesOn m kept r students segments (length m.students) → (i : ℕ) → next_of m r.ranks i ≡ next_choice m (joined segments) i
 next-all m kept r students segments on i =
     sym (on.continues.next i)
-    ∙ ap (λ n. next_choice n (joined kept ++ r.log) i) (entered-cut m r.places (length m.students) on.fits.well_formed on.entered ∙ whole-cut m)
+    ∙ ap (λ n. next_choice n (joined kept ++ r.log) i) (entered-cut m r.ranks (length m.students) on.fits.well_formed on.entered ∙ whole-cut m)
     ∙ ap (λ l. next_choice m l i) (sym on.log)
 
 pub proposals-all : (m : Market) (kept : List (List Rejection)) (r : RoundView) (students : List ℕ) (segments : List (List Rejection)) (given : Matching)
-    → GoesOn m kept r students segments (length m.students) → ((i : ℕ) → given i ≡ next_of m r.places i)
+    → GoesOn m kept r students segments (length m.students) → ((i : ℕ) → given i ≡ next_of m r.ranks i)
     → r.proposals + proposals_of_first m (length kept) (joined kept) ≡ length (joined segments) + placed m given
 unfolding standing_but
 proposals-all m kept r students segments given on is =
-    let same : how_many m (λ i. is_some (next_of m r.places i) && not false) ≡ placed m given =
-    how_many-agree m (λ i. is_some (next_of m r.places i) && not false) (λ i. is_some (given i)) (λ i. stays (is_some (next_of m r.places i)) ∙ ap is_some (sym (is i))) in
+    let same : how_many m (λ i. is_some (next_of m r.ranks i) && not false) ≡ placed m given =
+    how_many-agree m (λ i. is_some (next_of m r.ranks i) && not false) (λ i. is_some (given i)) (λ i. stays (is_some (next_of m r.ranks i)) ∙ ap is_some (sym (is i))) in
     omega (arith, on.counted, same, ap (λ (l : List Rejection). length l) on.log, length-append (joined kept) r.log)
 
 -- the segments that are kept

@@ -21,10 +21,10 @@ proposals_of_first m k log = length log + placed_first m k log
 -- or in a place, beside those places that there were
 pub record GoesOn (m : Market) (kept : List (List Rejection)) (r : RoundView) (students : List ℕ) (segments : List (List Rejection)) (k : ℕ) : Type 0 where
   pub fits : Fits m r
-  pub entered : (i : ℕ) → has_entered m r.places i ≡ list_any (nat_eq i) (take k (students_of m))
+  pub entered : (i : ℕ) → has_entered m r.ranks i ≡ list_any (nat_eq i) (take k (students_of m))
   pub continues : Continues m (joined kept) r
   pub theirs : students ≡ take k (students_of m)
   pub segmented : IsSegmented (cut m k) segments
   pub stays : take (length kept) segments ≡ kept
   pub log : joined segments ≡ joined kept ++ r.log
-  pub counted : r.proposals + placed_first m (length kept) (joined kept) ≡ length r.log + standing_but m r.places nobody
+  pub counted : r.proposals + placed_first m (length kept) (joined kept) ≡ length r.log + standing_but m r.ranks nobody

@@ -28,7 +28,7 @@ fn enter_next<R: Roll>(
 ) -> Result<(), AllocError>
     requires fits { Fits papers.now (view_of R.keys R.seats round.old) }
     requires student { is_student papers.now student ≡ true }
-    requires absent { has_entered papers.now (view_of R.keys R.seats round.old).places student ≡ false }
+    requires absent { has_entered papers.now (view_of R.keys R.seats round.old).ranks student ≡ false }
     requires ready { is_spent round.old ≡ false }
     ensures enters { OnOk result (Enters papers.now (view_of R.keys R.seats round.old) (view_of R.keys R.seats round.new) student) }
     ensures chain { OnOk result ((chain : List Rejection) × ((view_of R.keys R.seats round.new).log ≡ (view_of R.keys R.seats round.old).log ++ chain) × (segments.new ≡ with_chain segments.old student chain)) }

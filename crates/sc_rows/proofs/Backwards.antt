@@ -17,7 +17,7 @@ pub record EnteredFrom (m : Market) (r : RoundView) (spent : Bool) (k : ℕ) : T
   pub ready : spent ≡ false
   pub low : k ≤ length (students_of m)
   pub fits : Fits m r
-  pub entered : (i : ℕ) → has_entered m r.places i ≡ list_any (nat_eq i) (drop k (students_of m))
+  pub entered : (i : ℕ) → has_entered m r.ranks i ≡ list_any (nat_eq i) (drop k (students_of m))
 
 or-comm : (a b : Bool) → (a || b) ≡ (b || a)
 or-comm true true = refl
@@ -38,7 +38,7 @@ entered-before m old new spent spent' k i here before enters ready = record {
 }
 
 -- the one before them has not entered
-pub absent-before : (m : Market) (r : RoundView) (spent : Bool) (k i : ℕ) → slice_get (students_of m) k ≡ Some i → EnteredFrom m r spent (k + 1) → has_entered m r.places i ≡ false
+pub absent-before : (m : Market) (r : RoundView) (spent : Bool) (k i : ℕ) → slice_get (students_of m) k ≡ Some i → EnteredFrom m r spent (k + 1) → has_entered m r.ranks i ≡ false
 absent-before m r spent k i here before =
     before.entered i
     ∙ list_any_none (nat_eq i) (drop (k + 1) (students_of m)) (λ j d low.
@@ -54,7 +54,7 @@ drop-length [] = refl
 drop-length (x ∷ xs) = drop-length xs
 
 -- nobody has entered yet
-pub entered-none : (m : Market) (r : RoundView) (spent : Bool) → spent ≡ false → Fits m r → ((i : ℕ) → has_entered m r.places i ≡ false) → (k : ℕ) → k ≡ length m.students → EnteredFrom m r spent k
+pub entered-none : (m : Market) (r : RoundView) (spent : Bool) → spent ≡ false → Fits m r → ((i : ℕ) → has_entered m r.ranks i ≡ false) → (k : ℕ) → k ≡ length m.students → EnteredFrom m r spent k
 entered-none m r spent ready fits nowhere k all =
     let at_end : k ≡ length (students_of m) = all ∙ sym (length-mapped (λ (e : ℕ × Student). e.0) m.students) in
     record {

@@ -38,7 +38,7 @@ third-apart m next_choices one two three well first second third are =
     ∙ first-apart (students_of m) 2 three well.students_differ third
 
 -- both stand at their next choices after the log
-pub after-two : (m : Market) (r : RoundView) (one two : ℕ) (next_one next_two : Option ℕ) → slice_get (students_of m) 0 ≡ Some one → slice_get (students_of m) 1 ≡ Some two → SettlesFirst m r 2 → next_one ≡ next_of m r.places one → next_two ≡ next_of m r.places two
+pub after-two : (m : Market) (r : RoundView) (one two : ℕ) (next_one next_two : Option ℕ) → slice_get (students_of m) 0 ≡ Some one → slice_get (students_of m) 1 ≡ Some two → SettlesFirst m r 2 → next_one ≡ next_of m r.ranks one → next_two ≡ next_of m r.ranks two
     → AreNextChoices m r.log (record { student = one; next = next_one } ∷ record { student = two; next = next_two } ∷ [])
 unfolding IsDistinct
 after-two m r one two next_one next_two first second settles is_one is_two = record {
@@ -57,14 +57,14 @@ after-two m r one two next_one next_two first second settles is_one is_two = rec
     choice_two : NextChoice
     choice_two = record { student = two; next = next_two }
 
-    entered : (i : ℕ) → has_entered m r.places i ≡ list_any (nat_eq i) (one ∷ two ∷ [])
+    entered : (i : ℕ) → has_entered m r.ranks i ≡ list_any (nat_eq i) (one ∷ two ∷ [])
     entered i = settles.entered i ∙ ap (list_any (nat_eq i)) (first-two (students_of m) one two first second)
 
-    alike : (i : ℕ) → has_entered m r.places i ≡ stands (record { student = one; next = next_one } ∷ record { student = two; next = next_two } ∷ []) i
+    alike : (i : ℕ) → has_entered m r.ranks i ≡ stands (record { student = one; next = next_one } ∷ record { student = two; next = next_two } ∷ []) i
     alike i = entered i ∙ sym (stands-numbers (record { student = one; next = next_one } ∷ record { student = two; next = next_two } ∷ []) i)
 
-    next-first : (i : ℕ) → list_any (nat_eq i) (one ∷ two ∷ []) ≡ true → next_of m r.places i ≡ next_choice m r.log i
-    next-first i among = sym (settles.settled.next i) ∙ next-kept (restricted-restricts m (has_entered m r.places)) r.log i (entered i ∙ among)
+    next-first : (i : ℕ) → list_any (nat_eq i) (one ∷ two ∷ []) ≡ true → next_of m r.ranks i ≡ next_choice m r.log i
+    next-first i among = sym (settles.settled.next i) ∙ next-kept (restricted-restricts m (has_entered m r.ranks)) r.log i (entered i ∙ among)
 
     apart : nat_eq one two ≡ false
     apart =

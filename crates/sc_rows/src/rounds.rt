@@ -180,7 +180,7 @@ fn spend(
     requires fits { Fits papers.now (view_of (⟦<SortedRoll as Roll>⟧.keys) (⟦<SortedRoll as Roll>⟧.seats) round) }
     requires ready { is_spent round ≡ false }
     requires student { is_student papers.now one ≡ true }
-    requires absent { has_entered papers.now (view_of (⟦<SortedRoll as Roll>⟧.keys) (⟦<SortedRoll as Roll>⟧.seats) round).places one ≡ false }
+    requires absent { has_entered papers.now (view_of (⟦<SortedRoll as Roll>⟧.keys) (⟦<SortedRoll as Roll>⟧.seats) round).ranks one ≡ false }
 {
     if round.enter_one(papers, one).is_err() {
         assert!(rt; round.is_spent());

@@ -110,6 +110,7 @@ fn expect_cuts(rt: &impl Abort, segments: &Segments)
     requires segments { students_in segments.now ≡ 1 ∷ 2 ∷ 3 ∷ [] }
 {
     let chain = last_chain(rt);
+    assert_eq!(rt; segments.len(), 3);
     assert_eq!(rt; segments.rejections(), chain.as_slice());
     assert_eq!(rt; segments.segment(0).len(), 0);
     assert_eq!(rt; segments.segment(2), chain.as_slice());
@@ -139,6 +140,7 @@ fn push_one(rt: &impl Abort, rewound: &mut Segments)
 fn expect_copies(rt: &impl Abort, segments: &Segments)
     requires { students_in segments.now ≡ 1 ∷ 2 ∷ 3 ∷ [] }
 {
+    assert_eq!(rt; segments.len(), 3);
     let log = segments.flat().expect(rt, "memory");
     assert_eq!(rt; log.as_slice(), last_chain(rt).as_slice());
     let prefix = segments.prefix(2).expect(rt, "memory");
