@@ -107,7 +107,7 @@ fn expect_of_market_b(rt: &impl Abort, alloc: Global, script: &str, left: u32) {
     drop(papers);
 }
 
-// A list of 21 schools has an unknown one, too: its length comes first.
+// A list of 21 schools has an unknown one, too: its length comes first. A list of 20 is not too long.
 #[test]
 fn refusals_to_enter_in_their_order(rt: HostRuntime) {
     let script = "\
@@ -115,6 +115,7 @@ enter,1,0,, => StudentExists
 enter,4,0,, => EmptyList
 enter,4,0,,77 1 2 3 4 5 6 7 8 9 10 11 12 13 14 15 16 17 18 19 20 => ListTooLong
 enter,4,0,77 1 2 3 4 5 6 7 8 9 10 11 12 13 14 15 16 17 18 19 20,10 => ListTooLong
+enter,4,0,,77 1 2 3 4 5 6 7 8 9 10 11 12 13 14 15 16 17 18 19 => UnknownSchool 77
 enter,4,0,,77 => UnknownSchool 77
 enter,4,0,,77 10 10 => UnknownSchool 77
 enter,4,0,77,10 10 => UnknownSchool 77
