@@ -8,7 +8,7 @@ use Rattle.sc_papers.specs.declared.rejection.Rejection.{Rejection}
 use Rattle.sc_intake.specs.declared.fault.IntakeFault.{IntakeFault}
 use Rattle.sc_report.specs.LogText.{log_text}
 use Rattle.sc_report.specs.Text.{IsReportText}
-use Rattle.sc_report.specs.Whole.{AppendsFront}
+use Rattle.sc_report.specs.Whole.{AppendsPrefix}
 use Rattle.sc_runs.specs.declared.fault.RunFault.{RunFault}
 use Rattle.sc_runs.specs.declared.fault.RunFault.TheVariants.{Read, Intake, Journal, WriteOut, WriteJournal, OutOfMemory}
 use Rattle.sc_papers.specs.Market.{Market}
@@ -35,13 +35,13 @@ Appends-kept (Some xs) (Some ys) None text written kept = absurd kept
 Appends-kept (Some xs) (Some ys) (Some zs) text written kept = kept ∙ written
 
 -- a text that was written whole was written as its own prefix
-pub AppendsFront-whole : (a b : Option (List ℕ)) (text : List ℕ) → Appends a b text → AppendsFront a b text
-AppendsFront-whole a b text written =
+pub AppendsPrefix-whole : (a b : Option (List ℕ)) (text : List ℕ) → Appends a b text → AppendsPrefix a b text
+AppendsPrefix-whole a b text written =
     (length text, subst (λ (prefix : List ℕ). Appends a b prefix) (sym (take_all (length text) text (omega arith))) written)
 
 -- a text that was written whole, and then nothing, was written as its own prefix
-pub Appends-prefix-kept : (a b c : Option (List ℕ)) (text : List ℕ) → Appends a b text → Keeps b c → AppendsFront a c text
-Appends-prefix-kept a b c text written kept = AppendsFront-whole a c text (Appends-kept a b c text written kept)
+pub Appends-prefix-kept : (a b c : Option (List ℕ)) (text : List ℕ) → Appends a b text → Keeps b c → AppendsPrefix a c text
+Appends-prefix-kept a b c text written kept = AppendsPrefix-whole a c text (Appends-kept a b c text written kept)
 
 -- a device that was not touched keeps its bytes
 pub Keeps-refl : (a : Option (List ℕ)) → Keeps a a
