@@ -2,6 +2,7 @@
 use Rattle.std.proofs.Common.{◌≡◌, ℕ, arith, Bool, true, false, List, Option, None, Some, Result, Ok, Err, length, refl, sym, ◌∙◌, subst}
 use Rattle.std.proofs.lemmas.List.{take_all}
 use Rattle.std.specs.Io.KnownBytes.{Appends, Keeps}
+use Rattle.std.specs.Prelude.{IfErr}
 use Rattle.sc_papers.specs.Log.{IsSettled}
 use Rattle.sc_papers.specs.Matching.{Matching, IsStudentOptimal}
 use Rattle.sc_papers.specs.declared.rejection.Rejection.{Rejection}
@@ -42,6 +43,13 @@ AppendsPrefix-whole a b text written =
 -- a text that was written whole, and then nothing, was written as its own prefix
 pub Appends-prefix-kept : (a b c : Option (List ℕ)) (text : List ℕ) → Appends a b text → Keeps b c → AppendsPrefix a c text
 Appends-prefix-kept a b c text written kept = AppendsPrefix-whole a c text (Appends-kept a b c text written kept)
+
+-- a text that was written whole, and then flushed
+pub WritesExactly-flushed : (text : List ℕ) (a b c : Option (List ℕ)) (result : Result (Unit {0}) RunFault) → Appends a b text → Keeps b c
+    → IfErr result (λ fault. fault ≡ WriteOut) → WritesExactly text a c result
+WritesExactly-flushed text a b c (Ok done) written kept kind = Appends-kept a b c text written kept
+WritesExactly-flushed text a b c (Err fault) written kept kind =
+    subst (λ f. WritesExactly text a c (Err f)) (sym kind) (Appends-prefix-kept a b c text written kept)
 
 -- a device that was not touched keeps its bytes
 pub Keeps-refl : (a : Option (List ℕ)) → Keeps a a
