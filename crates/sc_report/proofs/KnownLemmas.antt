@@ -6,14 +6,14 @@ use Rattle.std.proofs.KnownBytes.{Appends-trans, Consumes-trans}
 use Rattle.std.specs.Prelude.{Result, Ok, Err, IsErr}
 use Rattle.sc_report.specs.Whole.{GivesFirst, GivesAtMost, ReadsWhole}
 
--- a front and what was taken after it make a longer front
+-- a prefix and what was taken after it make a longer prefix
 take-more : (at count : ℕ) (text : List ℕ) → take (at + count) text ≡ take at text ++ take count (drop at text)
 take-more at count text =
     sym (take-append-drop at (take (at + count) text))
-    ∙ ap (λ front. front ++ drop at (take (at + count) text)) (take-take at (at + count) text (omega arith))
+    ∙ ap (λ prefix. prefix ++ drop at (take (at + count) text)) (take-take at (at + count) text (omega arith))
     ∙ ap (λ rest. take at text ++ rest) (drop-take at count text)
 
--- a writer that has a front of the text, and took more after it, has a longer front
+-- a writer that has a prefix of the text, and took more after it, has a longer prefix
 pub Appends-more : (a b c : Option (List ℕ)) (text : List ℕ) (at count : ℕ) → Appends a b (take at text)
     → Appends b c (take count (take (length text - at) (drop at text))) → Appends a c (take (at + count) text)
 Appends-more a b c text at count first second =

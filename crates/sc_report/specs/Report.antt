@@ -4,15 +4,15 @@ use Rattle.std.specs.Io.KnownBytes.{Appends, Keeps}
 use Rattle.sc_papers.specs.Market.{Market}
 use Rattle.sc_papers.specs.Matching.{Matching}
 use Rattle.sc_report.specs.Text.{IsReportText}
-use Rattle.sc_report.specs.Whole.{AppendsFront}
+use Rattle.sc_report.specs.Whole.{AppendsPrefix}
 use Rattle.sc_report.specs.declared.report.ReportFault.{ReportFault}
 use Rattle.sc_report.specs.declared.report.ReportFault.TheVariants.{Write, OutOfMemory}
 
--- the writer was given a report text whole at `Ok`, a front of one at `Write`, and nothing at
+-- the writer was given a report text whole at `Ok`, a prefix of one at `Write`, and nothing at
 -- `OutOfMemory`
 abbrev pub WritesReport : Market → Matching → Option (List ℕ) → Option (List ℕ) → Result (Unit {0}) ReportFault → Type 0
 WritesReport m a old new (Ok done) = (text : List ℕ) × IsReportText m a text × Appends old new text
-WritesReport m a old new (Err Write) = (text : List ℕ) × IsReportText m a text × AppendsFront old new text
+WritesReport m a old new (Err Write) = (text : List ℕ) × IsReportText m a text × AppendsPrefix old new text
 WritesReport m a old new (Err OutOfMemory) = Keeps old new
 
 -- whether writing the report ended because the device failed

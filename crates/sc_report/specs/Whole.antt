@@ -4,13 +4,13 @@ use Rattle.std.specs.Io.KnownBytes.{Appends, Consumes}
 use Rattle.sc_report.specs.declared.whole.ReadFault.{ReadFault}
 use Rattle.sc_report.specs.declared.whole.ReadFault.TheVariants.{Device, OutOfMemory}
 
--- what a writer holds grew by a front of the text
-abbrev pub AppendsFront : Option (List ℕ) → Option (List ℕ) → List ℕ → Type 0
-AppendsFront old new text = (count : ℕ) × Appends old new (take count text)
+-- what a writer holds grew by a prefix of the text
+abbrev pub AppendsPrefix : Option (List ℕ) → Option (List ℕ) → List ℕ → Type 0
+AppendsPrefix old new text = (count : ℕ) × Appends old new (take count text)
 
--- the writer was given the whole text at `Ok`, and a front of it at `Err`
+-- the writer was given the whole text at `Ok`, and a prefix of it at `Err`
 abbrev pub WritesWhole : {T E : Type 0} → Option (List ℕ) → Option (List ℕ) → Result T E → List ℕ → Type 0
-WritesWhole old new result text = MatchResult result (λ _. Appends old new text) (λ _. AppendsFront old new text)
+WritesWhole old new result text = MatchResult result (λ _. Appends old new text) (λ _. AppendsPrefix old new text)
 
 -- a reader gave the first `limit` of its bytes, or all where it has fewer, and the others are left
 abbrev pub GivesFirst : ℕ → Option (List ℕ) → Option (List ℕ) → List ℕ → Type 0

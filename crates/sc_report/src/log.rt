@@ -6,6 +6,9 @@ use sc_decimal::push_number;
 use sc_papers::Rejection;
 use std::alloc::{AllocError, Global};
 
+/// The most bytes of a line: two numbers, a comma and a newline.
+const LONGEST_LINE: usize = 16;
+
 /// Adds the line of an entry.
 fn push_entry(text: &mut Vec<u8>, entry: Rejection) -> Result<(), AllocError>
     ensures { OnOk result (text.new.items ≡ text.old.items ++ log_line entry) }
@@ -21,7 +24,7 @@ fn push_entry(text: &mut Vec<u8>, entry: Rejection) -> Result<(), AllocError>
 pub fn log_text(alloc: Global, log: &[Rejection]) -> Result<Vec<u8>, AllocError>
     ensures { IfOk result (λ text. text.items ≡ log_text log.now) }
 {
-    let mut text = Vec::new(alloc);
+    let mut text = Vec::with_capacity(alloc, log.len().saturating_mul(LONGEST_LINE))?;
     for entry in log {
         push_entry(&mut text, *entry)?;
     }

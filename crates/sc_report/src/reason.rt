@@ -67,7 +67,7 @@ fn is_held(held: &Option<SchoolNo>, school: SchoolNo) -> bool
 }
 
 /// Adds a student's rows, in order of choice.
-fn push_reasons(
+pub(crate) fn push_reasons(
     rows: &mut Vec<ReasonRow>,
     tallies: &[Tally],
     papers: &Papers,
@@ -97,7 +97,7 @@ fn push_reasons(
 }
 
 /// The rows of the students, in their order, by the tallies of all schools.
-pub(crate) fn reasons_among(
+fn reasons_among(
     alloc: Global,
     students: &[StudentNo],
     tallies: &[Tally],

@@ -15,7 +15,7 @@ use thiserror::Error;
 /// Why a report was not written whole.
 #[derive(Clone, Copy, Debug, PartialEq, Eq, Error)]
 pub enum ReportFault {
-    /// The writer failed; a front of the report was written.
+    /// The writer failed; a prefix of the report was written.
     #[error("the report could not be written")]
     Write,
     /// A growth was refused; nothing was written.
@@ -41,7 +41,7 @@ impl From<AllocError> for ReportFault {
 
 /// Writes the report text of the standing assignment.
 ///
-/// The text is built first: after `OutOfMemory` nothing was written, and after `Write` a front of
+/// The text is built first: after `OutOfMemory` nothing was written, and after `Write` a prefix of
 /// it was.
 pub fn write_report<W: Write>(
     alloc: Global,

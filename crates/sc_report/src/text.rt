@@ -6,9 +6,8 @@ ghost use Rattle.sc_tallies.specs.Tally.{AreTallies};
 ghost use Rattle.sc_report.specs.Text.{assignment_line, assignment_lines, assignment_text, place_text, report_text, IsReportText};
 
 use crate::cutoff::rising_rows;
-use crate::cutoff_lines::push_cutoffs;
-use crate::reason::reasons_among;
-use crate::reason_lines::push_reasons;
+use crate::cutoff_lines::{push_cutoffs, room_for_cutoffs};
+use crate::reason_lines::{push_reason_lines, room_for_reasons};
 use crate::sorting::rising_students;
 use sc_decimal::push_number;
 use sc_papers::{Assignment, Papers, StudentNo};
@@ -18,6 +17,9 @@ use std::alloc::{AllocError, Global};
 
 /// The line above the assignment's lines.
 const HEADER: &[u8; 15] = b"student,school\n";
+
+/// The most bytes of a student's line: two numbers, a comma and a newline.
+const LONGEST_LINE: usize = 17;
 
 /// Adds what the student has, or a dash.
 fn push_place(text: &mut Vec<u8>, places: &Assignment, student: StudentNo) -> Result<(), AllocError>
@@ -54,6 +56,11 @@ fn push_assignments(
     Ok(())
 }
 
+/// How many bytes the assignment text takes at most.
+fn room_for_assignment(papers: &Papers) -> usize {
+    HEADER.len() + papers.students_len() * LONGEST_LINE
+}
+
 /// The assignment text: a header, and for each student by rising number a line with the school that
 /// the student has, or a dash. The only error is want of memory. The cost is a sort of the
 /// students' numbers and one pass.
@@ -61,7 +68,7 @@ pub fn assignment_text(alloc: Global, clearing: &Clearing) -> Result<Vec<u8>, Al
     ensures { IfOk result (λ text. text.items ≡ assignment_text clearing.now.papers (matching_of clearing.now)) }
 {
     let students = rising_students(alloc, clearing.papers())?;
-    let mut text = Vec::new(alloc);
+    let mut text = Vec::with_capacity(alloc, room_for_assignment(clearing.papers()))?;
     push_assignments(&mut text, students.as_slice(), clearing.places())?;
     Ok(text)
 }
@@ -82,9 +89,16 @@ fn push_report(
     push_assignments(text, students.as_slice(), places)?;
     let cutoffs = rising_rows(alloc, tallies, papers, places)?;
     push_cutoffs(text, cutoffs.as_slice())?;
-    let reasons = reasons_among(alloc, students.as_slice(), tallies, papers, places)?;
-    push_reasons(text, reasons.as_slice())?;
+    push_reason_lines(text, alloc, students.as_slice(), tallies, papers, places)?;
     Ok(())
+}
+
+/// How many bytes the report text takes at most.
+fn room_for_report(clearing: &Clearing) -> usize {
+    let papers = clearing.papers();
+    room_for_assignment(papers)
+        .saturating_add(room_for_cutoffs(papers))
+        .saturating_add(room_for_reasons(clearing))
 }
 
 /// The report text: the assignment text, the cutoff text and the reason text. The only error is want
@@ -96,7 +110,7 @@ pub fn report_text(alloc: Global, clearing: &Clearing) -> Result<Vec<u8>, AllocE
     let papers = clearing.papers();
     let places = clearing.places();
     let tallies = tallies(alloc, papers, places)?;
-    let mut text = Vec::new(alloc);
+    let mut text = Vec::with_capacity(alloc, room_for_report(clearing))?;
     push_report(&mut text, alloc, tallies.as_slice(), papers, places)?;
     Ok(text)
 }

@@ -59,7 +59,7 @@ impl<T> Watched<T> {
 }
 
 impl<R: Read> Watched<R> {
-    /// Reads into the front of `buffer`, as the device does, and gives how many bytes came.
+    /// Reads into the first bytes of `buffer`, as the device does, and gives how many bytes came.
     ///
     /// Any error of the device, an interrupted read included, is answered as `DeviceFailed`.
     pub fn read(&mut self, buffer: &mut [u8]) -> Result<usize, DeviceFailed>
@@ -76,7 +76,7 @@ impl<R: Read> Watched<R> {
 }
 
 impl<W: Write> Watched<W> {
-    /// Writes a front of `bytes`, as the device does, and gives how many it took.
+    /// Writes a prefix of `bytes`, as the device does, and gives how many it took.
     ///
     /// Any error of the device is answered as `DeviceFailed`, and so is a device that takes none of
     /// at least one byte: a loop over calls that answer `Ok` moves on.

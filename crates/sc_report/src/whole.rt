@@ -42,7 +42,7 @@ impl From<AllocError> for ReadFault {
 
 /// Writes all of `text`, by as many calls as the writer needs.
 ///
-/// It ends at the first call that fails; then a front of the text was written. It takes no memory.
+/// It ends at the first call that fails; then a prefix of the text was written. It takes no memory.
 pub fn write_whole<W: Write>(to: &mut Watched<W>, text: &[u8]) -> Result<(), DeviceFailed>
     ensures bytes { WritesWhole (W.contents (device_of to.old)) (W.contents (device_of to.new))
         result text.now }

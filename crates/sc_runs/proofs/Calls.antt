@@ -41,37 +41,37 @@ pub EndsAmong-last : (turns : List Turn) (turn : Turn) (texts : List (List ℕ))
 EndsAmong-last turns turn texts fault read ended = EndsAmong-later turns (turn ∷ []) texts fault read (inl (ended, All-nil IsUntouched))
 
 -- the files and the log were read, and the log was audited
-pub AuditsFiles-read : (seed : List ℕ) (turns : List Turn) (turn : Turn) (texts : Texts) (log schools roster lists given : List ℕ) (old new : Option (List ℕ)) (result : Result Verdict RunFault)
-    → AreRead turns (in_order texts) → IsRead turn log → AreTexts texts schools roster lists → given ≡ log
-    → WritesVerdict (claimed_in (papers_in seed schools roster lists) (log_in given)) old new result → AuditsFiles seed (turns ++ turn ∷ []) old new result
-AuditsFiles-read seed turns turn texts log schools roster lists given old new result read log_read same is wrote = inr (
+pub AuditsFiles-read : (seed : List ℕ) (turns : List Turn) (texts : Texts) (log schools roster lists given : List ℕ) (old new : Option (List ℕ)) (result : Result Verdict RunFault)
+    → AreRead turns (in_order texts ++ log ∷ []) → AreTexts texts schools roster lists → given ≡ log
+    → WritesVerdict (claimed_in (papers_in seed schools roster lists) (log_in given)) old new result → AuditsFiles seed turns old new result
+AuditsFiles-read seed turns texts log schools roster lists given old new result read same is wrote = inr (
   texts,
   log,
-  AreRead-more turns turn (in_order texts) log read log_read,
+  read,
   subst (λ reading. WritesVerdict (claimed_in reading (log_in log)) old new result) (papers_in-texts seed texts schools roster lists same)
       (subst (λ text. WritesVerdict (claimed_in (papers_in seed schools roster lists) (log_in text)) old new result) is wrote),
 )
 
 -- the files and the journal were read, and the journal was replayed
-pub ReplaysFiles-read : (seed : List ℕ) (turns : List Turn) (turn : Turn) (texts : Texts) (journal schools roster lists given : List ℕ) (old new : Option (List ℕ)) (result : Result Tail RunFault)
-    → AreRead turns (in_order texts) → IsRead turn journal → AreTexts texts schools roster lists → given ≡ journal
-    → WritesReplay (papers_in seed schools roster lists) given old new result → ReplaysFiles seed (turns ++ turn ∷ []) old new result
-ReplaysFiles-read seed turns turn texts journal schools roster lists given old new result read journal_read same is wrote = inr (
+pub ReplaysFiles-read : (seed : List ℕ) (turns : List Turn) (texts : Texts) (journal schools roster lists given : List ℕ) (old new : Option (List ℕ)) (result : Result Tail RunFault)
+    → AreRead turns (in_order texts ++ journal ∷ []) → AreTexts texts schools roster lists → given ≡ journal
+    → WritesReplay (papers_in seed schools roster lists) given old new result → ReplaysFiles seed turns old new result
+ReplaysFiles-read seed turns texts journal schools roster lists given old new result read same is wrote = inr (
   texts,
   journal,
-  AreRead-more turns turn (in_order texts) journal read journal_read,
+  read,
   subst (λ reading. WritesReplay reading journal old new result) (papers_in-texts seed texts schools roster lists same)
       (subst (λ text. WritesReplay (papers_in seed schools roster lists) text old new result) is wrote),
 )
 
 -- the files and the script were read, and run
-pub RunsFiles-read : (seed : List ℕ) (turns : List Turn) (turn : Turn) (texts : Texts) (script schools roster lists given : List ℕ) (old new : Contents) (result : Result (Unit {0}) RunFault)
-    → AreRead turns (in_order texts) → IsRead turn script → AreTexts texts schools roster lists → given ≡ script
-    → WritesRun (opened_in (papers_in seed schools roster lists) (script_in given)) old new result → RunsFiles seed (turns ++ turn ∷ []) old new result
-RunsFiles-read seed turns turn texts script schools roster lists given old new result read script_read same is wrote = inr (
+pub RunsFiles-read : (seed : List ℕ) (turns : List Turn) (texts : Texts) (script schools roster lists given : List ℕ) (old new : Contents) (result : Result (Unit {0}) RunFault)
+    → AreRead turns (in_order texts ++ script ∷ []) → AreTexts texts schools roster lists → given ≡ script
+    → WritesRun (opened_in (papers_in seed schools roster lists) (script_in given)) old new result → RunsFiles seed turns old new result
+RunsFiles-read seed turns texts script schools roster lists given old new result read same is wrote = inr (
   texts,
   script,
-  AreRead-more turns turn (in_order texts) script read script_read,
+  read,
   subst (λ reading. WritesRun (opened_in reading (script_in script)) old new result) (papers_in-texts seed texts schools roster lists same)
       (subst (λ text. WritesRun (opened_in (papers_in seed schools roster lists) (script_in text)) old new result) is wrote),
 )

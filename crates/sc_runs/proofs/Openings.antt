@@ -2,13 +2,14 @@
 use Rattle.std.proofs.Common.{◌≡◌, ℕ, arith, Bool, true, false, List, Option, None, Some, Result, Ok, Err, length, refl, sym, ◌∙◌, subst}
 use Rattle.std.proofs.lemmas.List.{take_all}
 use Rattle.std.specs.Io.KnownBytes.{Appends, Keeps}
+use Rattle.std.specs.Prelude.{IfErr}
 use Rattle.sc_papers.specs.Log.{IsSettled}
 use Rattle.sc_papers.specs.Matching.{Matching, IsStudentOptimal}
 use Rattle.sc_papers.specs.declared.rejection.Rejection.{Rejection}
 use Rattle.sc_intake.specs.declared.fault.IntakeFault.{IntakeFault}
 use Rattle.sc_report.specs.LogText.{log_text}
 use Rattle.sc_report.specs.Text.{IsReportText}
-use Rattle.sc_report.specs.Whole.{AppendsFront}
+use Rattle.sc_report.specs.Whole.{AppendsPrefix}
 use Rattle.sc_runs.specs.declared.fault.RunFault.{RunFault}
 use Rattle.sc_runs.specs.declared.fault.RunFault.TheVariants.{Read, Intake, Journal, WriteOut, WriteJournal, OutOfMemory}
 use Rattle.sc_papers.specs.Market.{Market}
@@ -35,13 +36,20 @@ Appends-kept (Some xs) (Some ys) None text written kept = absurd kept
 Appends-kept (Some xs) (Some ys) (Some zs) text written kept = kept ∙ written
 
 -- a text that was written whole was written as its own prefix
-pub AppendsFront-whole : (a b : Option (List ℕ)) (text : List ℕ) → Appends a b text → AppendsFront a b text
-AppendsFront-whole a b text written =
+pub AppendsPrefix-whole : (a b : Option (List ℕ)) (text : List ℕ) → Appends a b text → AppendsPrefix a b text
+AppendsPrefix-whole a b text written =
     (length text, subst (λ (prefix : List ℕ). Appends a b prefix) (sym (take_all (length text) text (omega arith))) written)
 
 -- a text that was written whole, and then nothing, was written as its own prefix
-pub Appends-prefix-kept : (a b c : Option (List ℕ)) (text : List ℕ) → Appends a b text → Keeps b c → AppendsFront a c text
-Appends-prefix-kept a b c text written kept = AppendsFront-whole a c text (Appends-kept a b c text written kept)
+pub Appends-prefix-kept : (a b c : Option (List ℕ)) (text : List ℕ) → Appends a b text → Keeps b c → AppendsPrefix a c text
+Appends-prefix-kept a b c text written kept = AppendsPrefix-whole a c text (Appends-kept a b c text written kept)
+
+-- a text that was written whole, and then flushed
+pub WritesExactly-flushed : (text : List ℕ) (a b c : Option (List ℕ)) (result : Result (Unit {0}) RunFault) → Appends a b text → Keeps b c
+    → IfErr result (λ fault. fault ≡ WriteOut) → WritesExactly text a c result
+WritesExactly-flushed text a b c (Ok done) written kept kind = Appends-kept a b c text written kept
+WritesExactly-flushed text a b c (Err fault) written kept kind =
+    subst (λ f. WritesExactly text a c (Err f)) (sym kind) (Appends-prefix-kept a b c text written kept)
 
 -- a device that was not touched keeps its bytes
 pub Keeps-refl : (a : Option (List ℕ)) → Keeps a a

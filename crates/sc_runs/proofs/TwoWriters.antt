@@ -2,7 +2,8 @@
 use Rattle.std.proofs.Common.{append_assoc, append-nil, ◌≡◌, false, ℕ, inl, inr, List, [], ◌∷◌, ◌++◌, Option, None, Some, Result, Ok, Err, take, refl, sym, ◌∙◌, subst, ap}
 use Rattle.std.proofs.KnownBytes.{Appends-trans}
 use Rattle.std.specs.Io.KnownBytes.{Appends, Keeps}
-use Rattle.sc_report.specs.Whole.{AppendsFront}
+use Rattle.std.specs.Prelude.{IfErr}
+use Rattle.sc_report.specs.Whole.{AppendsPrefix}
 use Rattle.sc_runs.proofs.Openings.{Appends-kept, Keeps-refl}
 use Rattle.sc_runs.specs.Opening.{WritesText}
 use Rattle.sc_runs.specs.Run.{is_journal_fault, IsFull, Writes}
@@ -89,13 +90,13 @@ pub GrowsByPrefix-all : (xs : List Piece) (a b : Contents) → GrowsByAll xs a b
 GrowsByPrefix-all xs a b grown = (journal_of xs, output_of xs, IsPrefix-all xs, grown)
 
 -- a prefix of one write to the journal
-pub GrowsByPrefix-journal : (text : List ℕ) (rest : List Piece) (a : Contents) (after : Option (List ℕ)) → AppendsFront a.journal after text
+pub GrowsByPrefix-journal : (text : List ℕ) (rest : List Piece) (a : Contents) (after : Option (List ℕ)) → AppendsPrefix a.journal after text
     → GrowsByPrefix (to_journal text ∷ rest) a (record { journal = after; output = a.output })
 GrowsByPrefix-journal text rest a after (count, written) =
     (take count text, [], inl (count, 0, refl, refl), (written, Appends-nothing a.output))
 
 -- a prefix of one write to the output
-pub GrowsByPrefix-output : (text : List ℕ) (rest : List Piece) (a : Contents) (after : Option (List ℕ)) → AppendsFront a.output after text
+pub GrowsByPrefix-output : (text : List ℕ) (rest : List Piece) (a : Contents) (after : Option (List ℕ)) → AppendsPrefix a.output after text
     → GrowsByPrefix (to_output text ∷ rest) a (record { journal = a.journal; output = after })
 GrowsByPrefix-output text rest a after (count, written) =
     ([], take count text, inl (0, count, refl, refl), (Appends-nothing a.journal, written))
@@ -113,7 +114,7 @@ GrowsByAll-output text a after written =
     (Appends-nothing a.journal, subst (Appends a.output after) (sym (append-nil text)) written)
 
 -- a prefix of a text was written to the output, and the journal kept
-pub GrowsByPrefix-text : (text same : List ℕ) (j j' o o' : Option (List ℕ)) → same ≡ text → Keeps j j' → AppendsFront o o' same
+pub GrowsByPrefix-text : (text same : List ℕ) (j j' o o' : Option (List ℕ)) → same ≡ text → Keeps j j' → AppendsPrefix o o' same
     → GrowsByPrefix (to_output text ∷ []) (record { journal = j; output = o }) (record { journal = j'; output = o' })
 GrowsByPrefix-text text same j j' o o' is kept (count, written) = (
   [],
@@ -194,3 +195,21 @@ pub GrowsByPrefix-flushed : (pieces : List Piece) (j j' o o' o'' : Option (List 
 GrowsByPrefix-flushed pieces j j' o o' o'' grown kept_journal kept_output =
     GrowsByPrefix-all pieces (record { journal = j; output = o }) (record { journal = j'; output = o'' })
     (GrowsByAll-flushed pieces j j' o o' o'' grown kept_journal kept_output)
+
+-- writes that were made whole, and then both writers flushed, the output last
+pub Writes-flushed : (pieces : List Piece) (j j' o o' o'' : Option (List ℕ)) (result : Result (Unit {0}) RunFault)
+    → GrowsByAll pieces (record { journal = j; output = o }) (record { journal = j; output = o' }) → Keeps j j' → Keeps o' o''
+    → IfErr result (λ fault. fault ≡ WriteOut) → Writes pieces (record { journal = j; output = o }) (record { journal = j'; output = o'' }) result
+Writes-flushed pieces j j' o o' o'' (Ok done) grown kept_journal kept_output kind = GrowsByAll-flushed pieces j j' o o' o'' grown kept_journal kept_output
+Writes-flushed pieces j j' o o' o'' (Err fault) grown kept_journal kept_output kind =
+    subst (λ f. Writes {A = Unit {0}} pieces (record { journal = j; output = o }) (record { journal = j'; output = o'' }) (Err f)) (sym kind)
+    (GrowsByPrefix-flushed pieces j j' o o' o'' grown kept_journal kept_output)
+
+-- a flush of the output does not end for the journal, nor for a full one
+pub is_journal_fault-output : (result : Result (Unit {0}) RunFault) → IfErr result (λ fault. fault ≡ WriteOut) → is_journal_fault result ≡ false
+is_journal_fault-output (Ok done) kind = refl
+is_journal_fault-output (Err fault) kind = ap (λ f. is_journal_fault {A = Unit {0}} (Err f)) kind
+
+pub IsFull-output : (lines : ℕ) (result : Result (Unit {0}) RunFault) → IfErr result (λ fault. fault ≡ WriteOut) → IsFull lines result
+IsFull-output lines (Ok done) kind = tt
+IsFull-output lines (Err fault) kind = subst (λ f. IsFull {A = Unit {0}} lines (Err f)) (sym kind) tt

@@ -10,7 +10,7 @@ use Rattle.sc_audit.specs.declared.verdict.Verdict.TheVariants.{BadEntry, Over, 
 use Rattle.sc_intake.specs.Fault.{◌>>=◌}
 use Rattle.sc_intake.specs.Log.{log_in}
 use Rattle.sc_intake.specs.declared.fault.IntakeFault.{IntakeFault}
-use Rattle.sc_report.specs.Whole.{AppendsFront}
+use Rattle.sc_report.specs.Whole.{AppendsPrefix}
 use Rattle.sc_runs.specs.Inputs.{in_order, Texts, Turn, AreRead}
 use Rattle.sc_runs.specs.Opening.{opening_in, EndsUnread}
 use Rattle.sc_runs.specs.declared.fault.RunFault.{RunFault}
@@ -41,7 +41,7 @@ audit_in seed texts log = claimed_in (opening_in seed texts) (log_in log)
 -- a verdict's line was written; a prefix of it where the writer failed, and nothing at want of memory
 abbrev pub WritesVerdictLine : Verdict → Option (List ℕ) → Option (List ℕ) → Result (Unit {0}) RunFault → Type 0
 WritesVerdictLine verdict old new (Ok done) = Appends old new (verdict_text verdict)
-WritesVerdictLine verdict old new (Err WriteOut) = AppendsFront old new (verdict_text verdict)
+WritesVerdictLine verdict old new (Err WriteOut) = AppendsPrefix old new (verdict_text verdict)
 WritesVerdictLine verdict old new (Err OutOfMemory) = Keeps old new
 WritesVerdictLine verdict old new (Err (Read source)) = ⊥
 WritesVerdictLine verdict old new (Err (Intake fault)) = ⊥
@@ -54,7 +54,7 @@ abbrev pub WritesVerdict : Result Claimed IntakeFault → Option (List ℕ) → 
 WritesVerdict reading old new (Ok verdict) = (claimed : Claimed) × (reading ≡ Ok claimed) × IsVerdict claimed.papers claimed.log verdict × Appends old new (verdict_text verdict)
 WritesVerdict reading old new (Err (Intake fault)) = (reading ≡ Err fault) × Keeps old new
 WritesVerdict reading old new (Err WriteOut) =
-    (claimed : Claimed) × (reading ≡ Ok claimed) × ((verdict : Verdict) × IsVerdict claimed.papers claimed.log verdict × AppendsFront old new (verdict_text verdict))
+    (claimed : Claimed) × (reading ≡ Ok claimed) × ((verdict : Verdict) × IsVerdict claimed.papers claimed.log verdict × AppendsPrefix old new (verdict_text verdict))
 WritesVerdict reading old new (Err OutOfMemory) = Keeps old new
 WritesVerdict reading old new (Err (Read source)) = ⊥
 WritesVerdict reading old new (Err (Journal fault)) = ⊥

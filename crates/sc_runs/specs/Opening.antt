@@ -15,7 +15,7 @@ use Rattle.sc_intake.specs.declared.fault.Cause.TheVariants as cause
 use Rattle.sc_intake.specs.declared.fault.IntakeFault.{IntakeFault}
 use Rattle.sc_report.specs.LogText.{log_text}
 use Rattle.sc_report.specs.Text.{IsReportText}
-use Rattle.sc_report.specs.Whole.{AppendsFront}
+use Rattle.sc_report.specs.Whole.{AppendsPrefix}
 use Rattle.sc_runs.specs.Inputs.{in_order, Texts, Turn, AreRead, EndsAmong}
 use Rattle.sc_runs.specs.declared.fault.RunFault.{RunFault}
 use Rattle.sc_runs.specs.declared.fault.RunFault.TheVariants.{Read, Intake, Journal, WriteOut, WriteJournal, OutOfMemory}
@@ -46,7 +46,7 @@ IsOpeningFault reading OutOfMemory = ⊤
 -- want of memory
 abbrev pub WritesText : (List ℕ → Type 0) → Option (List ℕ) → Option (List ℕ) → Result (Unit {0}) RunFault → Type 0
 WritesText Is old new (Ok done) = (text : List ℕ) × Is text × Appends old new text
-WritesText Is old new (Err WriteOut) = (text : List ℕ) × Is text × AppendsFront old new text
+WritesText Is old new (Err WriteOut) = (text : List ℕ) × Is text × AppendsPrefix old new text
 WritesText Is old new (Err (Read source)) = ⊥
 WritesText Is old new (Err (Intake fault)) = ⊥
 WritesText Is old new (Err (Journal fault)) = ⊥
@@ -56,7 +56,7 @@ WritesText Is old new (Err OutOfMemory) = Keeps old new
 -- a writer was given this text whole at `Ok`, and a prefix of it where it failed
 abbrev pub WritesExactly : List ℕ → Option (List ℕ) → Option (List ℕ) → Result (Unit {0}) RunFault → Type 0
 WritesExactly text old new (Ok done) = Appends old new text
-WritesExactly text old new (Err WriteOut) = AppendsFront old new text
+WritesExactly text old new (Err WriteOut) = AppendsPrefix old new text
 WritesExactly text old new (Err (Read source)) = ⊥
 WritesExactly text old new (Err (Intake fault)) = ⊥
 WritesExactly text old new (Err (Journal fault)) = ⊥

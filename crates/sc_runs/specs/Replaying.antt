@@ -8,7 +8,7 @@ use Rattle.sc_journal.specs.declared.fault.JournalFault.{JournalFault}
 use Rattle.sc_journal.specs.declared.fault.JournalCause.{JournalCause}
 use Rattle.sc_journal.specs.declared.fault.JournalCause.TheVariants as cause
 use Rattle.sc_journal.specs.declared.journal.Tail.{Tail}
-use Rattle.sc_report.specs.Whole.{AppendsFront}
+use Rattle.sc_report.specs.Whole.{AppendsPrefix}
 use Rattle.sc_runs.specs.Inputs.{in_order, Texts, Turn, AreRead}
 use Rattle.sc_runs.specs.Opening.{opening_in, EndsUnread, IsReport}
 use Rattle.sc_runs.specs.declared.fault.RunFault.{RunFault}
@@ -26,7 +26,7 @@ WritesReplay reading journal old new (Ok tail) =
 WritesReplay reading journal old new (Err (Intake fault)) = (reading ≡ Err fault) × Keeps old new
 WritesReplay reading journal old new (Err (Journal fault)) = (m : Market) × (reading ≡ Ok m) × IsFirstFault m journal fault × Keeps old new
 WritesReplay reading journal old new (Err WriteOut) =
-    (m : Market) × (reading ≡ Ok m) × ((text : List ℕ) × (tail : Tail) × IsReplayReport m journal tail text × AppendsFront old new text)
+    (m : Market) × (reading ≡ Ok m) × ((text : List ℕ) × (tail : Tail) × IsReplayReport m journal tail text × AppendsPrefix old new text)
 WritesReplay reading journal old new (Err OutOfMemory) = Keeps old new
 WritesReplay reading journal old new (Err (Read source)) = ⊥
 WritesReplay reading journal old new (Err WriteJournal) = ⊥

@@ -10,7 +10,7 @@ ghost use Rattle.sc_runs.specs.Inputs.{opening_turns, turn_of, TakesWithin};
 ghost use Rattle.sc_runs.specs.Opening.{is_output_fault, papers_in, IsOpeningFault};
 
 use crate::fault::RunFault;
-use crate::inputs::{Opening, OpeningSlices, read_input, read_opening};
+use crate::inputs::{Opening, OpeningSlices, read_inputs};
 use crate::opening::read_papers;
 use crate::writing::write_text;
 use sc_audit::{Verdict, audit};
@@ -130,13 +130,15 @@ pub fn audit_files<R: Read, W: Write>(
     ensures failed { has_failed out.new ≡ (has_failed out.old || is_output_fault result) }
     ensures limit { All TakesWithin (opening_turns R.remaining opening.old opening.new ++ turn_of R.remaining input.Log log.old log.new ∷ []) }
 {
-    let texts = match read_opening(alloc, opening) {
+    let texts = match read_inputs(alloc, opening, log, Source::Log) {
         Ok(texts) => texts,
         Err(fault) => return Err(fault),
     };
-    let log = match read_input(alloc, log, Source::Log) {
-        Ok(log) => log,
-        Err(fault) => return Err(fault),
-    };
-    audit_texts(alloc, seed, texts.as_slices(), log.as_slice(), out)
+    audit_texts(
+        alloc,
+        seed,
+        texts.opening.as_slices(),
+        texts.last.as_slice(),
+        out,
+    )
 }

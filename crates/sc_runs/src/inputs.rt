@@ -1,6 +1,6 @@
 //! The inputs of a call, and reading each of them whole.
 
-ghost use Rattle.std.specs.Prelude.{All, IfErr, IfOk};
+ghost use Rattle.std.specs.Prelude.{◌++◌, ◌∷◌, [], All, IfErr, IfOk};
 ghost use Rattle.sc_runs.specs.Inputs.{in_order, opening_turns, texts_of, turn_of, AreRead, EndsAmong, EndsReading, IsRead, TakesWithin};
 
 use crate::fault::RunFault;
@@ -30,6 +30,13 @@ pub struct OpeningTexts {
     pub schools: Vec<u8>,
     pub roster: Vec<u8>,
     pub lists: Vec<u8>,
+}
+
+/// The texts of a call's inputs, each read whole: the files of an opening, and the input after them.
+#[derive(Drop)]
+pub struct InputTexts {
+    pub opening: OpeningTexts,
+    pub last: Vec<u8>,
 }
 
 /// The texts of an opening's files, lent.
@@ -92,6 +99,28 @@ pub fn read_opening<R: Read>(
         roster,
         lists,
     })
+}
+
+/// Reads the files of an opening whole, and then the input after them.
+pub fn read_inputs<R: Read>(
+    alloc: Global,
+    opening: &mut Opening<R>,
+    last: &mut Watched<R>,
+    source: Source,
+) -> Result<InputTexts, RunFault>
+    ensures read { IfOk result (λ given. AreRead (opening_turns R.remaining opening.old opening.new ++ turn_of R.remaining source last.old last.new ∷ [])
+        (in_order (texts_of given.opening) ++ given.last.items ∷ [])) }
+    ensures ended { IfErr result (EndsAmong (opening_turns R.remaining opening.old opening.new ++ turn_of R.remaining source last.old last.new ∷ [])) }
+    ensures limit { All TakesWithin (opening_turns R.remaining opening.old opening.new ++ turn_of R.remaining source last.old last.new ∷ []) }
+{
+    let opening = match read_opening(alloc, opening) {
+        Ok(opening) => opening,
+        Err(fault) => return Err(fault),
+    };
+    match read_input(alloc, last, source) {
+        Ok(last) => Ok(InputTexts { opening, last }),
+        Err(fault) => Err(fault),
+    }
 }
 
 impl OpeningTexts {

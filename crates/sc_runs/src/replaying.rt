@@ -8,7 +8,7 @@ ghost use Rattle.sc_runs.specs.Opening.{is_output_fault, papers_in};
 ghost use Rattle.sc_runs.specs.Replaying.{ReplaysFiles, WritesReplay};
 
 use crate::fault::RunFault;
-use crate::inputs::{Opening, OpeningSlices, read_input, read_opening};
+use crate::inputs::{Opening, OpeningSlices, read_inputs};
 use crate::opening::read_papers;
 use crate::writing::write_flushed_report;
 use sc_intake::Source;
@@ -80,13 +80,15 @@ pub fn replay_files<R: Read, W: Write>(
     ensures failed { has_failed out.new ≡ (has_failed out.old || is_output_fault result) }
     ensures limit { All TakesWithin (opening_turns R.remaining opening.old opening.new ++ turn_of R.remaining input.Journal journal.old journal.new ∷ []) }
 {
-    let texts = match read_opening(alloc, opening) {
+    let texts = match read_inputs(alloc, opening, journal, Source::Journal) {
         Ok(texts) => texts,
         Err(fault) => return Err(fault),
     };
-    let journal = match read_input(alloc, journal, Source::Journal) {
-        Ok(journal) => journal,
-        Err(fault) => return Err(fault),
-    };
-    replay_texts(alloc, seed, texts.as_slices(), journal.as_slice(), out)
+    replay_texts(
+        alloc,
+        seed,
+        texts.opening.as_slices(),
+        texts.last.as_slice(),
+        out,
+    )
 }

@@ -12,11 +12,11 @@ ghost use Rattle.sc_runs.specs.TwoWriters.{to_output};
 ghost use Rattle.sc_runs.specs.Run.{is_journal_fault, opened_in, IsFull, RunsFiles, Writes, WritesRun};
 
 use crate::fault::RunFault;
-use crate::inputs::{Inputs, OpeningSlices, read_input, read_opening};
+use crate::inputs::{Inputs, OpeningSlices, read_inputs};
 use crate::opening::open_texts;
 use crate::recorder::Recorder;
 use crate::script::Session;
-use crate::writing::write_report_text;
+use crate::writing::{flush_output, write_report_text};
 use sc_intake::{Source, read_script};
 use sc_papers::{Amendment, Refusal, Seed};
 use sc_repair::Clearing;
@@ -53,10 +53,7 @@ fn finish<W: Write, J: Recorder>(
         Ok(()) => {}
         Err(_) => return Err(RunFault::WriteJournal),
     }
-    match out.flush() {
-        Ok(()) => Ok(()),
-        Err(_) => Err(RunFault::WriteOut),
-    }
+    flush_output(out)
 }
 
 /// Answers the records of the script in turn, and writes the report of the papers as they then stand.
@@ -136,19 +133,20 @@ pub fn run<R: Read, W: Write, J: Write>(
     ensures journal_failed { has_failed journal.new ≡ (has_failed journal.old || is_journal_fault result) }
     ensures limit { All TakesWithin (opening_turns R.remaining inputs.old.opening inputs.new.opening ++ turn_of R.remaining input.Script inputs.old.script inputs.new.script ∷ []) }
 {
-    let texts = match read_opening(alloc, &mut inputs.opening) {
+    let texts = match read_inputs(
+        alloc,
+        &mut inputs.opening,
+        &mut inputs.script,
+        Source::Script,
+    ) {
         Ok(texts) => texts,
-        Err(fault) => return Err(fault),
-    };
-    let script = match read_input(alloc, &mut inputs.script, Source::Script) {
-        Ok(script) => script,
         Err(fault) => return Err(fault),
     };
     run_texts(
         alloc,
         seed,
-        texts.as_slices(),
-        script.as_slice(),
+        texts.opening.as_slices(),
+        texts.last.as_slice(),
         out,
         journal,
     )

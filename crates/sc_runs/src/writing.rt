@@ -1,10 +1,12 @@
 //! Writing to the output: a line, a text, the report and the log of the standing assignment.
 
-ghost use Rattle.std.specs.Prelude.{◌≡◌, ◌||◌};
+ghost use Rattle.std.specs.Prelude.{◌≡◌, ◌||◌, IfErr};
+ghost use Rattle.std.specs.Io.KnownBytes.{Keeps};
 ghost use Rattle.sc_repair.specs.Standing.{matching_of, IsCertified};
 ghost use Rattle.sc_report.specs.Text.{IsReportText};
 ghost use Rattle.sc_report.specs.Watched.{device_of, has_failed};
 ghost use Rattle.sc_runs.specs.Opening.{is_output_fault, IsCertificate, WritesExactly, WritesText};
+ghost use Rattle.sc_runs.specs.declared.fault.RunFault.TheVariants.{WriteOut};
 
 use crate::fault::RunFault;
 use sc_repair::Clearing;
@@ -23,6 +25,18 @@ pub fn write_line<W: Write>(line: &[u8], out: &mut Watched<W>) -> Result<(), Run
     }
 }
 
+/// Flushes the output.
+pub fn flush_output<W: Write>(out: &mut Watched<W>) -> Result<(), RunFault>
+    ensures bytes { Keeps (W.contents (device_of out.old)) (W.contents (device_of out.new)) }
+    ensures kinds { IfErr result (λ fault. fault ≡ WriteOut) }
+    ensures failed { has_failed out.new ≡ (has_failed out.old || is_output_fault result) }
+{
+    match out.flush() {
+        Ok(()) => Ok(()),
+        Err(_) => Err(RunFault::WriteOut),
+    }
+}
+
 /// Writes a text, and flushes it.
 pub fn write_text<W: Write>(text: &[u8], out: &mut Watched<W>) -> Result<(), RunFault>
     ensures bytes { WritesExactly text.now (W.contents (device_of out.old)) (W.contents (device_of out.new)) result }
@@ -31,10 +45,7 @@ pub fn write_text<W: Write>(text: &[u8], out: &mut Watched<W>) -> Result<(), Run
     if let Err(fault) = write_line(text, out) {
         return Err(fault);
     }
-    match out.flush() {
-        Ok(()) => Ok(()),
-        Err(_) => Err(RunFault::WriteOut),
-    }
+    flush_output(out)
 }
 
 /// Writes the report of the standing assignment, and does not flush it.
@@ -67,10 +78,7 @@ pub fn write_flushed_report<W: Write>(
     if let Err(fault) = write_report_text(alloc, clearing, out) {
         return Err(fault);
     }
-    match out.flush() {
-        Ok(()) => Ok(()),
-        Err(_) => Err(RunFault::WriteOut),
-    }
+    flush_output(out)
 }
 
 /// Writes the log of rejections that certifies the standing assignment, and flushes it.

@@ -9,8 +9,8 @@ pub returns : goal.returns
 returns c =
     let m = c.args.papers.now in
     let a = assigned c.args.places.now in
-    report-joined m a c.as_slice.result.now c.as_slice-2.result.now c.as_slice-4.result.now
-    c.args.text.now.items c.push_assignments.new.text.items c.push_cutoffs.new.text.items c.push_reasons.new.text.items
+    report-joined m a c.as_slice.result.now c.as_slice-2.result.now (flat_map (reasons_of m a) c.as_slice-3.result.now)
+    c.args.text.now.items c.push_assignments.new.text.items c.push_cutoffs.new.text.items c.push_reason_lines.new.text.items
     (c.as_slice.ensures.value ∙ c.in_ok-students.ensures) (c.as_slice-2.ensures.value ∙ c.in_ok-cutoffs.ensures)
-    (c.as_slice-4.ensures.value ∙ c.in_ok-reasons.ensures ∙ ap (flat_map (reasons_of m a)) (c.as_slice-3.ensures.value ∙ c.in_ok-students.ensures))
-    c.in_ok-push_assignments.ensures c.in_ok-push_cutoffs.ensures c.in_ok-push_reasons.ensures
+    (ap (flat_map (reasons_of m a)) (c.as_slice-3.ensures.value ∙ c.in_ok-students.ensures))
+    c.in_ok-push_assignments.ensures c.in_ok-push_cutoffs.ensures c.in_ok-push_reason_lines.ensures

@@ -1,4 +1,4 @@
--- The front of the text that the calls so far took is with the writer, and no call failed.
+-- The prefix of the text that the calls so far took is with the writer, and no call failed.
 use Rattle.std.proofs.Common.{length, ◌-◌, ◌≡◌, ◌≤◌, take}
 use Rattle.std.specs.Io.KnownBytes.{Appends}
 use Rattle.sc_report.specs.Watched.{device_of, has_failed}

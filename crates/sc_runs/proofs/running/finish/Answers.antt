@@ -4,7 +4,7 @@ use Rattle.sc_report.specs.Text.{report_text, IsReportText}
 use Rattle.sc_report.specs.Watched.{device_of}
 use Rattle.sc_runs.specs.TwoWriters.{to_output}
 use Rattle.sc_runs.proofs.Openings.{Keeps-refl}
-use Rattle.sc_runs.proofs.TwoWriters.{is_journal_fault-text, GrowsByAll-flushed, GrowsByPrefix-flushed, IsFull-text, Writes-output}
+use Rattle.sc_runs.proofs.TwoWriters.{is_journal_fault-text, GrowsByPrefix-flushed, IsFull-output, IsFull-text, Writes-flushed, Writes-output}
 use Rattle.sc_runs.proofs.Replies.{or-nothing}
 use Rattle.sc_runs.proofs.running.finish.Goals as goal
 
@@ -29,20 +29,14 @@ returns-in-Err-flush-clause-writes g c =
     journal (g.J.Recorder.contents c.flush.new.self) (g.W.Write.contents (device_of c.args.out.now)) output output
     (Writes-output report journal _ _ (Ok tt) c.in_default.ensures.bytes) c.flush.ensures.bytes (Keeps-refl output)
 
-pub returns-in-Ok-flush-clause-writes : goal.returns-in-Ok-flush-clause-writes
-returns-in-Ok-flush-clause-writes g c =
+pub returns-clause-writes : goal.returns-clause-writes
+returns-clause-writes g c =
     let report = report_text c.args.clearing.now.papers (matching_of c.args.clearing.now) in
     let journal = g.J.Recorder.contents c.args.journal.now in
-    GrowsByAll-flushed (to_output report ∷ [])
+    Writes-flushed (to_output report ∷ [])
     journal (g.J.Recorder.contents c.flush.new.self) (g.W.Write.contents (device_of c.args.out.now))
-    (g.W.Write.contents (device_of c.write_report_text.new.out)) (g.W.Write.contents (device_of c.flush-2.new.self))
-    (Writes-output report journal _ _ (Ok tt) c.in_default.ensures.bytes) c.flush.ensures.bytes c.flush-2.ensures.bytes
+    (g.W.Write.contents (device_of c.write_report_text.new.out)) (g.W.Write.contents (device_of c.flush_output.new.out)) c.flush_output.result
+    (Writes-output report journal _ _ (Ok tt) c.in_default.ensures.bytes) c.flush.ensures.bytes c.flush_output.ensures.bytes c.flush_output.ensures.kinds
 
-pub returns-in-Err-flush-2-clause-writes : goal.returns-in-Err-flush-2-clause-writes
-returns-in-Err-flush-2-clause-writes g c =
-    let report = report_text c.args.clearing.now.papers (matching_of c.args.clearing.now) in
-    let journal = g.J.Recorder.contents c.args.journal.now in
-    GrowsByPrefix-flushed (to_output report ∷ [])
-    journal (g.J.Recorder.contents c.flush.new.self) (g.W.Write.contents (device_of c.args.out.now))
-    (g.W.Write.contents (device_of c.write_report_text.new.out)) (g.W.Write.contents (device_of c.flush-2.new.self))
-    (Writes-output report journal _ _ (Ok tt) c.in_default.ensures.bytes) c.flush.ensures.bytes c.flush-2.ensures.bytes
+pub returns-clause-full : goal.returns-clause-full
+returns-clause-full g c = IsFull-output 0 c.flush_output.result c.flush_output.ensures.kinds

@@ -1,7 +1,10 @@
-use Rattle.sc_runs.proofs.Openings.{Appends-prefix-kept}
+use Rattle.sc_repair.specs.Standing.{matching_of}
+use Rattle.sc_report.specs.Text.{IsReportText}
+use Rattle.sc_runs.proofs.Openings.{WritesExactly-flushed, WritesText-of}
 use Rattle.sc_runs.proofs.writing.write_flushed_report.Goals as goal
 
-pub returns-in-Err-flush-clause-bytes : goal.returns-in-Err-flush-clause-bytes
-returns-in-Err-flush-clause-bytes g c =
-    let written = c.in_default.ensures.bytes in
-    (written.0, written.1, Appends-prefix-kept _ _ _ written.0 written.2 c.flush.ensures.bytes)
+pub returns-clause-bytes : goal.returns-clause-bytes
+returns-clause-bytes g c =
+    let (text, is, written) = c.in_default.ensures.bytes in
+    WritesText-of (IsReportText c.args.clearing.now.papers (matching_of c.args.clearing.now)) text _ _ c.flush_output.result is
+    (WritesExactly-flushed text _ _ _ c.flush_output.result written c.flush_output.ensures.bytes c.flush_output.ensures.kinds)

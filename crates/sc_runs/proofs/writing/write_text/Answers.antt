@@ -1,5 +1,6 @@
-use Rattle.sc_runs.proofs.Openings.{Appends-prefix-kept}
+use Rattle.sc_runs.proofs.Openings.{WritesExactly-flushed}
 use Rattle.sc_runs.proofs.writing.write_text.Goals as goal
 
-pub returns-in-Err-flush-clause-bytes : goal.returns-in-Err-flush-clause-bytes
-returns-in-Err-flush-clause-bytes g c = Appends-prefix-kept _ _ _ c.args.text.now c.in_default.ensures.bytes c.flush.ensures.bytes
+pub returns-clause-bytes : goal.returns-clause-bytes
+returns-clause-bytes g c =
+    WritesExactly-flushed c.args.text.now _ _ _ c.flush_output.result c.in_default.ensures.bytes c.flush_output.ensures.bytes c.flush_output.ensures.kinds

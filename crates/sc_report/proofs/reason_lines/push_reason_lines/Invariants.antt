@@ -1,0 +1,9 @@
+use Rattle.std.proofs.Common.{◌≡◌, ◌++◌, take}
+use Rattle.std.specs.Prelude.{flat_map}
+use Rattle.sc_papers.specs.Assignment.{assigned}
+use Rattle.sc_report.specs.Reason.{reasons_of}
+use Rattle.sc_report.specs.ReasonText.{reason_line}
+use Rattle.sc_report.proofs.reason_lines.push_reason_lines.Given as goal
+
+abbrev pub invariant-loop-student : goal.invariant-loop-student
+invariant-loop-student l = l.text.items ≡ l.initial.text.items ++ flat_map reason_line (flat_map (reasons_of l.papers (assigned l.places)) (take l.student-index l.students))
