@@ -10,28 +10,28 @@ use Rattle.hex.specs.Hex.{is_hex_digit, hex_digit_value, digit_or_error, ◌>>=�
 use Rattle.hex.specs.declared.error.FromHexError.{FromHexError}
 use Rattle.hex.specs.declared.error.FromHexError.TheVariants.{InvalidHexCharacter, OddLength, InvalidStringLength, OutOfMemory}
 use Rattle.hex.proofs.HexLemmas.{decode_of-ok, decode_of-err, decode_of-even, decode_sized-twice, decode_sized-ok, decode_sized-odd, decode_sized-other}
-use Rattle.sc_lottery.specs.Seed.{bytes_of, seed_of, first_wrong_place}
+use Rattle.sc_lottery.specs.Seed.{bytes_of, seed_of, first_wrong_index}
 use Rattle.sc_lottery.specs.declared.seed.SeedError.TheVariants.{Length, Digit}
 
--- no place is named where every byte is a digit
-first_wrong_place-none : (text : List ℕ) → AllPass is_hex_digit text → first_wrong_place text ≡ None
-unfolding first_wrong_place
-first_wrong_place-none text digits =
+-- no index is named where every byte is a digit
+first_wrong_index-none : (text : List ℕ) → AllPass is_hex_digit text → first_wrong_index text ≡ None
+unfolding first_wrong_index
+first_wrong_index-none text digits =
     let all : position_or_len (λ byte. not (is_hex_digit byte)) text ≡ length text =
     position_or_len_is (λ byte. not (is_hex_digit byte)) text (length text) 0 (omega arith)
     (λ k below. ap not (digits k 0 below)) (λ past. absurd (omega arith)) in
     grind (arith, common_steps)
 
--- the place that is named: a byte that is no digit, with digits alone before it
-first_wrong_place-some : (text : List ℕ) (place : ℕ) → place < length text
-    → is_hex_digit (slice_index text place) ≡ false → AllPass is_hex_digit (take place text)
-    → first_wrong_place text ≡ Some place
-unfolding first_wrong_place
-first_wrong_place-some text place within wrong digits =
-    let front : length (take place text) ≡ place = length-take-le place text (omega arith) in
-    let first : position_or_len (λ byte. not (is_hex_digit byte)) text ≡ place =
-    position_or_len_is (λ byte. not (is_hex_digit byte)) text place 0 (omega arith)
-    (λ k below. ap (λ (byte : ℕ). not (is_hex_digit byte)) (sym (get_or-take place text k 0 below))
+-- the index that is named: a byte that is no digit, with digits alone before it
+first_wrong_index-some : (text : List ℕ) (index : ℕ) → index < length text
+    → is_hex_digit (slice_index text index) ≡ false → AllPass is_hex_digit (take index text)
+    → first_wrong_index text ≡ Some index
+unfolding first_wrong_index
+first_wrong_index-some text index within wrong digits =
+    let front : length (take index text) ≡ index = length-take-le index text (omega arith) in
+    let first : position_or_len (λ byte. not (is_hex_digit byte)) text ≡ index =
+    position_or_len_is (λ byte. not (is_hex_digit byte)) text index 0 (omega arith)
+    (λ k below. ap (λ (byte : ℕ). not (is_hex_digit byte)) (sym (get_or-take index text k 0 below))
     ∙ ap not (digits k 0 (omega arith)))
     (λ _. ap not wrong) in
     grind (arith, common_steps)
@@ -65,7 +65,7 @@ seed_of-decoded text bytes h =
     let len : length text ≡ 64 = omega (arith, decode_sized-ok text 32 bytes h) in
     let decoded : decode_of text ≡ Ok bytes = sym (decode_sized-twice text 32 len) ∙ h in
     let even : length text % 2 ≡ 0 = omega arith in
-    let none = first_wrong_place-none text (decode_of-ok text bytes decoded).1 in
+    let none = first_wrong_index-none text (decode_of-ok text bytes decoded).1 in
     let spelled = bytes_of-decoded 0 text bytes (sym (decode_of-even text even) ∙ decoded) in
     rw (len, none, spelled) refl
 
@@ -76,21 +76,21 @@ seed_of-other text other = grind (arith)
 
 -- a text with a byte that is no digit
 seed_of-wrong : (text : List ℕ) (e : FromHexError) → decode_sized text 32 ≡ Err e → length text ≡ 64
-    → (place : ℕ) × (e ≡ InvalidHexCharacter (slice_index text place) place) × (seed_of text ≡ Err (Digit place))
+    → (index : ℕ) × (e ≡ InvalidHexCharacter (slice_index text index) index) × (seed_of text ≡ Err (Digit index))
 unfolding seed_of
 seed_of-wrong text e h len =
     elim (decode_of-err text e (sym (decode_sized-twice text 32 len) ∙ h)) [
       | inl odd ↦ absurd (omega arith)
       | inr bad ↦
           let zero_more : 0 + bad.0 ≡ bad.0 = omega arith in
-          (bad.0, rw zero_more at bad.1, rw (len, first_wrong_place-some text bad.0 bad.2 bad.3 bad.4) refl)
+          (bad.0, rw zero_more at bad.1, rw (len, first_wrong_index-some text bad.0 bad.2 bad.3 bad.4) refl)
     ]
 
 -- what each error of `hex` says of a seed; an array takes no memory
 abbrev pub Refuses : List ℕ → FromHexError → Type 0
 Refuses text OddLength = seed_of text ≡ Err Length
 Refuses text InvalidStringLength = seed_of text ≡ Err Length
-Refuses text (InvalidHexCharacter c place) = seed_of text ≡ Err (Digit place)
+Refuses text (InvalidHexCharacter c index) = seed_of text ≡ Err (Digit index)
 Refuses text OutOfMemory = ⊥
 
 -- a text that does not decode

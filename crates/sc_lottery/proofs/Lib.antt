@@ -1,3 +1,3 @@
 mod Digits
-mod Stream
+mod Words
 mod Vectors

@@ -1,2 +1,3 @@
 pub mod Draw
 pub mod Seed
+pub mod Stream

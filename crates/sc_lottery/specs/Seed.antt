@@ -6,9 +6,9 @@ use Rattle.hex.specs.Hex.{hex_digit_value, is_hex_digit}
 use Rattle.sc_lottery.specs.declared.seed.SeedError.{SeedError}
 use Rattle.sc_lottery.specs.declared.seed.SeedError.TheVariants.{Length, Digit}
 
--- the place, counted from 0, of the first byte that is no hexadecimal digit
-unfoldable pub first_wrong_place : List ℕ → Option ℕ
-first_wrong_place text = position (λ byte. not (is_hex_digit byte)) text
+-- the index, counted from 0, of the first byte that is no hexadecimal digit
+unfoldable pub first_wrong_index : List ℕ → Option ℕ
+first_wrong_index text = position (λ byte. not (is_hex_digit byte)) text
 
 -- what a hexadecimal digit stands for, in either case
 abbrev pub value_of : ℕ → ℕ
@@ -22,14 +22,14 @@ bytes_of (high ∷ low ∷ rest) = (value_of high * 16 + value_of low) ∷ bytes
 
 -- the bytes of a text of digits, or the refusal that names the first byte that is none
 abbrev pub seed_unless : Option ℕ → List ℕ → Result (List ℕ) SeedError
-seed_unless (Some place) text = Err (Digit place)
+seed_unless (Some index) text = Err (Digit index)
 seed_unless None text = Ok (bytes_of text)
 
 -- the seed of a text: the 32 bytes of its 64 digits, or why it is none
 unfoldable pub seed_of : List ℕ → Result (List ℕ) SeedError
-seed_of text = if length text == 64 then seed_unless (first_wrong_place text) text else Err Length
+seed_of text = if length text == 64 then seed_unless (first_wrong_index text) text else Err Length
 
--- a refusal in words: its name, and the place of the byte that it names
+-- a refusal in words: its name, and the index of the byte that it names
 abbrev pub refusal_text : SeedError → List ℕ
 refusal_text Length = codes "Length"
-refusal_text (Digit place) = codes "Digit " ++ decimal place
+refusal_text (Digit index) = codes "Digit " ++ decimal index

@@ -8,6 +8,6 @@ mod draws;
 mod number;
 mod seed;
 
-pub use draws::draw;
+pub use draws::{Draws, draw};
 pub use number::StudentNumber;
 pub use seed::{Seed, SeedError};

@@ -33,7 +33,7 @@ impl Seed {
             Err(FromHexError::OddLength) => Err(SeedError::Length),
             Err(FromHexError::InvalidStringLength) => Err(SeedError::Length),
             Err(FromHexError::InvalidHexCharacter { index, .. }) => {
-                Err(SeedError::Digit { place: index })
+                Err(SeedError::Digit { index })
             }
             // An array takes no memory.
             Err(FromHexError::OutOfMemory) => unreachable!(),
@@ -53,8 +53,8 @@ impl Seed {
 pub enum SeedError {
     /// The text has not 64 bytes.
     Length,
-    /// The byte at this place, counted from 0, is the first that is no hexadecimal digit.
-    Digit { place: usize },
+    /// The byte at this index, counted from 0, is the first that is no hexadecimal digit.
+    Digit { index: usize },
 }
 
 impl fmt::Display for SeedError {
@@ -63,7 +63,7 @@ impl fmt::Display for SeedError {
     fn fmt<W: fmt::Write>(&self, f: &mut fmt::Formatter<W>) -> fmt::Result {
         match *self {
             SeedError::Length => write!(f, "Length"),
-            SeedError::Digit { place } => write!(f, "Digit {place}"),
+            SeedError::Digit { index } => write!(f, "Digit {index}"),
         }
     }
 }

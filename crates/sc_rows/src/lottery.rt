@@ -1,7 +1,7 @@
 //! The lottery: draws under known seeds, by the vectors of RFC 8439's cipher with a counter of 64 bits, and
 //! what is no seed and no student.
 use crate::given::student;
-use sc_lottery::{Seed, SeedError, StudentNumber, draw};
+use sc_lottery::{Draws, Seed, SeedError, StudentNumber, draw};
 use std::process::Abort;
 
 const ZEROS: [u8; 64] = [b'0'; 64];
@@ -50,11 +50,11 @@ fn texts_that_are_no_seed(rt: HostRuntime) {
     assert_eq!(rt; Seed::from_hex(&ZEROS[..63]), Err(SeedError::Length));
     assert_eq!(rt; Seed::from_hex(&[b'0'; 66]), Err(SeedError::Length));
     assert_eq!(rt; Seed::from_hex(b""), Err(SeedError::Length));
-    for place in 0..64 {
+    for index in 0..64 {
         let mut text = ZEROS;
-        text[place] = b'g';
+        text[index] = b'g';
         text[63] = b'g';
-        assert_eq!(rt; Seed::from_hex(&text), Err(SeedError::Digit { place }));
+        assert_eq!(rt; Seed::from_hex(&text), Err(SeedError::Digit { index }));
     }
 }
 
@@ -72,7 +72,19 @@ fn refusals_in_words(rt: HostRuntime) {
         .to_string(rt.alloc())
         .expect(&rt, "memory");
     assert_eq!(rt; length.as_str(), "Length");
-    let digit = SeedError::Digit { place: 5 };
+    let digit = SeedError::Digit { index: 5 };
     let digit = digit.to_string(rt.alloc()).expect(&rt, "memory");
     assert_eq!(rt; digit.as_str(), "Digit 5");
+}
+
+// Forwards by steps within one block and past it, back, far on, and the same one again.
+#[test]
+fn draws_are_read_in_any_order(rt: HostRuntime) {
+    let seed = seed(&rt, &ZEROS);
+    let mut draws = Draws::new(seed);
+    assert!(rt; draws.seed() == seed);
+    for number in [1, 2, 3, 9, 34, 35, 80, 5, 999_999_999, 1, 1] {
+        let student = student(&rt, number);
+        assert_eq!(rt; draws.draw(student), draw(&seed, student), "{number}");
+    }
 }
