@@ -5,3 +5,4 @@ pub mod Words
 pub mod Giving
 pub mod RowLemmas
 pub mod PaperLemmas
+mod InStep

@@ -3,7 +3,10 @@ use Rattle.std.proofs.Common.{◌≡◌, ℕ, suc, zero, ◌+◌, ◌<◌, ◌�
 use Rattle.std.specs.Prelude.{Result, ◌||◌, nat_le, not, is_some, find, slice_get, option_and_then}
 use Rattle.std.specs.Option.{option_or}
 use Rattle.std.specs.List.{IsDistinct}
-use Rattle.std.proofs.lemmas.Bool.{cases_Bool}
+use Rattle.std.proofs.lemmas.Bool.{cases_Bool, cases_eq, cases_lt}
+use Rattle.std.specs.Cmp.{nat_cmp_is}
+use Rattle.std.specs.Ordering.{is_eq, nat_cmp}
+use Rattle.std.specs.declared.cmp.Ordering.TheVariants.{Less, Equal, Greater}
 use Rattle.std.proofs.lemmas.Cmp.{nat_eq_equiv}
 use Rattle.std.proofs.lemmas.List.{at_drop_all, at_drop_more, get_or-map, length-map, length-take, map-append, take_more}
 use Rattle.std.proofs.lemmas.List.Folds.{find-append}
@@ -55,13 +58,29 @@ or-none : {X : Type 0} (o : Option X) → option_or o None ≡ o
 or-none None = refl
 or-none (Some x) = refl
 
+-- a key that compares as equal is the same
+same-key : (a b : ℕ) → is_eq (nat_cmp a b) ≡ nat_eq a b
+same-key a b =
+    elim (cases_eq a b) [
+      | inl same ↦
+          let equal : nat_eq a b ≡ true = grind (arith, nat_tests) in
+          ap is_eq (sym (nat_cmp_is a b Equal same)) ∙ sym equal
+      | inr other ↦
+          let apart : nat_eq a b ≡ false = grind (arith, nat_tests) in
+          elim (cases_lt a b) [
+            | inl less ↦ ap is_eq (sym (nat_cmp_is a b Less less)) ∙ sym apart
+            | inr not_less ↦ ap is_eq (sym (nat_cmp_is a b Greater (omega arith))) ∙ sym apart
+          ]
+    ]
+
 -- a position more
 pub positions-more : (lists : List ListRow) (i : ℕ) (row : ListRow) (before after : ℕ → Option ℕ) → IsDistinct nat_eq (map list_number lists)
     → i < length lists → row ≡ get_or lists i row
     → ((q : ℕ) → option_and_then (slice_get lists) (before q) ≡ list_of (take i lists) q)
-    → ((q : ℕ) → after q ≡ cond (nat_eq row.student q) (Some i) (before q))
+    → ((q : ℕ) → after q ≡ cond (is_eq (nat_cmp row.student q)) (Some i) (before q))
     → (q : ℕ) → option_and_then (slice_get lists) (after q) ≡ list_of (take (i + 1) lists) q
-positions-more lists i row before after differ within at positions put q =
+positions-more lists i row before after differ within at positions puts q =
+    let put = λ (q : ℕ). rw (same-key row.student q) at (puts q) in
     let more : list_of (take (i + 1) lists) q ≡ option_or (list_of (take i lists) q) (cond (nat_eq q row.student) (Some row) None) =
     ap (λ (part : List ListRow). list_of part q) (take_more lists i row within ∙ ap (λ (r : ListRow). take i lists ++ r ∷ []) (sym at)) ∙ find-append (λ (r : ListRow). nat_eq q r.student) (take i lists) (row ∷ []) in
     let turned = nat_eq_equiv.symm q row.student in
@@ -79,12 +98,12 @@ positions-more lists i row before after differ within at positions put q =
           ap (option_and_then (slice_get lists)) now ∙ positions q ∙ sym (more ∙ rw missing (or-none (list_of (take i lists) q)))
     ]
 
-all_entered-more : (lists : List ListRow) (m n : Market) (row : RosterRow) (rest : List RosterRow) → entered_by m row (list_of lists row.student) ≡ Ok n
+pub all_entered-more : (lists : List ListRow) (m n : Market) (row : RosterRow) (rest : List RosterRow) → entered_by m row (list_of lists row.student) ≡ Ok n
     → all_entered lists m (row ∷ rest) ≡ all_entered lists n rest
 unfolding all_entered
 all_entered-more lists m n row rest e = rw e refl
 
-all_entered-bad : (lists : List ListRow) (m : Market) (row : RosterRow) (rest : List RosterRow) (cause : Cause) → entered_by m row (list_of lists row.student) ≡ Err cause
+pub all_entered-bad : (lists : List ListRow) (m : Market) (row : RosterRow) (rest : List RosterRow) (cause : Cause) → entered_by m row (list_of lists row.student) ≡ Err cause
     → all_entered lists m (row ∷ rest) ≡ Err (fault_at Roster row.row cause)
 unfolding all_entered
 all_entered-bad lists m row rest cause e = rw e refl

@@ -1,6 +1,7 @@
 -- The papers that the rows of the three files make, or the first fault.
 use Rattle.std.specs.Prelude.{◌≡◌, ℕ, nat_eq, Bool, not, List, [], ◌∷◌, map, find, slice_get, Option, None, Some, option_and_then, Result, Ok, Err}
-use Rattle.std.specs.HashMap.{HashMap, get}
+use Rattle.std.specs.BTreeMap.{BTreeMap, get}
+use Rattle.std.specs.Ordering.{nat_cmp}
 use Rattle.std.specs.List.{list_any}
 use Rattle.sc_papers.specs.Market.{Market, is_student}
 use Rattle.sc_papers.specs.Verdict.{after, verdict}
@@ -88,5 +89,5 @@ abbrev pub papers_of : List ℕ → List SchoolRow → List RosterRow → List L
 papers_of seed schools roster lists = filled (opening seed schools) roster lists
 
 -- the map gives the position of each student's row of the lists
-abbrev pub ArePositions : {S : Type 0} → HashMap ℕ ℕ S → List ListRow → List ListRow → Type 0
-ArePositions positions lists part = (i : ℕ) → option_and_then (slice_get lists) (get nat_eq positions i) ≡ list_of part i
+abbrev pub ArePositions : BTreeMap ℕ ℕ → List ListRow → List ListRow → Type 0
+ArePositions positions lists part = (i : ℕ) → option_and_then (slice_get lists) (get nat_cmp positions i) ≡ list_of part i

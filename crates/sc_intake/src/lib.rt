@@ -23,7 +23,7 @@ pub use fault::{Cause, IntakeFault, Source};
 pub use input::MOST_BYTES;
 pub use lists::{ListRow, ListRows, read_lists};
 pub use log::read_log;
-pub use papers::papers_of;
+pub use papers::{papers_of, papers_of_rows};
 pub use roster::{RosterRow, RosterRows, read_roster};
 pub use rows::{Numbered, Rows};
 pub use schools::{SchoolRow, SchoolRows, read_schools};

@@ -1,24 +1,28 @@
 //! The papers that the rows of the three files make.
 
-ghost use Rattle.std.specs.Prelude.{◌≡◌, [], IfOk};
+ghost use Rattle.std.specs.Prelude.{◌≡◌, [], IfOk, map};
+ghost use Rattle.std.specs.Bool.{OnTrue};
 ghost use Rattle.std.specs.Option.{option_copied};
 ghost use Rattle.sc_intake.specs.Fault.{Gives, no_memory};
 ghost use Rattle.sc_intake.specs.Lists.{list_number};
-ghost use Rattle.sc_intake.specs.Papers.{all_entered, ArePositions, cause_of, entered_by, filled, list_of, opening, papers_of, unknown_list};
+ghost use Rattle.sc_intake.specs.Papers.{all_entered, amended, ArePositions, cause_of, entered_by, filled, list_of, opening, papers_of, unknown_list};
+ghost use Rattle.sc_intake.specs.Roster.{roster_number};
 ghost use Rattle.sc_intake.specs.Rows.{AreRows};
 ghost use Rattle.sc_intake.specs.Schools.{school_number};
 ghost use Rattle.sc_intake.specs.declared.fault.Cause.TheVariants.{OutOfMemory};
 ghost use Rattle.sc_intake.specs.declared.fault.Source.TheVariants.{Roster};
+ghost use Rattle.sc_papers.specs.declared.amendment.Amendment.TheVariants.{Enter};
 
 use crate::fault::{Cause, IntakeFault, Source};
 use crate::lists::{ListRow, ListRows};
 use crate::roster::{RosterRow, RosterRows};
 use crate::schools::{SchoolRow, SchoolRows};
 use sc_papers::{
-    Amendment, MOST_SCHOOLS, MOST_STUDENTS, Papers, Refusal, SchoolRefusal, Seed, StudentNo,
+    Amendment, MOST_SCHOOLS, MOST_STUDENTS, Papers, Refusal, SchoolList, SchoolRefusal, Seed,
+    StudentNo,
 };
 use std::alloc::{AllocError, Global};
-use std::collections::HashMap;
+use std::collections::BTreeMap;
 
 /// The papers with these schools, before any student.
 fn open_papers(alloc: Global, seed: Seed, schools: &[SchoolRow]) -> Result<Papers, AllocError>
@@ -36,12 +40,16 @@ fn open_papers(alloc: Global, seed: Seed, schools: &[SchoolRow]) -> Result<Paper
     Ok(papers)
 }
 
-/// Where each student's list stands.
-fn list_positions(alloc: Global, lists: &[ListRow]) -> Result<HashMap<StudentNo, usize>, AllocError>
+/// Where each student's list stands, by number: in a tree, since whoever chooses the numbers could slow a
+/// hashed table down.
+fn list_positions(
+    alloc: Global,
+    lists: &[ListRow],
+) -> Result<BTreeMap<StudentNo, usize>, AllocError>
     requires { AreRows list_number MOST_STUDENTS lists.now }
     ensures { IfOk result (λ positions. ArePositions positions lists.now lists.now) }
 {
-    let mut positions = HashMap::new(alloc);
+    let mut positions = BTreeMap::new(alloc);
     for (position, list) in lists.iter().enumerate() {
         positions.insert(list.student, position)?;
     }
@@ -50,7 +58,7 @@ fn list_positions(alloc: Global, lists: &[ListRow]) -> Result<HashMap<StudentNo,
 
 /// The student's list.
 fn find_list<'a>(
-    positions: &HashMap<StudentNo, usize>,
+    positions: &BTreeMap<StudentNo, usize>,
     lists: &'a [ListRow],
     student: StudentNo,
 ) -> Option<&'a ListRow>
@@ -71,8 +79,8 @@ fn cause_of(refusal: Refusal) -> Cause
     }
 }
 
-/// Enters a student of the roster with the student's list.
-fn enter(
+/// Enters a student of the roster with a copy of the student's list.
+fn enter_copied(
     alloc: Global,
     papers: &mut Papers,
     row: &RosterRow,
@@ -83,11 +91,18 @@ fn enter(
     let Some(list) = list else {
         return Err(Cause::NoList);
     };
+    enter(papers, row.copy(alloc)?, list.choices.copy(alloc)?)
+}
+
+/// Enters a student of the roster with these choices.
+fn enter(papers: &mut Papers, row: RosterRow, choices: SchoolList) -> Result<(), Cause>
+    ensures { Gives (λ _. papers.new) OutOfMemory (amended papers.old (Enter row.student row.zone row.siblings choices)) result }
+{
     let amendment = Amendment::Enter {
         student: row.student,
         zone: row.zone,
-        siblings: row.siblings.copy(alloc)?,
-        choices: list.choices.copy(alloc)?,
+        siblings: row.siblings,
+        choices,
     };
     match papers.apply(amendment) {
         Ok(()) => Ok(()),
@@ -100,7 +115,7 @@ fn enter_all(
     alloc: Global,
     papers: &mut Papers,
     roster: &[RosterRow],
-    positions: &HashMap<StudentNo, usize>,
+    positions: &BTreeMap<StudentNo, usize>,
     lists: &[ListRow],
 ) -> Result<(), IntakeFault>
     requires { ArePositions positions.now lists.now lists.now }
@@ -108,7 +123,7 @@ fn enter_all(
 {
     for row in roster {
         let list = find_list(positions, lists, row.student);
-        if let Err(cause) = enter(alloc, papers, row, list) {
+        if let Err(cause) = enter_copied(alloc, papers, row, list) {
             return Err(IntakeFault::at(Source::Roster, row.row, cause));
         }
     }
@@ -145,6 +160,45 @@ fn fill_papers(
     }
 }
 
+/// Whether the lists are those of the roster's students, row by row.
+fn are_in_step(roster: &[RosterRow], lists: &[ListRow]) -> bool
+    ensures { OnTrue result (map roster_number roster.now ≡ map list_number lists.now) }
+{
+    if roster.len() != lists.len() {
+        return false;
+    }
+    for (position, row) in roster.iter().enumerate() {
+        if row.student != lists[position].student {
+            return false;
+        }
+    }
+    true
+}
+
+/// Enters the students of the roster, in the order of its rows, each with the list of the same row. So
+/// each list is of one of them.
+fn fill_in_step(
+    papers: &mut Papers,
+    roster: Vec<RosterRow>,
+    lists: Vec<ListRow>,
+) -> Result<(), IntakeFault>
+    requires lists { AreRows list_number MOST_STUDENTS lists.items }
+    requires step { map roster_number roster.items ≡ map list_number lists.items }
+    ensures { Gives (λ _. papers.new) (no_memory Roster) (filled papers.old roster.items lists.items) result }
+{
+    let mut lists = lists.into_iter();
+    for row in roster {
+        let Some(list) = lists.next() else {
+            unreachable!()
+        };
+        let number = row.row;
+        if let Err(cause) = enter(papers, row, list.choices) {
+            return Err(IntakeFault::at(Source::Roster, number, cause));
+        }
+    }
+    Ok(())
+}
+
 /// The papers that the rows make, or their first fault.
 ///
 /// The schools are added in the order of their rows, and then the students of the roster enter in
@@ -153,7 +207,8 @@ fn fill_papers(
 /// student is not in the roster is `NotInRoster`, of the row of the lists. Want of memory is of the
 /// roster, row 0.
 ///
-/// The cost is that of the rows and their lists, and a draw of the lottery for each student.
+/// The cost is that of the rows and of copying their lists, a draw of the lottery for each student, and
+/// for each list a look-up in a tree of their numbers. `papers_of_rows` copies no list.
 pub fn papers_of(
     alloc: Global,
     seed: Seed,
@@ -167,5 +222,29 @@ pub fn papers_of(
         |_refused| IntakeFault::no_memory(Source::Roster),
     )?;
     fill_papers(alloc, &mut papers, roster.as_slice(), lists.as_slice())?;
+    Ok(papers)
+}
+
+/// As `papers_of`, of rows that are given up: where the lists stand in the order of the roster, row by
+/// row, their schools are moved into the papers, and no list is looked up.
+///
+/// The cost is that of the rows and their lists, and a draw of the lottery for each student; where the
+/// lists stand in another order, that of `papers_of`.
+pub fn papers_of_rows(
+    alloc: Global,
+    seed: Seed,
+    schools: &SchoolRows,
+    roster: RosterRows,
+    lists: ListRows,
+) -> Result<Papers, IntakeFault>
+    ensures { Gives (λ papers. papers) (no_memory Roster) (papers_of seed schools.now roster lists) result }
+{
+    if !are_in_step(roster.as_slice(), lists.as_slice()) {
+        return papers_of(alloc, seed, schools, &roster, &lists);
+    }
+    let mut papers = open_papers(alloc, seed, schools.as_slice()).map_err(
+        |_refused| IntakeFault::no_memory(Source::Roster),
+    )?;
+    fill_in_step(&mut papers, roster.into_vec(), lists.into_vec())?;
     Ok(papers)
 }

@@ -12,7 +12,7 @@ use crate::records::Records;
 use crate::rows::{Numbered, Row, Rows, read_rows};
 use crate::school_list::school_list;
 use sc_papers::{MOST_STUDENTS, SchoolList, StudentNo, Zone};
-use std::alloc::Global;
+use std::alloc::{AllocError, Global};
 
 /// A row of the roster.
 #[derive(Debug, Drop)]
@@ -23,6 +23,22 @@ pub struct RosterRow {
     pub zone: Zone,
     /// The schools of siblings.
     pub siblings: SchoolList,
+}
+
+impl RosterRow {
+    ghost use Rattle.std.specs.Prelude.{◌≡◌, IfOk};
+
+    /// An equal row, or the error of a refused growth. The cost is the length of its list.
+    pub(crate) fn copy(&self, alloc: Global) -> Result<Self, AllocError>
+        ensures { IfOk result (λ row. row ≡ self.now) }
+    {
+        Ok(RosterRow {
+            row: self.row,
+            student: self.student,
+            zone: self.zone,
+            siblings: self.siblings.copy(alloc)?,
+        })
+    }
 }
 
 /// The rows of a roster, in order. Their numbers are all different, and there are at most

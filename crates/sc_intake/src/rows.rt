@@ -82,6 +82,14 @@ impl<R: Numbered> Rows<R> {
         self.rows.as_slice()
     }
 
+    /// The rows, in order, as a list that may be taken apart.
+    pub fn into_vec(self) -> Vec<R>
+        ensures value { result.items ≡ self }
+        ensures rows { AreRows R.number R.MOST self }
+    {
+        self.rows
+    }
+
     /// How many rows there are.
     pub fn len(&self) -> usize
         ensures value { result ≡ length self.now }

@@ -6,7 +6,7 @@ ghost use Rattle.sc_runs.specs.Opening.{papers_in, IsOpeningFault};
 
 use crate::fault::RunFault;
 use crate::inputs::OpeningSlices;
-use sc_intake::{papers_of, read_lists, read_roster, read_schools};
+use sc_intake::{papers_of_rows, read_lists, read_roster, read_schools};
 use sc_papers::{Papers, Seed};
 use sc_repair::Clearing;
 use std::alloc::Global;
@@ -20,7 +20,7 @@ pub fn read_papers(alloc: Global, seed: &Seed, texts: OpeningSlices<'_>) -> Resu
     let schools = read_schools(alloc, texts.schools)?;
     let roster = read_roster(alloc, texts.roster)?;
     let lists = read_lists(alloc, texts.lists)?;
-    let papers = papers_of(alloc, *seed, &schools, &roster, &lists)?;
+    let papers = papers_of_rows(alloc, *seed, &schools, roster, lists)?;
     Ok(papers)
 }
 

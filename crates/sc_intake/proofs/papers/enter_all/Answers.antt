@@ -9,7 +9,7 @@ returns-in-Err c =
 
 pub loop-row-preserved : goal.loop-row-preserved
 loop-row-preserved c =
-    enter-step c.args.lists.now _ c.loop-row.papers c.enter.new.papers c.args.roster.now c.loop-row.row-index c.row-item.result
+    enter-step c.args.lists.now _ c.loop-row.papers c.enter_copied.new.papers c.args.roster.now c.loop-row.row-index c.row-item.result
     c.loop-row.invariant (omega arith) c.row-item.is (rw c.find_list-list.ensures at c.in_default.ensures)
 
 pub returns : goal.returns
