@@ -15,7 +15,7 @@ use Rattle.sc_papers.specs.declared.seats.TheConstants.Seats.{GREATEST}
 
 -- a student goes, and the draw at the student's place
 pub IsSound-withdrawn : (old new : Inside) (i place : ℕ) → IsSound old
-    → new.seed ≡ old.seed → new.schools ≡ old.schools → new.students.entries ≡ remove_entry (nat_eq i) old.students.entries
+    → new.lottery ≡ old.lottery → new.schools ≡ old.schools → new.students.entries ≡ remove_entry (nat_eq i) old.students.entries
     → Some place ≡ position (nat_eq i) (keys_of old.students.entries) → new.draws.items ≡ remove old.draws.items place
     → IsSound new
 IsSound-withdrawn old new i place sound seed schools left found drawn =
@@ -25,13 +25,13 @@ IsSound-withdrawn old new i place sound seed schools left found drawn =
       within_limits = rw after (WithinLimits-without_student (market_of old) i sound.within_limits);
       draws =
           let draws_before = sound.draws in
-          drawn ∙ ap (λ ds. remove ds place) draws_before ∙ remove-found (draw old.seed) (nat_eq i) old.students.entries place found
+          drawn ∙ ap (λ ds. remove ds place) draws_before ∙ remove-found (draw old.lottery) (nat_eq i) old.students.entries place found
           ∙ rw (seed, left) refl;
     }
 
 -- what the papers hold of a student changes
 pub IsSound-put_student : (old new : Inside) (i : ℕ) (student : Student) → IsSound old → IsProper (market_of old) student → IsShort student
-    → new.seed ≡ old.seed → new.schools ≡ old.schools → new.students.entries ≡ set_value (nat_eq i) old.students.entries student
+    → new.lottery ≡ old.lottery → new.schools ≡ old.schools → new.students.entries ≡ set_value (nat_eq i) old.students.entries student
     → new.draws ≡ old.draws
     → IsSound new
 IsSound-put_student old new i student sound proper short seed schools put draws =
@@ -44,7 +44,7 @@ IsSound-put_student old new i student sound proper short seed schools put draws 
 
 -- what the papers hold of a school changes
 pub IsSound-put_school : (old new : Inside) (s : ℕ) (school : School) → IsSound old → school.seats ≤ GREATEST
-    → new.seed ≡ old.seed → new.students ≡ old.students → new.schools.entries ≡ set_value (nat_eq s) old.schools.entries school
+    → new.lottery ≡ old.lottery → new.students ≡ old.students → new.schools.entries ≡ set_value (nat_eq s) old.schools.entries school
     → new.draws ≡ old.draws
     → IsSound new
 IsSound-put_school old new s school sound seats seed students put draws =

@@ -17,7 +17,7 @@ map-push f (y ∷ ys) x = ap (λ zs. f y ∷ zs) (map-push f ys x)
 
 -- a student who is new comes last
 pub market_of-entered : (old new : Inside) (i : ℕ) (student : Student) → MayEnter (market_of old) i student
-    → new.seed ≡ old.seed → new.schools ≡ old.schools → new.students.entries ≡ insert_entry nat_eq old.students.entries i student
+    → new.lottery ≡ old.lottery → new.schools ≡ old.schools → new.students.entries ≡ insert_entry nat_eq old.students.entries i student
     → market_of new ≡ with_student (market_of old) i student
 market_of-entered old new i student may seed schools inserted =
     let last = inserted ∙ insert_entry-new nat_eq old.students i student may.new in
@@ -25,8 +25,8 @@ market_of-entered old new i student may seed schools inserted =
 
 -- the fields stay sound
 pub IsSound-entered : (old new : Inside) (i : ℕ) (student : Student) → IsSound old → MayEnter (market_of old) i student
-    → new.seed ≡ old.seed → new.schools ≡ old.schools → new.students.entries ≡ insert_entry nat_eq old.students.entries i student
-    → new.draws.items ≡ old.draws.items ++ draw old.seed i ∷ []
+    → new.lottery ≡ old.lottery → new.schools ≡ old.schools → new.students.entries ≡ insert_entry nat_eq old.students.entries i student
+    → new.draws.items ≡ old.draws.items ++ draw old.lottery i ∷ []
     → IsSound new
 IsSound-entered old new i student sound may seed schools inserted drawn =
     let after = market_of-entered old new i student may seed schools inserted in
@@ -36,8 +36,8 @@ IsSound-entered old new i student sound may seed schools inserted drawn =
       well_formed = rw after (WellFormed-with_student (market_of old) i student sound.well_formed may);
       within_limits = rw after (WithinLimits-with_student (market_of old) i student sound.within_limits may);
       draws =
-          let more = map-push (draw old.seed) (students_of (market_of old)) i in
+          let more = map-push (draw old.lottery) (students_of (market_of old)) i in
           let drawn_before = sound.draws in
-          drawn ∙ ap (λ ds. ds ++ draw old.seed i ∷ []) drawn_before ∙ sym more
-          ∙ ap (map (draw old.seed)) (sym keys) ∙ ap (λ (seed : List ℕ). map (draw seed) (students_of (market_of new))) (sym seed);
+          drawn ∙ ap (λ ds. ds ++ draw old.lottery i ∷ []) drawn_before ∙ sym more
+          ∙ ap (map (draw old.lottery)) (sym keys) ∙ ap (λ (seed : List ℕ). map (draw seed) (students_of (market_of new))) (sym seed);
     }

@@ -63,7 +63,7 @@ WithinLimits-with_school m s school within may seats = record {
 
 -- a school that is new comes last
 pub market_of-opened : (old new : Inside) (s : ℕ) (school : School) → MayOpen (market_of old) s
-    → new.seed ≡ old.seed → new.students ≡ old.students → new.schools.entries ≡ insert_entry nat_eq old.schools.entries s school
+    → new.lottery ≡ old.lottery → new.students ≡ old.students → new.schools.entries ≡ insert_entry nat_eq old.schools.entries s school
     → market_of new ≡ with_school (market_of old) s school
 market_of-opened old new s school may seed students inserted =
     let last = inserted ∙ insert_entry-new nat_eq old.schools s school may.new in
@@ -71,7 +71,7 @@ market_of-opened old new s school may seed students inserted =
 
 -- the fields stay sound
 pub IsSound-opened : (old new : Inside) (s : ℕ) (school : School) → IsSound old → MayOpen (market_of old) s → school.seats ≤ GREATEST
-    → new.seed ≡ old.seed → new.students ≡ old.students → new.schools.entries ≡ insert_entry nat_eq old.schools.entries s school
+    → new.lottery ≡ old.lottery → new.students ≡ old.students → new.schools.entries ≡ insert_entry nat_eq old.schools.entries s school
     → new.draws ≡ old.draws
     → IsSound new
 IsSound-opened old new s school sound may seats seed students inserted draws =

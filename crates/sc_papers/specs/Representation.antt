@@ -7,11 +7,11 @@ use Rattle.sc_papers.specs.declared.papers.Papers.TheInside.{Inside}
 
 -- the market that the fields hold
 abbrev pub market_of : Inside → Market
-market_of p = record { seed = p.seed; schools = p.schools.entries; students = p.students.entries }
+market_of p = record { seed = p.lottery; schools = p.schools.entries; students = p.students.entries }
 
 -- what is true of the fields: the papers are well-formed and within the limits, and the draws are
 -- the students' draws
 pub record IsSound (p : Inside) : Type 0 where
   pub well_formed : WellFormed (market_of p)
   pub within_limits : WithinLimits (market_of p)
-  pub draws : p.draws.items ≡ map (draw p.seed) (students_of (market_of p))
+  pub draws : p.draws.items ≡ map (draw p.lottery) (students_of (market_of p))

@@ -13,7 +13,7 @@ use crate::school_refusal::SchoolRefusal;
 use crate::seats::Seats;
 use crate::zone::Zone;
 use indexmap::IndexMap;
-use sc_lottery::{Seed, StudentNumber, draw};
+use sc_lottery::{Draws, Seed, StudentNumber};
 use std::alloc::{AllocError, Global};
 use std::marker::Model;
 
@@ -22,7 +22,8 @@ use std::marker::Model;
 /// Look-ups by number and by position take constant time.
 #[derive(Drop)]
 pub struct Papers {
-    seed: Seed,
+    // The seed's draws, read where the last student who entered left them.
+    lottery: Draws,
     schools: IndexMap<SchoolNo, School>,
     students: IndexMap<StudentNumber, Student>,
     // Each student's draw, in order of entry, so that a key costs no block of the cipher.
@@ -70,7 +71,7 @@ impl Papers {
         ensures students { result.students ≡ [] }
     {
         Papers {
-            seed,
+            lottery: Draws::new(seed),
             schools: IndexMap::new(alloc),
             students: IndexMap::new(alloc),
             draws: Vec::new(alloc),
@@ -126,7 +127,7 @@ impl Papers {
         let schools = self.schools.clone()?;
         let students = self.students.clone()?;
         Ok(Papers {
-            seed: self.seed,
+            lottery: Draws::new(self.seed()),
             schools,
             students,
             draws,
@@ -137,7 +138,7 @@ impl Papers {
     pub fn seed(&self) -> Seed
         ensures { result ≡ self.now.seed }
     {
-        self.seed
+        self.lottery.seed()
     }
 
     /// How many schools there are.
@@ -260,7 +261,8 @@ impl Papers {
     {
         self.draws.reserve(1)?;
         let _ = self.students.insert(number, student)?;
-        self.draws.push_reserved(draw(&self.seed, number));
+        let draw = self.lottery.draw(number);
+        self.draws.push_reserved(draw);
         Ok(())
     }
     /// Removes a student, and the student's draw. The others keep their order and their draws.

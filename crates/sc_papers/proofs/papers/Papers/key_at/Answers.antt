@@ -10,7 +10,7 @@ pub returns : goal.returns
 returns c =
     let student = c.in_ok-number.ensures in
     let school = c.in_ok-name.ensures in
-    let drawn = draw-there (draw c.self.inside.seed) c.self.inside.students.entries c.self.inside.draws.items c.args.student _ _ _ c.self.invariant.draws (sym student.entry) c.index-draw.ensures in
+    let drawn = draw-there (draw c.self.inside.lottery) c.self.inside.students.entries c.self.inside.draws.items c.args.student _ _ _ c.self.invariant.draws (sym student.entry) c.index-draw.ensures in
     key-of_places (market_of c.self.inside) c.args.student c.args.school _ _ _ _ c.in_ok-number.record.now c.in_ok-name.entry.now
     (sym student.entry) (sym school.entry) student.value school.value c.class_at-class.ensures drawn
     ∙ ap (λ (m : Market). key_at m c.args.student c.args.school) c.self.view_is
