@@ -11,7 +11,9 @@ ghost use Rattle.sc_engine.specs.Rolls.{rolls_of};
 mod resume;
 
 use crate::settled::Settled;
-use sc_papers::{Assignment, Key, LONGEST_LIST, Papers, Rejection, SchoolNo, Seats, StudentNo};
+use sc_papers::{
+    Assignment, Key, LONGEST_LIST, MOST_STUDENTS, Papers, Rejection, SchoolNo, Seats, StudentNo,
+};
 use sc_seats::Roll;
 use std::alloc::{AllocError, Global};
 
@@ -79,11 +81,7 @@ fn assignment_of(
         let Some(student) = papers.student_at(position) else {
             unreachable!()
         };
-        give(
-            &mut assignment,
-            student,
-            choice_at(ranks, papers, position),
-        )?;
+        give(&mut assignment, student, choice_at(ranks, papers, position))?;
     }
     Ok(assignment)
 }
@@ -151,6 +149,19 @@ fn position_of(papers: &Papers, student: StudentNo) -> usize
         unreachable!()
     };
     at
+}
+
+/// The position of a student of the papers, who often stands at the guess: then no number is looked up.
+fn position_near(papers: &Papers, student: StudentNo, guess: usize) -> usize
+    requires { is_student papers.now student ≡ true }
+    ensures { position (nat_eq student) (students_of papers.now) ≡ Some result }
+{
+    // This call tells that the papers are well-formed: no number stands twice.
+    prove!(papers.students_len() <= MOST_STUDENTS);
+    match papers.student_at(guess) {
+        Some(number) if number == student => guess,
+        _ => position_of(papers, student),
+    }
 }
 
 /// Offers a seat of the school at the position to the key.
@@ -221,7 +232,8 @@ impl<R: Roll> Round<R> {
             return Ok(None);
         };
         let student = out.student;
-        let next = position_of(papers, student);
+        // Whoever is put out is mostly the proposer.
+        let next = position_near(papers, student, proposer);
         self.reject(next, Rejection { student, school })?;
         Ok(Some(next))
     }

@@ -1,7 +1,7 @@
 //! Papers, amendments and assignments, read from their rows.
 
 use sc_intake::{
-    Cause, IntakeFault, Source, papers_of, read_lists, read_log, read_roster, read_schools,
+    Cause, IntakeFault, Source, papers_of_rows, read_lists, read_log, read_roster, read_schools,
     read_script,
 };
 use sc_papers::{Amendment, Assignment, Papers, Refusal, Rejection, Seed};
@@ -42,11 +42,11 @@ fn read(alloc: Global, schools: &[u8], roster: &[u8], lists: &[u8]) -> Result<Pa
     let schools = read_schools(alloc, schools)?;
     let roster = read_roster(alloc, roster)?;
     let lists = read_lists(alloc, lists)?;
-    papers_of(alloc, zero_seed(), &schools, &roster, &lists)
+    papers_of_rows(alloc, zero_seed(), &schools, roster, lists)
 }
 
 /// The seed of 64 zeros.
-#[tactic(auto, unfolding(sc_lottery::specs::Seed::seed_of, sc_lottery::specs::Seed::first_wrong_place, sc_lottery::specs::Seed::bytes_of))]
+#[tactic(auto, unfolding(sc_lottery::specs::Seed::seed_of, sc_lottery::specs::Seed::first_wrong_index, sc_lottery::specs::Seed::bytes_of))]
 fn zero_seed() -> Seed {
     match Seed::from_hex(&[b'0'; 64]) {
         Ok(seed) => seed,

@@ -47,8 +47,8 @@ returns-in_default-2-clause-proposes g c =
     (proposed-told papers old proposer c.in-Some.school c.position_and_key-at.result.0 c.position_and_key-at.result.1 new.rolls c.in_ok-out.field-0 None c.requires.fits stands c.position_and_key-at.ensures.position c.position_and_key-at.ensures.key c.in_ok-out.ensures.offered c.in_default-2.is)
     c.offer.ensures.ranks c.offer.ensures.log c.in_ok-out.ensures.proposals
 
-pub position_of-next-requires : goal.position_of-next-requires
-position_of-next-requires g c =
+pub position_near-next-requires : goal.position_near-next-requires
+position_near-next-requires g c =
     let papers = c.args.papers.now in
     let proposer : ℕ = student_at papers c.args.proposer in
     let old = view_of g.R.Roll.keys g.R.Roll.seats c.args.self.now in
@@ -71,9 +71,9 @@ reject-requires g c rank is =
     let out : ℕ = c.in-Some-2.out.student in
     let proposed : Proposed papers old proposer c.in-Some.school c.position_and_key-at.result.0 rolls (Some c.in-Some-2.out) =
     proposed-told papers old proposer c.in-Some.school c.position_and_key-at.result.0 c.position_and_key-at.result.1 rolls c.in_ok-out.field-0 (Some c.in-Some-2.out) c.requires.fits stands c.position_and_key-at.ensures.position c.position_and_key-at.ensures.key c.in_ok-out.ensures.offered c.in-Some-2.is in
-    let next : ℕ = c.position_of-next.result in
+    let next : ℕ = c.position_near-next.result in
     stander-short papers old.ranks out c.in-Some.school rank c.requires.fits.within_limits (put-out papers old proposer c.in-Some.school c.position_and_key-at.result.0 rolls c.in-Some-2.out proposed).stands
-    (rank-at papers old.ranks out next c.position_of-next.ensures ∙ ap (λ (ranks : List (Option ℕ)). get_or ranks next None) (sym c.offer.ensures.ranks) ∙ is)
+    (rank-at papers old.ranks out next c.position_near-next.ensures ∙ ap (λ (ranks : List (Option ℕ)). get_or ranks next None) (sym c.offer.ensures.ranks) ∙ is)
 
 pub returns-clause-proposes : goal.returns-clause-proposes
 returns-clause-proposes g c =
@@ -86,15 +86,15 @@ returns-clause-proposes g c =
     let out : ℕ = c.in-Some-2.out.student in
     let proposed : Proposed papers old proposer c.in-Some.school c.position_and_key-at.result.0 rolls (Some c.in-Some-2.out) =
     proposed-told papers old proposer c.in-Some.school c.position_and_key-at.result.0 c.position_and_key-at.result.1 rolls c.in_ok-out.field-0 (Some c.in-Some-2.out) c.requires.fits stands c.position_and_key-at.ensures.position c.position_and_key-at.ensures.key c.in_ok-out.ensures.offered c.in-Some-2.is in
-    let next : ℕ = c.position_of-next.result in
+    let next : ℕ = c.position_near-next.result in
     let new = view_of g.R.Roll.keys g.R.Roll.seats c.reject.new.self in
-    subst (λ (i : ℕ). Proposes papers old new proposer (Some i)) (sym (student-there papers out next c.position_of-next.ensures))
+    subst (λ (i : ℕ). Proposes papers old new proposer (Some i)) (sym (student-there papers out next c.position_near-next.ensures))
     (goes-on papers old new proposer c.in-Some.school c.position_and_key-at.result.0 rolls c.in-Some-2.out proposed
     (ap (rolls_of g.R.Roll.keys g.R.Roll.seats) c.reject.ensures.rolls)
     (c.in_ok-reject.ensures.log ∙ ap (λ log. log ++ record { student = out; school = c.in-Some.school } ∷ []) c.offer.ensures.log)
     (λ at rank found is.
-    let same : next ≡ at = same_Some next at (sym c.position_of-next.ensures ∙ found) in
-    c.in_ok-reject.ensures.moved rank (ap (λ (ranks : List (Option ℕ)). get_or ranks next None) c.offer.ensures.ranks ∙ sym (rank-at papers old.ranks out next c.position_of-next.ensures) ∙ is)
+    let same : next ≡ at = same_Some next at (sym c.position_near-next.ensures ∙ found) in
+    c.in_ok-reject.ensures.moved rank (ap (λ (ranks : List (Option ℕ)). get_or ranks next None) c.offer.ensures.ranks ∙ sym (rank-at papers old.ranks out next c.position_near-next.ensures) ∙ is)
     ∙ ap (λ ranks. set ranks next (Some (rank + 1))) c.offer.ensures.ranks
     ∙ ap (λ k. set old.ranks k (Some (rank + 1))) same)
     (c.reject.ensures.proposals ∙ c.in_ok-out.ensures.proposals))
