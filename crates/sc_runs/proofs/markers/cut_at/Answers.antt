@@ -1,4 +1,4 @@
-use Rattle.std.proofs.Common.{◌∙◌, ap, length, sym, arith}
+use Rattle.std.proofs.Common.{◌∙◌, length, sym, arith}
 use Rattle.sc_runs.proofs.Cutting.{cut_at-found, parts_from-end, parts_from-passed, parts_from-place}
 use Rattle.sc_runs.specs.Markers.{begins_line}
 use Rattle.sc_runs.proofs.markers.cut_at.Goals as goal
