@@ -1,8 +1,8 @@
 pub mod KnownLemmas
 pub mod RisingLemmas
+pub mod EntrantLemmas
 pub mod Orders
 pub mod CutoffLemmas
-pub mod Places
 pub mod ReasonLemmas
 pub mod ReasonCounts
 pub mod LineLemmas

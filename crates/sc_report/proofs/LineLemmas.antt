@@ -1,6 +1,7 @@
 -- Texts that grow line by line.
-use Rattle.std.proofs.Common.{◌≡◌, sym, ◌∙◌, ap, ℕ, ◌+◌, ◌<◌, ◌≤◌, List, [], ◌∷◌, ◌++◌, length, get_or, take, add-one, append-nil, append_assoc}
+use Rattle.std.proofs.Common.{◌≡◌, refl, sym, ◌∙◌, ap, ℕ, ◌+◌, ◌<◌, ◌≤◌, List, [], ◌∷◌, ◌++◌, length, get_or, map, take, add-one, append-nil, append_assoc}
 use Rattle.std.specs.Prelude.{flat_map}
+use Rattle.std.proofs.lemmas.Grind.{flat_map-append}
 use Rattle.std.proofs.lemmas.List.{take_all}
 use Rattle.std.proofs.Math.Seq.{take-suc}
 use Rattle.sc_papers.specs.Market.{Market, students_of}
@@ -26,16 +27,20 @@ lines-more f xs k x old text new before grew low is =
     grew ∙ ap (λ t. t ++ f x) before ∙ append_assoc old (flat_map f (take k xs)) (f x)
     ∙ ap (λ more. old ++ more) (sym (ap (flat_map f) front ∙ flat_map-one_more f (take k xs) x))
 
--- a text that has a header and the lines of these elements
-pub lines-same : {X : Type 0} (f : X → List ℕ) (seen xs : List X) (old header start text : List ℕ) → start ≡ old ++ header → text ≡ start ++ flat_map f seen
-    → seen ≡ xs → text ≡ old ++ (header ++ flat_map f xs)
-lines-same f seen xs old header start text start_is text_is same =
-    text_is ∙ ap (λ ys. start ++ flat_map f ys) same ∙ ap (λ s. s ++ flat_map f xs) start_is ∙ append_assoc old header (flat_map f xs)
-
 -- a text that has a header and the line of each element
 pub lines-all : {X : Type 0} (f : X → List ℕ) (xs : List X) (k : ℕ) (old header start text : List ℕ) → start ≡ old ++ header → text ≡ start ++ flat_map f (take k xs)
     → length xs ≤ k → text ≡ old ++ (header ++ flat_map f xs)
-lines-all f xs k old header start text start_is text_is over = lines-same f (take k xs) xs old header start text start_is text_is (take_all k xs over)
+lines-all f xs k old header start text start_is text_is over =
+    text_is ∙ ap (λ ys. start ++ flat_map f ys) (take_all k xs over) ∙ ap (λ s. s ++ flat_map f xs) start_is ∙ append_assoc old header (flat_map f xs)
+
+-- the lines of elements, made of what is made of each
+pub lines-map : {X Y Z : Type 0} (f : Y → List Z) (g : X → Y) (xs : List X) → flat_map (λ x. f (g x)) xs ≡ flat_map f (map g xs)
+lines-map f g [] = refl
+lines-map f g (x ∷ xs) = ap (λ more. f (g x) ++ more) (lines-map f g xs)
+
+pub lines-flat : {X Y : Type 0} (f : Y → List ℕ) (g : X → List Y) (xs : List X) → flat_map (λ x. flat_map f (g x)) xs ≡ flat_map f (flat_map g xs)
+lines-flat f g [] = refl
+lines-flat f g (x ∷ xs) = ap (λ more. flat_map f (g x) ++ more) (lines-flat f g xs) ∙ sym (flat_map-append f (g x) (flat_map g xs))
 
 three-parts : (old a c r : List ℕ) → ((old ++ a) ++ c) ++ r ≡ old ++ (a ++ (c ++ r))
 three-parts old a c r = append_assoc (old ++ a) c r ∙ append_assoc old a (c ++ r)

@@ -1,11 +1,11 @@
 -- A student's rows, choice by choice.
-use Rattle.std.proofs.Common.{◌≡◌, refl, sym, ◌∙◌, ap, ℕ, suc, ◌+◌, ◌<◌, ◌≤◌, Bool, true, false, ◌==◌, not, List, [], ◌∷◌, ◌++◌, length, get_or, map, take, drop, add-one, append_assoc, append-nil, drop-cons, Option, None, arith}
+use Rattle.std.proofs.Common.{◌≡◌, refl, sym, ◌∙◌, ap, ℕ, suc, ◌+◌, ◌<◌, ◌≤◌, Bool, true, false, ◌==◌, not, List, [], ◌∷◌, ◌++◌, length, get_or, map, take, drop, add-one, append_assoc, append-nil, drop-cons, Option, arith}
 use Rattle.std.specs.List.{before_first, position_or_len}
 use Rattle.std.specs.Option.{option_map_or}
 use Rattle.std.proofs.Math.Seq.{take-suc}
 use Rattle.std.proofs.lemmas.Bool.{cond-true, cond-false}
 use Rattle.std.proofs.lemmas.List.{drop_all}
-use Rattle.sc_papers.specs.Market.{Market, choices_of, student_of}
+use Rattle.sc_papers.specs.Market.{Market, choices_of}
 use Rattle.sc_papers.specs.Matching.{Matching, has}
 use Rattle.sc_report.specs.Reason.{reason, reason_row, reasons_of}
 use Rattle.sc_report.specs.declared.reason.Reason.{Reason}
@@ -53,12 +53,6 @@ passed-end p xs k none over =
 -- whether what a student has is a school
 pub held-test : (a : Matching) (i s : ℕ) (held : Option ℕ) (r b : Bool) → held ≡ a i → r ≡ option_map_or (λ t. t == s) held false → r ≡ b → has a s i ≡ b
 held-test a i s held r b held_is r_is is = ap (λ o. option_map_or (λ t. t == s) o false) (sym held_is) ∙ sym r_is ∙ is
-
--- an unknown student has no rows
-pub reasons-none : (m : Market) (a : Matching) (i : ℕ) → None ≡ student_of m i → reasons_of m a i ≡ []
-unfolding reasons_of choices_of
-reasons-none m a i none =
-    ap (λ found. map (reason_row m a i) (before_first (λ s. has a s i) (option_map_or (λ student. student.choices) found []))) (sym none)
 
 -- the rows of the choices before what the student has are the student's rows
 pub reasons-are : (m : Market) (a : Matching) (i : ℕ) (choices : List ℕ) (k : ℕ) → choices ≡ choices_of m i → before_first (λ s. has a s i) choices ≡ take k choices

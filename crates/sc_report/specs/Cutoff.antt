@@ -23,6 +23,10 @@ cutoff m a s = cutoff_by (seats_of m s) (held m a s) (last_key (keys_among m a (
 abbrev pub cutoff_row : Market → Matching → ℕ → CutoffRow
 cutoff_row m a s = record { school = s; seats = seats_of m s; held = held m a s; cutoff = cutoff m a s }
 
+-- the rows of all schools, in order of entry
+abbrev pub rows_in_order : Market → Matching → List CutoffRow
+rows_in_order m a = map (cutoff_row m a) (schools_of m)
+
 -- the rows of all schools, by rising number
 abbrev pub cutoff_rows : Market → Matching → List CutoffRow
 cutoff_rows m a = map (cutoff_row m a) (rising (schools_of m))

@@ -2,6 +2,7 @@ pub mod Watched
 pub mod Whole
 pub mod Devices
 pub mod Rising
+pub mod Entrants
 pub mod Cutoff
 pub mod Reason
 pub mod Admission

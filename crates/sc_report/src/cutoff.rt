@@ -1,14 +1,15 @@
 //! Cutoffs: the last key that each school admits.
-ghost use Rattle.std.specs.Prelude.{◌≡◌, IfOk};
+ghost use Rattle.std.specs.Prelude.{◌≡◌, IfOk, OnOk};
 ghost use Rattle.sc_papers.specs.Assignment.{assigned};
+ghost use Rattle.sc_papers.specs.Market.{Market};
+ghost use Rattle.sc_papers.specs.Matching.{Matching};
+ghost use Rattle.sc_papers.specs.WellFormed.{WellFormed};
 ghost use Rattle.sc_repair.specs.Standing.{matching_of};
-ghost use Rattle.sc_tallies.specs.Tally.{AreTallies};
-ghost use Rattle.sc_report.specs.Cutoff.{cutoff_by, cutoff_rows};
+ghost use Rattle.sc_report.specs.Cutoff.{cutoff_by, cutoff_rows, rows_in_order};
 
-use crate::sorting::rising_schools;
 use sc_papers::{Assignment, Key, Papers, SchoolNo, Seats};
 use sc_repair::Clearing;
-use sc_tallies::{Tally, tallies, tally_of};
+use sc_tallies::tallies;
 use std::alloc::{AllocError, Global};
 
 /// What it takes to have a school.
@@ -43,24 +44,26 @@ pub(crate) fn cutoff_by(seats: u32, held: u32, last: Option<Key>) -> Cutoff
     }
 }
 
-/// The rows of all schools by rising number, by their tallies.
-pub(crate) fn rising_rows(
+/// The rows of all schools, in order of entry.
+pub(crate) fn rows_in_order(
     alloc: Global,
-    tallies: &[Tally],
     papers: &Papers,
     places: &Assignment,
 ) -> Result<Vec<CutoffRow>, AllocError>
-    requires { AreTallies papers.now (assigned places.now) tallies.now }
-    ensures { IfOk result (λ rows. rows.items ≡ cutoff_rows papers.now (assigned places.now)) }
+    ensures rows { IfOk result (λ rows. rows.items ≡ rows_in_order papers.now (assigned places.now)) }
+    ensures well_formed { OnOk result (WellFormed papers.now) }
 {
-    let schools = rising_schools(alloc, papers)?;
-    let mut rows = Vec::with_capacity(alloc, schools.len())?;
-    for school in schools.as_slice() {
-        let seats = papers.seats_of(*school);
-        let tally = tally_of(tallies, papers, *school);
+    let tallies = tallies(alloc, papers, places)?;
+    let mut rows = Vec::with_capacity(alloc, tallies.len())?;
+    for position in 0..tallies.len() {
+        let Some(school) = papers.school_at(position) else {
+            unreachable!()
+        };
+        let tally = tallies[position];
+        let seats = papers.seats_of(school);
         let cutoff = cutoff_by(seats.get(), tally.held, tally.last);
         rows.push(CutoffRow {
-            school: *school,
+            school,
             seats,
             held: tally.held,
             cutoff,
@@ -69,13 +72,21 @@ pub(crate) fn rising_rows(
     Ok(rows)
 }
 
+/// The rows of all schools by rising number, given those in order of entry.
+pub(crate) fn rising_rows(alloc: Global, rows: &[CutoffRow]) -> Result<Vec<CutoffRow>, AllocError>
+    ensures { IfOk result (λ rising. (m : Market) (a : Matching) → rows.now ≡ rows_in_order m a → rising.items ≡ cutoff_rows m a) }
+{
+    let mut rising = Vec::from_slice(alloc, rows)?;
+    rising.as_mut_slice().sort_unstable_by_key(|row| row.school);
+    Ok(rising)
+}
+
 /// The rows of all schools, by rising number. The only error is want of memory. The cost is one pass
 /// over the students and a sort of the schools' numbers.
 pub fn cutoffs(alloc: Global, clearing: &Clearing) -> Result<Vec<CutoffRow>, AllocError>
     ensures { IfOk result (λ rows. rows.items ≡ cutoff_rows clearing.now.papers (matching_of clearing.now)) }
 {
-    let papers = clearing.papers();
-    let places = clearing.places();
-    let tallies = tallies(alloc, papers, places)?;
-    rising_rows(alloc, tallies.as_slice(), papers, places)
+    let rows = rows_in_order(alloc, clearing.papers(), clearing.places())?;
+    let rising = rising_rows(alloc, rows.as_slice())?;
+    Ok(rising)
 }

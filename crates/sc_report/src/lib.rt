@@ -5,6 +5,7 @@
 mod cutoff;
 mod cutoff_lines;
 pub mod devices;
+mod entrants;
 pub mod laws;
 mod lines;
 mod log;
@@ -12,7 +13,6 @@ mod reason;
 mod reason_lines;
 mod reply;
 mod report;
-mod sorting;
 mod text;
 mod watched;
 mod whole;

@@ -1,19 +1,19 @@
 //! Reasons: why a student does not have a choice that it prefers to what it has.
-ghost use Rattle.std.specs.Prelude.{◌≡◌, ℕ, ◌<◌, ◌++◌, ◌==◌, true, false, flat_map, length, nat_eq, position, Some, IfOk, OnOk};
+ghost use Rattle.std.specs.Prelude.{◌≡◌, ◌<◌, ◌++◌, ◌==◌, true, false, flat_map, length, All, IfOk, OnOk};
 ghost use Rattle.std.specs.Option.{option_map_or};
 ghost use Rattle.sc_papers.specs.Assignment.{assigned};
-ghost use Rattle.sc_papers.specs.Market.{is_school, students_of};
+ghost use Rattle.sc_papers.specs.Market.{is_school, student_at};
 ghost use Rattle.sc_papers.specs.Matching.{Matching};
 ghost use Rattle.sc_papers.specs.WellFormed.{WellFormed};
 ghost use Rattle.sc_repair.specs.Standing.{matching_of};
+ghost use Rattle.sc_report.specs.Cutoff.{rows_in_order};
+ghost use Rattle.sc_report.specs.Entrants.{numbers_of, StandsAt};
 ghost use Rattle.sc_report.specs.Reason.{reason, reason_by, reason_rows, reasons_of};
-ghost use Rattle.sc_tallies.specs.Tally.{AreTallies};
 
-use crate::cutoff::{Cutoff, cutoff_by};
-use crate::sorting::rising_students;
+use crate::cutoff::{Cutoff, CutoffRow, rows_in_order};
+use crate::entrants::{Entrant, rising_entrants};
 use sc_papers::{Assignment, Key, Papers, SchoolNo, StudentNo};
 use sc_repair::Clearing;
-use sc_tallies::{Tally, tallies};
 use std::alloc::{AllocError, Global};
 
 /// Why a student does not have a school.
@@ -46,17 +46,16 @@ fn reason_by(cutoff: Cutoff, key: Key) -> Reason
     }
 }
 
-/// Why the student at a position does not have a school, by the tallies of all schools.
-fn reason_of(tallies: &[Tally], papers: &Papers, student: usize, school: SchoolNo) -> Reason
-    requires tallies { length tallies.now ≡ length papers.now.schools }
+/// Why the student at a position does not have a school, by the rows of all schools in order of entry.
+fn reason_of(rows: &[CutoffRow], papers: &Papers, student: usize, school: SchoolNo) -> Reason
+    requires rows { length rows.now ≡ length papers.now.schools }
     requires student { student < length papers.now.students }
     requires school { is_school papers.now school ≡ true }
-    ensures { (a : Matching) (i : ℕ) → AreTallies papers.now a tallies.now → position (nat_eq i) (students_of papers.now) ≡ Some student → result ≡ reason papers.now a i school }
+    // By whichever matching the rows were made.
+    ensures { (a : Matching) → rows.now ≡ rows_in_order papers.now a → result ≡ reason papers.now a (student_at papers.now student) school }
 {
     let (at, key) = papers.position_and_key(student, school);
-    let tally = tallies[at];
-    let cutoff = cutoff_by(papers.seats_of(school).get(), tally.held, tally.last);
-    reason_by(cutoff, key)
+    reason_by(rows[at].cutoff, key)
 }
 
 /// Whether what a student has is this school.
@@ -66,29 +65,27 @@ fn is_held(held: &Option<SchoolNo>, school: SchoolNo) -> bool
     *held == Some(school)
 }
 
-/// Adds a student's rows, in order of choice.
+/// Adds a student's rows, in order of choice, by the rows of all schools in order of entry.
 pub(crate) fn push_reasons(
-    rows: &mut Vec<ReasonRow>,
-    tallies: &[Tally],
+    reasons: &mut Vec<ReasonRow>,
+    rows: &[CutoffRow],
     papers: &Papers,
     places: &Assignment,
-    student: StudentNo,
+    entrant: Entrant,
 ) -> Result<(), AllocError>
-    requires tallies { AreTallies papers.now (assigned places.now) tallies.now }
+    requires rows { rows.now ≡ rows_in_order papers.now (assigned places.now) }
+    requires stands { StandsAt papers.now entrant }
     requires well_formed { WellFormed papers.now }
-    ensures { OnOk result (rows.new.items ≡ rows.old.items ++ reasons_of papers.now (assigned places.now) student) }
+    ensures { OnOk result (reasons.new.items ≡ reasons.old.items ++ reasons_of papers.now (assigned places.now) entrant.student) }
 {
-    let Some(at) = papers.student_position(student) else {
-        return Ok(());
-    };
-    let held = places.get(student);
-    for choice in papers.choices_at(at) {
+    let held = places.get(entrant.student);
+    for choice in papers.choices_at(entrant.position) {
         if is_held(&held, *choice) {
             return Ok(());
         }
-        let reason = reason_of(tallies, papers, at, *choice);
-        rows.push(ReasonRow {
-            student,
+        let reason = reason_of(rows, papers, entrant.position, *choice);
+        reasons.push(ReasonRow {
+            student: entrant.student,
             school: *choice,
             reason,
         })?;
@@ -96,41 +93,36 @@ pub(crate) fn push_reasons(
     Ok(())
 }
 
-/// The rows of the students, in their order, by the tallies of all schools.
+/// The rows of the students, in their order, by the rows of all schools in order of entry.
 fn reasons_among(
     alloc: Global,
-    students: &[StudentNo],
-    tallies: &[Tally],
+    entrants: &[Entrant],
+    rows: &[CutoffRow],
     papers: &Papers,
     places: &Assignment,
 ) -> Result<Vec<ReasonRow>, AllocError>
-    requires tallies { AreTallies papers.now (assigned places.now) tallies.now }
+    requires rows { rows.now ≡ rows_in_order papers.now (assigned places.now) }
+    requires stand { All (StandsAt papers.now) entrants.now }
     requires well_formed { WellFormed papers.now }
-    ensures { IfOk result (λ rows. rows.items ≡ flat_map (reasons_of papers.now (assigned places.now)) students.now) }
+    ensures { IfOk result (λ reasons. reasons.items ≡ flat_map (reasons_of papers.now (assigned places.now)) (numbers_of entrants.now)) }
 {
-    let mut rows = Vec::new(alloc);
-    for student in students {
-        push_reasons(&mut rows, tallies, papers, places, *student)?;
+    let mut reasons = Vec::new(alloc);
+    for entrant in entrants {
+        push_reasons(&mut reasons, rows, papers, places, *entrant)?;
     }
-    Ok(rows)
+    Ok(reasons)
 }
 
 /// Why no student has a choice that it prefers to what it has: one row for each such choice, the
 /// students by rising number, and a student's rows in order of choice. The only error is want of
-/// memory. The cost is one pass over the students, a sort of their numbers, and two look-ups for each
-/// row.
+/// memory. The cost is one pass over the students, a sort of their numbers, and a look-up for each row.
 pub fn reasons(alloc: Global, clearing: &Clearing) -> Result<Vec<ReasonRow>, AllocError>
     ensures { IfOk result (λ rows. rows.items ≡ reason_rows clearing.now.papers (matching_of clearing.now)) }
 {
     let papers = clearing.papers();
     let places = clearing.places();
-    let students = rising_students(alloc, papers)?;
-    let tallies = tallies(alloc, papers, places)?;
-    reasons_among(
-        alloc,
-        students.as_slice(),
-        tallies.as_slice(),
-        papers,
-        places,
-    )
+    let entrants = rising_entrants(alloc, papers)?;
+    let rows = rows_in_order(alloc, papers, places)?;
+    let reasons = reasons_among(alloc, entrants.as_slice(), rows.as_slice(), papers, places)?;
+    Ok(reasons)
 }

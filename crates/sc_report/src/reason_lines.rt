@@ -1,18 +1,19 @@
 //! The reasons as text.
-ghost use Rattle.std.specs.Prelude.{◌≡◌, ◌++◌, flat_map, IfOk, OnOk};
+ghost use Rattle.std.specs.Prelude.{◌≡◌, ◌++◌, codes, flat_map, All, IfOk, OnOk};
 ghost use Rattle.sc_papers.specs.Assignment.{assigned};
 ghost use Rattle.sc_papers.specs.WellFormed.{WellFormed};
 ghost use Rattle.sc_repair.specs.Standing.{matching_of};
+ghost use Rattle.sc_report.specs.Cutoff.{rows_in_order};
+ghost use Rattle.sc_report.specs.Entrants.{numbers_of, StandsAt};
 ghost use Rattle.sc_report.specs.Reason.{reasons_of};
 ghost use Rattle.sc_report.specs.ReasonText.{reason_line, reason_lines, reason_text, reason_word};
-ghost use Rattle.sc_tallies.specs.Tally.{AreTallies};
 
+use crate::cutoff::{CutoffRow, rows_in_order};
+use crate::entrants::{Entrant, rising_entrants};
 use crate::reason::{Reason, ReasonRow, push_reasons};
-use crate::sorting::rising_students;
 use sc_decimal::push_number;
-use sc_papers::{Assignment, LONGEST_LIST, Papers, StudentNo};
+use sc_papers::{Assignment, LONGEST_LIST, Papers};
 use sc_repair::Clearing;
-use sc_tallies::{Tally, tallies};
 use std::alloc::{AllocError, Global};
 
 /// The line above the reasons' lines.
@@ -21,14 +22,14 @@ const HEADER: &[u8; 22] = b"student,school,reason\n";
 /// The most bytes of a line: two numbers, the longest word, two commas and a newline.
 const LONGEST_LINE: usize = 24;
 
-/// A reason's word.
-fn word(reason: Reason) -> &'static str
-    ensures { result.now ≡ reason_word reason }
+/// Adds a comma, a reason's word and a newline.
+fn push_word(text: &mut Vec<u8>, reason: Reason) -> Result<(), AllocError>
+    ensures { OnOk result (text.new.items ≡ text.old.items ++ codes "," ++ reason_word reason ++ codes "\n") }
 {
     match reason {
-        Reason::Seats => "seats",
-        Reason::Class => "class",
-        Reason::Lottery => "lottery",
+        Reason::Seats => text.extend_from_slice(b",seats\n"),
+        Reason::Class => text.extend_from_slice(b",class\n"),
+        Reason::Lottery => text.extend_from_slice(b",lottery\n"),
     }
 }
 
@@ -39,16 +40,14 @@ fn push_line(text: &mut Vec<u8>, row: &ReasonRow) -> Result<(), AllocError>
     push_number(text, u64::from(row.student.get()))?;
     text.extend_from_slice(b",")?;
     push_number(text, u64::from(row.school.get()))?;
-    text.extend_from_slice(b",")?;
-    text.extend_from_slice(word(row.reason).as_bytes())?;
-    text.extend_from_slice(b"\n")
+    push_word(text, row.reason)
 }
 
 /// Adds the line of each row.
-fn push_lines(text: &mut Vec<u8>, rows: &[ReasonRow]) -> Result<(), AllocError>
-    ensures { OnOk result (text.new.items ≡ text.old.items ++ flat_map reason_line rows.now) }
+fn push_lines(text: &mut Vec<u8>, reasons: &[ReasonRow]) -> Result<(), AllocError>
+    ensures { OnOk result (text.new.items ≡ text.old.items ++ flat_map reason_line reasons.now) }
 {
-    for row in rows {
+    for row in reasons {
         push_line(text, row)?;
     }
     Ok(())
@@ -58,37 +57,40 @@ fn push_lines(text: &mut Vec<u8>, rows: &[ReasonRow]) -> Result<(), AllocError>
 fn push_student(
     text: &mut Vec<u8>,
     room: &mut Vec<ReasonRow>,
-    tallies: &[Tally],
+    rows: &[CutoffRow],
     papers: &Papers,
     places: &Assignment,
-    student: StudentNo,
+    entrant: Entrant,
 ) -> Result<(), AllocError>
-    requires tallies { AreTallies papers.now (assigned places.now) tallies.now }
+    requires rows { rows.now ≡ rows_in_order papers.now (assigned places.now) }
+    requires stands { StandsAt papers.now entrant }
     requires well_formed { WellFormed papers.now }
-    ensures { OnOk result (text.new.items ≡ text.old.items ++ flat_map reason_line (reasons_of papers.now (assigned places.now) student)) }
+    ensures { OnOk result (text.new.items ≡ text.old.items ++ flat_map reason_line (reasons_of papers.now (assigned places.now) entrant.student)) }
 {
     room.clear();
-    push_reasons(room, tallies, papers, places, student)?;
+    push_reasons(room, rows, papers, places, entrant)?;
     push_lines(text, room.as_slice())
 }
 
-/// Adds the header and the lines of the students, in their order, by the tallies of all schools.
+/// Adds the header and the lines of the students, in their order, by the rows of all schools in order of
+/// entry.
 pub(crate) fn push_reason_lines(
     text: &mut Vec<u8>,
     alloc: Global,
-    students: &[StudentNo],
-    tallies: &[Tally],
+    entrants: &[Entrant],
+    rows: &[CutoffRow],
     papers: &Papers,
     places: &Assignment,
 ) -> Result<(), AllocError>
-    requires tallies { AreTallies papers.now (assigned places.now) tallies.now }
+    requires rows { rows.now ≡ rows_in_order papers.now (assigned places.now) }
+    requires stand { All (StandsAt papers.now) entrants.now }
     requires well_formed { WellFormed papers.now }
-    ensures { OnOk result (text.new.items ≡ text.old.items ++ reason_lines (flat_map (reasons_of papers.now (assigned places.now)) students.now)) }
+    ensures { OnOk result (text.new.items ≡ text.old.items ++ reason_lines (flat_map (reasons_of papers.now (assigned places.now)) (numbers_of entrants.now))) }
 {
     let mut room = Vec::with_capacity(alloc, LONGEST_LIST)?;
     text.extend_from_slice(HEADER)?;
-    for student in students {
-        push_student(text, &mut room, tallies, papers, places, *student)?;
+    for entrant in entrants {
+        push_student(text, &mut room, rows, papers, places, *entrant)?;
     }
     Ok(())
 }
@@ -110,14 +112,14 @@ pub fn reason_text(alloc: Global, clearing: &Clearing) -> Result<Vec<u8>, AllocE
 {
     let papers = clearing.papers();
     let places = clearing.places();
-    let students = rising_students(alloc, papers)?;
-    let tallies = tallies(alloc, papers, places)?;
+    let entrants = rising_entrants(alloc, papers)?;
+    let rows = rows_in_order(alloc, papers, places)?;
     let mut text = Vec::with_capacity(alloc, room_for_reasons(clearing))?;
     push_reason_lines(
         &mut text,
         alloc,
-        students.as_slice(),
-        tallies.as_slice(),
+        entrants.as_slice(),
+        rows.as_slice(),
         papers,
         places,
     )?;

@@ -2,17 +2,17 @@ ghost use Rattle.std.specs.Prelude.{◌≡◌, ◌++◌, IfOk, OnOk};
 ghost use Rattle.sc_papers.specs.Assignment.{assigned};
 ghost use Rattle.sc_papers.specs.WellFormed.{WellFormed};
 ghost use Rattle.sc_repair.specs.Standing.{matching_of};
-ghost use Rattle.sc_tallies.specs.Tally.{AreTallies};
+ghost use Rattle.sc_report.specs.Cutoff.{rows_in_order};
+ghost use Rattle.sc_report.specs.Entrants.{numbers_of};
 ghost use Rattle.sc_report.specs.Text.{assignment_line, assignment_lines, assignment_text, place_text, report_text, IsReportText};
 
-use crate::cutoff::rising_rows;
+use crate::cutoff::{CutoffRow, rising_rows, rows_in_order};
 use crate::cutoff_lines::{push_cutoffs, room_for_cutoffs};
+use crate::entrants::{Entrant, rising_entrants};
 use crate::reason_lines::{push_reason_lines, room_for_reasons};
-use crate::sorting::rising_students;
 use sc_decimal::push_number;
 use sc_papers::{Assignment, Papers, StudentNo};
 use sc_repair::Clearing;
-use sc_tallies::{Tally, tallies};
 use std::alloc::{AllocError, Global};
 
 /// The line above the assignment's lines.
@@ -44,14 +44,14 @@ fn push_line(text: &mut Vec<u8>, places: &Assignment, student: StudentNo) -> Res
 /// Adds the header and the line of each student.
 fn push_assignments(
     text: &mut Vec<u8>,
-    students: &[StudentNo],
+    entrants: &[Entrant],
     places: &Assignment,
 ) -> Result<(), AllocError>
-    ensures { OnOk result (text.new.items ≡ text.old.items ++ assignment_lines (assigned places.now) students.now) }
+    ensures { OnOk result (text.new.items ≡ text.old.items ++ assignment_lines (assigned places.now) (numbers_of entrants.now)) }
 {
     text.extend_from_slice(HEADER)?;
-    for student in students {
-        push_line(text, places, *student)?;
+    for entrant in entrants {
+        push_line(text, places, entrant.student)?;
     }
     Ok(())
 }
@@ -67,29 +67,30 @@ fn room_for_assignment(papers: &Papers) -> usize {
 pub fn assignment_text(alloc: Global, clearing: &Clearing) -> Result<Vec<u8>, AllocError>
     ensures { IfOk result (λ text. text.items ≡ assignment_text clearing.now.papers (matching_of clearing.now)) }
 {
-    let students = rising_students(alloc, clearing.papers())?;
+    let entrants = rising_entrants(alloc, clearing.papers())?;
     let mut text = Vec::with_capacity(alloc, room_for_assignment(clearing.papers()))?;
-    push_assignments(&mut text, students.as_slice(), clearing.places())?;
+    push_assignments(&mut text, entrants.as_slice(), clearing.places())?;
     Ok(text)
 }
 
-/// Adds the assignment text, the cutoff text and the reason text, by the tallies of all schools.
+/// Adds the assignment text, the cutoff text and the reason text, by the rows of all schools in order of
+/// entry.
 fn push_report(
     text: &mut Vec<u8>,
     alloc: Global,
-    tallies: &[Tally],
+    rows: &[CutoffRow],
     papers: &Papers,
     places: &Assignment,
 ) -> Result<(), AllocError>
-    requires tallies { AreTallies papers.now (assigned places.now) tallies.now }
+    requires rows { rows.now ≡ rows_in_order papers.now (assigned places.now) }
     requires well_formed { WellFormed papers.now }
     ensures { OnOk result (text.new.items ≡ text.old.items ++ report_text papers.now (assigned places.now)) }
 {
-    let students = rising_students(alloc, papers)?;
-    push_assignments(text, students.as_slice(), places)?;
-    let cutoffs = rising_rows(alloc, tallies, papers, places)?;
+    let entrants = rising_entrants(alloc, papers)?;
+    push_assignments(text, entrants.as_slice(), places)?;
+    let cutoffs = rising_rows(alloc, rows)?;
     push_cutoffs(text, cutoffs.as_slice())?;
-    push_reason_lines(text, alloc, students.as_slice(), tallies, papers, places)?;
+    push_reason_lines(text, alloc, entrants.as_slice(), rows, papers, places)?;
     Ok(())
 }
 
@@ -109,8 +110,8 @@ pub fn report_text(alloc: Global, clearing: &Clearing) -> Result<Vec<u8>, AllocE
 {
     let papers = clearing.papers();
     let places = clearing.places();
-    let tallies = tallies(alloc, papers, places)?;
+    let rows = rows_in_order(alloc, papers, places)?;
     let mut text = Vec::with_capacity(alloc, room_for_report(clearing))?;
-    push_report(&mut text, alloc, tallies.as_slice(), papers, places)?;
+    push_report(&mut text, alloc, rows.as_slice(), papers, places)?;
     Ok(text)
 }

@@ -6,13 +6,13 @@ use Rattle.sc_intake.specs.Script.{script_in}
 use Rattle.sc_audit.specs.declared.verdict.Verdict.{Verdict}
 use Rattle.sc_journal.specs.declared.journal.Tail.{Tail}
 use Rattle.sc_runs.specs.Auditing.{claimed_in, AuditsFiles, WritesVerdict}
-use Rattle.sc_runs.specs.Inputs.{in_order, Texts, Turn, AreRead, EndsAmong, EndsReading, IsRead, IsUntouched}
+use Rattle.sc_runs.specs.Inputs.{in_order, Texts, Turn, AreRead, EndsAmong, EndsReading, IsUntouched}
 use Rattle.sc_runs.specs.Opening.{opening_in, papers_in, MatchesFiles, WritesMatch}
 use Rattle.sc_runs.specs.TwoWriters.{Contents}
 use Rattle.sc_runs.specs.Replaying.{ReplaysFiles, WritesReplay}
 use Rattle.sc_runs.specs.Run.{opened_in, RunsFiles, WritesRun}
 use Rattle.sc_runs.specs.declared.fault.RunFault.{RunFault}
-use Rattle.sc_runs.proofs.Reading.{All-untouched, AreRead-more, EndsAmong-first, EndsAmong-later}
+use Rattle.sc_runs.proofs.Reading.{All-untouched, EndsAmong-first, EndsAmong-later}
 
 -- files that are the texts that were read
 pub record AreTexts (texts : Texts) (schools roster lists : List ℕ) : Type 0 where

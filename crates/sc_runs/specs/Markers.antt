@@ -1,5 +1,5 @@
 -- Marker lines: where one stands, and what is before and after it.
-use Rattle.std.specs.Prelude.{ℕ, ◌==◌, nat_eq, Bool, List, [], ◌∷◌, Option, None, Some, if◌then◌else◌, length, drop}
+use Rattle.std.specs.Prelude.{ℕ, ◌-◌, ◌==◌, nat_eq, Bool, ◌||◌, List, [], ◌∷◌, Option, None, Some, if◌then◌else◌, length, drop, slice_index}
 use Rattle.std.specs.List.{starts_with}
 use Rattle.sc_runs.specs.declared.markers.Cut.{Cut}
 
@@ -26,6 +26,10 @@ after_end (byte ∷ rest) = if byte == 13 then after_lf rest else after_lf (byte
 abbrev pub after_marker : List ℕ → List ℕ → Option (List ℕ)
 after_marker marker bytes =
     if starts_with nat_eq bytes marker then after_end (drop (length marker) bytes) else None
+
+-- whether a line begins at a place: at the beginning, or after an LF
+abbrev pub begins_line : List ℕ → ℕ → Bool
+begins_line bytes at = at == 0 || slice_index bytes (at - 1) == 10
 
 -- the parts, with one more byte before the marker
 abbrev pub one_later : ℕ → Option Parts → Option Parts

@@ -1,29 +1,17 @@
-use Rattle.std.proofs.Common.{◌∙◌, ◌++◌, ◌∷◌, [], sym}
-use Rattle.sc_papers.specs.Assignment.{assigned}
-use Rattle.sc_papers.specs.Market.{schools_of}
-use Rattle.sc_papers.proofs.Positions.{among-school}
-use Rattle.sc_tallies.proofs.Tallying.{tallies-length}
-use Rattle.sc_report.specs.Cutoff.{cutoff_row}
-use Rattle.sc_report.proofs.CutoffLemmas.{map-take_one, row-tally}
-use Rattle.sc_report.proofs.RisingLemmas.{rising-among}
+use Rattle.std.proofs.Common.{rules, ◌≡◌, ◌++◌, length, take, drop, sym, ◌∙◌}
+use Rattle.std.proofs.Math.Seq.{take-append_seam}
+use Rattle.std.proofs.lemmas.List.Sorted.{IsNonDecreasingBy-from_sort_by_key}
+use Rattle.sc_report.specs.declared.cutoff.CutoffRow.{CutoffRow}
+use Rattle.sc_report.proofs.CutoffLemmas.{rising-rows}
 use Rattle.sc_report.proofs.cutoff.rising_rows.Goals as goal
 
-pub tally_of-tally-requires-clause-tallies : goal.tally_of-tally-requires-clause-tallies
-tally_of-tally-requires-clause-tallies c = tallies-length c.args.papers.now (assigned c.args.places.now) c.args.tallies.now c.requires
-
-pub tally_of-tally-requires-clause-known : goal.tally_of-tally-requires-clause-known
-tally_of-tally-requires-clause-known c =
-    let m = c.args.papers.now in
-    among-school m c.school-item.result
-    (rising-among (schools_of m) c.as_slice-school-items.result.now c.loop-school.school-index c.school-item.result
-    (c.as_slice-school-items.ensures.value ∙ c.in_ok-schools.ensures) c.loop-school-test.true c.school-item.is)
-
-pub loop-school-preserved : goal.loop-school-preserved
-loop-school-preserved c =
-    let m = c.args.papers.now in
-    let a = assigned c.args.places.now in
-    let s = c.school-item.result in
-    let tallied = c.tally_of-tally.ensures a c.requires in
-    let row = row-tally m a s c.seats_of-seats.result c.get.result c.tally_of-tally.result c.cutoff_by-cutoff.result c.seats_of-seats.ensures c.get.ensures.value tallied c.cutoff_by-cutoff.ensures in
-    c.in_ok-push.ensures.items ∙ (λ t. c.loop-school.invariant t ++ row t ∷ [])
-    ∙ sym (map-take_one (cutoff_row m a) c.as_slice-school-items.result.now c.loop-school.school-index s c.loop-school-test.true c.school-item.is)
+pub returns : goal.returns
+returns c m a are =
+    let sorted = c.sort_unstable_by_key.new.self in
+    let lent = c.as_mut_slice.ensures.value in
+    let rest = drop (length sorted) c.in_ok-rising.rising.items in
+    let whole : take c.in_ok-rising.rising.len (sorted ++ rest) ≡ sorted =
+    rw (sym (c.sort_unstable_by_key.ensures.len ∙ c.as_mut_slice.ensures.len)) (take-append_seam sorted rest) in
+    whole ∙ rising-rows m a c.in_ok-rising.rising.items sorted (c.in_ok-rising.ensures.items ∙ are)
+    (rw (← lent) c.sort_unstable_by_key.ensures.permutation)
+    (IsNonDecreasingBy-from_sort_by_key (λ (row : CutoffRow). row.school) sorted c.sort_unstable_by_key.ensures.sorted (λ a r q k. search rules))

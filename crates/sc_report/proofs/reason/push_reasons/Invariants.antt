@@ -8,6 +8,6 @@ use Rattle.sc_report.proofs.reason.push_reasons.Given as goal
 
 abbrev pub invariant-loop-choice : goal.invariant-loop-choice
 invariant-loop-choice l = record {
-  none : NonePassed (λ s. has (assigned l.places) s l.student) l.choice-items l.choice-index;
-  rows : l.rows.items ≡ l.fn.rows.items ++ map (reason_row l.papers (assigned l.places) l.student) (take l.choice-index l.choice-items);
+  none : NonePassed (λ s. has (assigned l.places) s l.entrant.student) l.choice-items l.choice-index;
+  rows : l.reasons.items ≡ l.fn.reasons.items ++ map (reason_row l.papers (assigned l.places) l.entrant.student) (take l.choice-index l.choice-items);
 }

@@ -5,5 +5,6 @@ use Rattle.sc_report.specs.Reason.{reasons_of}
 use Rattle.sc_report.specs.ReasonText.{reason_line}
 use Rattle.sc_report.proofs.reason_lines.push_reason_lines.Given as goal
 
-abbrev pub invariant-loop-student : goal.invariant-loop-student
-invariant-loop-student l = l.text.items ≡ l.initial.text.items ++ flat_map reason_line (flat_map (reasons_of l.papers (assigned l.places)) (take l.student-index l.students))
+abbrev pub invariant-loop-entrant : goal.invariant-loop-entrant
+invariant-loop-entrant l =
+    l.text.items ≡ l.initial.text.items ++ flat_map (λ entrant. flat_map reason_line (reasons_of l.papers (assigned l.places) entrant.student)) (take l.entrant-index l.entrants)

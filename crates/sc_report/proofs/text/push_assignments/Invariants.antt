@@ -4,5 +4,5 @@ use Rattle.sc_papers.specs.Assignment.{assigned}
 use Rattle.sc_report.specs.Text.{assignment_line}
 use Rattle.sc_report.proofs.text.push_assignments.Given as goal
 
-abbrev pub invariant-loop-student : goal.invariant-loop-student
-invariant-loop-student l = l.text.items ≡ l.initial.text.items ++ flat_map (assignment_line (assigned l.places)) (take l.student-index l.students)
+abbrev pub invariant-loop-entrant : goal.invariant-loop-entrant
+invariant-loop-entrant l = l.text.items ≡ l.initial.text.items ++ flat_map (λ entrant. assignment_line (assigned l.places) entrant.student) (take l.entrant-index l.entrants)
