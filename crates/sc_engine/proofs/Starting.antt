@@ -1,5 +1,5 @@
 -- A round before anybody has entered.
-use Rattle.std.proofs.Common.{◌≡◌, inl, inr, refl, ap, sym, subst, ◌∙◌, ℕ, ◌+◌, ◌<◌, nat_eq, false, not, ◌&&◌, List, [], ◌∷◌, ◌++◌, length, get_or, map, Option, Some, None, All, is_some, position, slice_get, arith}
+use Rattle.std.proofs.Common.{◌≡◌, inl, inr, refl, ap, sym, subst, ◌∙◌, ℕ, suc, zero, ◌+◌, ◌<◌, nat_eq, false, not, ◌&&◌, List, [], ◌∷◌, ◌++◌, length, get_or, map, Option, Some, None, is_some, position, slice_get, arith}
 use Rattle.std.specs.Option.{option_map_or}
 use Rattle.std.proofs.lemmas.Bool.{cases_lt, cases_Bool, and_left, and_right, false≢true, true≢false}
 use Rattle.std.proofs.lemmas.List.{get_or_append_left, get_or_push, length_push}
@@ -10,7 +10,6 @@ use Rattle.sc_papers.specs.Log.{next_choice, matching_of, IsSettled}
 use Rattle.sc_papers.specs.WellFormed.{WellFormed, WithinLimits}
 use Rattle.sc_papers.specs.declared.rejection.Rejection.{Rejection}
 use Rattle.sc_papers.specs.declared.records.School.{School}
-use Rattle.sc_papers.specs.declared.records.Student.{Student}
 use Rattle.sc_papers.proofs.Restriction.{restricted-restricts, next-dropped}
 use Rattle.sc_papers.proofs.Students.{how_many-none}
 use Rattle.sc_seats.specs.Roll.{RollView}
@@ -24,21 +23,25 @@ use Rattle.sc_engine.proofs.Proposals.{has-none}
 pub record IsStart (m : Market) (r : RoundView) : Type 0 where
   pub well_formed : WellFormed m
   pub within_limits : WithinLimits m
-  pub ranks : length r.ranks ≡ length m.students
-  pub nowhere : All (λ rank. rank ≡ None) r.ranks
+  pub ranks : r.ranks ≡ []
   pub rolls : length r.rolls ≡ length m.schools
   pub empty : AreEmpty m r.rolls (length m.schools)
   pub log : r.log ≡ []
   pub proposals : r.proposals ≡ 0
 
 -- nobody has a rank
-pub no-rank : (m : Market) (ranks : List (Option ℕ)) → length ranks ≡ length m.students → All (λ rank. rank ≡ None) ranks → (i : ℕ) → rank_of m ranks i ≡ None
+pub no-rank : (m : Market) (ranks : List (Option ℕ)) → ranks ≡ [] → (i : ℕ) → rank_of m ranks i ≡ None
 unfolding rank_of
-no-rank m ranks long nowhere i = go (position (nat_eq i) (students_of m)) refl
+no-rank m ranks nobody i = go (position (nat_eq i) (students_of m))
   where
-    go : (o : Option ℕ) → position (nat_eq i) (students_of m) ≡ o → option_map_or (λ at. get_or ranks at None) o None ≡ None
-    go None is = refl
-    go (Some at) is = nowhere at None (omega (arith, (position-at (students_of m) i at is).0, length-mapped (λ (e : ℕ × Student). e.0) m.students, long))
+    empty : (old : List (Option ℕ)) (at : ℕ) → old ≡ [] → get_or old at None ≡ None
+    empty [] zero none = refl
+    empty [] (suc at) none = refl
+    empty (rank ∷ old) at none = absurd (omega (arith, ap length none))
+
+    go : (o : Option ℕ) → option_map_or (λ at. get_or ranks at None) o None ≡ None
+    go None = refl
+    go (Some at) = empty ranks at nobody
 
 -- an unknown school has no seats
 no-seats : (m : Market) (s : ℕ) → is_school m s ≡ false → seats_of m s ≡ 0
@@ -91,7 +94,7 @@ pub fits-start : (m : Market) (r : RoundView) → IsStart m r → Fits m r
 fits-start m r start = record {
   well_formed = start.well_formed;
   within_limits = start.within_limits;
-  ranks = omega (arith, start.ranks);
+  ranks = omega (arith, ap length start.ranks);
   rolls = start.rolls;
   each = λ s. subst (RollFits m (next_of m r.ranks) nobody s) (sym (roll-empty m r.rolls start.empty s)) (record {
     seats = refl;
@@ -104,19 +107,19 @@ fits-start m r start = record {
 }
   where
     nowhere : (j : ℕ) → next_of m r.ranks j ≡ None
-    nowhere j = next-none m r.ranks j (no-rank m r.ranks start.ranks start.nowhere j)
+    nowhere j = next-none m r.ranks j (no-rank m r.ranks start.ranks j)
 
 -- nobody stands at a choice
 pub none-standing : (m : Market) (r : RoundView) → IsStart m r → standing_but m r.ranks nobody ≡ 0
 unfolding standing_but
 none-standing m r start =
     how_many-none m (λ j. is_some (next_of m r.ranks j) && not false)
-    (λ j among. and_left (is_some (next_of m r.ranks j)) (not false) (ap is_some (next-none m r.ranks j (no-rank m r.ranks start.ranks start.nowhere j))))
+    (λ j among. and_left (is_some (next_of m r.ranks j)) (not false) (ap is_some (next-none m r.ranks j (no-rank m r.ranks start.ranks j))))
 
 -- and the empty log is settled for nobody
 pub continues-start : (m : Market) (r : RoundView) → IsStart m r → Continues m [] r
 continues-start m r start =
-    let absent : (j : ℕ) → has_entered m r.ranks j ≡ false = λ j. ap is_some (no-rank m r.ranks start.ranks start.nowhere j) in
+    let absent : (j : ℕ) → has_entered m r.ranks j ≡ false = λ j. ap is_some (no-rank m r.ranks start.ranks j) in
     let none : (j : ℕ) → next_choice (entered_papers m r.ranks) [] j ≡ None = λ j. next-dropped (restricted-restricts m (has_entered m r.ranks)) [] j (absent j) in
     let settled : IsSettled (entered_papers m r.ranks) [] = record {
       valid = tt;
@@ -124,16 +127,15 @@ continues-start m r start =
     } in
     record {
       settled = subst (IsSettled (entered_papers m r.ranks)) (sym start.log) settled;
-      next = λ j. ap (λ log. next_choice (entered_papers m r.ranks) log j) start.log ∙ none j ∙ sym (next-none m r.ranks j (no-rank m r.ranks start.ranks start.nowhere j));
+      next = λ j. ap (λ log. next_choice (entered_papers m r.ranks) log j) start.log ∙ none j ∙ sym (next-none m r.ranks j (no-rank m r.ranks start.ranks j));
     }
 
 -- the round that the code starts with
-pub starts : {R : Type 0} (m : Market) (ranks : List (Option ℕ)) (rolls : List R) (see : R → RollView) (log : List Rejection) (proposals : ℕ) → WellFormed m → WithinLimits m → length ranks ≡ length m.students → All (λ rank. rank ≡ None) ranks → length rolls ≡ length m.schools → AreEmpty m (map see rolls) (length m.schools) → log ≡ [] → proposals ≡ 0 → IsStart m (record { ranks = ranks; rolls = map see rolls; log = log; proposals = proposals })
-starts m ranks rolls see log proposals well within long nowhere as_many empty no_log none = record {
+pub starts : {R : Type 0} (m : Market) (ranks : List (Option ℕ)) (rolls : List R) (see : R → RollView) (log : List Rejection) (proposals : ℕ) → WellFormed m → WithinLimits m → ranks ≡ [] → length rolls ≡ length m.schools → AreEmpty m (map see rolls) (length m.schools) → log ≡ [] → proposals ≡ 0 → IsStart m (record { ranks = ranks; rolls = map see rolls; log = log; proposals = proposals })
+starts m ranks rolls see log proposals well within nobody_yet as_many empty no_log none = record {
   well_formed = well;
   within_limits = within;
-  ranks = long;
-  nowhere = nowhere;
+  ranks = nobody_yet;
   rolls = length-mapped see rolls ∙ as_many;
   empty = empty;
   log = no_log;

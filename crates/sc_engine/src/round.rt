@@ -23,7 +23,8 @@ use std::alloc::{AllocError, Global};
 pub struct Round<R: Roll> {
     alloc: Global,
     // By position of the student: the rank in the choices at which the student stands, if it has
-    // entered. Nobody has who comes after the last of these positions.
+    // entered. Nobody has who comes after the last of these positions, and so in order of entry the next
+    // to enter stands right after it.
     ranks: Vec<Option<usize>>,
     // By position of the school.
     rolls: Vec<R>,
@@ -31,18 +32,6 @@ pub struct Round<R: Roll> {
     proposals: u64,
     // A growth was refused: the rest is no longer to be trusted.
     spent: bool,
-}
-
-/// Ranks at which nobody has entered.
-fn no_ranks(alloc: Global, count: usize) -> Result<Vec<Option<usize>>, AllocError>
-    ensures length { IfOk result (λ ranks. length ranks.items ≡ count) }
-    ensures nobody { IfOk result (λ ranks. All (λ rank. rank ≡ None) ranks.items) }
-{
-    let mut ranks = Vec::with_capacity(alloc, count)?;
-    for _added in 0..count {
-        ranks.push(None)?;
-    }
-    Ok(ranks)
 }
 
 /// The seats of the school at the position.
@@ -259,7 +248,7 @@ impl<R: Roll> Round<R> {
         requires absent { has_entered papers.now self.old.ranks.items student ≡ false }
         ensures { OnOk result (Enters papers.now (view_of R.keys R.seats self.old) (view_of R.keys R.seats self.new) student) }
     {
-        let at = position_of(papers, student);
+        let at = position_near(papers, student, self.ranks.len());
         make_room(&mut self.ranks, at)?;
         self.ranks[at] = Some(0);
         self.chain(papers, at)?;
@@ -276,10 +265,9 @@ impl<R: Roll> Round<R> {
         ensures proposals { IfOk result (λ round. (view_of R.keys R.seats round).proposals ≡ 0) }
         ensures ready { IfOk result (λ round. is_spent round ≡ false) }
     {
-        let students = papers.students_len();
         Ok(Round {
             alloc,
-            ranks: no_ranks(alloc, students)?,
+            ranks: Vec::with_capacity(alloc, papers.students_len())?,
             rolls: empty_rolls(alloc, papers)?,
             log: Vec::new(alloc),
             proposals: 0,

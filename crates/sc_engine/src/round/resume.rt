@@ -7,7 +7,7 @@ ghost use Rattle.sc_papers.specs.declared.rejection.Rejection.{Rejection};
 ghost use Rattle.sc_checkpoint.specs.NextChoices.{stands, AreNextChoices};
 ghost use Rattle.sc_engine.specs.RoundView.{Fits, Continues, StandsToo, has_entered, next_of};
 
-use super::{Round, make_room, offer_to, position_of};
+use super::{Round, make_room, offer_to, position_near};
 use sc_checkpoint::NextChoice;
 use sc_papers::{Papers, SchoolNo};
 use sc_seats::Roll;
@@ -41,7 +41,7 @@ impl<R: Roll> Round<R> {
         ensures stands { OnOk result (StandsToo papers.now (view_of R.keys R.seats self.old) (view_of R.keys R.seats self.new) choice.student choice.next) }
         ensures spent { is_spent self.new ≡ is_spent self.old }
     {
-        let at = position_of(papers, choice.student);
+        let at = position_near(papers, choice.student, self.ranks.len());
         make_room(&mut self.ranks, at)?;
         self.ranks[at] = Some(rank_in(papers.choices_at(at), choice.next));
         let Some(school) = choice.next else {
@@ -60,7 +60,8 @@ impl<R: Roll> Round<R> {
     /// log that leaves them there the round goes on as if it had made that log itself.
     ///
     /// It takes memory for each student and each school of the papers and for the seats held. The cost
-    /// is two look-ups by number, a search among the student's choices and an offer for each of them.
+    /// is a look-up by number, a search among the student's choices and an offer for each of them, and a second
+    /// look-up for one who does not follow the one before in order of entry.
     pub fn resume(
         alloc: Global,
         papers: &Papers,

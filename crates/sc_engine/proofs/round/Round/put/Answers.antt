@@ -15,48 +15,48 @@ pub rank_in-requires : goal.rank_in-requires
 rank_in-requires g c =
     let papers = c.args.papers.now in
     subst (λ (choices : List ℕ). IfSome c.args.choice.next (λ s. Contains choices s))
-    (sym (c.choices_at.ensures.choices ∙ ap (choices_of papers) (student-there papers c.args.choice.student c.position_of-at.result c.position_of-at.ensures))) c.requires.listed
+    (sym (c.choices_at.ensures.choices ∙ ap (choices_of papers) (student-there papers c.args.choice.student c.position_near-at.result c.position_near-at.ensures))) c.requires.listed
 
 pub returns-in_default-clause-stands : goal.returns-in_default-clause-stands
 returns-in_default-clause-stands g c =
     let papers = c.args.papers.now in
     let student = c.args.choice.student in
-    let at = c.position_of-at.result in
+    let at = c.position_near-at.result in
     let rank = c.rank_in.result in
     let room = c.make_room.new.ranks.items in
     let old = view_of g.R.Roll.keys g.R.Roll.seats c.args.self.now in
-    let there : student_at papers at ≡ student = student-there papers student at c.position_of-at.ensures in
+    let there : student_at papers at ≡ student = student-there papers student at c.position_near-at.ensures in
     let here : slice_get (choices_of papers student) rank ≡ c.args.choice.next =
     ap (λ choices. slice_get choices rank) (sym (c.choices_at.ensures.choices ∙ ap (choices_of papers) there)) ∙ c.rank_in.ensures in
-    let begun : Begun papers old (moved old room at rank) student at rank = begins papers old room student at rank c.requires.fits c.position_of-at.ensures c.requires.absent c.in_ok-make_room.ensures.room c.in_ok-make_room.ensures.same c.in_ok-make_room.ensures.within in
+    let begun : Begun papers old (moved old room at rank) student at rank = begins papers old room student at rank c.requires.fits c.position_near-at.ensures c.requires.absent c.in_ok-make_room.ensures.room c.in_ok-make_room.ensures.same c.in_ok-make_room.ensures.within in
     put-nowhere begun c.args.choice.next here c.in_default.is
 
 pub position_and_key-position-requires-clause-school : goal.position_and_key-position-requires-clause-school
 position_and_key-position-requires-clause-school g c =
     let papers = c.args.papers.now in
     let student = c.args.choice.student in
-    let at = c.position_of-at.result in
+    let at = c.position_near-at.result in
     let rank = c.rank_in.result in
     let room = c.make_room.new.ranks.items in
     let old = view_of g.R.Roll.keys g.R.Roll.seats c.args.self.now in
-    let there : student_at papers at ≡ student = student-there papers student at c.position_of-at.ensures in
+    let there : student_at papers at ≡ student = student-there papers student at c.position_near-at.ensures in
     let here : slice_get (choices_of papers student) rank ≡ c.args.choice.next =
     ap (λ choices. slice_get choices rank) (sym (c.choices_at.ensures.choices ∙ ap (choices_of papers) there)) ∙ c.rank_in.ensures in
-    let begun : Begun papers old (moved old room at rank) student at rank = begins papers old room student at rank c.requires.fits c.position_of-at.ensures c.requires.absent c.in_ok-make_room.ensures.room c.in_ok-make_room.ensures.same c.in_ok-make_room.ensures.within in
+    let begun : Begun papers old (moved old room at rank) student at rank = begins papers old room student at rank c.requires.fits c.position_near-at.ensures c.requires.absent c.in_ok-make_room.ensures.room c.in_ok-make_room.ensures.same c.in_ok-make_room.ensures.within in
     put-school papers old student rank c.in-Some.school c.requires.fits (here ∙ c.in-Some.is)
 
 pub offer_to-requires-clause-new : goal.offer_to-requires-clause-new
 offer_to-requires-clause-new g c =
     let papers = c.args.papers.now in
     let student = c.args.choice.student in
-    let at = c.position_of-at.result in
+    let at = c.position_near-at.result in
     let rank = c.rank_in.result in
     let room = c.make_room.new.ranks.items in
     let old = view_of g.R.Roll.keys g.R.Roll.seats c.args.self.now in
-    let there : student_at papers at ≡ student = student-there papers student at c.position_of-at.ensures in
+    let there : student_at papers at ≡ student = student-there papers student at c.position_near-at.ensures in
     let here : slice_get (choices_of papers student) rank ≡ c.args.choice.next =
     ap (λ choices. slice_get choices rank) (sym (c.choices_at.ensures.choices ∙ ap (choices_of papers) there)) ∙ c.rank_in.ensures in
-    let begun : Begun papers old (moved old room at rank) student at rank = begins papers old room student at rank c.requires.fits c.position_of-at.ensures c.requires.absent c.in_ok-make_room.ensures.room c.in_ok-make_room.ensures.same c.in_ok-make_room.ensures.within in
+    let begun : Begun papers old (moved old room at rank) student at rank = begins papers old room student at rank c.requires.fits c.position_near-at.ensures c.requires.absent c.in_ok-make_room.ensures.room c.in_ok-make_room.ensures.same c.in_ok-make_room.ensures.within in
     let key = c.position_and_key-position.ensures.key ∙ ap (λ i. key_of papers i c.in-Some.school) there in
     roll-new papers (moved old room at rank) student c.in-Some.school c.position_and_key-position.result.0 c.position_and_key-position.result.1 (fits-begun begun) c.position_and_key-position.ensures.position key
 
@@ -76,14 +76,14 @@ pub returns-clause-stands : goal.returns-clause-stands
 returns-clause-stands g c =
     let papers = c.args.papers.now in
     let student = c.args.choice.student in
-    let at = c.position_of-at.result in
+    let at = c.position_near-at.result in
     let rank = c.rank_in.result in
     let room = c.make_room.new.ranks.items in
     let old = view_of g.R.Roll.keys g.R.Roll.seats c.args.self.now in
-    let there : student_at papers at ≡ student = student-there papers student at c.position_of-at.ensures in
+    let there : student_at papers at ≡ student = student-there papers student at c.position_near-at.ensures in
     let here : slice_get (choices_of papers student) rank ≡ c.args.choice.next =
     ap (λ choices. slice_get choices rank) (sym (c.choices_at.ensures.choices ∙ ap (choices_of papers) there)) ∙ c.rank_in.ensures in
-    let begun : Begun papers old (moved old room at rank) student at rank = begins papers old room student at rank c.requires.fits c.position_of-at.ensures c.requires.absent c.in_ok-make_room.ensures.room c.in_ok-make_room.ensures.same c.in_ok-make_room.ensures.within in
+    let begun : Begun papers old (moved old room at rank) student at rank = begins papers old room student at rank c.requires.fits c.position_near-at.ensures c.requires.absent c.in_ok-make_room.ensures.room c.in_ok-make_room.ensures.same c.in_ok-make_room.ensures.within in
     let key = c.position_and_key-position.ensures.key ∙ ap (λ i. key_of papers i c.in-Some.school) there in
     let rolls = rolls_of g.R.Roll.keys g.R.Roll.seats c.offer_to.new.rolls.items in
     put-on_roll begun (record (moved old room at rank) { rolls = rolls }) c.args.choice.next c.in-Some.school c.position_and_key-position.result.0 here c.in-Some.is
