@@ -15,14 +15,15 @@ use Rattle.sc_papers.specs.declared.seats.TheConstants.Seats.{GREATEST}
 
 -- a student goes, and the draw at the student's place
 pub IsSound-withdrawn : (old new : Inside) (i place : ℕ) → IsSound old
-    → new.lottery ≡ old.lottery → new.schools ≡ old.schools → new.students.entries ≡ remove_entry (nat_eq i) old.students.entries
+    → new.lottery ≡ old.lottery → new.schools ≡ old.schools → new.positions ≡ old.positions → new.students.entries ≡ remove_entry (nat_eq i) old.students.entries
     → Some place ≡ position (nat_eq i) (keys_of old.students.entries) → new.draws.items ≡ remove old.draws.items place
     → IsSound new
-IsSound-withdrawn old new i place sound seed schools left found drawn =
+IsSound-withdrawn old new i place sound seed schools positions left found drawn =
     let after : market_of new ≡ without_student (market_of old) i = rw (seed, schools, left) refl in
     record {
       well_formed = rw after (WellFormed-without_student (market_of old) i sound.well_formed);
       within_limits = rw after (WithinLimits-without_student (market_of old) i sound.within_limits);
+      positions = rw (positions, schools) sound.positions;
       draws =
           let draws_before = sound.draws in
           drawn ∙ ap (λ ds. remove ds place) draws_before ∙ remove-found (draw old.lottery) (nat_eq i) old.students.entries place found
@@ -31,26 +32,46 @@ IsSound-withdrawn old new i place sound seed schools left found drawn =
 
 -- what the papers hold of a student changes
 pub IsSound-put_student : (old new : Inside) (i : ℕ) (student : Student) → IsSound old → IsProper (market_of old) student → IsShort student
-    → new.lottery ≡ old.lottery → new.schools ≡ old.schools → new.students.entries ≡ set_value (nat_eq i) old.students.entries student
+    → new.lottery ≡ old.lottery → new.schools ≡ old.schools → new.positions ≡ old.positions → new.students.entries ≡ set_value (nat_eq i) old.students.entries student
     → new.draws ≡ old.draws
     → IsSound new
-IsSound-put_student old new i student sound proper short seed schools put draws =
+IsSound-put_student old new i student sound proper short seed schools positions put draws =
     let after : market_of new ≡ put_student (market_of old) i student = rw (seed, schools, put) refl in
     record {
       well_formed = rw after (WellFormed-put_student (market_of old) i student sound.well_formed proper);
       within_limits = rw after (WithinLimits-put_student (market_of old) i student sound.within_limits short);
+      positions = rw (positions, schools) sound.positions;
       draws = rw (draws, seed, put, keys-set_value (nat_eq i) old.students.entries student) sound.draws;
     }
 
 -- what the papers hold of a school changes
 pub IsSound-put_school : (old new : Inside) (s : ℕ) (school : School) → IsSound old → school.seats ≤ GREATEST
-    → new.lottery ≡ old.lottery → new.students ≡ old.students → new.schools.entries ≡ set_value (nat_eq s) old.schools.entries school
+    → new.lottery ≡ old.lottery → new.students ≡ old.students → new.positions ≡ old.positions → new.schools.entries ≡ set_value (nat_eq s) old.schools.entries school
     → new.draws ≡ old.draws
     → IsSound new
-IsSound-put_school old new s school sound seats seed students put draws =
+IsSound-put_school old new s school sound seats seed students positions put draws =
     let after : market_of new ≡ put_school (market_of old) s school = rw (seed, students, put) refl in
     record {
       well_formed = rw after (WellFormed-put_school (market_of old) s school sound.well_formed);
       within_limits = rw after (WithinLimits-put_school (market_of old) s school sound.within_limits seats);
+      positions = rw (positions, put, keys-set_value (nat_eq s) old.schools.entries school) sound.positions;
+      draws = rw (draws, seed, students) sound.draws;
+    }
+
+-- copied fields hold the same market
+pub market_of-copied : (old new : Inside) → new.lottery ≡ old.lottery → new.schools.entries ≡ old.schools.entries → new.students.entries ≡ old.students.entries
+    → market_of new ≡ market_of old
+market_of-copied old new seed schools students = rw (seed, schools, students) refl
+
+-- and are sound
+pub IsSound-copied : (old new : Inside) → IsSound old → new.lottery ≡ old.lottery → new.schools.entries ≡ old.schools.entries → new.positions ≡ old.positions
+    → new.students.entries ≡ old.students.entries → new.draws.items ≡ old.draws.items
+    → IsSound new
+IsSound-copied old new sound seed schools positions students draws =
+    let after = market_of-copied old new seed schools students in
+    record {
+      well_formed = rw after sound.well_formed;
+      within_limits = rw after sound.within_limits;
+      positions = rw (positions, schools) sound.positions;
       draws = rw (draws, seed, students) sound.draws;
     }

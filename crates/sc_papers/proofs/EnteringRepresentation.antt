@@ -25,16 +25,17 @@ market_of-entered old new i student may seed schools inserted =
 
 -- the fields stay sound
 pub IsSound-entered : (old new : Inside) (i : ℕ) (student : Student) → IsSound old → MayEnter (market_of old) i student
-    → new.lottery ≡ old.lottery → new.schools ≡ old.schools → new.students.entries ≡ insert_entry nat_eq old.students.entries i student
+    → new.lottery ≡ old.lottery → new.schools ≡ old.schools → new.positions ≡ old.positions → new.students.entries ≡ insert_entry nat_eq old.students.entries i student
     → new.draws.items ≡ old.draws.items ++ draw old.lottery i ∷ []
     → IsSound new
-IsSound-entered old new i student sound may seed schools inserted drawn =
+IsSound-entered old new i student sound may seed schools positions inserted drawn =
     let after = market_of-entered old new i student may seed schools inserted in
     let keys : students_of (market_of new) ≡ students_of (market_of old) ++ i ∷ [] =
     ap students_of after ∙ keys_of-push old.students.entries (i, student) in
     record {
       well_formed = rw after (WellFormed-with_student (market_of old) i student sound.well_formed may);
       within_limits = rw after (WithinLimits-with_student (market_of old) i student sound.within_limits may);
+      positions = rw (positions, schools) sound.positions;
       draws =
           let more = map-push (draw old.lottery) (students_of (market_of old)) i in
           let drawn_before = sound.draws in

@@ -11,7 +11,7 @@ use Rattle.std.specs.Map.{keys_of, lookup}
 use Rattle.std.specs.Option.{option_map, option_and_then}
 use Rattle.std.proofs.lemmas.Bool.{and_right}
 use Rattle.indexmap.proofs.MapLemmas.{some_index}
-use Rattle.std.proofs.lemmas.Option.{slice_get-map, get_or_from_slice_get}
+use Rattle.std.proofs.lemmas.Option.{same_Some, slice_get-map, get_or_from_slice_get}
 use Rattle.sc_papers.proofs.Positions.{position-there}
 
 -- the number of the entry at a place
@@ -58,3 +58,18 @@ no-key_of_student m i s none = rw (found-by_position m.students i None none) ref
 
 pub no-key_at_school : (m : Market) (i s : ℕ) → position (nat_eq s) (schools_of m) ≡ None → None ≡ cond (is_student m i && is_school m s) (Some (key_of m i s)) None
 no-key_at_school m i s none = rw (found-by_position m.schools s None none, and_right (is_student m i) false refl) refl
+
+-- what the papers hold of the school at a school's position
+pub school-there : (m : Market) (s t at : ℕ) (school : School) → position (nat_eq s) (schools_of m) ≡ Some at
+    → slice_get m.schools at ≡ Some (t, school) → school_of m t ≡ Some school → Some school ≡ school_of m s
+school-there m s t at school found entry known =
+    let same : t ≡ s = same_Some t s (sym (key-there m.schools at t school entry) ∙ position-there (schools_of m) s at found) in
+    sym known ∙ ap (school_of m) same
+
+-- a school without a position is not in the papers
+pub no-school-there : (m : Market) (s : ℕ) → position (nat_eq s) (schools_of m) ≡ None → None ≡ school_of m s
+no-school-there m s none = go (school_of m s) (found-by_position m.schools s None none)
+  where
+    go : (o : Option School) → is_some o ≡ false → None ≡ o
+    go None e = refl
+    go (Some x) e = cc

@@ -1,6 +1,7 @@
 -- A school that may be added leaves the papers well-formed and within their limits.
-use Rattle.std.proofs.Common.{◌≡◌, ℕ, ◌<◌, ◌≤◌, nat_eq, false, [], ◌∷◌, length, None, refl, ◌∙◌, arith, length-append}
-use Rattle.std.specs.Prelude.{nat_lt, nat_le}
+use Rattle.std.proofs.Common.{◌≡◌, ℕ, ◌<◌, ◌≤◌, nat_eq, false, [], ◌∷◌, ◌++◌, length, None, Some, cond, position, refl, sym, ap, ◌∙◌, arith, length-append}
+use Rattle.std.proofs.lemmas.Map.Entries.{length-keys_of}
+use Rattle.std.specs.Prelude.{nat_lt, nat_le, slice_index_or}
 use Rattle.std.specs.Map.{lookup}
 use Rattle.indexmap.specs.IndexMap.{insert_entry}
 use Rattle.indexmap.proofs.CallerLemmas.{insert_entry-new}
@@ -17,6 +18,7 @@ use Rattle.sc_papers.specs.declared.records.School.{School}
 use Rattle.sc_papers.specs.declared.school_refusal.SchoolRefusal.TheVariants.{SchoolExists, TooManySchools, SchoolsClosed}
 use Rattle.sc_papers.proofs.Objections.{first_of-none, refuse_if-none}
 use Rattle.sc_papers.proofs.Entering.{is_some-false, keys_of-push, list_any-keys}
+use Rattle.sc_papers.proofs.Positions.{position-push}
 use Rattle.sc_papers.specs.declared.limits.TheConstants.{MOST_SCHOOLS}
 use Rattle.sc_papers.specs.declared.seats.TheConstants.Seats.{GREATEST}
 
@@ -72,12 +74,18 @@ market_of-opened old new s school may seed students inserted =
 -- the fields stay sound
 pub IsSound-opened : (old new : Inside) (s : ℕ) (school : School) → IsSound old → MayOpen (market_of old) s → school.seats ≤ GREATEST
     → new.lottery ≡ old.lottery → new.students ≡ old.students → new.schools.entries ≡ insert_entry nat_eq old.schools.entries s school
+    → ((k : ℕ) → slice_index_or new.positions k None ≡ cond (nat_eq k s) (Some (length old.schools.entries)) (slice_index_or old.positions k None))
     → new.draws ≡ old.draws
     → IsSound new
-IsSound-opened old new s school sound may seats seed students inserted draws =
+IsSound-opened old new s school sound may seats seed students inserted put draws =
     let after = market_of-opened old new s school may seed students inserted in
+    let keys : schools_of (market_of new) ≡ schools_of (market_of old) ++ s ∷ [] = ap schools_of after ∙ keys_of-push old.schools.entries (s, school) in
     record {
       well_formed = rw after (WellFormed-with_school (market_of old) s school sound.well_formed may);
       within_limits = rw after (WithinLimits-with_school (market_of old) s school sound.within_limits may seats);
+      positions = λ k.
+          put k ∙ ap (λ (n : ℕ). cond (nat_eq k s) (Some n) (slice_index_or old.positions k None)) (sym (length-keys_of old.schools.entries))
+          ∙ ap (cond (nat_eq k s) (Some (length (schools_of (market_of old))))) (sound.positions k)
+          ∙ sym (ap (position (nat_eq k)) keys ∙ position-push (schools_of (market_of old)) s k (list_any-keys s old.schools.entries may.new));
       draws = rw (draws, seed, students) sound.draws;
     }

@@ -1,7 +1,9 @@
 -- Positions of numbers in lists, and of the papers' students and schools.
-use Rattle.std.proofs.Common.{◌≡◌, inl, inr, sym, ap, subst, ◌∙◌, ℕ, suc, ◌+◌, ◌<◌, nat_eq, Bool, true, not, ◌||◌, List, [], ◌∷◌, length, get_or, Some, None, Contains, position, slice_get, arith}
+use Rattle.std.proofs.Common.{◌≡◌, inl, inr, sym, ap, subst, ◌∙◌, ℕ, suc, ◌+◌, ◌<◌, nat_eq, Bool, true, not, ◌||◌, List, [], ◌∷◌, length, get_or, Some, None, cond, false, ◌++◌, refl, length-append, Contains, position, slice_get, arith}
 use Rattle.std.specs.List.{list_any, position_or_len}
 use Rattle.std.specs.Prelude.{nat_lt}
+use Rattle.std.proofs.lemmas.Bool.Decides.{nat_tests}
+use Rattle.std.proofs.lemmas.List.Folds.{position_or_len_push}
 use Rattle.std.proofs.lemmas.Bool.{cases_Bool, cond-true, cond-false, eqb-true, eq-eqb, false≢true, lt-ltb, or_left, or_right}
 use Rattle.std.proofs.lemmas.List.Quantifiers.{position-Some}
 use Rattle.std.proofs.lemmas.Map.Made.{is_some-lookup}
@@ -71,3 +73,25 @@ pub place-position : (m : Market) → WellFormed m → (k i : ℕ) → slice_get
 place-position m well k i here =
     let (at, found) = student-position m i (among-student m i (contains-at (students_of m) k i here)) in
     found ∙ ap Some (one-place (students_of m) at k i well.students_differ (position-there (students_of m) i at found) here)
+
+-- in a list without the number, no place passes
+position-none : (xs : List ℕ) (s : ℕ) → list_any (nat_eq s) xs ≡ false → position_or_len (nat_eq s) xs ≡ length xs
+position-none [] s none = refl
+position-none (x ∷ xs) s none = elim (cases_Bool (nat_eq s x)) [
+  | inl same ↦ absurd (false≢true (sym none ∙ or_left (nat_eq s x) (list_any (nat_eq s) xs) same))
+  | inr other ↦ rw other (omega (arith, position-none xs s (sym (ap (λ b. b || list_any (nat_eq s) xs) other) ∙ none)))
+]
+
+-- positions in a list with one more number, which is new, at its end
+pub position-push : (xs : List ℕ) (s k : ℕ) → list_any (nat_eq s) xs ≡ false
+    → position (nat_eq k) (xs ++ s ∷ []) ≡ cond (nat_eq k s) (Some (length xs)) (position (nat_eq k) xs)
+position-push xs s k none =
+    let place = position_or_len_push (nat_eq k) xs s in
+    let longer = length-append xs (s ∷ []) in
+    elim (cases_Bool (nat_eq k s)) [
+      | inl same ↦
+          let one : k ≡ s = eqb-true k s same in
+          let at : position_or_len (nat_eq k) xs ≡ length xs = rw one (position-none xs s none) in
+          grind (arith, nat_tests)
+      | inr other ↦ grind (arith, nat_tests)
+    ]

@@ -19,6 +19,7 @@ mod records;
 mod rejection;
 mod school_list;
 mod school_no;
+mod school_positions;
 mod school_refusal;
 mod seats;
 mod zone;

@@ -9,6 +9,7 @@ use crate::limits::MOST_SCHOOLS;
 use crate::records::{School, Student};
 use crate::school_list::SchoolList;
 use crate::school_no::SchoolNo;
+use crate::school_positions::SchoolPositions;
 use crate::school_refusal::SchoolRefusal;
 use crate::seats::Seats;
 use crate::zone::Zone;
@@ -25,6 +26,8 @@ pub struct Papers {
     // The seed's draws, read where the last student who entered left them.
     lottery: Draws,
     schools: IndexMap<SchoolNo, School>,
+    // Where each school stands in `schools`, so that a look-up by number hashes nothing.
+    positions: SchoolPositions,
     students: IndexMap<StudentNumber, Student>,
     // Each student's draw, in order of entry, so that a key costs no block of the cipher.
     draws: Vec<u64>,
@@ -56,6 +59,28 @@ fn class_at(student: &Student, number: SchoolNo, school: School) -> u8
     }
 }
 
+fn copy_draws(draws: &Vec<u64>) -> Result<Vec<u64>, AllocError>
+    ensures { IfOk result (λ copy. copy.items ≡ draws.now.items) }
+{
+    draws.clone()
+}
+
+fn copy_schools(
+    schools: &IndexMap<SchoolNo, School>,
+) -> Result<IndexMap<SchoolNo, School>, AllocError>
+    ensures { IfOk result (λ copy. copy.entries ≡ schools.now.entries) }
+{
+    schools.clone()
+}
+
+fn copy_students(
+    students: &IndexMap<StudentNumber, Student>,
+) -> Result<IndexMap<StudentNumber, Student>, AllocError>
+    ensures { IfOk result (λ copy. copy.entries ≡ students.now.entries) }
+{
+    students.clone()
+}
+
 impl Papers {
     ghost use Rattle.std.specs.Prelude.{◌≡◌, ℕ, ◌+◌, ◌-◌, ◌<◌, ◌≤◌, ◌↔◌, [], ◌∷◌, ◌++◌, length, slice_get, position, nat_eq, ◌&&◌, if◌then◌else◌, OnOk, OnErr, IfErr, IfOk};
     ghost use Rattle.std.specs.Option.{option_and_then, option_copied};
@@ -73,6 +98,7 @@ impl Papers {
         Papers {
             lottery: Draws::new(seed),
             schools: IndexMap::new(alloc),
+            positions: SchoolPositions::new(alloc),
             students: IndexMap::new(alloc),
             draws: Vec::new(alloc),
         }
@@ -106,14 +132,18 @@ impl Papers {
         Ok(())
     }
 
-    /// Puts a school that may be added last in the order of entry.
+    /// Puts a school that may be added last in the order of entry. Both growths come before the first
+    /// change that counts, so a refused one leaves the papers as they were.
     fn put_school(&mut self, number: SchoolNo, school: School) -> Result<(), AllocError>
         requires allowed { school_verdict self.old number ≡ None }
         requires seats { school.seats ≤ Seats.GREATEST }
         ensures added { OnOk result (self.new ≡ with_school self.old number school) }
         ensures unchanged { OnErr result (self.new ≡ self.old) }
     {
+        self.positions.reserve(number)?;
+        let position = self.schools.len() as u16;
         let _ = self.schools.insert(number, school)?;
+        self.positions.put(number, position);
         Ok(())
     }
 
@@ -123,12 +153,14 @@ impl Papers {
         ensures { IfOk result (λ copy. copy ≡ self.now) }
     {
         // The students come last, so that no error has to let them go.
-        let draws = self.draws.clone()?;
-        let schools = self.schools.clone()?;
-        let students = self.students.clone()?;
+        let draws = copy_draws(&self.draws)?;
+        let positions = self.positions.copy()?;
+        let schools = copy_schools(&self.schools)?;
+        let students = copy_students(&self.students)?;
         Ok(Papers {
-            lottery: Draws::new(self.seed()),
+            lottery: Draws::new(self.lottery.seed()),
             schools,
+            positions,
             students,
             draws,
         })
@@ -162,7 +194,9 @@ impl Papers {
     pub fn school(&self, school: SchoolNo) -> Option<School>
         ensures { result ≡ school_of self.now school }
     {
-        self.schools.get(&school).copied()
+        let position = self.school_position(school)?;
+        let (_, found) = self.schools.get_index(position)?;
+        Some(*found)
     }
 
     /// How many seats a school has: none where it is not in the papers. In constant time.
@@ -210,7 +244,7 @@ impl Papers {
     pub fn school_position(&self, school: SchoolNo) -> Option<usize>
         ensures { result ≡ position (nat_eq school) (schools_of self.now) }
     {
-        self.schools.get_index_of(&school)
+        self.positions.get(school)
     }
 
     /// A student's position in the order of entry. In constant time.

@@ -22,6 +22,6 @@ invariant_of-self c =
           rw w.self-inside-is
           (IsSound-put_student c.self.inside _ c.args.number (record before { zone = c.args.zone; siblings = c.args.siblings }) c.self.invariant
           (IsProper-corrected m c.args.number before c.args.zone c.args.siblings allowed proper)
-          (IsShort-corrected m c.args.number before c.args.zone c.args.siblings allowed short) refl refl put refl)
+          (IsShort-corrected m c.args.number before c.args.zone c.args.siblings allowed short) refl refl refl put refl)
       | in_default w ↦ rw (w.self-inside-is, c.get_mut.follows.holds-at-none) c.self.invariant
     ]

@@ -1,4 +1,4 @@
-use Rattle.std.proofs.Common.{◌≡◌, None, refl, ◌∙◌, ap}
+use Rattle.std.proofs.Common.{◌≡◌, ℕ, nat_eq, Some, None, cond, length, slice_index_or, refl, ◌∙◌, ap}
 use Rattle.sc_papers.specs.Representation.{market_of}
 use Rattle.sc_papers.specs.Market.{Market}
 use Rattle.sc_papers.specs.Verdict.{school_verdict, with_school}
@@ -7,11 +7,14 @@ use Rattle.sc_papers.proofs.papers.Papers.put_school.Goals as goal
 
 pub invariant_of-self-2 : goal.invariant_of-self-2
 invariant_of-self-2 c =
+    let put : (k : ℕ) → slice_index_or c.put.new.self k None ≡ cond (nat_eq k c.args.number) (Some (length c.self.inside.schools.entries)) (slice_index_or c.self.inside.positions k None) =
+    λ k. c.put.ensures k ∙ ap (λ (n : ℕ). cond (nat_eq k c.args.number) (Some n) (slice_index_or c.reserve.new.self k None)) c.len-position.ensures.len
+    ∙ ap (cond (nat_eq k c.args.number) (Some (length c.self.inside.schools.entries))) (c.reserve.ensures.same k) in
     let allowed : school_verdict (market_of c.self.inside) c.args.number ≡ None = ap (λ (m : Market). school_verdict m c.args.number) c.self.view_is ∙ c.requires.allowed in
-    IsSound-opened c.self.inside _ c.args.number c.args.school c.self.invariant (MayOpen-allowed (market_of c.self.inside) c.args.number allowed) c.requires.seats refl refl c.in_ok-insert.ensures.entries refl
+    IsSound-opened c.self.inside _ c.args.number c.args.school c.self.invariant (MayOpen-allowed (market_of c.self.inside) c.args.number allowed) c.requires.seats refl refl c.in_ok-insert.ensures.entries put refl
 
 pub returns-clause-added : goal.returns-clause-added
 returns-clause-added c =
     let allowed : school_verdict (market_of c.self.inside) c.args.number ≡ None = ap (λ (m : Market). school_verdict m c.args.number) c.self.view_is ∙ c.requires.allowed in
-    market_of-opened c.self.inside (record { lottery = c.self.inside.lottery; schools = c.insert.new.self; students = c.self.inside.students; draws = c.self.inside.draws }) c.args.number c.args.school (MayOpen-allowed (market_of c.self.inside) c.args.number allowed) refl refl c.in_ok-insert.ensures.entries
+    market_of-opened c.self.inside (record { lottery = c.self.inside.lottery; schools = c.insert.new.self; positions = c.put.new.self; students = c.self.inside.students; draws = c.self.inside.draws }) c.args.number c.args.school (MayOpen-allowed (market_of c.self.inside) c.args.number allowed) refl refl c.in_ok-insert.ensures.entries
     ∙ ap (λ (m : Market). with_school m c.args.number c.args.school) c.self.view_is

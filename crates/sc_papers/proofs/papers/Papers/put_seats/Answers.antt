@@ -9,6 +9,6 @@ invariant_of-self c =
       | in-Some w ↦
           let school = record w.in-Some.school.now { seats = c.args.seats } in
           let put = (c.get_mut.follows.holds school).0 in
-          rw w.self-inside-is (IsSound-put_school c.self.inside _ c.args.number school c.self.invariant c.requires refl refl put refl)
+          rw w.self-inside-is (IsSound-put_school c.self.inside _ c.args.number school c.self.invariant c.requires refl refl refl put refl)
       | in_default w ↦ rw (w.self-inside-is, c.get_mut.follows.holds-at-none) c.self.invariant
     ]

@@ -22,6 +22,6 @@ invariant_of-self c =
           rw w.self-inside-is
           (IsSound-put_student c.self.inside _ c.args.number (record before { choices = c.args.choices }) c.self.invariant
           (IsProper-reranked m c.args.number before c.args.choices allowed proper)
-          (IsShort-reranked m c.args.number before c.args.choices allowed short) refl refl put refl)
+          (IsShort-reranked m c.args.number before c.args.choices allowed short) refl refl refl put refl)
       | in_default w ↦ rw (w.self-inside-is, c.get_mut.follows.holds-at-none) c.self.invariant
     ]

@@ -1,0 +1,80 @@
+ghost use Rattle.std.specs.Prelude.{◌≡◌, ℕ, ◌<◌, nat_eq, Option, None, Some, length, slice_index_or, if◌then◌else◌, IfOk, OnOk};
+
+use crate::school_no::SchoolNo;
+use std::alloc::{AllocError, Global};
+use std::marker::Model;
+
+/// Where each school stands in the order of entry, by its number.
+#[derive(Drop)]
+pub(crate) struct SchoolPositions {
+    // A number past the end has no position.
+    by_number: Vec<Option<u16>>,
+}
+
+impl Model for SchoolPositions {
+    ghost use Rattle.std.specs.Prelude.{List, Option, ℕ};
+
+    ghost Value = { List (Option ℕ) };
+
+    ghost view = { λ p. p.by_number.items };
+}
+
+/// Makes room for a number. Nothing stands there yet, nor at those that come before it.
+fn make_room(by_number: &mut Vec<Option<u16>>, number: usize) -> Result<(), AllocError>
+    ensures room { OnOk result (number < length by_number.new.items) }
+    ensures same { (k : ℕ) → slice_index_or by_number.new.items k None ≡ slice_index_or by_number.old.items k None }
+{
+    while by_number.len() <= number {
+        by_number.push(None)?;
+    }
+    Ok(())
+}
+
+impl SchoolPositions {
+    ghost use Rattle.std.specs.Prelude.{◌≡◌, ℕ, ◌<◌, [], None, Some, length, nat_eq, slice_index_or, if◌then◌else◌, IfOk, OnOk};
+
+    /// No school has a position. It takes no memory.
+    pub(crate) fn new(alloc: Global) -> Self
+        ensures { result ≡ [] }
+    {
+        SchoolPositions {
+            by_number: Vec::new(alloc),
+        }
+    }
+
+    /// An equal table, or the error of a refused growth.
+    pub(crate) fn copy(&self) -> Result<Self, AllocError>
+        ensures { IfOk result (λ copy. copy ≡ self.now) }
+    {
+        Ok(SchoolPositions {
+            by_number: Vec::from_slice(*self.by_number.allocator(), self.by_number.as_slice())?,
+        })
+    }
+
+    /// The position of a school.
+    pub(crate) fn get(&self, school: SchoolNo) -> Option<usize>
+        ensures { result ≡ slice_index_or self.now school None }
+    {
+        match self.by_number.get(school.get() as usize) {
+            Some(position) => position.map(usize::from),
+            None => None,
+        }
+    }
+
+    /// Makes room for a school. No position changes, also where the growth is refused.
+    pub(crate) fn reserve(&mut self, school: SchoolNo) -> Result<(), AllocError>
+        ensures room { OnOk result (school < length self.new) }
+        ensures same { (s : ℕ) → slice_index_or self.new s None ≡ slice_index_or self.old s None }
+    {
+        make_room(&mut self.by_number, school.get() as usize)?;
+        Ok(())
+    }
+
+    /// Gives a school a position, where there is room.
+    pub(crate) fn put(&mut self, school: SchoolNo, position: u16)
+        requires { school < length self.old }
+        ensures { (s : ℕ) → slice_index_or self.new s None ≡ (if nat_eq s school then Some position else slice_index_or self.old s None) }
+    {
+        self.by_number[school.get() as usize] = Some(position);
+    }
+}
