@@ -4,4 +4,5 @@ pub mod Blanks
 pub mod Words
 pub mod Giving
 pub mod RowLemmas
+pub mod SeenLemmas
 pub mod PaperLemmas
