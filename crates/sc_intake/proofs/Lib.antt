@@ -3,6 +3,8 @@ pub mod CursorMoves
 pub mod Blanks
 pub mod Words
 pub mod Giving
+pub mod Listing
 pub mod RowLemmas
+pub mod SeenLemmas
 pub mod PaperLemmas
 mod InStep

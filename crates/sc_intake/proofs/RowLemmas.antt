@@ -1,20 +1,22 @@
 -- One row more, in a reading and in the code.
-use Rattle.std.proofs.Common.{◌≡◌, ℕ, ◌+◌, ◌≤◌, Bool, true, false, ◌||◌, nat_eq, List, [], ◌∷◌, ◌++◌, length, map, inl, inr, refl, sym, ap, ◌∙◌, Ok, Err}
+use Rattle.std.proofs.Common.{◌≡◌, ℕ, ◌+◌, ◌≤◌, false, nat_eq, List, [], ◌∷◌, ◌++◌, length, map, inl, inr, refl, ap, ◌∙◌, Ok, Err, arith}
 use Rattle.std.specs.Prelude.{Result}
-use Rattle.std.specs.List.{list_any}
-use Rattle.std.specs.List.Sorted.{IsPermutation}
+use Rattle.std.specs.List.{IsDistinct, list_any}
 use Rattle.std.proofs.lemmas.Cmp.{nat_eq_equiv}
 use Rattle.std.proofs.lemmas.List.{length_push, map-append}
-use Rattle.std.proofs.lemmas.List.Folds.{list_any-append}
-use Rattle.std.proofs.lemmas.List.Sorted.{list_any-IsPermutation}
 use Rattle.std.proofs.lemmas.Map.Keys.{IsDistinct-push}
 use Rattle.sc_intake.specs.Fault.{◌>>=◌, IsFault, fault_at, no_memory}
 use Rattle.sc_intake.specs.File.{in_row, rows_after}
-use Rattle.sc_intake.specs.Rows.{added, AreNumbers, AreRows}
+use Rattle.sc_intake.specs.Rows.{added, AreRows}
 use Rattle.sc_intake.specs.declared.fault.Cause.{Cause}
 use Rattle.sc_intake.specs.declared.fault.Cause.TheVariants.{OutOfMemory}
 use Rattle.sc_intake.specs.declared.fault.IntakeFault.{IntakeFault}
 use Rattle.sc_intake.specs.declared.fault.Source.{Source}
+
+-- no rows
+pub AreRows-none : {R : Type 0} (number : R → ℕ) (most : ℕ) → AreRows number most []
+unfolding IsDistinct
+AreRows-none number most = record { differ = tt; few = omega arith }
 
 -- a row with a new number, where there is room
 pub AreRows-push : {R : Type 0} (number : R → ℕ) (most : ℕ) (rows : List R) (row : R) → AreRows number most rows
@@ -23,22 +25,6 @@ AreRows-push number most rows row are new room = record {
   differ = rw (map-append number rows (row ∷ [])) (IsDistinct-push nat_eq_equiv (map number rows) (number row) are.differ new);
   few = rw (length_push rows row) room;
 }
-
-swapped : (a b : Bool) → (a || b) ≡ (b || (a || false))
-swapped true true = refl
-swapped true false = refl
-swapped false true = refl
-swapped false false = refl
-
--- its number is then one of the numbers
-pub AreNumbers-push : {R : Type 0} (number : R → ℕ) (rows : List R) (row : R) (old new : List ℕ) → AreNumbers number rows old
-    → IsPermutation (number row ∷ old) new → AreNumbers number (rows ++ row ∷ []) new
-AreNumbers-push number rows row old new are put = λ n.
-    sym (list_any-IsPermutation (nat_eq n) (number row ∷ old) new put)
-    ∙ swapped (nat_eq n (number row)) (list_any (nat_eq n) old)
-    ∙ ap (λ (b : Bool). b || (nat_eq n (number row) || false)) (are n)
-    ∙ sym (list_any-append (nat_eq n) (map number rows) (number row ∷ []))
-    ∙ ap (list_any (nat_eq n)) (sym (map-append number rows (row ∷ [])))
 
 rows_after-more : {R : Type 0} (first : ℕ) (source : Source) (read : List R → List (List ℕ) → Result R Cause) (earlier : List R) (fields : List (List ℕ)) (rest : List (List (List ℕ))) (rows : List R)
     → added earlier (read earlier fields) ≡ Ok rows → rows_after first source read earlier (fields ∷ rest) ≡ rows_after first source read rows rest

@@ -86,3 +86,7 @@ as_count = within 1 greatest_count
 -- the numbers of a list of schools
 abbrev pub all_schools : List ℕ → Result (List ℕ) Cause
 all_schools ns = if list_all (is_within 1 greatest_school) ns then Ok ns else Err Range
+
+-- what a list of schools reads as: its numbers have to be numbers before one of them is out of range
+abbrev pub listed : List ℕ → Result (Result (List ℕ) Cause) Cause
+listed text = list_of text >>= λ numbers. Ok (all_schools numbers)

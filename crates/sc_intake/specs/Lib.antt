@@ -12,3 +12,4 @@ pub mod Lists
 pub mod Papers
 pub mod Script
 pub mod Log
+pub mod Seen

@@ -1,13 +1,10 @@
-//! The fields of a record: the blanks around them, numbers, and lists of numbers.
+//! The fields of a record: the blanks around them, numbers, and the pieces between spaces.
 
 ghost use Rattle.std.specs.Prelude.{◌≡◌, ◌+◌, ◌≤◌, ◌++◌, length, drop, slice_range};
-ghost use Rattle.sc_intake.specs.Fault.{Gives};
-ghost use Rattle.sc_intake.specs.Field.{is_blank, list_of, number_of, trimmed, trim_end, trim_start, word_of, words};
-ghost use Rattle.sc_intake.specs.declared.fault.Cause.TheVariants.{OutOfMemory};
+ghost use Rattle.sc_intake.specs.Field.{is_blank, number_of, trimmed, trim_end, trim_start, word_of, words};
 
 use crate::fault::Cause;
 use sc_decimal::read_number;
-use std::alloc::Global;
 
 fn is_blank(byte: u8) -> bool
     ensures { result ≡ is_blank byte }
@@ -60,7 +57,7 @@ pub(crate) fn number(text: &[u8]) -> Result<u32, Cause>
 }
 
 /// Where the piece that begins at an index ends: at the next space, or at the end of the text.
-fn piece_end(text: &[u8], start: usize) -> usize
+pub(crate) fn piece_end(text: &[u8], start: usize) -> usize
     requires { start ≤ length text.now }
     ensures least { start ≤ result }
     ensures greatest { result ≤ length text.now }
@@ -72,21 +69,4 @@ fn piece_end(text: &[u8], start: usize) -> usize
         }
     }
     text.len()
-}
-
-/// The numbers of a list: a field without blanks that is numbers with one or more spaces between
-/// them. `Number` where one of them is no number.
-pub(crate) fn list(alloc: Global, text: &[u8]) -> Result<Vec<u32>, Cause>
-    ensures { Gives (λ numbers. numbers.items) OutOfMemory (list_of text.now) result }
-{
-    let mut numbers = Vec::new(alloc);
-    let mut start = 0;
-    while start < text.len() {
-        let end = piece_end(text, start);
-        if start < end {
-            numbers.push(number(&text[start..end])?)?;
-        }
-        start = end + 1;
-    }
-    Ok(numbers)
 }

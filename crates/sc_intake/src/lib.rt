@@ -18,6 +18,7 @@ mod rows;
 mod school_list;
 mod schools;
 mod script;
+mod seen;
 
 pub use fault::{Cause, IntakeFault, Source};
 pub use input::MOST_BYTES;

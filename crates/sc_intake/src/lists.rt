@@ -6,7 +6,7 @@ ghost use Rattle.sc_intake.specs.Lists.{lists_in};
 ghost use Rattle.sc_intake.specs.declared.fault.Source.TheVariants.{Lists};
 
 use crate::fault::{Cause, IntakeFault, Source};
-use crate::field::{list, number};
+use crate::field::number;
 use crate::ranges;
 use crate::records::Records;
 use crate::rows::{Numbered, Row, Rows, read_rows};
@@ -66,11 +66,11 @@ impl Row for ListRow {
             return Err(Cause::Fields);
         }
         let student = number(fields.field(0))?;
-        let choices = list(alloc, fields.field(1))?;
+        let choices = school_list(alloc, fields.field(1))?;
         Ok(ListRow {
             row,
             student: ranges::student(student)?,
-            choices: school_list(alloc, &choices)?,
+            choices: choices?,
         })
     }
 }

@@ -6,7 +6,7 @@ ghost use Rattle.sc_intake.specs.Roster.{roster_in};
 ghost use Rattle.sc_intake.specs.declared.fault.Source.TheVariants.{Roster};
 
 use crate::fault::{Cause, IntakeFault, Source};
-use crate::field::{list, number};
+use crate::field::number;
 use crate::ranges;
 use crate::records::Records;
 use crate::rows::{Numbered, Row, Rows, read_rows};
@@ -87,12 +87,12 @@ impl Row for RosterRow {
         }
         let student = number(fields.field(0))?;
         let zone = number(fields.field(1))?;
-        let siblings = list(alloc, fields.field(2))?;
+        let siblings = school_list(alloc, fields.field(2))?;
         Ok(RosterRow {
             row,
             student: ranges::student(student)?,
             zone: ranges::zone(zone)?,
-            siblings: school_list(alloc, &siblings)?,
+            siblings: siblings?,
         })
     }
 }

@@ -11,8 +11,8 @@ ghost use Rattle.sc_intake.specs.declared.fault.Source.{Source as Input};
 use crate::fault::{Cause, IntakeFault, Source};
 use crate::input::records_in;
 use crate::records::Records;
+use crate::seen::SeenNumbers;
 use std::alloc::Global;
-use std::collections::HashSet;
 use std::marker::Model;
 
 /// A row with a number. No two rows of a file have the same one.
@@ -115,13 +115,13 @@ fn add_row<R: Row>(
     alloc: Global,
     fields: &Records,
     rows: &mut Vec<R>,
-    seen: &mut HashSet<u32>,
+    seen: &mut SeenNumbers,
 ) -> Result<(), Cause>
     requires rows { AreRows R.number R.MOST rows.old.items }
-    requires seen { AreNumbers R.number rows.old.items seen.old.keys }
+    requires seen { AreNumbers R.number rows.old.items seen.old }
     ensures gives { Gives (λ _. rows.new.items) OutOfMemory (added rows.old.items (next_row R.MOST R.number R.reading rows.old.items fields.now.current)) result }
     ensures rows { OnOk result (AreRows R.number R.MOST rows.new.items) }
-    ensures seen { OnOk result (AreNumbers R.number rows.new.items seen.new.keys) }
+    ensures seen { OnOk result (AreNumbers R.number rows.new.items seen.new) }
     ensures more { OnOk result (length rows.new.items ≡ length rows.old.items + 1) }
 {
     if rows.len() >= R::MOST {
@@ -141,7 +141,7 @@ fn take_rows<R: Row>(alloc: Global, records: &mut Records) -> Result<Vec<R>, Int
     ensures rows { IfOk result (λ rows. AreRows R.number R.MOST rows.items) }
 {
     let mut rows = Vec::new(alloc);
-    let mut seen = HashSet::new(alloc);
+    let mut seen = SeenNumbers::new(alloc);
     'rows: while records.advance(R::source())? {
         let row = rows.len() as u64 + 2;
         if let Err(cause) = add_row(alloc, records, &mut rows, &mut seen) {

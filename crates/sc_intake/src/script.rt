@@ -8,7 +8,7 @@ ghost use Rattle.sc_intake.specs.declared.fault.Cause.TheVariants.{OutOfMemory};
 ghost use Rattle.sc_intake.specs.declared.fault.Source.TheVariants.{Script};
 
 use crate::fault::{Cause, IntakeFault, Source};
-use crate::field::{list, number};
+use crate::field::number;
 use crate::input::records_in;
 use crate::ranges;
 use crate::records::Records;
@@ -21,8 +21,7 @@ use std::alloc::{AllocError, Global};
 fn list_at(alloc: Global, fields: &Records, index: usize) -> Result<SchoolList, Cause>
     ensures { Gives (λ schools. schools) OutOfMemory (list_at fields.now.current index) result }
 {
-    let numbers = list(alloc, fields.field(index))?;
-    Ok(school_list(alloc, &numbers)?)
+    Ok(school_list(alloc, fields.field(index))??)
 }
 
 /// `enter,STUDENT,ZONE,SIBLINGS,CHOICES`

@@ -1,7 +1,16 @@
-use Rattle.std.proofs.Common.{◌≡◌, ◌+◌, length, refl, rules}
+use Rattle.std.proofs.Common.{◌≡◌, ◌+◌, [], length, refl, rules}
 use Rattle.sc_intake.specs.Rows.{next_row}
-use Rattle.sc_intake.proofs.RowLemmas.{row-end, row-fault, row-step}
+use Rattle.sc_intake.proofs.RowLemmas.{AreRows-none, row-end, row-fault, row-step}
 use Rattle.sc_intake.proofs.rows.take_rows.Goals as goal
+
+pub rows-init : goal.rows-init
+rows-init g c =
+    let none : c.new-rows.result.items ≡ [] = search rules in
+    record {
+      gives = rw none refl;
+      rows = rw none (AreRows-none g.R.Numbered.number g.R.Numbered.MOST);
+      seen = λ n. rw (none, c.new-seen.ensures) refl;
+    }
 
 pub returns-in-Err-clause-gives : goal.returns-in-Err-clause-gives
 returns-in-Err-clause-gives g c =

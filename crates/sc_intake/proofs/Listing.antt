@@ -1,0 +1,75 @@
+-- A list of schools that is read word by word: the numbers so far, and whether each is a school's.
+use Rattle.std.proofs.Common.{◌≡◌, ℕ, ◌≤◌, ◌<◌, Bool, true, false, ◌&&◌, List, [], ◌∷◌, ◌++◌, length, drop, refl, sym, ap, ◌∙◌, Ok, Err}
+use Rattle.std.specs.Bool.{OnTrue}
+use Rattle.std.specs.List.{list_all}
+use Rattle.std.proofs.lemmas.List.Folds.{list_all-append}
+use Rattle.sc_papers.specs.declared.school_no.TheConstants.SchoolNo.{GREATEST as greatest_school}
+use Rattle.sc_intake.specs.Field.{is_within, list_of, listed, number_of, numbers_after, word_of, words}
+use Rattle.sc_intake.specs.declared.fault.Cause.{Cause}
+use Rattle.sc_intake.specs.declared.fault.Cause.TheVariants.{Range}
+use Rattle.sc_intake.proofs.Words.{numbers-bad, numbers-last, numbers-more, numbers-skip, numbers-word}
+
+-- the numbers before a place of a text; while each is a school's, they are the schools so far
+pub record SoFar (text : List ℕ) (start : ℕ) (schools : List ℕ) (in_range : Bool) : Type 0 where
+  pub numbers : List ℕ
+  pub reading : list_of text ≡ numbers_after numbers (words (drop start text))
+  pub ranged : list_all (is_within 1 greatest_school) numbers ≡ in_range
+  pub same : in_range ≡ true → schools ≡ numbers
+
+-- a reading that ends in an error
+pub listed-bad : (text : List ℕ) (e : Cause) → list_of text ≡ Err e → listed text ≡ Err e
+listed-bad text e bad = rw bad refl
+
+-- a reading whose numbers are all schools'
+pub listed-whole : (text numbers : List ℕ) → list_of text ≡ Ok numbers → list_all (is_within 1 greatest_school) numbers ≡ true → listed text ≡ Ok (Ok numbers)
+listed-whole text numbers reads all = rw reads (rw all refl)
+
+pub listed-out : (text numbers : List ℕ) → list_of text ≡ Ok numbers → list_all (is_within 1 greatest_school) numbers ≡ false → listed text ≡ Ok (Err Range)
+listed-out text numbers reads some = rw reads (rw some refl)
+
+-- a word that writes a number
+pub SoFar-word : (text : List ℕ) (start next : ℕ) (old new : List ℕ) (in_range is_school : Bool) (piece : List ℕ) (n : ℕ) → SoFar text start old in_range
+    → words (drop start text) ≡ word_of piece ++ words (drop next text) → 0 < length piece → number_of piece ≡ Ok n
+    → is_school ≡ is_within 1 greatest_school n → OnTrue is_school (new ≡ old ++ n ∷ []) → SoFar text next new (in_range && is_school)
+SoFar-word text start next old new in_range is_school piece n so cut some number school pushed = record {
+  numbers = so.numbers ++ n ∷ [];
+  reading = so.reading ∙ ap (numbers_after so.numbers) cut ∙ numbers-word so.numbers piece (words (drop next text)) some ∙ numbers-more so.numbers piece (words (drop next text)) n number;
+  ranged = list_all-append (is_within 1 greatest_school) so.numbers (n ∷ []) ∙ both so.ranged school;
+  same = by in_range is_school pushed so.same;
+}
+  where
+    both : {a : Bool} → a ≡ in_range → is_school ≡ is_within 1 greatest_school n → (a && (is_within 1 greatest_school n && true)) ≡ (in_range && is_school)
+    both {a = a} ranged school = rw (ranged, school) (ap (λ (b : Bool). in_range && b) (end (is_within 1 greatest_school n)))
+      where
+        end : (b : Bool) → (b && true) ≡ b
+        end true = refl
+        end false = refl
+
+    by : (a b : Bool) → OnTrue b (new ≡ old ++ n ∷ []) → (a ≡ true → old ≡ so.numbers) → (a && b) ≡ true → new ≡ so.numbers ++ n ∷ []
+    by true true pushed same both = pushed ∙ ap (λ (ns : List ℕ). ns ++ n ∷ []) (same refl)
+    by true false pushed same both = cc both
+    by false b pushed same both = cc both
+
+-- a space alone
+pub SoFar-space : (text : List ℕ) (start next : ℕ) (schools : List ℕ) (in_range : Bool) (piece : List ℕ) → SoFar text start schools in_range
+    → words (drop start text) ≡ word_of piece ++ words (drop next text) → length piece ≡ 0 → SoFar text next schools in_range
+SoFar-space text start next schools in_range piece so cut none = record {
+  numbers = so.numbers;
+  reading = so.reading ∙ ap (numbers_after so.numbers) cut ∙ numbers-skip so.numbers piece (words (drop next text)) none;
+  ranged = so.ranged;
+  same = so.same;
+}
+
+-- a word that writes no number
+pub SoFar-bad : (text : List ℕ) (start next : ℕ) (schools : List ℕ) (in_range : Bool) (piece : List ℕ) (e : Cause) → SoFar text start schools in_range
+    → words (drop start text) ≡ word_of piece ++ words (drop next text) → 0 < length piece → number_of piece ≡ Err e → listed text ≡ Err e
+SoFar-bad text start next schools in_range piece e so cut some bad =
+    listed-bad text e (so.reading ∙ ap (numbers_after so.numbers) cut ∙ numbers-word so.numbers piece (words (drop next text)) some ∙ numbers-bad so.numbers piece (words (drop next text)) e bad)
+
+-- the end of the text
+pub SoFar-whole : (text : List ℕ) (start : ℕ) (schools : List ℕ) → SoFar text start schools true → length text ≤ start → listed text ≡ Ok (Ok schools)
+SoFar-whole text start schools so past =
+    listed-whole text so.numbers (so.reading ∙ numbers-last so.numbers text start past) so.ranged ∙ ap (λ (ns : List ℕ). Ok (Ok ns)) (sym (so.same refl))
+
+pub SoFar-out : (text : List ℕ) (start : ℕ) (schools : List ℕ) → SoFar text start schools false → length text ≤ start → listed text ≡ Ok (Err Range)
+SoFar-out text start schools so past = listed-out text so.numbers (so.reading ∙ numbers-last so.numbers text start past) so.ranged
