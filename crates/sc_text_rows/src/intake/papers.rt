@@ -1,5 +1,5 @@
 //! The three files together: the papers that they make, or their first fault.
-use sc_intake::{IntakeFault, papers_of, read_lists, read_roster, read_schools};
+use sc_intake::{IntakeFault, papers_of, papers_of_rows, read_lists, read_roster, read_schools};
 use sc_papers::{Papers, SchoolList, Seed, Student};
 use std::alloc::{AllocError, Global};
 use std::process::Abort;
@@ -80,6 +80,20 @@ fn opened(
     papers_of(alloc, seed, &schools, &roster, &lists)
 }
 
+/// The same papers, made of rows that are given up.
+fn opened_by_rows(
+    alloc: Global,
+    seed: Seed,
+    schools: &str,
+    roster: &str,
+    lists: &str,
+) -> Result<Papers, IntakeFault> {
+    let schools = read_schools(alloc, schools.as_bytes())?;
+    let roster = read_roster(alloc, roster.as_bytes())?;
+    let lists = read_lists(alloc, lists.as_bytes())?;
+    papers_of_rows(alloc, seed, &schools, roster, lists)
+}
+
 /// The papers of three files as a text, or the line of their fault.
 fn told(alloc: Global, opened: Result<Papers, IntakeFault>) -> Result<String, AllocError> {
     match opened {
@@ -92,7 +106,7 @@ fn told(alloc: Global, opened: Result<Papers, IntakeFault>) -> Result<String, Al
     }
 }
 
-/// Each three files make the papers that are wanted, or have that fault.
+/// Each three files make the papers that are wanted, or have that fault, by either call.
 fn expect(
     rt: &impl Abort,
     alloc: Global,
@@ -100,8 +114,10 @@ fn expect(
 ) -> Result<(), AllocError> {
     let seed = Seed::from_hex(&[b'0'; 64]).expect(rt, "a seed");
     for (schools, roster, lists, want) in table {
-        let told = told(alloc, opened(alloc, seed, schools, roster, lists))?;
-        assert!(rt; told.as_str() == *want, "{told}");
+        let lent = told(alloc, opened(alloc, seed, schools, roster, lists))?;
+        assert!(rt; lent.as_str() == *want, "{lent}");
+        let moved = told(alloc, opened_by_rows(alloc, seed, schools, roster, lists))?;
+        assert!(rt; moved.as_str() == *want, "{moved}");
     }
     Ok(())
 }
@@ -245,6 +261,80 @@ fn each_fault_of_the_students_once(rt: HostRuntime) -> Result<(), AllocError> {
                 ROSTER,
                 "student,choices\n1,10 20\n2,\n",
                 "roster row 3: Refused 4 EmptyList",
+            ),
+        ],
+    )
+}
+
+#[test]
+fn lists_in_another_order_than_the_roster(rt: HostRuntime) -> Result<(), AllocError> {
+    expect(
+        &rt,
+        rt.alloc(),
+        &[
+            (
+                SCHOOLS,
+                ROSTER,
+                "student,choices\n2,20 10\n1,10 20\n",
+                "school 10 zone 0 seats 1; school 20 zone 0 seats 1; student 1 zone 0 siblings 20 choices 10 20; student 2 zone 0 siblings 10 choices 20 10; ",
+            ),
+            (
+                SCHOOLS,
+                "student,zone,siblings\n2,0,10\n1,0,20\n",
+                LISTS,
+                "school 10 zone 0 seats 1; school 20 zone 0 seats 1; student 2 zone 0 siblings 10 choices 20 10; student 1 zone 0 siblings 20 choices 10 20; ",
+            ),
+            (
+                SCHOOLS,
+                ROSTER,
+                "student,choices\n2,20 10\n9,10\n1,10 20\n",
+                "lists row 3: NotInRoster",
+            ),
+            (
+                SCHOOLS,
+                ROSTER,
+                "student,choices\n2,20 10\n9,10\n",
+                "roster row 2: NoList",
+            ),
+            (
+                SCHOOLS,
+                ROSTER,
+                "student,choices\n2,20 10\n1,\n",
+                "roster row 2: Refused 4 EmptyList",
+            ),
+        ],
+    )
+}
+
+#[test]
+fn numbers_twice_in_any_order(rt: HostRuntime) -> Result<(), AllocError> {
+    expect(
+        &rt,
+        rt.alloc(),
+        &[
+            (
+                "school,zone,seats\n20,0,1\n10,0,1\n",
+                "student,zone,siblings\n",
+                "student,choices\n",
+                "school 20 zone 0 seats 1; school 10 zone 0 seats 1; ",
+            ),
+            (
+                "school,zone,seats\n20,0,1\n30,0,1\n20,0,1\n",
+                ROSTER,
+                LISTS,
+                "schools row 4: Twice",
+            ),
+            (
+                "school,zone,seats\n30,0,1\n20,0,1\n10,0,1\n20,0,1\n",
+                ROSTER,
+                LISTS,
+                "schools row 5: Twice",
+            ),
+            (
+                "school,zone,seats\n30,0,1\n10,0,1\n40,0,1\n40,0,1\n",
+                ROSTER,
+                LISTS,
+                "schools row 5: Twice",
             ),
         ],
     )
