@@ -1,16 +1,19 @@
 #!/usr/bin/env python3
-"""Times the proved crates and the plain Rust peer on the same markets, and prints a table.
+"""Times the built program and the plain Rust peer on the same files, in turn, and prints tables.
 
-    run.py [--times N] [--folder FOLDER]
+    run.py [--times N] [--only NAME] [--phases] [--folder FOLDER]
 
-It lays a workspace out in FOLDER (the repository's crates with `stopwatch/`, whose files end in .txt here since
-the gate refuses sources that no crate of its own owns), proves and builds the stopwatch there, compiles peer.rs
-with rustc -O, makes the markets by generate.py, and runs each program N times on each. The table has the
-quickest run and, as a measure of the machine's noise, how much slower the slowest was. Where the two
-programs' assignments differ, it says so and ends. Then come the rolls, and a thousand amendments. The log that
-certifies each market is audited, and its assignment checked, by code that shares none with what made them.
+The program is the one that the README's first command builds. peer.rs is compiled with rustc -O, and the markets are
+made by generate.py. Each runs N times on each market, one after the other; the table has the least processor time
+(user and system), its ratio, the most memory held and the page faults. Where the two programs' bytes differ, it says so and ends.
+The last line is the exponent of the program's growth from the smallest market to the largest.
+
+With --phases it lays a workspace out in FOLDER (the repository's crates with `stopwatch/`, whose files end in .txt here since
+the gate refuses sources that no crate of its own owns), proves and builds the stopwatch there, and times each phase of both, the
+audit of the log that certifies each market, the rolls, and a thousand amendments, by wall time.
 """
 import argparse
+import math
 import os
 import shutil
 import subprocess
@@ -20,13 +23,76 @@ import tempfile
 HERE = os.path.dirname(os.path.abspath(__file__))
 ROOT = os.path.dirname(HERE)
 FOLDER = os.path.join(tempfile.gettempdir(), "clearinghouse-bench")
+PROGRAM = os.path.join(ROOT, "crates", "clearinghouse", "out", "clearinghouse")
 MARKETS = {
     "2,000": ["--students", "2000", "--schools", "50"],
     "20,000": ["--students", "20000", "--schools", "500"],
+    "80,000": ["--students", "80000", "--schools", "700", "--choices", "12", "--seats", "114"],
     "200,000": ["--students", "200000", "--schools", "5000"],
 }
 PHASES = ["read", "settle", "write"]
 AUDITS = ["audit", "check_stable"]
+
+
+def market(name, folder):
+    """The folder of a market, made if it is not there."""
+    target = os.path.join(folder, "market-" + name.replace(",", ""))
+    if not os.path.isdir(target):
+        subprocess.run([sys.executable, os.path.join(HERE, "generate.py"), target, *MARKETS[name]], check=True)
+    return target
+
+
+def build_peer(folder):
+    """Compiles the peer, and answers its path."""
+    program = os.path.join(folder, "peer")
+    subprocess.run(["rustc", "-O", "--edition", "2021", "-o", program, os.path.join(HERE, "peer.rs")], check=True)
+    return program
+
+
+def words(program, files):
+    """The command line of a program for a market's files."""
+    if program != PROGRAM:
+        return [program, files]
+    with open(os.path.join(files, "seed")) as file:
+        seed = file.read()
+    paths = [word for name in ("schools", "roster", "lists") for word in ("--" + name, os.path.join(files, name + ".csv"))]
+    return [program, "match", "--seed", seed, *paths]
+
+
+def once(command, output):
+    """Processor milliseconds, MiB and page faults of one run, whose output goes to a file."""
+    with open(output, "wb") as out:
+        process = subprocess.Popen(command, stdout=out, stderr=subprocess.DEVNULL)
+        _, status, used = os.wait4(process.pid, 0)
+    if status != 0:
+        sys.exit(f"{command[0]} ended with {status}")
+    return (used.ru_utime + used.ru_stime) * 1e3, used.ru_maxrss / 1024, used.ru_minflt
+
+
+def same_bytes(first, second):
+    with open(first, "rb") as one, open(second, "rb") as other:
+        return one.read() == other.read()
+
+
+def time_programs(peer, folder, names, times):
+    """Prints the table of both programs."""
+    print("| students | program, ms | plain Rust, ms | ratio | MiB | faults |")
+    print("|---|---|---|---|---|---|")
+    least = {}
+    for name in names:
+        files = market(name, folder)
+        runs = {program: [] for program in (PROGRAM, peer)}
+        for _ in range(times):
+            for at, program in enumerate(runs):
+                runs[program].append(once(words(program, files), os.path.join(folder, f"report-{at}")))
+        if not same_bytes(os.path.join(folder, "report-0"), os.path.join(folder, "report-1")):
+            sys.exit(f"the reports of {name} students differ")
+        ours, theirs = (min(runs[program]) for program in (PROGRAM, peer))
+        least[name] = ours[0]
+        print(f"| {name} | {ours[0]:.0f} | {theirs[0]:.0f} | {ours[0] / theirs[0]:.1f} "
+              f"| {ours[1]:.0f}; {theirs[1]:.0f} | {ours[2]}; {theirs[2]} |")
+    if "2,000" in least and "200,000" in least:
+        print(f"exponent of growth: {math.log(least['200,000'] / least['2,000'], 100):.2f}")
 
 
 def lay_out(source, target, suffix=""):
@@ -43,8 +109,9 @@ def lay_out(source, target, suffix=""):
 def build_stopwatch(folder):
     """Proves and builds the stopwatch in a workspace of its own, and answers its path."""
     workspace = os.path.join(folder, "workspace")
+    apart = ("#", "clearinghouse", "sc_plain", "sc_rows", "sc_text_rows", "sc_growths", "sc_markets", "sc_words", "sc_runs", "sc_journal")
     with open(os.path.join(ROOT, "crates.txt")) as file:
-        lines = [line for line in file if not line.startswith(("#", "clearinghouse", "sc_plain", "sc_words", "sc_runs", "sc_journal"))]
+        lines = [line for line in file if not line.startswith(apart)]
     for name in [line.split(":")[0] for line in lines]:
         lay_out(os.path.join(ROOT, "crates", name), os.path.join(workspace, "crates", name))
     crate = os.path.join(workspace, "crates", "stopwatch")
@@ -56,57 +123,49 @@ def build_stopwatch(folder):
     return os.path.join(crate, "out", "stopwatch")
 
 
-def build_peer(folder):
-    """Compiles the peer, and answers its path."""
-    program = os.path.join(folder, "peer")
-    subprocess.run(["rustc", "-O", "--edition", "2021", "-o", program, os.path.join(HERE, "peer.rs")], check=True)
-    return program
-
-
-def times_of(program, folder):
-    """The phases' times in milliseconds, and the assignment."""
-    ran = subprocess.run([program, folder], check=True, capture_output=True, text=True)
+def phases_of(program, files):
+    """The phases' times in milliseconds."""
+    ran = subprocess.run([program, files], check=True, capture_output=True, text=True)
     times = {}
     for line in ran.stderr.splitlines():
-        words = line.split()
-        if words and words[0] in PHASES + AUDITS:
-            times[words[0]] = float(words[1]) / {"ms": 1, "us": 1000}[words[2]]
-    return times, ran.stdout
+        told = line.split()
+        if told and told[0] in PHASES + AUDITS:
+            times[told[0]] = float(told[1]) / {"ms": 1, "us": 1000}[told[2]]
+    return times
 
 
-def row(program, folder, times):
-    """The quickest time of each phase, how much slower the slowest was, and the assignment."""
-    runs = [times_of(program, folder) for _ in range(times)]
-    best = {phase: min(run[0][phase] for run in runs) for phase in PHASES}
-    worst = {phase: max(run[0][phase] for run in runs) for phase in PHASES}
-    best.update({audit: min(run[0][audit] for run in runs) for audit in AUDITS if audit in runs[0][0]})
-    return best, {phase: worst[phase] / best[phase] for phase in PHASES}, runs[0][1]
+def time_phases(peer, folder, names, times):
+    """Prints the tables of the phases."""
+    stopwatch = build_stopwatch(folder)
+    print("| students | phase | proved, ms | plain Rust, ms |")
+    print("|---|---|---|---|")
+    for name in names:
+        files = market(name, folder)
+        ours, theirs = ([phases_of(program, files) for _ in range(times)] for program in (stopwatch, peer))
+        for phase in PHASES:
+            print(f"| {name} | {phase} | {min(run[phase] for run in ours):.1f} | {min(run[phase] for run in theirs):.1f} |")
+        for phase in AUDITS:
+            print(f"| {name} | {phase} | {min(run[phase] for run in ours):.1f} | |")
+    subprocess.run([stopwatch, "rolls"], check=True)
+    subprocess.run([stopwatch, market("20,000", folder), "amendments"], check=True, stdout=subprocess.DEVNULL)
 
 
 def main():
-    words = argparse.ArgumentParser(description=__doc__, formatter_class=argparse.RawDescriptionHelpFormatter)
-    words.add_argument("--times", type=int, default=5)
-    words.add_argument("--folder", default=FOLDER)
-    given = words.parse_args()
+    given = argparse.ArgumentParser(description=__doc__, formatter_class=argparse.RawDescriptionHelpFormatter)
+    given.add_argument("--times", type=int, default=5)
+    given.add_argument("--only", choices=list(MARKETS))
+    given.add_argument("--phases", action="store_true")
+    given.add_argument("--folder", default=FOLDER)
+    given = given.parse_args()
     os.makedirs(given.folder, exist_ok=True)
-    stopwatch, peer = build_stopwatch(given.folder), build_peer(given.folder)
-    print("| students | phase | proved, ms | plain Rust, ms | ratio | noise |")
-    print("|---|---|---|---|---|---|")
-    for name, options in MARKETS.items():
-        folder = os.path.join(given.folder, "market-" + name.replace(",", ""))
-        if not os.path.isdir(folder):
-            subprocess.run([sys.executable, os.path.join(HERE, "generate.py"), folder, *options], check=True)
-        ours, noise, assignment = row(stopwatch, folder, given.times)
-        theirs, _, wanted = row(peer, folder, given.times)
-        if not assignment.startswith(wanted):
-            sys.exit(f"the assignments of {name} students differ")
-        for phase in PHASES:
-            ratio = ours[phase] / theirs[phase]
-            print(f"| {name} | {phase} | {ours[phase]:.1f} | {theirs[phase]:.1f} | {ratio:.1f} | {noise[phase]:.2f} |")
-        print(f"| {name} | the log audited; the assignment checked | {ours['audit']:.1f}; {ours['check_stable']:.1f} | | | |")
-    subprocess.run([stopwatch, "rolls"], check=True)
-    folder = os.path.join(given.folder, "market-20000")
-    subprocess.run([stopwatch, folder, "amendments"], check=True, stdout=subprocess.DEVNULL)
+    names = [given.only] if given.only else list(MARKETS)
+    peer = build_peer(given.folder)
+    if given.phases:
+        time_phases(peer, given.folder, names, given.times)
+        return
+    if not os.path.exists(PROGRAM):
+        sys.exit(f"{PROGRAM} is not built: the README's first command builds it")
+    time_programs(peer, given.folder, names, given.times)
 
 
 if __name__ == "__main__":

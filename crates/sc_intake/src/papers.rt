@@ -1,6 +1,6 @@
 //! The papers that the rows of the three files make.
 
-ghost use Rattle.std.specs.Prelude.{◌≡◌, [], IfOk, map};
+ghost use Rattle.std.specs.Prelude.{◌≡◌, [], IfErr, IfOk, map};
 ghost use Rattle.std.specs.Bool.{OnTrue};
 ghost use Rattle.std.specs.Option.{option_copied};
 ghost use Rattle.sc_intake.specs.Fault.{Gives, no_memory};
@@ -24,17 +24,18 @@ use sc_papers::{
 use std::alloc::{AllocError, Global};
 use std::collections::BTreeMap;
 
-/// The papers with these schools, before any student.
-fn open_papers(alloc: Global, seed: Seed, schools: &[SchoolRow]) -> Result<Papers, AllocError>
+/// The papers with these schools, before any student, or want of memory.
+fn open_papers(alloc: Global, seed: Seed, schools: &[SchoolRow]) -> Result<Papers, IntakeFault>
     requires { AreRows school_number MOST_SCHOOLS schools.now }
-    ensures { IfOk result (λ papers. papers ≡ opening seed schools.now) }
+    ensures opened { IfOk result (λ papers. papers ≡ opening seed schools.now) }
+    ensures refused { IfErr result (λ fault. fault ≡ no_memory Roster) }
 {
     let mut papers = Papers::new(alloc, seed);
     for row in schools {
         if let Err(refusal) = papers.add_school(row.number, row.zone, row.seats) {
             // The numbers differ and are few enough.
             prove!(refusal == SchoolRefusal::OutOfMemory);
-            return Err(AllocError);
+            return Err(IntakeFault::no_memory(Source::Roster));
         }
     }
     Ok(papers)
@@ -218,9 +219,7 @@ pub fn papers_of(
 ) -> Result<Papers, IntakeFault>
     ensures { Gives (λ papers. papers) (no_memory Roster) (papers_of seed schools.now roster.now lists.now) result }
 {
-    let mut papers = open_papers(alloc, seed, schools.as_slice()).map_err(
-        |_refused| IntakeFault::no_memory(Source::Roster),
-    )?;
+    let mut papers = open_papers(alloc, seed, schools.as_slice())?;
     fill_papers(alloc, &mut papers, roster.as_slice(), lists.as_slice())?;
     Ok(papers)
 }
@@ -242,9 +241,7 @@ pub fn papers_of_rows(
     if !are_in_step(roster.as_slice(), lists.as_slice()) {
         return papers_of(alloc, seed, schools, &roster, &lists);
     }
-    let mut papers = open_papers(alloc, seed, schools.as_slice()).map_err(
-        |_refused| IntakeFault::no_memory(Source::Roster),
-    )?;
+    let mut papers = open_papers(alloc, seed, schools.as_slice())?;
     fill_in_step(&mut papers, roster.into_vec(), lists.into_vec())?;
     Ok(papers)
 }

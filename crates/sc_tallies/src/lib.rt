@@ -4,4 +4,4 @@
 
 mod tally;
 
-pub use tally::{Tally, tallies, tally_of};
+pub use tally::{Tally, tallies};

@@ -1,12 +1,11 @@
 ghost use Rattle.std.specs.Prelude.{◌≡◌, ◌+◌, ◌<◌, ◌≤◌, true, length, replicate, slice_get, take, Some, IfOk, OnOk};
 ghost use Rattle.sc_papers.specs.Assignment.{assigned};
-ghost use Rattle.sc_papers.specs.Market.{is_school, students_of};
-ghost use Rattle.sc_papers.specs.Matching.{Matching};
+ghost use Rattle.sc_papers.specs.Market.{students_of};
 ghost use Rattle.sc_papers.specs.WellFormed.{WellFormed, WithinLimits};
 ghost use Rattle.sc_tallies.specs.LastKey.{or_later};
-ghost use Rattle.sc_tallies.specs.Tally.{held_at, no_tally, tally, with_key, AreTallies, AreTalliesAmong};
+ghost use Rattle.sc_tallies.specs.Tally.{held_at, no_tally, with_key, AreTallies, AreTalliesAmong};
 
-use sc_papers::{Assignment, Key, MOST_STUDENTS, Papers, SchoolNo, StudentNo};
+use sc_papers::{Assignment, Key, MOST_STUDENTS, Papers, StudentNo};
 use std::alloc::{AllocError, Global};
 
 /// How many students have a school, and the last key among them, if they are any.
@@ -102,17 +101,4 @@ pub fn tallies(
         count_student(tallies.as_mut_slice(), papers, assignment, position);
     }
     Ok(tallies)
-}
-
-/// The tally of a school of the papers, among those of all schools. In constant time.
-pub fn tally_of(tallies: &[Tally], papers: &Papers, school: SchoolNo) -> Tally
-    requires tallies { length tallies.now ≡ length papers.now.schools }
-    requires known { is_school papers.now school ≡ true }
-    // By whichever matching the tallies were counted.
-    ensures { (a : Matching) → AreTallies papers.now a tallies.now → result ≡ tally papers.now a (students_of papers.now) school }
-{
-    let Some(position) = papers.school_position(school) else {
-        unreachable!()
-    };
-    tallies[position]
 }
