@@ -140,7 +140,6 @@ fn push_one(rt: &impl Abort, rewound: &mut Segments)
 fn expect_copies(rt: &impl Abort, segments: &Segments)
     requires { students_in segments.now ≡ 1 ∷ 2 ∷ 3 ∷ [] }
 {
-    assert_eq!(rt; segments.len(), 3);
     let log = segments.flat().expect(rt, "memory");
     assert_eq!(rt; log.as_slice(), last_chain(rt).as_slice());
     let prefix = segments.prefix(2).expect(rt, "memory");
