@@ -1,6 +1,5 @@
 pub mod Cutting
 pub mod CursorMoves
-pub mod Blanks
 pub mod Words
 pub mod Giving
 pub mod Listing

@@ -1,5 +1,5 @@
 -- What the fields of a record read as.
-use Rattle.std.specs.Prelude.{ℕ, ◌==◌, Bool, ◌&&◌, ◌||◌, nat_le, List, [], ◌∷◌, ◌++◌, reverse, if◌then◌else◌, ok_or, Result, Ok, Err}
+use Rattle.std.specs.Prelude.{ℕ, ◌==◌, Bool, ◌&&◌, nat_le, List, [], ◌∷◌, ◌++◌, if◌then◌else◌, ok_or, Result, Ok, Err}
 use Rattle.std.specs.List.{list_all}
 use Rattle.sc_decimal.specs.Number.{read_number}
 use Rattle.sc_lottery.specs.declared.number.TheConstants.StudentNumber.{GREATEST as greatest_student}
@@ -10,23 +10,6 @@ use Rattle.sc_papers.specs.declared.zone.TheConstants.Zone.{GREATEST as greatest
 use Rattle.sc_intake.specs.Fault.{◌>>=◌}
 use Rattle.sc_intake.specs.declared.fault.Cause.{Cause}
 use Rattle.sc_intake.specs.declared.fault.Cause.TheVariants.{Number, Range}
-
--- the bytes that are left off at both ends of a field: space and tab
-abbrev pub is_blank : ℕ → Bool
-is_blank c = c == 32 || c == 9
-
--- a text from its first byte that is no blank
-unfoldable pub trim_start : List ℕ → List ℕ
-trim_start [] = []
-trim_start (c ∷ cs) = if is_blank c then trim_start cs else c ∷ cs
-
--- a text up to its last byte that is no blank
-unfoldable pub trim_end : List ℕ → List ℕ
-trim_end text = reverse (trim_start (reverse text))
-
--- a field without the blanks at both ends
-abbrev pub trimmed : List ℕ → List ℕ
-trimmed text = trim_end (trim_start text)
 
 -- the number that a text of 1 to 9 decimal digits writes
 unfoldable pub number_of : List ℕ → Result ℕ Cause

@@ -3,7 +3,8 @@ use Rattle.std.specs.Prelude.{ℕ, ◌+◌, Bool, false, nat_lt, List, [], ◌�
 use Rattle.csv.specs.Reading.{default_config, is_bom, records, strip_bom}
 use Rattle.csv.specs.Records.{field_at}
 use Rattle.sc_intake.specs.Fault.{◌>>=◌, fault_at}
-use Rattle.sc_intake.specs.Field.{trimmed}
+use Rattle.sc_intake.specs.Blanks.{trimmed}
+use Rattle.sc_intake.specs.declared.blanks.Blanks.TheVariants.{InLine}
 use Rattle.sc_intake.specs.declared.fault.Cause.{Cause}
 use Rattle.sc_intake.specs.declared.fault.Cause.TheVariants.{TooLong, Header}
 use Rattle.sc_intake.specs.declared.fault.IntakeFault.{IntakeFault}
@@ -11,7 +12,7 @@ use Rattle.sc_intake.specs.declared.fault.Source.{Source}
 
 -- a field of a record without the blanks around it; one past the last is empty
 abbrev pub text_at : List (List ℕ) → ℕ → List ℕ
-text_at fields index = trimmed (unwrap_or (field_at fields index) [])
+text_at fields index = trimmed InLine (unwrap_or (field_at fields index) [])
 
 -- a text begins with a byte order mark
 abbrev pub is_marked : List ℕ → Bool

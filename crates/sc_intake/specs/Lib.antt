@@ -1,3 +1,4 @@
+pub mod Blanks
 pub mod Fault
 pub mod FaultText
 pub mod Field

@@ -1,48 +1,10 @@
-//! The fields of a record: the blanks around them, numbers, and the pieces between spaces.
+//! The fields of a record: numbers, and the pieces between spaces.
 
 ghost use Rattle.std.specs.Prelude.{◌≡◌, ◌+◌, ◌≤◌, ◌++◌, length, drop, slice_range};
-ghost use Rattle.sc_intake.specs.Field.{is_blank, number_of, trimmed, trim_end, trim_start, word_of, words};
+ghost use Rattle.sc_intake.specs.Field.{number_of, word_of, words};
 
 use crate::fault::Cause;
 use sc_decimal::read_number;
-
-fn is_blank(byte: u8) -> bool
-    ensures { result ≡ is_blank byte }
-{
-    byte == b' ' || byte == b'\t'
-}
-
-/// The text from its first byte that is no blank.
-fn trim_start(text: &[u8]) -> &[u8]
-    ensures { result.now ≡ trim_start text.now }
-{
-    for (index, byte) in text.iter().enumerate() {
-        if !is_blank(*byte) {
-            return &text[index..];
-        }
-    }
-    &[]
-}
-
-/// The text up to its last byte that is no blank.
-fn trim_end(text: &[u8]) -> &[u8]
-    ensures { result.now ≡ trim_end text.now }
-{
-    for passed in 0..text.len() {
-        let end = text.len() - passed;
-        if !is_blank(text[end - 1]) {
-            return &text[..end];
-        }
-    }
-    &[]
-}
-
-/// The field without the spaces and tabs at its two ends.
-pub(crate) fn trimmed(field: &[u8]) -> &[u8]
-    ensures { result.now ≡ trimmed field.now }
-{
-    trim_end(trim_start(field))
-}
 
 /// The number that a field without blanks writes, or `Number` where it is not 1 to 9 decimal
 /// digits.

@@ -5,6 +5,7 @@
 //! into records is that of the crate `csv`.
 #![tactic(auto)]
 
+mod blanks;
 mod fault;
 mod field;
 mod input;
@@ -20,6 +21,7 @@ mod schools;
 mod script;
 mod seen;
 
+pub use blanks::{Blanks, trimmed};
 pub use fault::{Cause, IntakeFault, Source};
 pub use input::MOST_BYTES;
 pub use lists::{ListRow, ListRows, read_lists};

@@ -9,7 +9,7 @@ ghost use Rattle.sc_intake.specs.Fault.{no_memory};
 ghost use Rattle.sc_intake.specs.File.{text_at};
 
 use crate::fault::{IntakeFault, Source};
-use crate::field::trimmed;
+use crate::blanks::{Blanks, trimmed};
 use csv::{ByteRecord, Reader, ReaderBuilder};
 use std::alloc::{AllocError, Global};
 use std::marker::Model;
@@ -103,7 +103,7 @@ impl<'a> Records<'a> {
     pub(crate) fn field(&self, index: usize) -> &[u8]
         ensures { result.now ≡ text_at self.now.current index }
     {
-        trimmed(self.fields.get(index).unwrap_or(&[]))
+        trimmed(self.fields.get(index).unwrap_or(&[]), Blanks::InLine)
     }
     /// Whether a field of the record read last, without the blanks around it, is this text.
     pub(crate) fn reads(&self, index: usize, text: &[u8]) -> bool

@@ -1,7 +1,8 @@
 -- What a bundle holds: five sections, each after the line that is its marker.
 use Rattle.std.specs.Prelude.{ℕ, true, List, Option, None, Some, codes}
 use Rattle.std.specs.Option.{option_and_then, option_copied}
-use Rattle.sc_runs.specs.Blanks.{trimmed}
+use Rattle.sc_intake.specs.Blanks.{trimmed}
+use Rattle.sc_intake.specs.declared.blanks.Blanks.TheVariants.{WithLineEnds}
 use Rattle.sc_runs.specs.Markers.{Parts, after_marker, cut_at}
 use Rattle.sc_runs.specs.declared.bundle.Bundle.{Bundle}
 
@@ -41,4 +42,4 @@ bundle_of input = do
   seed ← cut_at (codes "%schools") true first
   schools ← cut_at (codes "%roster") true seed.after
   roster ← cut_at (codes "%lists") true schools.after
-  Some (with_script (trimmed seed.before) schools.before roster.before roster.after (cut_at (codes "%script") true roster.after))
+  Some (with_script (trimmed WithLineEnds seed.before) schools.before roster.before roster.after (cut_at (codes "%script") true roster.after))

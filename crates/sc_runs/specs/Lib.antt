@@ -1,6 +1,5 @@
 pub mod Markers
 pub mod Bundle
-pub mod Blanks
 pub mod Ending
 pub mod Inputs
 pub mod Opening

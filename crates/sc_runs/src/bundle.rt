@@ -3,8 +3,8 @@ ghost use Rattle.std.specs.Prelude.{◌≡◌};
 ghost use Rattle.std.specs.Option.{option_map};
 ghost use Rattle.sc_runs.specs.Bundle.{bundle_of, sections_of};
 
-use crate::blanks::trimmed;
 use crate::markers::{after_marker, cut_at};
+use sc_intake::{Blanks, trimmed};
 
 /// The sections of a bundle, each a part of the text that was split.
 #[derive(Clone, Copy, Debug, PartialEq, Eq)]
@@ -40,7 +40,7 @@ pub fn split_bundle(input: &[u8]) -> Option<Bundle<'_>>
         None => (roster.after, None),
     };
     Some(Bundle {
-        seed: trimmed(seed.before),
+        seed: trimmed(seed.before, Blanks::WithLineEnds),
         schools: schools.before,
         roster: roster.before,
         lists,

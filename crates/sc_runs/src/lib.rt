@@ -4,7 +4,6 @@
 #![tactic(auto)]
 
 mod auditing;
-mod blanks;
 mod bundle;
 mod bundle_run;
 mod ending;
