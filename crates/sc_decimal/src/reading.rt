@@ -5,8 +5,8 @@ ghost use Rattle.std.specs.Char.{is_ascii_digit};
 ghost use Rattle.std.specs.List.{list_all};
 ghost use Rattle.sc_decimal.specs.Number.{has_leading_zero, is_number, read_number, read_plain_number, value_of};
 
-/// The most digits that a number has.
-const MOST_DIGITS: usize = 9;
+/// The most digits that a number has in a text: nine of them write any number of the papers.
+pub const MOST_DIGITS: usize = 9;
 
 fn are_digits(text: &[u8]) -> bool
     ensures { result ≡ list_all is_ascii_digit text.now }

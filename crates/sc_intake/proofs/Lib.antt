@@ -1,6 +1,7 @@
 pub mod Cutting
 pub mod CursorMoves
 pub mod Words
+pub mod FirstNumber
 pub mod Giving
 pub mod Listing
 pub mod RowLemmas

@@ -7,7 +7,7 @@ use Rattle.sc_papers.specs.declared.school_no.TheConstants.SchoolNo.{GREATEST as
 use Rattle.sc_intake.specs.Field.{is_within, list_of, listed, number_of, numbers_after, word_of, words}
 use Rattle.sc_intake.specs.declared.fault.Cause.{Cause}
 use Rattle.sc_intake.specs.declared.fault.Cause.TheVariants.{Range}
-use Rattle.sc_intake.proofs.Words.{numbers-bad, numbers-last, numbers-more, numbers-skip, numbers-word}
+use Rattle.sc_intake.proofs.Words.{numbers-bad, numbers-last, numbers-more, numbers-word}
 
 -- the numbers before a place of a text; while each is a school's, they are the schools so far
 pub record SoFar (text : List ℕ) (start : ℕ) (schools : List ℕ) (in_range : Bool) : Type 0 where
@@ -15,6 +15,10 @@ pub record SoFar (text : List ℕ) (start : ℕ) (schools : List ℕ) (in_range 
   pub reading : list_of text ≡ numbers_after numbers (words (drop start text))
   pub ranged : list_all (is_within 1 greatest_school) numbers ≡ in_range
   pub same : in_range ≡ true → schools ≡ numbers
+
+-- no number is read yet
+pub SoFar-none : (text : List ℕ) → SoFar text 0 [] true
+SoFar-none text = record { numbers = []; reading = refl; ranged = refl; same = λ _. refl }
 
 -- a reading that ends in an error
 pub listed-bad : (text : List ℕ) (e : Cause) → list_of text ≡ Err e → listed text ≡ Err e
@@ -51,11 +55,11 @@ SoFar-word text start next old new in_range is_school piece n so cut some number
     by false b pushed same both = cc both
 
 -- a space alone
-pub SoFar-space : (text : List ℕ) (start next : ℕ) (schools : List ℕ) (in_range : Bool) (piece : List ℕ) → SoFar text start schools in_range
-    → words (drop start text) ≡ word_of piece ++ words (drop next text) → length piece ≡ 0 → SoFar text next schools in_range
-SoFar-space text start next schools in_range piece so cut none = record {
+pub SoFar-space : (text : List ℕ) (start next : ℕ) (schools : List ℕ) (in_range : Bool) → SoFar text start schools in_range
+    → words (drop start text) ≡ words (drop next text) → SoFar text next schools in_range
+SoFar-space text start next schools in_range so skip = record {
   numbers = so.numbers;
-  reading = so.reading ∙ ap (numbers_after so.numbers) cut ∙ numbers-skip so.numbers piece (words (drop next text)) none;
+  reading = so.reading ∙ ap (numbers_after so.numbers) skip;
   ranged = so.ranged;
   same = so.same;
 }

@@ -1,5 +1,5 @@
 -- What the fields of a record read as.
-use Rattle.std.specs.Prelude.{ℕ, ◌==◌, Bool, ◌&&◌, nat_le, List, [], ◌∷◌, ◌++◌, if◌then◌else◌, ok_or, Result, Ok, Err}
+use Rattle.std.specs.Prelude.{ℕ, ◌==◌, Bool, ◌&&◌, nat_le, List, [], ◌∷◌, ◌++◌, length, if◌then◌else◌, ok_or, Result, Ok, Err}
 use Rattle.std.specs.List.{list_all}
 use Rattle.sc_decimal.specs.Number.{read_number}
 use Rattle.sc_lottery.specs.declared.number.TheConstants.StudentNumber.{GREATEST as greatest_student}
@@ -28,6 +28,15 @@ words_after piece (c ∷ cs) = if c == 32 then word_of piece ++ words_after [] c
 -- the words of a text: its pieces between the spaces, without the empty ones
 abbrev pub words : List ℕ → List (List ℕ)
 words text = words_after [] text
+
+-- the bytes of a text before its first space
+unfoldable pub first_word : List ℕ → List ℕ
+first_word [] = []
+first_word (c ∷ cs) = if c == 32 then [] else c ∷ first_word cs
+
+-- the number that a text begins with, and how many bytes write it
+unfoldable pub first_number : List ℕ → Result (ℕ × ℕ) Cause
+first_number text = number_of (first_word text) >>= λ n. Ok (n, length (first_word text))
 
 -- the numbers that words write, after earlier ones
 unfoldable pub numbers_after : List ℕ → List (List ℕ) → Result (List ℕ) Cause

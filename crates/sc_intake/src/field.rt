@@ -1,10 +1,11 @@
-//! The fields of a record: numbers, and the pieces between spaces.
+//! The fields of a record: numbers, and the first of several.
 
-ghost use Rattle.std.specs.Prelude.{◌≡◌, ◌+◌, ◌≤◌, ◌++◌, length, drop, slice_range};
-ghost use Rattle.sc_intake.specs.Field.{number_of, word_of, words};
+ghost use Rattle.std.specs.Prelude.{◌≡◌, ◌==◌, if◌then◌else◌, Ok, Err};
+ghost use Rattle.sc_intake.specs.Field.{first_number, number_of};
+ghost use Rattle.sc_intake.specs.declared.fault.Cause.TheVariants.{Number};
 
 use crate::fault::Cause;
-use sc_decimal::read_number;
+use sc_decimal::{MOST_DIGITS, read_number};
 
 /// The number that a field without blanks writes, or `Number` where it is not 1 to 9 decimal
 /// digits.
@@ -18,17 +19,34 @@ pub(crate) fn number(text: &[u8]) -> Result<u32, Cause>
     }
 }
 
-/// Where the piece that begins at an index ends: at the next space, or at the end of the text.
-pub(crate) fn piece_end(text: &[u8], start: usize) -> usize
-    requires { start ≤ length text.now }
-    ensures least { start ≤ result }
-    ensures greatest { result ≤ length text.now }
-    ensures words { words (drop start text.now) ≡ word_of (slice_range text.now start result) ++ words (drop (result + 1) text.now) }
+/// A number with how many digits write it, or `Number` where none do.
+fn written(number: u32, digits: usize) -> Result<(u32, usize), Cause>
+    ensures { result ≡ if digits == 0 then Err Number else Ok (number, digits) }
 {
-    for index in start..text.len() {
-        if text[index] == b' ' {
-            return index;
+    if digits == 0 {
+        return Err(Cause::Number);
+    }
+    Ok((number, digits))
+}
+
+/// The number that a text begins with, and how many digits write it: they end at the first space, or
+/// at the end of the text. `Number` where they are not 1 to 9 decimal digits.
+pub(crate) fn first_number(text: &[u8]) -> Result<(u32, usize), Cause>
+    ensures { result ≡ first_number text.now }
+{
+    let mut number = 0;
+    for index in 0..text.len() {
+        let byte = text[index];
+        if byte.is_ascii_digit() {
+            if index == MOST_DIGITS {
+                return Err(Cause::Number);
+            }
+            number = number * 10 + u32::from(byte - b'0');
+        } else if byte == b' ' {
+            return written(number, index);
+        } else {
+            return Err(Cause::Number);
         }
     }
-    text.len()
+    written(number, text.len())
 }

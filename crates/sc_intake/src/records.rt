@@ -8,8 +8,8 @@ ghost use Rattle.std.specs.Str.{bytes_eq};
 ghost use Rattle.sc_intake.specs.Fault.{no_memory};
 ghost use Rattle.sc_intake.specs.File.{text_at};
 
-use crate::fault::{IntakeFault, Source};
 use crate::blanks::{Blanks, trimmed};
+use crate::fault::{IntakeFault, Source};
 use csv::{ByteRecord, Reader, ReaderBuilder};
 use std::alloc::{AllocError, Global};
 use std::marker::Model;

@@ -1,28 +1,40 @@
 //! The fields that are lists of schools.
 
-ghost use Rattle.std.specs.Prelude.{◌≡◌, ◌++◌, ◌∷◌, [], IfOk};
+ghost use Rattle.std.specs.Prelude.{◌≡◌, ◌≤◌, ◌==◌, ◌++◌, ◌∷◌, [], IfOk, length};
 ghost use Rattle.std.specs.Bool.{OnTrue};
+ghost use Rattle.std.specs.List.{count_by};
 ghost use Rattle.sc_intake.specs.Fault.{Gives};
 ghost use Rattle.sc_intake.specs.Field.{is_within, listed};
 ghost use Rattle.sc_intake.specs.declared.fault.Cause.TheVariants.{OutOfMemory};
 ghost use Rattle.sc_papers.specs.declared.school_no.TheConstants.SchoolNo.{GREATEST as greatest_school};
 
 use crate::fault::Cause;
-use crate::field::{number, piece_end};
+use crate::field::first_number;
 use sc_papers::{SchoolList, SchoolNo};
 use std::alloc::{AllocError, Global};
 
-/// How many words a text has: pieces between its spaces.
-fn word_count(text: &[u8]) -> usize {
-    let mut count = 0usize;
-    let mut between = true;
-    for byte in text {
-        if between && *byte != b' ' {
-            count = count.saturating_add(1);
-        }
-        between = *byte == b' ';
+/// How many of at most 255 bytes are spaces.
+fn spaces_in_run(run: &[u8]) -> u8
+    requires { length run.now ≤ 255 }
+    ensures { result ≡ count_by (λ c. c == 32) run.now }
+{
+    let mut spaces = 0;
+    for byte in run {
+        spaces += u8::from(*byte == b' ');
     }
-    count
+    spaces
+}
+
+/// How many spaces a text has. Each run of 255 bytes is counted in one byte, since a processor adds
+/// more bytes at once than numbers of 64 bits.
+fn space_count(text: &[u8]) -> usize
+    ensures { result ≡ count_by (λ c. c == 32) text.now }
+{
+    let mut spaces = 0;
+    for run in text.chunks(255) {
+        spaces += usize::from(spaces_in_run(run));
+    }
+    spaces
 }
 
 /// Adds a number that is a school's, and says whether it is one.
@@ -39,23 +51,32 @@ fn push_school(schools: &mut Vec<SchoolNo>, number: u32) -> Result<bool, AllocEr
 
 /// The schools of a list: a text without blanks at its ends that is numbers with one or more spaces
 /// between them. `Number` where one of them is no number; where one is no school's, `Range` comes
-/// inside, for the caller to tell after what comes first. The list is made once, at its size.
+/// inside, for the caller to tell after what comes first.
+///
+/// The cost is the text's length: its bytes are read once, beside a count of its spaces, from which
+/// the list is made at its size.
 pub(crate) fn school_list(alloc: Global, text: &[u8]) -> Result<Result<SchoolList, Cause>, Cause>
     ensures { Gives (λ schools. schools) OutOfMemory (listed text.now) result }
 {
-    let mut schools = Vec::with_capacity(alloc, word_count(text))?;
+    if text.is_empty() {
+        return Ok(Ok(SchoolList::from_vec(Vec::new(alloc))));
+    }
+    let mut schools = Vec::with_capacity(alloc, space_count(text) + 1)?;
     let mut in_range = true;
     let mut start = 0;
     while start < text.len() {
-        let end = piece_end(text, start);
-        if start < end {
-            let number = number(&text[start..end])?;
+        if text[start] == b' ' {
+            start += 1;
+        } else {
+            let (number, digits) = first_number(&text[start..])?;
             in_range &= push_school(&mut schools, number)?;
+            start += digits + 1;
         }
-        start = end + 1;
     }
     if !in_range {
         return Ok(Err(Cause::Range));
     }
+    // There was room for more where spaces stand side by side.
+    schools.shrink_to_fit();
     Ok(Ok(SchoolList::from_vec(schools)))
 }
