@@ -12,7 +12,8 @@ mod resume;
 
 use crate::settled::Settled;
 use sc_papers::{
-    Assignment, Key, LONGEST_LIST, MOST_STUDENTS, Papers, Rejection, SchoolNo, Seats, StudentNo,
+    Assignment, Key, LONGEST_LIST, MOST_STUDENTS, Papers, Proposal, Rejection, SchoolNo, Seats,
+    StudentNo,
 };
 use sc_seats::Roll;
 use std::alloc::{AllocError, Global};
@@ -25,7 +26,7 @@ pub struct Round<R: Roll> {
     // By position of the student: the rank in the choices at which the student stands, if it has
     // entered. Nobody has who comes after the last of these positions, and so in order of entry the next
     // to enter stands right after it.
-    ranks: Vec<Option<usize>>,
+    ranks: Vec<Option<u8>>,
     // By position of the school.
     rolls: Vec<R>,
     log: Vec<Rejection>,
@@ -60,12 +61,12 @@ fn empty_rolls<R: Roll>(alloc: Global, papers: &Papers) -> Result<Vec<R>, AllocE
 /// Each student's choice, in order of entry.
 fn assignment_of(
     alloc: Global,
-    ranks: &[Option<usize>],
+    ranks: &[Option<u8>],
     papers: &Papers,
 ) -> Result<Assignment, AllocError>
     ensures { IfOk result (λ assignment. (i : ℕ) → assigned assignment i ≡ next_of papers.now ranks.now i) }
 {
-    let mut assignment = Assignment::new(alloc);
+    let mut assignment = Assignment::with_room(alloc, papers.seed(), papers.students_len())?;
     for position in 0..papers.students_len() {
         let Some(student) = papers.student_at(position) else {
             unreachable!()
@@ -91,18 +92,18 @@ fn give(
 }
 
 /// The rank of the choice at which the student at the position stands: none past the end.
-fn rank_at(ranks: &[Option<usize>], at: usize) -> Option<usize>
+fn rank_at(ranks: &[Option<u8>], at: usize) -> Option<usize>
     ensures rank { result ≡ slice_index_or ranks.now at None }
     ensures within { IsSome result → at < length ranks.now }
 {
     match ranks.get(at) {
-        Some(rank) => *rank,
+        Some(rank) => rank.map(usize::from),
         None => None,
     }
 }
 
 /// Makes room for a position. Nobody stands there yet, nor at those that come before it.
-fn make_room(ranks: &mut Vec<Option<usize>>, at: usize) -> Result<(), AllocError>
+fn make_room(ranks: &mut Vec<Option<u8>>, at: usize) -> Result<(), AllocError>
     ensures room { OnOk result (at < length ranks.new.items) }
     ensures same { OnOk result ((k : ℕ) → slice_index_or ranks.new.items k None ≡ slice_index_or ranks.old.items k None) }
     ensures within { OnOk result ((n : ℕ) → at < n → length ranks.old.items ≤ n → length ranks.new.items ≤ n) }
@@ -114,7 +115,7 @@ fn make_room(ranks: &mut Vec<Option<usize>>, at: usize) -> Result<(), AllocError
 }
 
 /// The choice at which the student at the position stands.
-fn choice_at(ranks: &[Option<usize>], papers: &Papers, at: usize) -> Option<SchoolNo>
+fn choice_at(ranks: &[Option<u8>], papers: &Papers, at: usize) -> Option<SchoolNo>
     requires { at < length papers.now.students }
     ensures { (i : ℕ) → position (nat_eq i) (students_of papers.now) ≡ Some at → result ≡ next_of papers.now ranks.now i }
 {
@@ -122,8 +123,19 @@ fn choice_at(ranks: &[Option<usize>], papers: &Papers, at: usize) -> Option<Scho
     papers.choices_at(at).get(rank).copied()
 }
 
+/// The choice at which the student at the position stands, with its position and the student's key there.
+fn proposal_of(ranks: &[Option<u8>], papers: &Papers, at: usize) -> Option<Proposal>
+    requires { at < length papers.now.students }
+    ensures school { (i : ℕ) → position (nat_eq i) (students_of papers.now) ≡ Some at → option_map (λ p. p.school) result ≡ next_of papers.now ranks.now i }
+    ensures position { IfSome result (λ p. position (nat_eq p.school) (schools_of papers.now) ≡ Some p.position) }
+    ensures key { IfSome result (λ p. p.key ≡ key_of papers.now (student_at papers.now at) p.school) }
+{
+    let rank = rank_at(ranks, at)?;
+    papers.proposal(at, rank)
+}
+
 /// The choice at which the student stands.
-fn next_in(ranks: &[Option<usize>], papers: &Papers, student: StudentNo) -> Option<SchoolNo>
+fn next_in(ranks: &[Option<u8>], papers: &Papers, student: StudentNo) -> Option<SchoolNo>
     ensures { result ≡ next_of papers.now ranks.now student }
 {
     choice_at(ranks, papers, papers.student_position(student)?)
@@ -165,11 +177,11 @@ fn offer_to<R: Roll>(rolls: &mut Vec<R>, at: usize, key: Key) -> Result<Option<K
 }
 
 /// The student at the position moves on to the next rank of its choices.
-fn move_on(ranks: &mut Vec<Option<usize>>, at: usize)
+fn move_on(ranks: &mut Vec<Option<u8>>, at: usize)
     requires { (rank : ℕ) → slice_index_or ranks.old.items at None ≡ Some rank → rank < LONGEST_LIST }
     ensures { (rank : ℕ) → slice_index_or ranks.old.items at None ≡ Some rank → ranks.new.items ≡ slice_set ranks.old.items at (Some (rank + 1)) }
 {
-    if let Some(rank) = rank_at(ranks.as_slice(), at) {
+    if let Some(Some(rank)) = ranks.get(at).copied() {
         ranks[at] = Some(rank + 1);
     }
 }
@@ -213,13 +225,13 @@ impl<R: Roll> Round<R> {
         ensures within { IfOk result (λ out. IfSome out (λ next. next < length papers.now.students)) }
         ensures proposes { IfOk result (λ out. Proposes papers.now (view_of R.keys R.seats self.old) (view_of R.keys R.seats self.new) (student_at papers.now proposer) (option_map (student_at papers.now) out)) }
     {
-        let Some(school) = choice_at(self.ranks.as_slice(), papers, proposer) else {
+        let Some(proposal) = proposal_of(self.ranks.as_slice(), papers, proposer) else {
             return Ok(None);
         };
-        let (at, key) = papers.position_and_key(proposer, school);
-        let Some(out) = self.offer(at, key)? else {
+        let Some(out) = self.offer(proposal.position, proposal.key)? else {
             return Ok(None);
         };
+        let school = proposal.school;
         let student = out.student;
         // Whoever is put out is mostly the proposer.
         let next = position_near(papers, student, proposer);

@@ -41,7 +41,7 @@ impl Seed {
     }
 
     /// The 32 bytes, in the order of the text.
-    pub(crate) fn to_bytes(self) -> [u8; 32]
+    pub fn to_bytes(self) -> [u8; 32]
         ensures { result ≡ self }
     {
         self.bytes

@@ -1,11 +1,11 @@
 -- Papers with a student gone, or with what they hold of a student or of a school changed, stay well-formed and within their
 -- limits.
 use Rattle.std.proofs.Common.{◌≡◌, ℕ, suc, ◌+◌, ◌≤◌, ◌==◌, nat_eq, Bool, false, List, [], ◌∷◌, length, map, Some, None, refl, sym, ap, ◌∙◌, subst, arith, inl, inr}
-use Rattle.std.specs.Prelude.{nat_lt, is_some, position, remove}
+use Rattle.std.specs.Prelude.{nat_lt, is_some, position, remove, slice_set}
 use Rattle.std.specs.Map.{keys_of, lookup, remove_entry, set_value}
 use Rattle.std.specs.List.{All, AllByRecursion, IsDistinct, position_or_len}
 use Rattle.std.specs.Option.{IfSome}
-use Rattle.std.proofs.lemmas.Bool.{cases_Bool}
+use Rattle.std.proofs.lemmas.Bool.{cases_Bool, eqb-true}
 use Rattle.std.proofs.lemmas.Bool.Decides.{nat_tests}
 use Rattle.std.proofs.lemmas.List.Elements.{All-cons, All-head, All-tail}
 use Rattle.std.proofs.lemmas.Map.{keys-set_value, length-set_value}
@@ -67,19 +67,34 @@ length-remove_entry test (e ∷ es) =
       | inr other ↦ rw other (let fewer = length-remove_entry test es in omega arith)
     ]
 
-remove-suc : (x : ℕ) (xs : List ℕ) (m n : ℕ) → m ≡ suc n → remove (x ∷ xs) m ≡ x ∷ remove xs n
+remove-suc : {Y : Type 0} (x : Y) (xs : List Y) (m n : ℕ) → m ≡ suc n → remove (x ∷ xs) m ≡ x ∷ remove xs n
 remove-suc x xs m n next = rw next refl
 
 -- taking out the place of an entry leaves what stands for the entries that are left
-remove-place : {X : Type 0} (f : ℕ → ℕ) (test : ℕ → Bool) (es : List (ℕ × X))
-    → remove (map f (keys_of es)) (position_or_len test (keys_of es)) ≡ map f (keys_of (remove_entry test es))
+remove-place : {X Y : Type 0} (f : ℕ × X → Y) (test : ℕ → Bool) (es : List (ℕ × X))
+    → remove (map f es) (position_or_len test (keys_of es)) ≡ map f (remove_entry test es)
 remove-place f test [] = refl
 remove-place f test (e ∷ es) =
     elim (cases_Bool (test e.0)) [
       | inl here ↦ rw here refl
       | inr other ↦
           let n = position_or_len test (keys_of es) in
-          rw other (remove-suc (f e.0) (map f (keys_of es)) (1 + n) n (omega arith) ∙ ap (λ ds. f e.0 ∷ ds) (remove-place f test es))
+          rw other (remove-suc (f e) (map f es) (1 + n) n (omega arith) ∙ ap (λ rows. f e ∷ rows) (remove-place f test es))
+    ]
+
+set-suc : {Y : Type 0} (x : Y) (xs : List Y) (m n : ℕ) (y : Y) → m ≡ suc n → slice_set (x ∷ xs) m y ≡ x ∷ slice_set xs n y
+set-suc x xs m n y next = rw next refl
+
+-- putting something else in the place of an entry leaves what stands for the entries after the change
+set-place : {X Y : Type 0} (f : ℕ → X → Y) (i : ℕ) (es : List (ℕ × X)) (w : X)
+    → slice_set (map (λ e. f e.0 e.1) es) (position_or_len (nat_eq i) (keys_of es)) (f i w) ≡ map (λ e. f e.0 e.1) (set_value (nat_eq i) es w)
+set-place f i [] w = refl
+set-place f i (e ∷ es) w =
+    elim (cases_Bool (nat_eq i e.0)) [
+      | inl here ↦ let same : i ≡ e.0 = eqb-true i e.0 here in rw here (ap (λ k. f k w ∷ map (λ x. f x.0 x.1) es) same)
+      | inr other ↦
+          let n = position_or_len (nat_eq i) (keys_of es) in
+          rw other (set-suc (f e.0 e.1) (map (λ x. f x.0 x.1) es) (1 + n) n (f i w) (omega arith) ∙ ap (λ rows. f e.0 e.1 ∷ rows) (set-place f i es w))
     ]
 
 -- the place that a search answers
@@ -90,9 +105,13 @@ place-found test ks p found =
       | inr past ↦ let none : Some p ≡ None = rw past at found in cc
     ]
 
-pub remove-found : {X : Type 0} (f : ℕ → ℕ) (test : ℕ → Bool) (es : List (ℕ × X)) (p : ℕ) → Some p ≡ position test (keys_of es)
-    → remove (map f (keys_of es)) p ≡ map f (keys_of (remove_entry test es))
+pub remove-found : {X Y : Type 0} (f : ℕ × X → Y) (test : ℕ → Bool) (es : List (ℕ × X)) (p : ℕ) → Some p ≡ position test (keys_of es)
+    → remove (map f es) p ≡ map f (remove_entry test es)
 remove-found f test es p found = rw (place-found test (keys_of es) p found) (remove-place f test es)
+
+pub set-found : {X Y : Type 0} (f : ℕ → X → Y) (i : ℕ) (es : List (ℕ × X)) (w : X) (p : ℕ) → Some p ≡ position (nat_eq i) (keys_of es)
+    → slice_set (map (λ e. f e.0 e.1) es) p (f i w) ≡ map (λ e. f e.0 e.1) (set_value (nat_eq i) es w)
+set-found f i es w p found = rw (place-found (nat_eq i) (keys_of es) p found) (set-place f i es w)
 
 -- the same keys are found after a change
 pub is_some-set_value : {X : Type 0} (q : ℕ) (test : ℕ → Bool) (w : X) (es : List (ℕ × X)) → is_some (lookup (nat_eq q) (set_value test es w)) ≡ is_some (lookup (nat_eq q) es)

@@ -5,6 +5,8 @@ use Rattle.std.specs.List.{slice_get, list_any}
 use Rattle.sc_lottery.specs.Draw.{draw}
 use Rattle.sc_papers.specs.Key.{class_by, same_zone, key_of, key_at}
 use Rattle.sc_papers.specs.Market.{Market, student_of, students_of, school_of, schools_of, is_student, is_school}
+use Rattle.sc_papers.specs.Representation.{rows_of}
+use Rattle.sc_papers.specs.StudentRow.{Row, row_of}
 use Rattle.sc_papers.specs.declared.records.School.{School}
 use Rattle.sc_papers.specs.declared.records.Student.{Student}
 use Rattle.std.specs.Map.{keys_of, lookup}
@@ -18,13 +20,26 @@ use Rattle.sc_papers.proofs.Positions.{position-there}
 key-there : {X : Type 0} (es : List (ℕ × X)) (place k : ℕ) (x : X) → slice_get es place ≡ Some (k, x) → slice_get (keys_of es) place ≡ Some k
 key-there es place k x entry = slice_get-map (λ e. e.0) es place ∙ ap (option_map (λ e. e.0)) entry
 
--- the draw that stands at the place of an entry is its student's draw
-pub draw-there : {X : Type 0} (f : ℕ → ℕ) (es : List (ℕ × X)) (draws : List ℕ) (place k d : ℕ) (x : X)
-    → draws ≡ map f (keys_of es) → slice_get es place ≡ Some (k, x) → d ≡ get_or draws place d → d ≡ f k
-draw-there f es draws place k d x are entry at =
-    let drawn : slice_get (map f (keys_of es)) place ≡ Some (f k) = slice_get-map f (keys_of es) place ∙ ap (option_map f) (key-there es place k x entry) in
-    let there : get_or (map f (keys_of es)) place d ≡ f k = get_or_from_slice_get (map f (keys_of es)) place (f k) d drawn in
+-- the row that stands at the place of an entry is its student's row
+pub row-there : (seed : List ℕ) (table : List (Option ℕ)) (es : List (ℕ × Student)) (rows : List Row) (place k : ℕ) (student : Student) (row : Row)
+    → rows ≡ rows_of seed table es → slice_get es place ≡ Some (k, student) → row ≡ get_or rows place row → row ≡ row_of table (draw seed k) student
+row-there seed table es rows place k student row are entry at =
+    let own = row_of table (draw seed k) student in
+    let here : slice_get (rows_of seed table es) place ≡ Some own =
+    slice_get-map (λ e. row_of table (draw seed e.0) e.1) es place ∙ ap (option_map (λ e. row_of table (draw seed e.0) e.1)) entry in
+    let there : get_or (rows_of seed table es) place row ≡ own = get_or_from_slice_get (rows_of seed table es) place own row here in
     at ∙ rw are there
+
+-- and its draw is the draw of the number whose place it is
+pub draw-there : (seed : List ℕ) (table : List (Option ℕ)) (es : List (ℕ × Student)) (rows : List Row) (place i : ℕ) (row : Row)
+    → rows ≡ rows_of seed table es → Some place ≡ position (nat_eq i) (keys_of es) → row ≡ get_or rows place row → row.draw ≡ draw seed i
+draw-there seed table es rows place i row are found at =
+    go (slice_get es place) refl (sym (slice_get-map (λ e. e.0) es place) ∙ position-there (keys_of es) i place (sym found))
+  where
+    go : (o : Option (ℕ × Student)) → slice_get es place ≡ o → option_map (λ e. e.0) o ≡ Some i → row.draw ≡ draw seed i
+    go None here same = cc
+    go (Some (k, student)) here same =
+        ap (λ (r : Row). r.draw) (row-there seed table es rows place k student row are here at) ∙ ap (draw seed) (same_Some k i same)
 
 -- what the papers hold of the student at a place
 pub record-there : (m : Market) (place i : ℕ) (student : Student) → slice_get m.students place ≡ Some (i, student) → student_of m i ≡ Some student
@@ -43,7 +58,7 @@ key-of_places m place at i s class d student school entry entry' known known' cl
     rw (key-there m.students place i student entry, key-there m.schools at s school entry', known, known', class_is, draw_is) refl
 
 -- a number with a position is found, and one without is not
-found-by_position : {X : Type 0} (es : List (ℕ × X)) (i : ℕ) (place : Option ℕ) → position (nat_eq i) (keys_of es) ≡ place → is_some (lookup (nat_eq i) es) ≡ is_some place
+pub found-by_position : {X : Type 0} (es : List (ℕ × X)) (i : ℕ) (place : Option ℕ) → position (nat_eq i) (keys_of es) ≡ place → is_some (lookup (nat_eq i) es) ≡ is_some place
 found-by_position es i place found = sym (some_index (nat_eq i) es) ∙ ap is_some found
 
 -- the key by numbers that are in the papers is the key at their positions

@@ -2,6 +2,7 @@ pub mod Repeats
 pub mod Keys
 pub mod Positions
 pub mod Hands
+pub mod ChoicePositions
 pub mod Objections
 pub mod Entering
 pub mod EnteringRepresentation

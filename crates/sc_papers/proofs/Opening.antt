@@ -1,5 +1,5 @@
 -- A school that may be added leaves the papers well-formed and within their limits.
-use Rattle.std.proofs.Common.{◌≡◌, ℕ, ◌<◌, ◌≤◌, nat_eq, false, [], ◌∷◌, ◌++◌, length, None, Some, cond, position, refl, sym, ap, ◌∙◌, arith, length-append}
+use Rattle.std.proofs.Common.{◌≡◌, ℕ, ◌<◌, ◌≤◌, nat_eq, false, List, Option, [], ◌∷◌, ◌++◌, length, None, Some, cond, position, refl, sym, ap, ◌∙◌, arith, length-append}
 use Rattle.std.proofs.lemmas.Map.Entries.{length-keys_of}
 use Rattle.std.specs.Prelude.{nat_lt, nat_le, slice_index_or}
 use Rattle.std.specs.Map.{lookup}
@@ -9,12 +9,13 @@ use Rattle.std.proofs.lemmas.Bool.Decides.{nat_tests}
 use Rattle.std.proofs.lemmas.Cmp.{nat_eq_equiv}
 use Rattle.std.proofs.lemmas.List.Elements.{All-push}
 use Rattle.std.proofs.lemmas.Map.Keys.{IsDistinct-push}
-use Rattle.sc_papers.specs.Representation.{IsSound, market_of}
+use Rattle.sc_papers.specs.Representation.{IsSound, market_of, rows_of}
 use Rattle.sc_papers.specs.Market.{Market, is_school, schools_of}
 use Rattle.sc_papers.specs.Verdict.{refuse_if, school_verdict, with_school}
 use Rattle.sc_papers.specs.WellFormed.{WellFormed, WithinLimits}
 use Rattle.sc_papers.specs.declared.papers.Papers.TheInside.{Inside}
 use Rattle.sc_papers.specs.declared.records.School.{School}
+use Rattle.sc_papers.specs.declared.records.Student.{Student}
 use Rattle.sc_papers.specs.declared.school_refusal.SchoolRefusal.TheVariants.{SchoolExists, TooManySchools, SchoolsClosed}
 use Rattle.sc_papers.proofs.Objections.{first_of-none, refuse_if-none}
 use Rattle.sc_papers.proofs.Entering.{is_some-false, keys_of-push, list_any-keys}
@@ -63,6 +64,11 @@ WithinLimits-with_school m s school within may seats = record {
   lists = within.lists;
 }
 
+-- where there are no students there are no rows
+rows-none : (seed : List ℕ) (before after : List (Option ℕ)) (es : List (ℕ × Student)) → length es ≡ 0 → rows_of seed before es ≡ rows_of seed after es
+rows-none seed before after [] none = refl
+rows-none seed before after (e ∷ es) none = absurd (omega (arith, none))
+
 -- a school that is new comes last
 pub market_of-opened : (old new : Inside) (s : ℕ) (school : School) → MayOpen (market_of old) s
     → new.lottery ≡ old.lottery → new.students ≡ old.students → new.schools.entries ≡ insert_entry nat_eq old.schools.entries s school
@@ -75,9 +81,9 @@ market_of-opened old new s school may seed students inserted =
 pub IsSound-opened : (old new : Inside) (s : ℕ) (school : School) → IsSound old → MayOpen (market_of old) s → school.seats ≤ GREATEST
     → new.lottery ≡ old.lottery → new.students ≡ old.students → new.schools.entries ≡ insert_entry nat_eq old.schools.entries s school
     → ((k : ℕ) → slice_index_or new.positions k None ≡ cond (nat_eq k s) (Some (length old.schools.entries)) (slice_index_or old.positions k None))
-    → new.draws ≡ old.draws
+    → new.rows ≡ old.rows
     → IsSound new
-IsSound-opened old new s school sound may seats seed students inserted put draws =
+IsSound-opened old new s school sound may seats seed students inserted put rows =
     let after = market_of-opened old new s school may seed students inserted in
     let keys : schools_of (market_of new) ≡ schools_of (market_of old) ++ s ∷ [] = ap schools_of after ∙ keys_of-push old.schools.entries (s, school) in
     record {
@@ -87,5 +93,5 @@ IsSound-opened old new s school sound may seats seed students inserted put draws
           put k ∙ ap (λ (n : ℕ). cond (nat_eq k s) (Some n) (slice_index_or old.positions k None)) (sym (length-keys_of old.schools.entries))
           ∙ ap (cond (nat_eq k s) (Some (length (schools_of (market_of old))))) (sound.positions k)
           ∙ sym (ap (position (nat_eq k)) keys ∙ position-push (schools_of (market_of old)) s k (list_any-keys s old.schools.entries may.new));
-      draws = rw (draws, seed, students) sound.draws;
+      rows = let before = sound.rows in rw (rows, seed, students) (before ∙ rows-none old.lottery old.positions new.positions old.students.entries may.early);
     }

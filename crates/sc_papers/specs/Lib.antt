@@ -4,6 +4,7 @@ pub mod Key
 pub mod Refusal
 pub mod Verdict
 pub mod WellFormed
+pub mod StudentRow
 pub mod Representation
 pub mod Assignment
 pub mod Matching

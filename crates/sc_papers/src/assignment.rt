@@ -4,15 +4,16 @@ ghost use Rattle.std.specs.Map.{keys_of};
 ghost use Rattle.sc_papers.specs.Assignment.{assigned, with_place};
 
 use crate::school_no::SchoolNo;
+use crate::seeded_hash::SeededHash;
 use indexmap::IndexMap;
-use sc_lottery::StudentNumber;
+use sc_lottery::{Seed, StudentNumber};
 use std::alloc::{AllocError, Global};
 use std::marker::Model;
 
 /// Which students have which schools: a finite map, in order of first entry.
 #[derive(Drop)]
 pub struct Assignment {
-    places: IndexMap<StudentNumber, SchoolNo>,
+    places: IndexMap<StudentNumber, SchoolNo, SeededHash>,
 }
 
 impl Model for Assignment {
@@ -27,8 +28,21 @@ impl Assignment {
         ensures { result ≡ [] }
     {
         Assignment {
-            places: IndexMap::new(alloc),
+            places: IndexMap::with_hasher(alloc, SeededHash::unseeded()),
         }
+    }
+
+    /// Nobody has a school, and there is room for so many students, who are found under a seed. The only
+    /// error is want of memory.
+    ///
+    /// Whoever chooses the students' numbers before the seed is drawn cannot make their look-ups slow.
+    pub fn with_room(alloc: Global, seed: Seed, students: usize) -> Result<Self, AllocError>
+        ensures { IfOk result (λ assignment. assignment ≡ []) }
+    {
+        let hash = SeededHash::new(seed);
+        Ok(Assignment {
+            places: IndexMap::with_capacity_and_hasher(alloc, students, hash)?,
+        })
     }
 
     /// Gives the student the school, in the place of any other. A refused growth changes nothing.

@@ -1,4 +1,4 @@
-ghost use Rattle.std.specs.Prelude.{◌≡◌, ℕ, ◌+◌, ◌<◌, ◌≤◌, ◌↔◌, [], ◌∷◌, ◌++◌, length, slice_get, position, nat_eq, ◌==◌, ◌&&◌, if◌then◌else◌, OnOk, OnErr, IfErr, IfOk};
+ghost use Rattle.std.specs.Prelude.{◌≡◌, ℕ, ◌+◌, ◌<◌, ◌≤◌, ◌↔◌, [], ◌∷◌, ◌++◌, length, slice_get, position, nat_eq, nat_lt, ◌==◌, ◌&&◌, if◌then◌else◌, OnOk, OnErr, IfErr, IfOk};
 ghost use Rattle.std.specs.Option.{option_copied};
 ghost use Rattle.std.specs.List.{list_any};
 ghost use Rattle.sc_papers.specs.Key.{class_by, same_zone};
@@ -12,6 +12,8 @@ use crate::school_no::SchoolNo;
 use crate::school_positions::SchoolPositions;
 use crate::school_refusal::SchoolRefusal;
 use crate::seats::Seats;
+use crate::seeded_hash::SeededHash;
+use crate::student_row::StudentRow;
 use crate::zone::Zone;
 use indexmap::IndexMap;
 use sc_lottery::{Draws, Seed, StudentNumber};
@@ -25,12 +27,13 @@ use std::marker::Model;
 pub struct Papers {
     // The seed's draws, read where the last student who entered left them.
     lottery: Draws,
-    schools: IndexMap<SchoolNo, School>,
+    schools: IndexMap<SchoolNo, School, SeededHash>,
     // Where each school stands in `schools`, so that a look-up by number hashes nothing.
     positions: SchoolPositions,
-    students: IndexMap<StudentNumber, Student>,
-    // Each student's draw, in order of entry, so that a key costs no block of the cipher.
-    draws: Vec<u64>,
+    students: IndexMap<StudentNumber, Student, SeededHash>,
+    // What a proposal reads of each student, in order of entry: so a key costs no block of the cipher, and a
+    // choice no look-up.
+    rows: Vec<StudentRow>,
 }
 
 impl Model for Papers {
@@ -45,12 +48,19 @@ impl Model for Papers {
     ghost invariant = { IsSound };
 }
 
-/// The priority class of this student at the school of this number.
-fn class_at(student: &Student, number: SchoolNo, school: School) -> u8
-    ensures { result ≡ class_by (list_any (λ t. t == number) student.now.siblings) (same_zone student.now.zone school.zone) }
+/// Whether a sibling of the student is at the school. One whose row tells of no siblings is not looked up.
+fn has_sibling_at(row: &StudentRow, student: &Student, school: SchoolNo) -> bool
+    requires { row.now.siblings ≡ nat_lt 0 (length student.now.siblings) }
+    ensures { result ≡ list_any (λ t. t == school) student.now.siblings }
 {
-    let sibling = student.siblings.as_slice().contains(&number);
-    let zone = student.zone == school.zone && student.zone.get() != 0;
+    row.has_siblings() && student.siblings.as_slice().contains(&school)
+}
+
+/// The priority class at a school of a student who has a sibling there or not, and lives in this zone.
+fn class_of(sibling: bool, zone: Zone, school: School) -> u8
+    ensures { result ≡ class_by sibling (same_zone zone school.zone) }
+{
+    let zone = zone == school.zone && zone.get() != 0;
     match (sibling, zone) {
         (true, true) => 0,
         (true, false) => 1,
@@ -59,32 +69,32 @@ fn class_at(student: &Student, number: SchoolNo, school: School) -> u8
     }
 }
 
-fn copy_draws(draws: &Vec<u64>) -> Result<Vec<u64>, AllocError>
-    ensures { IfOk result (λ copy. copy.items ≡ draws.now.items) }
+fn copy_rows(rows: &Vec<StudentRow>) -> Result<Vec<StudentRow>, AllocError>
+    ensures { IfOk result (λ copy. copy.items ≡ rows.now.items) }
 {
-    draws.clone()
+    rows.clone()
 }
 
 fn copy_schools(
-    schools: &IndexMap<SchoolNo, School>,
-) -> Result<IndexMap<SchoolNo, School>, AllocError>
+    schools: &IndexMap<SchoolNo, School, SeededHash>,
+) -> Result<IndexMap<SchoolNo, School, SeededHash>, AllocError>
     ensures { IfOk result (λ copy. copy.entries ≡ schools.now.entries) }
 {
     schools.clone()
 }
 
 fn copy_students(
-    students: &IndexMap<StudentNumber, Student>,
-) -> Result<IndexMap<StudentNumber, Student>, AllocError>
+    students: &IndexMap<StudentNumber, Student, SeededHash>,
+) -> Result<IndexMap<StudentNumber, Student, SeededHash>, AllocError>
     ensures { IfOk result (λ copy. copy.entries ≡ students.now.entries) }
 {
     students.clone()
 }
 
 impl Papers {
-    ghost use Rattle.std.specs.Prelude.{◌≡◌, ℕ, ◌+◌, ◌-◌, ◌<◌, ◌≤◌, ◌↔◌, [], ◌∷◌, ◌++◌, length, slice_get, position, nat_eq, ◌&&◌, if◌then◌else◌, OnOk, OnErr, IfErr, IfOk};
+    ghost use Rattle.std.specs.Prelude.{◌≡◌, ℕ, ◌+◌, ◌-◌, ◌<◌, ◌≤◌, ◌↔◌, [], ◌∷◌, ◌++◌, length, map, slice_get, position, nat_eq, ◌&&◌, Some, None, if◌then◌else◌, OnOk, OnErr, IfErr, IfOk};
     ghost use Rattle.std.specs.Option.{option_and_then, option_copied};
-    ghost use Rattle.sc_papers.specs.Market.{Market, school_of, student_of, schools_of, students_of, seats_of, is_school, is_student};
+    ghost use Rattle.sc_papers.specs.Market.{Market, choices_of, school_of, student_at, student_of, schools_of, students_of, seats_of, is_school, is_student};
     ghost use Rattle.sc_papers.specs.Key.{key_at, key_of};
     ghost use Rattle.sc_papers.specs.WellFormed.{WellFormed, WithinLimits};
     ghost use Rattle.sc_papers.specs.Verdict.{first_of, objections_to_add, objections_to_close, objections_to_correct, objections_to_enter, objections_to_rerank, objections_to_withdraw, with_choices, with_zone_and_siblings, with_seats, with_student, without_student, school_verdict, with_school, IsSchoolRefusal};
@@ -97,10 +107,10 @@ impl Papers {
     {
         Papers {
             lottery: Draws::new(seed),
-            schools: IndexMap::new(alloc),
+            schools: IndexMap::with_hasher(alloc, SeededHash::new(seed)),
             positions: SchoolPositions::new(alloc),
-            students: IndexMap::new(alloc),
-            draws: Vec::new(alloc),
+            students: IndexMap::with_hasher(alloc, SeededHash::new(seed)),
+            rows: Vec::new(alloc),
         }
     }
 
@@ -153,7 +163,7 @@ impl Papers {
         ensures { IfOk result (λ copy. copy ≡ self.now) }
     {
         // The students come last, so that no error has to let them go.
-        let draws = copy_draws(&self.draws)?;
+        let rows = copy_rows(&self.rows)?;
         let positions = self.positions.copy()?;
         let schools = copy_schools(&self.schools)?;
         let students = copy_students(&self.students)?;
@@ -162,7 +172,7 @@ impl Papers {
             schools,
             positions,
             students,
-            draws,
+            rows,
         })
     }
 
@@ -240,6 +250,15 @@ impl Papers {
         Some(record)
     }
 
+    /// The positions of the choices' schools in their order of entry, best choice first, of the student at a
+    /// position of the order of entry, each from 0. In constant time, without a look-up by number.
+    pub fn choice_positions_at(&self, student: usize) -> &[u16]
+        requires { student < length self.now.students }
+        ensures { map Some result.now ≡ map (λ s. position (nat_eq s) (schools_of self.now)) (choices_of self.now (student_at self.now student)) }
+    {
+        self.rows[student].choices()
+    }
+
     /// A school's position in the order of entry. In constant time.
     pub fn school_position(&self, school: SchoolNo) -> Option<usize>
         ensures { result ≡ position (nat_eq school) (schools_of self.now) }
@@ -273,11 +292,11 @@ impl Papers {
     {
         let (number, record) = self.students.get_index(student)?;
         let (name, entry) = self.schools.get_index(school)?;
-        let class = class_at(record, *name, *entry);
-        let draw = self.draws[student];
+        let row = &self.rows[student];
+        let class = class_of(has_sibling_at(row, record, *name), row.zone(), *entry);
         Some(Key {
             class,
-            draw,
+            draw: row.draw(),
             student: *number,
         })
     }
@@ -293,10 +312,11 @@ impl Papers {
         ensures entered { OnOk result (self.new ≡ with_student self.old number student) }
         ensures unchanged { OnErr result (self.new ≡ self.old) }
     {
-        self.draws.reserve(1)?;
-        let _ = self.students.insert(number, student)?;
+        self.rows.reserve(1)?;
         let draw = self.lottery.draw(number);
-        self.draws.push_reserved(draw);
+        let row = StudentRow::new(draw, &self.positions, &student);
+        let _ = self.students.insert(number, student)?;
+        self.rows.push_reserved(row);
         Ok(())
     }
     /// Removes a student, and the student's draw. The others keep their order and their draws.
@@ -305,7 +325,7 @@ impl Papers {
         ensures { self.new ≡ without_student self.old number }
     {
         if let Some((position, _, _)) = self.students.shift_remove_full(&number) {
-            let _ = self.draws.remove(position);
+            let _ = self.rows.remove(position);
         }
     }
 
@@ -314,8 +334,13 @@ impl Papers {
         requires { first_of (objections_to_rerank self.old number choices) ≡ None }
         ensures { self.new ≡ with_choices self.old number choices }
     {
+        let Some(position) = self.students.get_index_of(&number) else {
+            return;
+        };
+        let draw = self.rows[position].draw();
         if let Some(student) = self.students.get_mut(&number) {
             student.choices = choices;
+            self.rows[position] = StudentRow::new(draw, &self.positions, student);
         }
     }
 
@@ -324,9 +349,14 @@ impl Papers {
         requires { first_of (objections_to_correct self.old number siblings) ≡ None }
         ensures { self.new ≡ with_zone_and_siblings self.old number zone siblings }
     {
+        let Some(position) = self.students.get_index_of(&number) else {
+            return;
+        };
+        let draw = self.rows[position].draw();
         if let Some(student) = self.students.get_mut(&number) {
             student.zone = zone;
             student.siblings = siblings;
+            self.rows[position] = StudentRow::new(draw, &self.positions, student);
         }
     }
 

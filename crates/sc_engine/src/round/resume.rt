@@ -1,6 +1,6 @@
 //! Rounds that go on from where students stand.
 
-ghost use Rattle.std.specs.Prelude.{◌≡◌, ℕ, ◌<◌, true, false, List, [], Contains, Option, slice_get, IfOk, OnOk, IfSome};
+ghost use Rattle.std.specs.Prelude.{◌≡◌, ℕ, ◌<◌, ◌≤◌, length, true, false, List, [], Contains, Option, slice_get, IfOk, OnOk, IfSome};
 ghost use Rattle.sc_papers.specs.Market.{choices_of, is_student, seats_of};
 ghost use Rattle.sc_papers.specs.Matching.{held};
 ghost use Rattle.sc_papers.specs.declared.rejection.Rejection.{Rejection};
@@ -16,7 +16,8 @@ use std::alloc::{AllocError, Global};
 /// The rank of the school among the choices, or the rank after the last where there is no school.
 fn rank_in(choices: &[SchoolNo], school: Option<SchoolNo>) -> usize
     requires { IfSome school (λ s. Contains choices.now s) }
-    ensures { slice_get choices.now result ≡ school }
+    ensures rank { slice_get choices.now result ≡ school }
+    ensures within { result ≤ length choices.now }
 {
     let Some(school) = school else {
         return choices.len();
@@ -43,7 +44,7 @@ impl<R: Roll> Round<R> {
     {
         let at = position_near(papers, choice.student, self.ranks.len());
         make_room(&mut self.ranks, at)?;
-        self.ranks[at] = Some(rank_in(papers.choices_at(at), choice.next));
+        self.ranks[at] = Some(rank_in(papers.choices_at(at), choice.next) as u8);
         let Some(school) = choice.next else {
             return Ok(());
         };

@@ -27,7 +27,7 @@ returns-in_default-clause-stands g c =
     let old = view_of g.R.Roll.keys g.R.Roll.seats c.args.self.now in
     let there : student_at papers at ≡ student = student-there papers student at c.position_near-at.ensures in
     let here : slice_get (choices_of papers student) rank ≡ c.args.choice.next =
-    ap (λ choices. slice_get choices rank) (sym (c.choices_at.ensures.choices ∙ ap (choices_of papers) there)) ∙ c.rank_in.ensures in
+    ap (λ choices. slice_get choices rank) (sym (c.choices_at.ensures.choices ∙ ap (choices_of papers) there)) ∙ c.rank_in.ensures.rank in
     let begun : Begun papers old (moved old room at rank) student at rank = begins papers old room student at rank c.requires.fits c.position_near-at.ensures c.requires.absent c.in_ok-make_room.ensures.room c.in_ok-make_room.ensures.same c.in_ok-make_room.ensures.within in
     put-nowhere begun c.args.choice.next here c.in_default.is
 
@@ -41,7 +41,7 @@ position_and_key-position-requires-clause-school g c =
     let old = view_of g.R.Roll.keys g.R.Roll.seats c.args.self.now in
     let there : student_at papers at ≡ student = student-there papers student at c.position_near-at.ensures in
     let here : slice_get (choices_of papers student) rank ≡ c.args.choice.next =
-    ap (λ choices. slice_get choices rank) (sym (c.choices_at.ensures.choices ∙ ap (choices_of papers) there)) ∙ c.rank_in.ensures in
+    ap (λ choices. slice_get choices rank) (sym (c.choices_at.ensures.choices ∙ ap (choices_of papers) there)) ∙ c.rank_in.ensures.rank in
     let begun : Begun papers old (moved old room at rank) student at rank = begins papers old room student at rank c.requires.fits c.position_near-at.ensures c.requires.absent c.in_ok-make_room.ensures.room c.in_ok-make_room.ensures.same c.in_ok-make_room.ensures.within in
     put-school papers old student rank c.in-Some.school c.requires.fits (here ∙ c.in-Some.is)
 
@@ -55,7 +55,7 @@ offer_to-requires-clause-new g c =
     let old = view_of g.R.Roll.keys g.R.Roll.seats c.args.self.now in
     let there : student_at papers at ≡ student = student-there papers student at c.position_near-at.ensures in
     let here : slice_get (choices_of papers student) rank ≡ c.args.choice.next =
-    ap (λ choices. slice_get choices rank) (sym (c.choices_at.ensures.choices ∙ ap (choices_of papers) there)) ∙ c.rank_in.ensures in
+    ap (λ choices. slice_get choices rank) (sym (c.choices_at.ensures.choices ∙ ap (choices_of papers) there)) ∙ c.rank_in.ensures.rank in
     let begun : Begun papers old (moved old room at rank) student at rank = begins papers old room student at rank c.requires.fits c.position_near-at.ensures c.requires.absent c.in_ok-make_room.ensures.room c.in_ok-make_room.ensures.same c.in_ok-make_room.ensures.within in
     let key = c.position_and_key-position.ensures.key ∙ ap (λ i. key_of papers i c.in-Some.school) there in
     roll-new papers (moved old room at rank) student c.in-Some.school c.position_and_key-position.result.0 c.position_and_key-position.result.1 (fits-begun begun) c.position_and_key-position.ensures.position key
@@ -82,7 +82,7 @@ returns-clause-stands g c =
     let old = view_of g.R.Roll.keys g.R.Roll.seats c.args.self.now in
     let there : student_at papers at ≡ student = student-there papers student at c.position_near-at.ensures in
     let here : slice_get (choices_of papers student) rank ≡ c.args.choice.next =
-    ap (λ choices. slice_get choices rank) (sym (c.choices_at.ensures.choices ∙ ap (choices_of papers) there)) ∙ c.rank_in.ensures in
+    ap (λ choices. slice_get choices rank) (sym (c.choices_at.ensures.choices ∙ ap (choices_of papers) there)) ∙ c.rank_in.ensures.rank in
     let begun : Begun papers old (moved old room at rank) student at rank = begins papers old room student at rank c.requires.fits c.position_near-at.ensures c.requires.absent c.in_ok-make_room.ensures.room c.in_ok-make_room.ensures.same c.in_ok-make_room.ensures.within in
     let key = c.position_and_key-position.ensures.key ∙ ap (λ i. key_of papers i c.in-Some.school) there in
     let rolls = rolls_of g.R.Roll.keys g.R.Roll.seats c.offer_to.new.rolls.items in

@@ -1,16 +1,31 @@
-use Rattle.std.proofs.Common.{sym, ◌∙◌, ap}
-use Rattle.sc_lottery.specs.Draw.{draw}
+use Rattle.std.proofs.Common.{sym, ◌∙◌, ap, ℕ}
+use Rattle.std.specs.Prelude.{◌==◌, Bool}
+use Rattle.std.specs.List.{list_any}
 use Rattle.sc_papers.specs.Representation.{market_of}
-use Rattle.sc_papers.specs.Key.{key_at}
+use Rattle.sc_papers.specs.StudentRow.{Row}
+use Rattle.sc_papers.specs.Key.{class_by, key_at, same_zone}
 use Rattle.sc_papers.specs.Market.{Market}
-use Rattle.sc_papers.proofs.Keys.{draw-there, key-of_places}
+use Rattle.sc_papers.proofs.Keys.{key-of_places, row-there}
 use Rattle.sc_papers.proofs.papers.Papers.key_at.Goals as goal
 
 pub returns : goal.returns
 returns c =
     let student = c.in_ok-number.ensures in
     let school = c.in_ok-name.ensures in
-    let drawn = draw-there (draw c.self.inside.lottery) c.self.inside.students.entries c.self.inside.draws.items c.args.student _ _ _ c.self.invariant.draws (sym student.entry) c.index-draw.ensures in
-    key-of_places (market_of c.self.inside) c.args.student c.args.school _ _ _ _ c.in_ok-number.record.now c.in_ok-name.entry.now
-    (sym student.entry) (sym school.entry) student.value school.value c.class_at-class.ensures drawn
+    let record_there = c.in_ok-number.record.now in
+    let row = row-there c.self.inside.lottery c.self.inside.positions c.self.inside.students.entries c.self.inside.rows.items c.args.student _ record_there c.index-row.result.now
+    c.self.invariant.rows (sym student.entry) c.index-row.ensures in
+    let class_is =
+    c.class_of-class.ensures
+    ∙ ap (λ (sibling : Bool). class_by sibling (same_zone c.zone.result c.in_ok-name.entry.now.zone)) c.has_sibling_at.ensures
+    ∙ ap (λ (zone : ℕ). class_by (list_any (λ t. t == c.in_ok-name.name.now) record_there.siblings) (same_zone zone c.in_ok-name.entry.now.zone)) (c.zone.ensures ∙ ap (λ (r : Row). r.zone) row) in
+    let drawn = c.draw.ensures ∙ ap (λ (r : Row). r.draw) row in
+    key-of_places (market_of c.self.inside) c.args.student c.args.school _ _ _ _ record_there c.in_ok-name.entry.now
+    (sym student.entry) (sym school.entry) student.value school.value class_is drawn
     ∙ ap (λ (m : Market). key_at m c.args.student c.args.school) c.self.view_is
+
+pub has_sibling_at-requires : goal.has_sibling_at-requires
+has_sibling_at-requires c =
+    let student = c.in_ok-number.ensures in
+    ap (λ (r : Row). r.siblings) (row-there c.self.inside.lottery c.self.inside.positions c.self.inside.students.entries c.self.inside.rows.items c.args.student _ c.in_ok-number.record.now c.index-row.result.now
+    c.self.invariant.rows (sym student.entry) c.index-row.ensures)

@@ -16,5 +16,5 @@ invariant_of-self-2 c =
 pub returns-clause-added : goal.returns-clause-added
 returns-clause-added c =
     let allowed : school_verdict (market_of c.self.inside) c.args.number ≡ None = ap (λ (m : Market). school_verdict m c.args.number) c.self.view_is ∙ c.requires.allowed in
-    market_of-opened c.self.inside (record { lottery = c.self.inside.lottery; schools = c.insert.new.self; positions = c.put.new.self; students = c.self.inside.students; draws = c.self.inside.draws }) c.args.number c.args.school (MayOpen-allowed (market_of c.self.inside) c.args.number allowed) refl refl c.in_ok-insert.ensures.entries
+    market_of-opened c.self.inside (record { lottery = c.self.inside.lottery; schools = c.insert.new.self; positions = c.put.new.self; students = c.self.inside.students; rows = c.self.inside.rows }) c.args.number c.args.school (MayOpen-allowed (market_of c.self.inside) c.args.number allowed) refl refl c.in_ok-insert.ensures.entries
     ∙ ap (λ (m : Market). with_school m c.args.number c.args.school) c.self.view_is
