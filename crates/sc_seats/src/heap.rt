@@ -75,12 +75,12 @@ fn replace_last(keys: &mut BinaryHeap<Key>, key: Key) -> Key
     ensures together { IsPermutation (key ∷ heap_items keys.old) (result ∷ heap_items keys.new) }
     ensures last { All (λ held. is_before result held ≡ false) (heap_items keys.old) }
 {
-    let Some(last) = keys.pop() else {
+    let Some(mut top) = keys.peek_mut() else {
         unreachable!()
     };
-    if add(keys, key).is_err() {
-        unreachable!()
-    }
+    let last = *top;
+    *top = key;
+    drop(top);
     last
 }
 

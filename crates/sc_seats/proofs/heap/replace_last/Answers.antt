@@ -1,10 +1,16 @@
-use Rattle.std.proofs.Common.{◌∷◌, rules}
+use Rattle.std.proofs.Common.{◌∷◌, rules, subst, sym}
 use Rattle.std.specs.BinaryHeap.{heap_items}
+use Rattle.std.specs.BinaryHeap.PeekMut.{peek_mut_rest}
 use Rattle.std.specs.List.Sorted.{IsPermutation}
+use Rattle.sc_papers.specs.declared.key.Key.{Key}
 use Rattle.sc_seats.proofs.Heaps.{replaced-heap}
 use Rattle.sc_seats.proofs.heap.replace_last.Goals as goal
 
 pub returns-clause-together : goal.returns-clause-together
 returns-clause-together c =
-    let added : IsPermutation (c.args.key ∷ heap_items c.pop.new.self) (heap_items c.add.new.keys) = search rules in
-    replaced-heap (heap_items c.args.keys.now) (heap_items c.pop.new.self) (heap_items c.add.new.keys) c.args.key c.in-Some.last c.in-Some.ensures.permutation added
+    let rest = peek_mut_rest c.in-Some.top in
+    let taken : IsPermutation (heap_items c.args.keys.now) (c.deref-last.result.now ∷ rest) =
+    subst (λ (last : Key). IsPermutation (heap_items c.args.keys.now) (last ∷ rest)) (sym c.deref-last.ensures) c.in-Some.ensures.permutation in
+    let put = c.drop.ensures.permutation (search rules) in
+    let together = replaced-heap (heap_items c.args.keys.now) rest _ c.args.key c.deref-last.result.now taken put in
+    search rules
