@@ -1,18 +1,18 @@
 //! Reasons: why a student does not have a choice that it prefers to what it has.
-ghost use Rattle.std.specs.Prelude.{◌≡◌, ◌<◌, ◌++◌, ◌==◌, true, false, flat_map, length, All, IfOk, OnOk};
+ghost use Rattle.std.specs.Prelude.{◌≡◌, ◌<◌, ◌++◌, ◌==◌, false, flat_map, length, nat_eq, position, Some, All, IfOk, OnOk};
 ghost use Rattle.std.specs.Option.{option_map_or};
 ghost use Rattle.sc_papers.specs.Assignment.{assigned};
-ghost use Rattle.sc_papers.specs.Market.{is_school, student_at};
+ghost use Rattle.sc_papers.specs.Market.{Market, schools_of};
 ghost use Rattle.sc_papers.specs.Matching.{Matching};
 ghost use Rattle.sc_papers.specs.WellFormed.{WellFormed};
 ghost use Rattle.sc_repair.specs.Standing.{matching_of};
-ghost use Rattle.sc_report.specs.Cutoff.{rows_in_order};
+ghost use Rattle.sc_report.specs.Cutoff.{cutoff, rows_in_order};
 ghost use Rattle.sc_report.specs.Entrants.{numbers_of, StandsAt};
-ghost use Rattle.sc_report.specs.Reason.{reason, reason_by, reason_rows, reasons_of};
+ghost use Rattle.sc_report.specs.Reason.{reason_by, reason_rows, reasons_of};
 
 use crate::cutoff::{Cutoff, CutoffRow, rows_in_order};
 use crate::entrants::{Entrant, rising_entrants};
-use sc_papers::{Assignment, Key, Papers, SchoolNo, StudentNo};
+use sc_papers::{Assignment, Key, Papers, Proposal, SchoolNo, StudentNo};
 use sc_repair::Clearing;
 use std::alloc::{AllocError, Global};
 
@@ -46,16 +46,13 @@ fn reason_by(cutoff: Cutoff, key: Key) -> Reason
     }
 }
 
-/// Why the student at a position does not have a school, by the rows of all schools in order of entry.
-fn reason_of(rows: &[CutoffRow], papers: &Papers, student: usize, school: SchoolNo) -> Reason
-    requires rows { length rows.now ≡ length papers.now.schools }
-    requires student { student < length papers.now.students }
-    requires school { is_school papers.now school ≡ true }
-    // By whichever matching the rows were made.
-    ensures { (a : Matching) → rows.now ≡ rows_in_order papers.now a → result ≡ reason papers.now a (student_at papers.now student) school }
+/// Why a key does not get past the cutoff of a choice, by the rows of all schools in order of entry.
+fn reason_of(rows: &[CutoffRow], choice: &Proposal) -> Reason
+    requires { choice.now.position < length rows.now }
+    // By whichever papers and matching the rows were made.
+    ensures { (m : Market) (a : Matching) → rows.now ≡ rows_in_order m a → position (nat_eq choice.now.school) (schools_of m) ≡ Some choice.now.position → result ≡ reason_by (cutoff m a choice.now.school) choice.now.key }
 {
-    let (at, key) = papers.position_and_key(student, school);
-    reason_by(rows[at].cutoff, key)
+    reason_by(rows[choice.position].cutoff, choice.key)
 }
 
 /// Whether what a student has is this school.
@@ -79,16 +76,18 @@ pub(crate) fn push_reasons(
     ensures { OnOk result (reasons.new.items ≡ reasons.old.items ++ reasons_of papers.now (assigned places.now) entrant.student) }
 {
     let held = places.get(entrant.student);
-    for choice in papers.choices_at(entrant.position) {
-        if is_held(&held, *choice) {
+    let mut rank = 0;
+    'ranks: while let Some(choice) = papers.proposal(entrant.position, rank) {
+        if is_held(&held, choice.school) {
             return Ok(());
         }
-        let reason = reason_of(rows, papers, entrant.position, *choice);
+        let reason = reason_of(rows, &choice);
         reasons.push(ReasonRow {
             student: entrant.student,
-            school: *choice,
+            school: choice.school,
             reason,
         })?;
+        rank += 1;
     }
     Ok(())
 }

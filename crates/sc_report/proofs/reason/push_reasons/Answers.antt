@@ -1,59 +1,64 @@
-use Rattle.std.proofs.Common.{◌∙◌, ◌++◌, ◌∷◌, [], ap, append_assoc, false, map, subst, sym, take, true, Contains}
+use Rattle.std.proofs.Common.{◌≡◌, refl, ℕ, ◌<◌, ◌≤◌, ◌++◌, ◌∷◌, [], None, Some, ap, append_assoc, arith, false, get_or, length, map, slice_get, sym, take, true, ◌∙◌}
+use Rattle.std.proofs.lemmas.Option.{get_or_from_slice_get, slice_get_within}
 use Rattle.sc_papers.specs.Assignment.{assigned}
+use Rattle.sc_papers.specs.Key.{key_of}
 use Rattle.sc_papers.specs.Market.{choices_of}
 use Rattle.sc_papers.specs.Matching.{has}
-use Rattle.sc_report.specs.Reason.{reason, reason_row}
+use Rattle.sc_report.specs.Cutoff.{cutoff}
+use Rattle.sc_report.specs.Reason.{reason_by, reason_row}
+use Rattle.sc_papers.proofs.Choices.{places-end}
 use Rattle.sc_papers.proofs.Hands.{hand-is}
-use Rattle.sc_papers.proofs.Students.{choice-known}
-use Rattle.sc_report.proofs.EntrantLemmas.{stands-low}
 use Rattle.sc_report.proofs.ReasonLemmas.{held-test, passed-more, passed-stop, passed-end, reasons-are, row-reason}
 use Rattle.sc_report.proofs.CutoffLemmas.{map-take_one}
 use Rattle.sc_report.proofs.reason.push_reasons.Goals as goal
-
-pub choices_at-choice-items-requires : goal.choices_at-choice-items-requires
-choices_at-choice-items-requires c = stands-low c.args.papers.now c.args.entrant c.requires.stands
-
-pub reason_of-reason-requires-clause-student : goal.reason_of-reason-requires-clause-student
-reason_of-reason-requires-clause-student c = stands-low c.args.papers.now c.args.entrant c.requires.stands
 
 pub returns-then-is_held : goal.returns-then-is_held
 returns-then-is_held c =
     let m = c.args.papers.now in
     let a = assigned c.args.places.now in
     let i = c.args.entrant.student in
-    let choices = c.choices_at-choice-items.result.now in
-    let k = c.loop-choice.choice-index in
-    let s = c.choice-item.result in
+    let choices = choices_of m i in
+    let k = c.ranks.rank in
+    let s = c.in-Some.choice.school in
+    let here : slice_get choices k ≡ Some s = sym (c.in-Some.ensures.school ∙ ap (λ (j : ℕ). slice_get (choices_of m j) k) (hand-is m c.args.entrant.position i c.requires.stands)) in
+    let low : k < length choices = slice_get_within choices k s here in
+    let is : s ≡ get_or choices k s = sym (get_or_from_slice_get choices k s s here) in
     let holds = held-test a i s c.get-held.result c.is_held.result true c.get-held.ensures c.is_held.ensures c.if-is_held.true in
-    c.loop-choice.invariant.rows
+    c.ranks.invariant.rows
     ∙ ap (λ more. c.args.reasons.now.items ++ more)
-    (reasons-are m a i choices k (c.choices_at-choice-items.ensures.choices ∙ ap (choices_of m) (hand-is m c.args.entrant.position i c.requires.stands))
-    (passed-stop (λ t. has a t i) choices k s c.loop-choice.invariant.none c.loop-choice-test.true c.choice-item.is holds))
+    (reasons-are m a i choices k refl (passed-stop (λ t. has a t i) choices k s c.ranks.invariant.none low is holds))
 
-pub reason_of-reason-requires-clause-school : goal.reason_of-reason-requires-clause-school
-reason_of-reason-requires-clause-school c =
+pub ranks-smaller : goal.ranks-smaller
+ranks-smaller c =
     let m = c.args.papers.now in
     let i = c.args.entrant.student in
-    let same = c.choices_at-choice-items.ensures.choices ∙ ap (choices_of m) (hand-is m c.args.entrant.position i c.requires.stands) in
-    choice-known m c.requires.well_formed i c.choice-item.result
-    (subst (λ xs. Contains xs c.choice-item.result) same (c.loop-choice.choice-index, c.loop-choice-test.true, sym c.choice-item.is))
+    let k = c.ranks.rank in
+    let s = c.in-Some.choice.school in
+    let here : slice_get (choices_of m i) k ≡ Some s = sym (c.in-Some.ensures.school ∙ ap (λ (j : ℕ). slice_get (choices_of m j) k) (hand-is m c.args.entrant.position i c.requires.stands)) in
+    omega (arith, slice_get_within (choices_of m i) k s here)
 
-pub loop-choice-preserved : goal.loop-choice-preserved
-loop-choice-preserved c =
+pub ranks-preserved : goal.ranks-preserved
+ranks-preserved c =
     let m = c.args.papers.now in
     let a = assigned c.args.places.now in
     let i = c.args.entrant.student in
-    let choices = c.choices_at-choice-items.result.now in
-    let k = c.loop-choice.choice-index in
-    let s = c.choice-item.result in
+    let choices = choices_of m i in
+    let k = c.ranks.rank in
+    let s = c.in-Some.choice.school in
+    let same = hand-is m c.args.entrant.position i c.requires.stands in
+    let here : slice_get choices k ≡ Some s = sym (c.in-Some.ensures.school ∙ ap (λ (j : ℕ). slice_get (choices_of m j) k) same) in
+    let low : k < length choices = slice_get_within choices k s here in
+    let is : s ≡ get_or choices k s = sym (get_or_from_slice_get choices k s s here) in
     let fails = held-test a i s c.get-held.result c.is_held.result false c.get-held.ensures c.is_held.ensures c.if-is_held.false in
     let row = row-reason m a i s c.reason_of-reason.result
-    (c.reason_of-reason.ensures a c.requires.rows ∙ ap (λ j. reason m a j s) (hand-is m c.args.entrant.position i c.requires.stands)) in
+    (c.reason_of-reason.ensures m a c.requires.rows c.in-Some.ensures.position
+    ∙ ap (reason_by (cutoff m a s)) (c.in-Some.ensures.key ∙ ap (λ (j : ℕ). key_of m j s) same)) in
     record {
-      none = passed-more (λ t. has a t i) choices k s c.loop-choice.invariant.none c.loop-choice-test.true c.choice-item.is fails;
-      rows = c.in_ok-push.ensures.items ∙ (λ t. c.loop-choice.invariant.rows t ++ row t ∷ [])
+      none = passed-more (λ t. has a t i) choices k s c.ranks.invariant.none low is fails;
+      rows = c.in_ok-push.ensures.items ∙ (λ t. c.ranks.invariant.rows t ++ row t ∷ [])
           ∙ append_assoc c.args.reasons.now.items (map (reason_row m a i) (take k choices)) (reason_row m a i s ∷ [])
-          ∙ ap (λ more. c.args.reasons.now.items ++ more) (sym (map-take_one (reason_row m a i) choices k s c.loop-choice-test.true c.choice-item.is));
+          ∙ ap (λ more. c.args.reasons.now.items ++ more) (sym (map-take_one (reason_row m a i) choices k s low is));
+      within = omega (arith, low);
     }
 
 pub returns : goal.returns
@@ -61,9 +66,10 @@ returns c =
     let m = c.args.papers.now in
     let a = assigned c.args.places.now in
     let i = c.args.entrant.student in
-    let choices = c.choices_at-choice-items.result.now in
-    let k = c.loop-choice.choice-index in
-    c.loop-choice.invariant.rows
+    let choices = choices_of m i in
+    let k = c.ranks.rank in
+    let none : slice_get choices k ≡ None = sym (c.in_default.ensures.school ∙ ap (λ (j : ℕ). slice_get (choices_of m j) k) (hand-is m c.args.entrant.position i c.requires.stands)) in
+    let past : length choices ≤ k = places-end choices k none in
+    c.ranks.invariant.rows
     ∙ ap (λ more. c.args.reasons.now.items ++ more)
-    (reasons-are m a i choices k (c.choices_at-choice-items.ensures.choices ∙ ap (choices_of m) (hand-is m c.args.entrant.position i c.requires.stands))
-    (passed-end (λ t. has a t i) choices k c.loop-choice.invariant.none c.loop-choice-test.false))
+    (reasons-are m a i choices k refl (passed-end (λ t. has a t i) choices k c.ranks.invariant.none past))
