@@ -6,7 +6,7 @@ use sc_intake::Source;
 use sc_papers::Seed;
 use sc_report::{Watched, write_whole};
 use sc_runs::{
-    Ending, Inputs, Opening, RunFault, Tail, Verdict, audit_files, fault_line, match_files,
+    Ending, Inputs, Opening, RunFault, Tail, Verdict, audit_files, fault_line, match_standing,
     replay_files, run, run_bundle, status_of,
 };
 use sc_words::{OpeningWords, Order, Subcommand, Word, order_of};
@@ -14,6 +14,7 @@ use std::alloc::Global;
 use std::fs::File;
 use std::io;
 use std::io::{Read, Write};
+use std::mem::forget;
 use std::rt::Files;
 
 /// The line for a word of the command line that is not UTF-8.
@@ -53,7 +54,9 @@ fn match_opening<R: Files + AllocGlobal, W: Write>(
     out: &mut Watched<W>,
 ) -> Result<Ending, RunFault> {
     let mut opening = open_opening(rt, words)?;
-    match_files(rt.alloc(), seed, &mut opening, show_log, out)?;
+    let clearing = match_standing(rt.alloc(), seed, &mut opening, show_log, out)?;
+    // The program ends here, so what stands is not taken apart.
+    forget(clearing);
     Ok(Ending::Done)
 }
 

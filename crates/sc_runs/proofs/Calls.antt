@@ -27,10 +27,9 @@ papers_in-texts seed texts schools roster lists same =
     ∙ ap (λ l. papers_in seed texts.schools texts.roster l) same.lists_same
 
 -- the files were read, and matched
-pub MatchesFiles-read : (seed : List ℕ) (show_log : Bool) (turns : List Turn) (texts : Texts) (schools roster lists : List ℕ) (old new : Option (List ℕ)) (result : Result (Unit {0}) RunFault)
-    → AreRead turns (in_order texts) → AreTexts texts schools roster lists → WritesMatch show_log (papers_in seed schools roster lists) old new result → MatchesFiles seed show_log turns old new result
-MatchesFiles-read seed show_log turns texts schools roster lists old new result read same wrote =
-    inr (texts, read, subst (λ reading. WritesMatch show_log reading old new result) (papers_in-texts seed texts schools roster lists same) wrote)
+pub MatchesFiles-read : {A : Type 0} (seed : List ℕ) (show_log : Bool) (turns : List Turn) (texts : Texts) (old new : Option (List ℕ)) (result : Result A RunFault)
+    → AreRead turns (in_order texts) → WritesMatch show_log (opening_in seed texts) old new result → MatchesFiles seed show_log turns old new result
+MatchesFiles-read seed show_log turns texts old new result read wrote = inr (texts, read, wrote)
 
 -- reading the files of the opening ended early, and the input after them was not come to
 pub EndsAmong-opening : (turns : List Turn) (turn : Turn) (fault : RunFault) → EndsAmong turns fault → IsUntouched turn → EndsAmong (turns ++ turn ∷ []) fault

@@ -99,14 +99,14 @@ WritesMatch-log show_log reading m old new result asked read wrote =
     (WritesMatch-opened true (IsCertificate m) reading m old new result read (λ text is. is) wrote)
 
 -- nothing was written where opening ended early
-pub WritesMatch-refused : (show_log : Bool) (reading : Result Market IntakeFault) (old : Option (List ℕ)) (fault : RunFault)
-    → IsOpeningFault reading fault → WritesMatch show_log reading old old (Err fault)
-WritesMatch-refused show_log reading old WriteOut is = absurd is
-WritesMatch-refused show_log reading old (Read source) is = absurd is
-WritesMatch-refused show_log reading old (Intake fault) is = (is, Keeps-refl old)
-WritesMatch-refused show_log reading old (Journal fault) is = absurd is
-WritesMatch-refused show_log reading old WriteJournal is = absurd is
-WritesMatch-refused show_log reading old OutOfMemory is = Keeps-refl old
+pub WritesMatch-refused : (A : Type 0) (show_log : Bool) (reading : Result Market IntakeFault) (old : Option (List ℕ)) (fault : RunFault)
+    → IsOpeningFault reading fault → WritesMatch {A = A} show_log reading old old (Err fault)
+WritesMatch-refused A show_log reading old WriteOut is = absurd is
+WritesMatch-refused A show_log reading old (Read source) is = absurd is
+WritesMatch-refused A show_log reading old (Intake fault) is = (is, Keeps-refl old)
+WritesMatch-refused A show_log reading old (Journal fault) is = absurd is
+WritesMatch-refused A show_log reading old WriteJournal is = absurd is
+WritesMatch-refused A show_log reading old OutOfMemory is = Keeps-refl old
 
 -- and the output did not fail
 pub is_output_fault-refused : {A : Type 0} (reading : Result A IntakeFault) (fault : RunFault) → IsOpeningFault reading fault → is_output_fault {A = Unit {0}} (Err fault) ≡ false

@@ -77,8 +77,8 @@ IsMatchText false m text = IsReport m text
 IsMatchText true m text = IsCertificate m text
 
 -- matching wrote its text of the papers that were read, and nothing where they have a fault
-abbrev pub WritesMatch : Bool → Result Market IntakeFault → Option (List ℕ) → Option (List ℕ) → Result (Unit {0}) RunFault → Type 0
-WritesMatch show_log reading old new (Ok done) = (m : Market) × (reading ≡ Ok m) × WritesText (IsMatchText show_log m) old new (Ok done)
+abbrev pub WritesMatch : {A : Type 0} → Bool → Result Market IntakeFault → Option (List ℕ) → Option (List ℕ) → Result A RunFault → Type 0
+WritesMatch show_log reading old new (Ok done) = (m : Market) × (reading ≡ Ok m) × WritesText (IsMatchText show_log m) old new (Ok tt)
 WritesMatch show_log reading old new (Err WriteOut) = (m : Market) × (reading ≡ Ok m) × WritesText (IsMatchText show_log m) old new (Err WriteOut)
 WritesMatch show_log reading old new (Err (Intake fault)) = (reading ≡ Err fault) × Keeps old new
 WritesMatch show_log reading old new (Err OutOfMemory) = Keeps old new
@@ -92,9 +92,13 @@ EndsUnread turns old new result = IsErrAnd result (EndsAmong turns) × Keeps old
 
 -- what matching files did: reading them ended early, and nothing was written; or they were read, each whole,
 -- and matched
-abbrev pub MatchesFiles : List ℕ → Bool → List Turn → Option (List ℕ) → Option (List ℕ) → Result (Unit {0}) RunFault → Type 0
+abbrev pub MatchesFiles : {A : Type 0} → List ℕ → Bool → List Turn → Option (List ℕ) → Option (List ℕ) → Result A RunFault → Type 0
 MatchesFiles seed show_log turns old new result = EndsUnread turns old new result
     ⊎ ((texts : Texts) × AreRead turns (in_order texts) × WritesMatch show_log (opening_in seed texts) old new result)
+
+-- the papers are those of an opening's files, each of which was read whole
+abbrev pub ArePapersOf : List ℕ → List Turn → Market → Type 0
+ArePapersOf seed turns m = (texts : Texts) × AreRead turns (in_order texts) × (opening_in seed texts ≡ Ok m)
 
 -- whether a run ended because the output failed
 abbrev pub is_output_fault : {A : Type 0} → Result A RunFault → Bool

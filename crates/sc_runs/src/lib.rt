@@ -25,7 +25,7 @@ pub use bundle_run::run_bundle;
 pub use ending::{Ending, fault_line, status_of};
 pub use fault::RunFault;
 pub use inputs::{Inputs, Opening};
-pub use matching::match_files;
+pub use matching::{match_files, match_standing};
 pub use replaying::replay_files;
 pub use running::run;
 pub use sc_audit::Verdict;

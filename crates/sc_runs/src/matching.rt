@@ -1,14 +1,14 @@
 //! From three files to an assignment.
 
-ghost use Rattle.std.specs.Prelude.{◌≡◌, ◌||◌, All, Ok};
+ghost use Rattle.std.specs.Prelude.{◌≡◌, ◌||◌, All, IfOk, Ok};
 ghost use Rattle.sc_repair.specs.Standing.{IsCertified};
 ghost use Rattle.sc_report.specs.Watched.{device_of, has_failed};
-ghost use Rattle.sc_runs.specs.Inputs.{opening_turns, TakesWithin};
-ghost use Rattle.sc_runs.specs.Opening.{is_output_fault, papers_in, MatchesFiles, WritesMatch};
+ghost use Rattle.sc_runs.specs.Inputs.{opening_turns, texts_of, TakesWithin};
+ghost use Rattle.sc_runs.specs.Opening.{is_output_fault, opening_in, papers_in, ArePapersOf, MatchesFiles, WritesMatch};
 
 use crate::fault::RunFault;
-use crate::inputs::{Opening, OpeningSlices, read_opening};
-use crate::opening::open_texts;
+use crate::inputs::{Opening, OpeningSlices, OpeningTexts, read_opening};
+use crate::opening::{open_owned, open_texts};
 use crate::writing::{write_flushed_report, write_log};
 use sc_papers::Seed;
 use sc_repair::Clearing;
@@ -57,6 +57,54 @@ pub fn match_texts<W: Write>(
     }
 }
 
+/// Opens the papers that the texts hold and writes their report, or their log, as `match_texts` does. It answers what
+/// stands.
+fn match_owned<W: Write>(
+    alloc: Global,
+    seed: &Seed,
+    texts: OpeningTexts,
+    show_log: bool,
+    out: &mut Watched<W>,
+) -> Result<Clearing, RunFault>
+    ensures bytes { WritesMatch show_log (opening_in seed.now (texts_of texts))
+        (W.contents (device_of out.old)) (W.contents (device_of out.new)) result }
+    ensures papers { IfOk result (λ clearing. opening_in seed.now (texts_of texts) ≡ Ok clearing.papers) }
+    ensures failed { has_failed out.new ≡ (has_failed out.old || is_output_fault result) }
+{
+    let clearing = match open_owned(alloc, seed, texts) {
+        Ok(clearing) => clearing,
+        Err(fault) => return Err(fault),
+    };
+    match write_opened(alloc, &clearing, show_log, out) {
+        Ok(()) => Ok(clearing),
+        Err(fault) => {
+            drop(clearing);
+            Err(fault)
+        }
+    }
+}
+
+/// Does what `match_files` does, and answers what stands, for a caller that goes on with it.
+pub fn match_standing<R: Read, W: Write>(
+    alloc: Global,
+    seed: &Seed,
+    opening: &mut Opening<R>,
+    show_log: bool,
+    out: &mut Watched<W>,
+) -> Result<Clearing, RunFault>
+    ensures bytes { MatchesFiles seed.now show_log (opening_turns R.remaining opening.old opening.new)
+        (W.contents (device_of out.old)) (W.contents (device_of out.new)) result }
+    ensures papers { IfOk result (λ clearing. ArePapersOf seed.now (opening_turns R.remaining opening.old opening.new) clearing.papers) }
+    ensures failed { has_failed out.new ≡ (has_failed out.old || is_output_fault result) }
+    ensures limit { All TakesWithin (opening_turns R.remaining opening.old opening.new) }
+{
+    let texts = match read_opening(alloc, opening) {
+        Ok(texts) => texts,
+        Err(fault) => return Err(fault),
+    };
+    match_owned(alloc, seed, texts, show_log, out)
+}
+
 /// Reads the three files, in the order schools, roster, lists, and writes the report of their papers, or
 /// with `show_log` the log of rejections that certifies the assignment of the report.
 ///
@@ -77,9 +125,11 @@ pub fn match_files<R: Read, W: Write>(
     ensures failed { has_failed out.new ≡ (has_failed out.old || is_output_fault result) }
     ensures limit { All TakesWithin (opening_turns R.remaining opening.old opening.new) }
 {
-    let texts = match read_opening(alloc, opening) {
-        Ok(texts) => texts,
-        Err(fault) => return Err(fault),
-    };
-    match_texts(alloc, seed, texts.as_slices(), show_log, out)
+    match match_standing(alloc, seed, opening, show_log, out) {
+        Ok(clearing) => {
+            drop(clearing);
+            Ok(())
+        }
+        Err(fault) => Err(fault),
+    }
 }
