@@ -1,0 +1,303 @@
+-- What an accepted amendment changes in who lists what.
+use Rattle.std.proofs.Common.{◌≡◌, ◌⊎◌, inl, inr, refl, sym, ap, subst, ◌∙◌, ℕ, nat_eq, Bool, true, false, not, List, [], ◌∷◌, ◌++◌, cond, Option, Some, None, Contains, is_some, arith}
+use Rattle.std.specs.Prelude.{slice_index}
+use Rattle.std.specs.Option.{option_map_or, IsSome}
+use Rattle.std.specs.List.{IsDistinct, list_any}
+use Rattle.std.proofs.lemmas.List.{append-nil}
+use Rattle.std.proofs.lemmas.Map.Keys.{IsDistinct-push}
+use Rattle.std.specs.Map.{lookup}
+use Rattle.std.proofs.lemmas.Bool.{cases_Bool, cond-true, cond-false, eqb-true, eq-eqb, false≢true}
+use Rattle.std.proofs.lemmas.Cmp.{nat_eq_equiv}
+use Rattle.std.proofs.lemmas.List.Elements.{All-contains, All-head, Contains-get_or}
+use Rattle.std.proofs.lemmas.Map.{lookup-remove_entry, lookup-set_value}
+use Rattle.std.proofs.lemmas.Option.{none-some}
+use Rattle.sc_papers.specs.Market.{Market, choices_of, is_school, is_student, school_of, student_of}
+use Rattle.sc_papers.specs.Verdict.{after, changed_school, changed_student, objections_to_add, objections_to_close, objections_to_correct, objections_to_rerank, objections_to_withdraw, verdict, with_student, without_student}
+use Rattle.sc_papers.specs.WellFormed.{WellFormed}
+use Rattle.sc_papers.specs.declared.amendment.Amendment.{Amendment}
+use Rattle.sc_papers.specs.declared.amendment.Amendment.TheVariants.{Enter, Withdraw, Rerank, Add, Close, Correct}
+use Rattle.sc_papers.specs.declared.amendment.Refusal.TheVariants.{UnknownStudent}
+use Rattle.sc_papers.specs.declared.records.School.{School}
+use Rattle.sc_papers.specs.declared.records.Student.{Student}
+use Rattle.sc_papers.proofs.Counting.{contains-cons, contains-head, contains-tail}
+use Rattle.sc_papers.proofs.Entering.{MayEnter, MayEnter-allowed}
+use Rattle.sc_papers.proofs.Objections.{first_of-none, refuse_if-none, unknown_in-none}
+use Rattle.sc_papers.proofs.Students.{choice-known}
+use Rattle.sc_region.specs.Groups.{entrants, first_choice, new_choices, start_of}
+use Rattle.sc_region.specs.Region.{amended_school, amended_student, Lists}
+use Rattle.sc_region.proofs.Choosing.{first-listed}
+
+-- who lists a school has a record that does, and the other way round
+listed-found : (m : Market) (i s : ℕ) → Contains (choices_of m i) s → (student : Student) × (student_of m i ≡ Some student) × Contains student.choices s
+unfolding choices_of
+listed-found m i s listed = go (student_of m i) refl listed
+  where
+    go : (found : Option Student) → student_of m i ≡ found → Contains (option_map_or (λ student. student.choices) found []) s
+        → (student : Student) × (student_of m i ≡ Some student) × Contains student.choices s
+    go None is (k, low, at) = absurd (omega (arith, low))
+    go (Some student) is among = (student, is, among)
+
+found-listed : (m : Market) (i s : ℕ) (student : Student) → student_of m i ≡ Some student → Contains student.choices s → Contains (choices_of m i) s
+unfolding choices_of
+found-listed m i s student found among = subst (λ o. Contains (option_map_or (λ student. student.choices) o []) s) (sym found) among
+
+-- a look-up with one more entry at the end
+push-found : (es : List (ℕ × Student)) (j : ℕ) (new : Student) (i : ℕ) (student : Student) → lookup (nat_eq i) (es ++ (j, new) ∷ []) ≡ Some student
+    → (lookup (nat_eq i) es ≡ Some student) ⊎ ((j ≡ i) × (new ≡ student))
+push-found [] j new i student found = elim (cases_Bool (nat_eq i j)) [
+  | inl same ↦ let one : Some new ≡ Some student = rw same at found in inr (sym (eqb-true i j same), cc)
+  | inr other ↦ let none : None ≡ Some student = rw other at found in absurd (none-some student none)
+]
+push-found (e ∷ es) j new i student found = elim (cases_Bool (nat_eq i e.0)) [
+  | inl same ↦ let here : Some e.1 ≡ Some student = rw same at found in inl (rw same here)
+  | inr other ↦
+      let rest : lookup (nat_eq i) (es ++ (j, new) ∷ []) ≡ Some student = rw other at found in
+      rw other (push-found es j new i student rest)
+]
+
+push-own : (es : List (ℕ × Student)) (j : ℕ) (new : Student) → lookup (nat_eq j) es ≡ None → lookup (nat_eq j) (es ++ (j, new) ∷ []) ≡ Some new
+push-own [] j new none = rw (eq-eqb j j refl) refl
+push-own (e ∷ es) j new none = elim (cases_Bool (nat_eq j e.0)) [
+  | inl same ↦ let some : Some e.1 ≡ None = rw same at none in absurd (none-some e.1 (sym some))
+  | inr other ↦ let rest : lookup (nat_eq j) es ≡ None = rw other at none in rw other (push-own es j new rest)
+]
+
+one-key : (j x y : ℕ) → nat_eq j x ≡ true → nat_eq j y ≡ nat_eq x y
+one-key j x y same = ap (λ k. nat_eq k y) (eqb-true j x same)
+
+-- a look-up after a removal
+removed-found : (m : Market) → WellFormed m → (j i : ℕ) (student : Student) → student_of (without_student m j) i ≡ Some student → student_of m i ≡ Some student
+removed-found m well j i student found =
+    let step : student_of (without_student m j) i ≡ cond (nat_eq j i) None (student_of m i) =
+    lookup-remove_entry nat_eq_equiv (nat_eq j) (one-key j) i m.students well.students_differ in
+    elim (cases_Bool (nat_eq j i)) [
+      | inl same ↦ absurd (none-some student (sym (step ∙ cond-true (nat_eq j i) None (student_of m i) same) ∙ found))
+      | inr other ↦ sym (step ∙ cond-false (nat_eq j i) None (student_of m i) other) ∙ found
+    ]
+
+-- a look-up after a change of what the papers hold of a student whom they hold
+module _ (m : Market) (j : ℕ) (change : Student → Student) (old : Student) (held : student_of m j ≡ Some old) where
+  changed-step : (i : ℕ) → student_of (changed_student m j change) i ≡ cond (nat_eq j i) (Some (change old)) (student_of m i)
+  changed-step i =
+      rw held
+      (lookup-set_value nat_eq_equiv (nat_eq j) (one-key j) i (change old) m.students (subst IsSome (sym held) refl))
+
+  changed-found : (i : ℕ) (student : Student) → student_of (changed_student m j change) i ≡ Some student → (student_of m i ≡ Some student) ⊎ ((j ≡ i) × (change old ≡ student))
+  changed-found i student found = elim (cases_Bool (nat_eq j i)) [
+    | inl same ↦
+        let one : Some (change old) ≡ Some student = sym (changed-step i ∙ cond-true (nat_eq j i) (Some (change old)) (student_of m i) same) ∙ found in
+        inr (eqb-true j i same, cc)
+    | inr other ↦ inl (sym (changed-step i ∙ cond-false (nat_eq j i) (Some (change old)) (student_of m i) other) ∙ found)
+  ]
+
+  changed-own : student_of (changed_student m j change) j ≡ Some (change old)
+  changed-own = changed-step j ∙ cond-true (nat_eq j j) (Some (change old)) (student_of m j) (eq-eqb j j refl)
+
+-- whom an amendment names, the papers hold, unless the student enters
+is-held : (m : Market) (i : ℕ) → is_student m i ≡ true → (student : Student) × (student_of m i ≡ Some student)
+is-held m i known = go (student_of m i) refl known
+  where
+    go : (found : Option Student) → student_of m i ≡ found → is_some found ≡ true → (student : Student) × (student_of m i ≡ Some student)
+    go None is none = absurd (false≢true none)
+    go (Some student) is some = (student, is)
+
+not-false : (b : Bool) → not b ≡ false → b ≡ true
+not-false true e = refl
+not-false false e = absurd (false≢true (sym e))
+
+withdraw-known : (m : Market) (i : ℕ) → verdict m (Withdraw i) ≡ None → is_student m i ≡ true
+withdraw-known m i allowed = not-false (is_student m i) (refuse_if-none (not (is_student m i)) UnknownStudent (first_of-none (objections_to_withdraw m i) allowed).0)
+
+rerank-known : (m : Market) (i : ℕ) (choices : List ℕ) → verdict m (Rerank i choices) ≡ None → is_student m i ≡ true
+rerank-known m i choices allowed = not-false (is_student m i) (refuse_if-none (not (is_student m i)) UnknownStudent (first_of-none (objections_to_rerank m i choices) allowed).0)
+
+correct-known : (m : Market) (i zone : ℕ) (siblings : List ℕ) → verdict m (Correct i zone siblings) ≡ None → is_student m i ≡ true
+correct-known m i zone siblings allowed = not-false (is_student m i) (refuse_if-none (not (is_student m i)) UnknownStudent (first_of-none (objections_to_correct m i siblings) allowed).0)
+
+enter-may : (m : Market) (i zone : ℕ) (siblings choices : List ℕ) → verdict m (Enter i zone siblings choices) ≡ None → MayEnter m i (record { zone = zone; siblings = siblings; choices = choices })
+enter-may m i zone siblings choices allowed = MayEnter-allowed m i (record { zone = zone; siblings = siblings; choices = choices }) allowed
+
+-- a change of a school changes no list
+school-keeps : (m : Market) (t : ℕ) (change : School → School) (i : ℕ) → choices_of (changed_school m t change) i ≡ choices_of m i
+unfolding choices_of
+school-keeps m t change i = by_case (school_of m t) refl
+  where
+    by_case : (found : Option School) → school_of m t ≡ found → choices_of (changed_school m t change) i ≡ choices_of m i
+    by_case None e = rw e refl
+    by_case (Some school) e = rw e refl
+
+-- what a student lists after the amendment is an old choice, or a new one of the amended student
+pub old-or_new : (m : Market) (a : Amendment) → WellFormed m → verdict m a ≡ None → (i s : ℕ) → Contains (choices_of (after m a) i) s
+    → Contains (choices_of m i) s ⊎ ((amended_student a ≡ Some i) × Contains (new_choices a) s)
+old-or_new m (Enter j zone siblings choices) well allowed i s listed =
+    let new : Student = record { zone = zone; siblings = siblings; choices = choices } in
+    let (student, found, among) = listed-found (with_student m j new) i s listed in
+    elim (push-found m.students j new i student found) [
+      | inl before ↦ inl (found-listed m i s student before among)
+      | inr (same, is) ↦ inr (ap Some same, subst (λ (x : Student). Contains x.choices s) (sym is) among)
+    ]
+old-or_new m (Withdraw j) well allowed i s listed =
+    let (student, found, among) = listed-found (without_student m j) i s listed in
+    inl (found-listed m i s student (removed-found m well j i student found) among)
+old-or_new m (Rerank j choices) well allowed i s listed =
+    let change : Student → Student = λ student. record student { choices = choices } in
+    let (old, held) = is-held m j (rerank-known m j choices allowed) in
+    let (student, found, among) = listed-found (changed_student m j change) i s listed in
+    elim (changed-found m j change old held i student found) [
+      | inl before ↦ inl (found-listed m i s student before among)
+      | inr (same, is) ↦ inr (ap Some same, subst (λ (x : Student). Contains x.choices s) (sym is) among)
+    ]
+old-or_new m (Add t count) well allowed i s listed = inl (subst (λ list. Contains list s) (school-keeps m t _ i) listed)
+old-or_new m (Close t count) well allowed i s listed = inl (subst (λ list. Contains list s) (school-keeps m t _ i) listed)
+old-or_new m (Correct j zone siblings) well allowed i s listed =
+    let change : Student → Student = λ student. record student { zone = zone; siblings = siblings } in
+    let (old, held) = is-held m j (correct-known m j zone siblings allowed) in
+    let (student, found, among) = listed-found (changed_student m j change) i s listed in
+    elim (changed-found m j change old held i student found) [
+      | inl before ↦ inl (found-listed m i s student before among)
+      | inr (same, is) ↦ inl (found-listed m i s old (subst (λ k. student_of m k ≡ Some old) same held) (subst (λ (x : Student). Contains x.choices s) (sym is) among))
+    ]
+
+-- the amended student lists the new choices
+pub new-listed : (m : Market) (a : Amendment) → verdict m a ≡ None → (i s : ℕ) → amended_student a ≡ Some i → Contains (new_choices a) s → Contains (choices_of (after m a) i) s
+new-listed m (Enter j zone siblings choices) allowed i s is among =
+    let new : Student = record { zone = zone; siblings = siblings; choices = choices } in
+    let same : j ≡ i = cc in
+    subst (λ k. Contains (choices_of (with_student m j new) k) s) same
+    (found-listed (with_student m j new) j s new (push-own m.students j new (enter-may m j zone siblings choices allowed).new) among)
+new-listed m (Withdraw j) allowed i s is (k, low, at) = absurd (omega (arith, low))
+new-listed m (Rerank j choices) allowed i s is among =
+    let change : Student → Student = λ student. record student { choices = choices } in
+    let (old, held) = is-held m j (rerank-known m j choices allowed) in
+    let same : j ≡ i = cc in
+    subst (λ k. Contains (choices_of (changed_student m j change) k) s) same
+    (found-listed (changed_student m j change) j s (change old) (changed-own m j change old held) among)
+new-listed m (Add t count) allowed i s is (k, low, at) = absurd (omega (arith, low))
+new-listed m (Close t count) allowed i s is (k, low, at) = absurd (omega (arith, low))
+new-listed m (Correct j zone siblings) allowed i s is (k, low, at) = absurd (omega (arith, low))
+
+-- the new choices are schools of the papers
+pub new-known : (m : Market) (a : Amendment) → verdict m a ≡ None → (s : ℕ) → Contains (new_choices a) s → is_school m s ≡ true
+new-known m (Enter j zone siblings choices) allowed s among =
+    All-contains (λ t. is_school m t ≡ true) choices s (enter-may m j zone siblings choices allowed).lists.choices_known among
+new-known m (Withdraw j) allowed s (k, low, at) = absurd (omega (arith, low))
+new-known m (Rerank j choices) allowed s among =
+    All-contains (λ t. is_school m t ≡ true) choices s (unknown_in-none m choices (first_of-none (objections_to_rerank m j choices) allowed).1.1.1.0) among
+new-known m (Add t count) allowed s (k, low, at) = absurd (omega (arith, low))
+new-known m (Close t count) allowed s (k, low, at) = absurd (omega (arith, low))
+new-known m (Correct j zone siblings) allowed s (k, low, at) = absurd (omega (arith, low))
+
+-- the amended student is one of the papers or enters
+pub amended-known : (m : Market) (a : Amendment) → verdict m a ≡ None → (i : ℕ) → amended_student a ≡ Some i → (is_student m i ≡ true) ⊎ Contains (entrants a) i
+amended-known m (Enter j zone siblings choices) allowed i is = let same : j ≡ i = cc in inr (0, omega arith, same)
+amended-known m (Withdraw j) allowed i is = let same : j ≡ i = cc in inl (subst (λ k. is_student m k ≡ true) same (withdraw-known m j allowed))
+amended-known m (Rerank j choices) allowed i is = let same : j ≡ i = cc in inl (subst (λ k. is_student m k ≡ true) same (rerank-known m j choices allowed))
+amended-known m (Add t count) allowed i is = absurd (none-some i is)
+amended-known m (Close t count) allowed i is = absurd (none-some i is)
+amended-known m (Correct j zone siblings) allowed i is = let same : j ≡ i = cc in inl (subst (λ k. is_student m k ≡ true) same (correct-known m j zone siblings allowed))
+
+-- who enters is amended, and is new
+pub entrant-amended : (m : Market) (a : Amendment) (i : ℕ) → Contains (entrants a) i → amended_student a ≡ Some i
+entrant-amended m (Enter j zone siblings choices) i among = elim (contains-cons j [] i among) [
+  | inl same ↦ ap Some same
+  | inr (k, low, at) ↦ absurd (omega (arith, low))
+]
+entrant-amended m (Withdraw j) i (k, low, at) = absurd (omega (arith, low))
+entrant-amended m (Rerank j choices) i (k, low, at) = absurd (omega (arith, low))
+entrant-amended m (Add t count) i (k, low, at) = absurd (omega (arith, low))
+entrant-amended m (Close t count) i (k, low, at) = absurd (omega (arith, low))
+entrant-amended m (Correct j zone siblings) i (k, low, at) = absurd (omega (arith, low))
+
+-- the amended student lists the school to begin with, before or after, and it is the amended school
+pub start-listed : (m : Market) (a : Amendment) → WellFormed m → verdict m a ≡ None → (i : ℕ) → amended_student a ≡ Some i → Lists m a i (start_of m a)
+start-listed m (Enter j zone siblings choices) well allowed i is =
+    inr (new-listed m (Enter j zone siblings choices) allowed i (slice_index choices 0) is (Contains-get_or choices 0 0 (enter-may m j zone siblings choices allowed).lists.choices_some))
+start-listed m (Withdraw j) well allowed i is =
+    let same : j ≡ i = cc in
+    subst (λ k. Lists m (Withdraw j) k (first_choice m j)) same (inl (first-listed m well j (withdraw-known m j allowed)))
+start-listed m (Rerank j choices) well allowed i is =
+    let same : j ≡ i = cc in
+    subst (λ k. Lists m (Rerank j choices) k (first_choice m j)) same (inl (first-listed m well j (rerank-known m j choices allowed)))
+start-listed m (Add t count) well allowed i is = absurd (none-some i is)
+start-listed m (Close t count) well allowed i is = absurd (none-some i is)
+start-listed m (Correct j zone siblings) well allowed i is =
+    let same : j ≡ i = cc in
+    subst (λ k. Lists m (Correct j zone siblings) k (first_choice m j)) same (inl (first-listed m well j (correct-known m j zone siblings allowed)))
+
+pub start-amended : (m : Market) (a : Amendment) (s : ℕ) → amended_school a ≡ Some s → start_of m a ≡ s
+start-amended m (Enter j zone siblings choices) s is = absurd (none-some s is)
+start-amended m (Withdraw j) s is = absurd (none-some s is)
+start-amended m (Rerank j choices) s is = absurd (none-some s is)
+start-amended m (Add t count) s is = cc
+start-amended m (Close t count) s is = cc
+start-amended m (Correct j zone siblings) s is = absurd (none-some s is)
+
+-- where the amended student has old choices, it is the first of them
+pub start-first : (m : Market) (a : Amendment) → verdict m a ≡ None → (i s : ℕ) → amended_student a ≡ Some i → Contains (choices_of m i) s → start_of m a ≡ first_choice m i
+start-first m (Enter j zone siblings choices) allowed i s is listed =
+    let same : j ≡ i = cc in
+    let (student, found, among) = listed-found m i s listed in
+    absurd (none-some student (sym (enter-may m j zone siblings choices allowed).new ∙ ap (student_of m) same ∙ found))
+start-first m (Withdraw j) allowed i s is listed = let same : j ≡ i = cc in ap (first_choice m) same
+start-first m (Rerank j choices) allowed i s is listed = let same : j ≡ i = cc in ap (first_choice m) same
+start-first m (Add t count) allowed i s is listed = absurd (none-some i is)
+start-first m (Close t count) allowed i s is listed = absurd (none-some i is)
+start-first m (Correct j zone siblings) allowed i s is listed = let same : j ≡ i = cc in ap (first_choice m) same
+
+-- and it is a school of the papers
+pub start-known : (m : Market) (a : Amendment) → WellFormed m → verdict m a ≡ None → is_school m (start_of m a) ≡ true
+start-known m (Enter j zone siblings choices) well allowed =
+    new-known m (Enter j zone siblings choices) allowed (slice_index choices 0) (Contains-get_or choices 0 0 (enter-may m j zone siblings choices allowed).lists.choices_some)
+start-known m (Withdraw j) well allowed = choice-known m well j (first_choice m j) (first-listed m well j (withdraw-known m j allowed))
+start-known m (Rerank j choices) well allowed = choice-known m well j (first_choice m j) (first-listed m well j (rerank-known m j choices allowed))
+start-known m (Add t count) well allowed = All-head (λ s. is_school m s ≡ true) t [] (unknown_in-none m (t ∷ []) (first_of-none (objections_to_add m t count) allowed).0)
+start-known m (Close t count) well allowed = All-head (λ s. is_school m s ≡ true) t [] (unknown_in-none m (t ∷ []) (first_of-none (objections_to_close m t count) allowed).0)
+start-known m (Correct j zone siblings) well allowed = choice-known m well j (first_choice m j) (first-listed m well j (correct-known m j zone siblings allowed))
+
+-- new choices come with an amended student
+pub new-amended : (a : Amendment) (s : ℕ) → Contains (new_choices a) s → (i : ℕ) × (amended_student a ≡ Some i)
+new-amended (Enter j zone siblings choices) s among = (j, refl)
+new-amended (Withdraw j) s among = (j, refl)
+new-amended (Rerank j choices) s among = (j, refl)
+new-amended (Add t count) s (k, low, at) = absurd (omega (arith, low))
+new-amended (Close t count) s (k, low, at) = absurd (omega (arith, low))
+new-amended (Correct j zone siblings) s among = (j, refl)
+
+-- a student is amended or a school
+pub amended-some : (a : Amendment) → ((i : ℕ) × (amended_student a ≡ Some i)) ⊎ ((s : ℕ) × (amended_school a ≡ Some s))
+amended-some (Enter j zone siblings choices) = inl (j, refl)
+amended-some (Withdraw j) = inl (j, refl)
+amended-some (Rerank j choices) = inl (j, refl)
+amended-some (Add t count) = inr (t, refl)
+amended-some (Close t count) = inr (t, refl)
+amended-some (Correct j zone siblings) = inl (j, refl)
+
+absent : (i : ℕ) (xs : List ℕ) → ((j : ℕ) → Contains xs j → nat_eq i j ≡ false) → list_any (nat_eq i) xs ≡ false
+absent i [] apart = refl
+absent i (x ∷ xs) apart = rw (apart x (contains-head x xs)) (absent i xs (λ j among. apart j (contains-tail x xs j among)))
+
+-- the members of a list and a student who enters differ where the list has students of the papers alone
+pub entrants-differ : (m : Market) (a : Amendment) → verdict m a ≡ None → (students : List ℕ) → ((i : ℕ) → Contains students i → is_student m i ≡ true)
+    → IsDistinct nat_eq students → IsDistinct nat_eq (students ++ entrants a)
+entrants-differ m (Enter j zone siblings choices) allowed students known differ =
+    IsDistinct-push nat_eq_equiv students j differ (absent j students (λ i among. apart i (known i among)))
+  where
+    apart : (i : ℕ) → is_student m i ≡ true → nat_eq j i ≡ false
+    apart i held = elim (cases_Bool (nat_eq j i)) [
+      | inl same ↦ absurd (false≢true (sym (ap is_some (enter-may m j zone siblings choices allowed).new) ∙ ap (is_student m) (eqb-true j i same) ∙ held))
+      | inr other ↦ other
+    ]
+entrants-differ m (Withdraw j) allowed students known differ = rw (append-nil students) differ
+entrants-differ m (Rerank j choices) allowed students known differ = rw (append-nil students) differ
+entrants-differ m (Add t count) allowed students known differ = rw (append-nil students) differ
+entrants-differ m (Close t count) allowed students known differ = rw (append-nil students) differ
+entrants-differ m (Correct j zone siblings) allowed students known differ = rw (append-nil students) differ
+
+-- where nobody enters, there is no entrant
+pub entrants-none : (a : Amendment) → ((i zone : ℕ) (siblings choices : List ℕ) → a ≡ Enter i zone siblings choices → ⊥) → entrants a ≡ []
+entrants-none (Enter j zone siblings choices) other = absurd (other j zone siblings choices refl)
+entrants-none (Withdraw j) other = refl
+entrants-none (Rerank j choices) other = refl
+entrants-none (Add t count) other = refl
+entrants-none (Close t count) other = refl
+entrants-none (Correct j zone siblings) other = refl

@@ -1,0 +1,7 @@
+pub mod Rising
+pub mod Roots
+pub mod Choosing
+pub mod Joining
+pub mod Changes
+pub mod Filtering
+pub mod Reaching

@@ -1,0 +1,61 @@
+use Rattle.std.proofs.Common.{◌≡◌, ◌<◌, ap, sym, ◌∙◌, length, length-set, set, min, max, arith}
+use Rattle.sc_region.specs.Groups.{joined}
+use Rattle.sc_region.specs.Roots.{root_of, roots_of}
+use Rattle.sc_region.proofs.Roots.{climbed-joined, length-roots, root-low, KeepsRoots-trans}
+use Rattle.sc_region.proofs.school_groups.SchoolGroups.join.Goals as goal
+
+pub find_root-first-requires-clause-within : goal.find_root-first-requires-clause-within
+find_root-first-requires-clause-within c =
+    let p = c.self.inside.parents.items in
+    let long : length (roots_of p) ≡ length c.args.self.now = ap length c.self.view_is in
+    omega (arith, c.requires.first, long, length-roots p)
+
+pub find_root-second-requires-clause-within : goal.find_root-second-requires-clause-within
+find_root-second-requires-clause-within c =
+    let p = c.self.inside.parents.items in
+    let long : length (roots_of p) ≡ length c.args.self.now = ap length c.self.view_is in
+    omega (arith, c.requires.second, long, length-roots p, c.find_root-first.ensures.keeps.size)
+
+pub index_mut-requires : goal.index_mut-requires
+index_mut-requires c =
+    let p = c.self.inside.parents.items in
+    let q = c.find_root-first.new.parents.items in
+    let long : length (roots_of p) ≡ length c.args.self.now = ap length c.self.view_is in
+    omega (
+      arith,
+      c.max.ensures,
+      c.find_root-first.ensures.root,
+      c.find_root-second.ensures.root,
+      root-low p c.self.invariant c.args.a,
+      root-low q c.find_root-first.ensures.keeps.low c.args.b,
+      c.requires.first,
+      c.requires.second,
+      long,
+      length-roots p,
+      c.find_root-first.ensures.keeps.size,
+      c.find_root-second.ensures.keeps.size,
+      c.find_root-second.new.parents.ok.0,
+    )
+
+pub returns-clause-joined : goal.returns-clause-joined
+returns-clause-joined c =
+    let p = c.self.inside.parents.items in
+    let q = c.find_root-first.new.parents.items in
+    let r = c.find_root-second.new.parents.items in
+    let a = c.args.a in
+    let b = c.args.b in
+    let long : length (roots_of p) ≡ length c.args.self.now = ap length c.self.view_is in
+    let a_within : a < length p = omega (arith, c.requires.first, long, length-roots p) in
+    let b_within : b < length p = omega (arith, c.requires.second, long, length-roots p) in
+    let first = c.find_root-first.ensures in
+    let second : c.find_root-second.result ≡ root_of p b = c.find_root-second.ensures.root ∙ first.keeps.roots b in
+    let both = climbed-joined p r a b c.min.result c.max.result (KeepsRoots-trans p q r first.keeps c.find_root-second.ensures.keeps) a_within b_within
+    (c.min.ensures ∙ (λ t. min (first.root t) (second t))) (c.max.ensures ∙ (λ t. max (first.root t) (second t))) in
+    both.1 ∙ ap (λ xs. joined xs a b) c.self.view_is
+
+pub returns-clause-one_each : goal.returns-clause-one_each
+returns-clause-one_each c =
+    let p = c.self.inside.parents.items in
+    let r = c.find_root-second.new.parents.items in
+    let long : length (roots_of p) ≡ length c.args.self.now = ap length c.self.view_is in
+    length-roots (set r c.max.result c.min.result) ∙ length-set r c.max.result c.min.result ∙ c.find_root-second.ensures.keeps.size ∙ c.find_root-first.ensures.keeps.size ∙ sym (length-roots p) ∙ long

@@ -1,0 +1,83 @@
+-- Groups of schools: the number of each school's group, by the school's position in the order of entry.
+use Rattle.std.specs.Prelude.{ℕ, Bool, ◌==◌, nat_eq, List, [], ◌∷◌, ◌++◌, filter, length, map, min, max, slice_index, if◌then◌else◌}
+use Rattle.std.specs.List.{fold, position_or_len, range_with_len}
+use Rattle.sc_papers.specs.Market.{Market, schools_of, students_of, choices_of}
+use Rattle.sc_papers.specs.declared.amendment.Amendment.{Amendment}
+use Rattle.sc_papers.specs.declared.amendment.Amendment.TheVariants.{Enter, Withdraw, Rerank, Add, Close, Correct}
+
+-- the number of a group, where another one becomes part of the kept one
+abbrev pub moved : ℕ → ℕ → ℕ → ℕ
+moved kept lost group = if group == lost then kept else group
+
+-- the groups at two positions made one, under the lesser of their numbers
+unfoldable pub joined : List ℕ → ℕ → ℕ → List ℕ
+joined groups a b =
+    map (moved (min (slice_index groups a) (slice_index groups b)) (max (slice_index groups a) (slice_index groups b))) groups
+
+-- a school's position in the order of entry
+abbrev pub place_of : Market → ℕ → ℕ
+place_of m s = position_or_len (nat_eq s) (schools_of m)
+
+-- the number of a school's group
+abbrev pub group_of : Market → List ℕ → ℕ → ℕ
+group_of m groups s = slice_index groups (place_of m s)
+
+-- the groups with each school of a list joined to one school
+unfoldable pub joined_list : Market → ℕ → List ℕ → List ℕ → List ℕ
+joined_list m first groups list = fold (λ g s. joined g (place_of m first) (place_of m s)) groups list
+
+-- a student's first choice
+abbrev pub first_choice : Market → ℕ → ℕ
+first_choice m i = slice_index (choices_of m i) 0
+
+-- the groups with a student's choices joined
+abbrev pub joined_choices : Market → List ℕ → ℕ → List ℕ
+joined_choices m groups i = joined_list m (first_choice m i) groups (choices_of m i)
+
+-- the schools, at first each in a group of its own, with the choices of each of these students joined
+unfoldable pub joined_students : Market → List ℕ → List ℕ
+joined_students m students = fold (joined_choices m) (range_with_len 0 (length (schools_of m))) students
+
+-- a school that the amendment concerns: the amended one, or a choice of the amended student, by the
+-- choices in the papers before or, where a student enters, by those that come with them
+abbrev pub start_of : Market → Amendment → ℕ
+start_of m (Enter i zone siblings choices) = slice_index choices 0
+start_of m (Withdraw i) = first_choice m i
+start_of m (Rerank i choices) = first_choice m i
+start_of m (Add s count) = s
+start_of m (Close s count) = s
+start_of m (Correct i zone siblings) = first_choice m i
+
+-- the choices that come with the amendment
+abbrev pub new_choices : Amendment → List ℕ
+new_choices (Enter i zone siblings choices) = choices
+new_choices (Withdraw i) = []
+new_choices (Rerank i choices) = choices
+new_choices (Add s count) = []
+new_choices (Close s count) = []
+new_choices (Correct i zone siblings) = []
+
+-- the student who enters, if one does
+abbrev pub entrants : Amendment → List ℕ
+entrants (Enter i zone siblings choices) = i ∷ []
+entrants (Withdraw i) = []
+entrants (Rerank i choices) = []
+entrants (Add s count) = []
+entrants (Close s count) = []
+entrants (Correct i zone siblings) = []
+
+-- the groups that all lists join, those before the amendment and those after it
+unfoldable pub region_groups : Market → Amendment → List ℕ
+region_groups m a = joined_list m (start_of m a) (joined_students m (students_of m)) (new_choices a)
+
+-- whether a student's first choice is in the group
+unfoldable pub is_member : Market → List ℕ → ℕ → ℕ → Bool
+is_member m groups group i = group_of m groups (first_choice m i) == group
+
+-- the students of the papers whose first choice is in the group
+unfoldable pub members_of : Market → List ℕ → ℕ → List ℕ
+members_of m groups group = filter (is_member m groups group) (students_of m)
+
+-- the region in order of entry
+unfoldable pub region_members : Market → Amendment → List ℕ
+region_members m a = members_of m (region_groups m a) (group_of m (region_groups m a) (start_of m a)) ++ entrants a

@@ -1,0 +1,76 @@
+//! The groups of schools that students' lists join.
+
+ghost use Rattle.std.specs.Prelude.{◌≡◌, ◌<◌, ℕ, true, length, take, Contains, IfOk};
+ghost use Rattle.sc_papers.specs.Market.{choices_of, is_school, schools_of, student_at, students_of};
+ghost use Rattle.sc_papers.specs.WellFormed.{WellFormed};
+ghost use Rattle.sc_region.specs.Groups.{first_choice, joined_choices, joined_list, joined_students, place_of};
+
+use crate::school_groups::SchoolGroups;
+use sc_papers::{Papers, SchoolNo};
+use std::alloc::{AllocError, Global};
+
+/// The position of a school of the papers.
+pub(crate) fn place_of(papers: &Papers, school: SchoolNo) -> usize
+    requires { is_school papers.now school ≡ true }
+    ensures place { result ≡ place_of papers.now school }
+    ensures within { result < length (schools_of papers.now) }
+{
+    let Some(position) = papers.school_position(school) else {
+        unreachable!()
+    };
+    position
+}
+
+/// The first choice of the student at a position.
+pub(crate) fn first_choice_at(papers: &Papers, position: usize) -> SchoolNo
+    requires { position < length (students_of papers.now) }
+    ensures first { result ≡ first_choice papers.now (student_at papers.now position) }
+    ensures known { is_school papers.now result ≡ true }
+    ensures well_formed { WellFormed papers.now }
+{
+    // This call tells that the papers are well-formed, so that there are choices.
+    prove!(position < papers.students_len());
+    papers.choices_at(position)[0]
+}
+
+/// Joins each school of a list to one school.
+pub(crate) fn join_list(
+    papers: &Papers,
+    groups: &mut SchoolGroups,
+    first: SchoolNo,
+    list: &[SchoolNo],
+)
+    requires one_each { length groups.old ≡ length (schools_of papers.now) }
+    requires first { is_school papers.now first ≡ true }
+    requires known { (s : ℕ) → Contains list.now s → is_school papers.now s ≡ true }
+    ensures joined { groups.new ≡ joined_list papers.now first groups.old list.now }
+    ensures one_each { length groups.new ≡ length (schools_of papers.now) }
+{
+    let place = place_of(papers, first);
+    for school in list {
+        groups.join(place, place_of(papers, *school));
+    }
+}
+
+/// Joins the choices of the student at a position.
+fn join_choices(papers: &Papers, groups: &mut SchoolGroups, position: usize)
+    requires one_each { length groups.old ≡ length (schools_of papers.now) }
+    requires within { position < length (students_of papers.now) }
+    ensures joined { groups.new ≡ joined_choices papers.now groups.old (student_at papers.now position) }
+    ensures one_each { length groups.new ≡ length (schools_of papers.now) }
+{
+    let first = first_choice_at(papers, position);
+    join_list(papers, groups, first, papers.choices_at(position));
+}
+
+/// The groups that the choices of all students join.
+pub(crate) fn groups_of(alloc: Global, papers: &Papers) -> Result<SchoolGroups, AllocError>
+    ensures joined { IfOk result (λ groups. groups ≡ joined_students papers.now (students_of papers.now)) }
+    ensures one_each { IfOk result (λ groups. length groups ≡ length (schools_of papers.now)) }
+{
+    let mut groups = SchoolGroups::new(alloc, papers.schools_len())?;
+    for position in 0..papers.students_len() {
+        join_choices(papers, &mut groups, position);
+    }
+    Ok(groups)
+}

@@ -1,0 +1,13 @@
+//! The region of an amendment: the students whom it may concern.
+#![tactic(auto)]
+
+mod grouping;
+mod members;
+mod reach;
+mod region_list;
+mod school_groups;
+#[cfg(test)]
+mod worked;
+
+pub use reach::region;
+pub use region_list::RegionList;

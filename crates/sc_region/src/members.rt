@@ -1,0 +1,42 @@
+//! The students whose lists a group of schools has.
+
+ghost use Rattle.std.specs.Prelude.{◌≡◌, ◌<◌, length, IfOk};
+ghost use Rattle.sc_papers.specs.Market.{schools_of, student_at, students_of};
+ghost use Rattle.sc_region.specs.Groups.{is_member, members_of};
+
+use crate::grouping::{first_choice_at, place_of};
+use sc_papers::{Papers, StudentNo};
+use std::alloc::{AllocError, Global};
+
+/// Whether the first choice of the student at a position is in a group.
+#[tactic(auto, unfolding(crate::specs::Groups::is_member))]
+fn is_member(papers: &Papers, groups: &[usize], group: usize, position: usize) -> bool
+    requires one_each { length groups.now ≡ length (schools_of papers.now) }
+    requires within { position < length (students_of papers.now) }
+    ensures { result ≡ is_member papers.now groups.now group (student_at papers.now position) }
+{
+    let first = first_choice_at(papers, position);
+    groups[place_of(papers, first)] == group
+}
+
+/// The students of the papers whose first choice is in a group, in order of entry.
+pub(crate) fn members_of(
+    alloc: Global,
+    papers: &Papers,
+    groups: &[usize],
+    group: usize,
+) -> Result<Vec<StudentNo>, AllocError>
+    requires { length groups.now ≡ length (schools_of papers.now) }
+    ensures { IfOk result (λ members. members.items ≡ members_of papers.now groups.now group) }
+{
+    let mut members = Vec::new(alloc);
+    for position in 0..papers.students_len() {
+        let Some(student) = papers.student_at(position) else {
+            unreachable!()
+        };
+        if is_member(papers, groups, group, position) {
+            members.push(student)?;
+        }
+    }
+    Ok(members)
+}

@@ -1,0 +1,113 @@
+//! How far an amendment reaches.
+
+ghost use Rattle.std.specs.Prelude.{◌≡◌, ◌↔◌, ℕ, None, true, length, Contains, OnOk, IfOk, IfErr};
+ghost use Rattle.std.specs.List.Sorted.{IsStrictlyIncreasing};
+ghost use Rattle.sc_papers.specs.Market.{is_school, is_student, schools_of};
+ghost use Rattle.sc_papers.specs.Verdict.{verdict, IsRefusal};
+ghost use Rattle.sc_region.specs.Groups.{first_choice, new_choices, region_groups, region_members, start_of};
+ghost use Rattle.sc_region.specs.Region.{InRegion};
+
+use crate::grouping::{first_choice_at, groups_of, join_list, place_of};
+use crate::members::members_of;
+use crate::region_list::RegionList;
+use sc_papers::{Amendment, MOST_STUDENTS, Papers, Refusal, SchoolNo, StudentNo};
+use std::alloc::{AllocError, Global};
+
+/// The first choice of a student of the papers.
+fn first_choice(papers: &Papers, student: StudentNo) -> SchoolNo
+    requires { is_student papers.now student ≡ true }
+    ensures first { result ≡ first_choice papers.now student }
+    ensures known { is_school papers.now result ≡ true }
+{
+    let Some(position) = papers.student_position(student) else {
+        unreachable!()
+    };
+    first_choice_at(papers, position)
+}
+
+/// A school that the amendment concerns: the amended one, or a choice of the amended student.
+fn start_of(papers: &Papers, amendment: &Amendment) -> SchoolNo
+    requires { verdict papers.now amendment.now ≡ None }
+    ensures start { result ≡ start_of papers.now amendment.now }
+    ensures known { is_school papers.now result ≡ true }
+{
+    match amendment {
+        Amendment::Enter { choices, .. } => choices.as_slice()[0],
+        Amendment::Withdraw { student }
+        | Amendment::Rerank { student, .. }
+        | Amendment::Correct { student, .. } => first_choice(papers, *student),
+        Amendment::Add { school, .. } | Amendment::Close { school, .. } => *school,
+    }
+}
+
+/// The choices that come with the amendment.
+fn new_choices(amendment: &Amendment) -> &[SchoolNo]
+    ensures { result.now ≡ new_choices amendment.now }
+{
+    match amendment {
+        Amendment::Enter { choices, .. } | Amendment::Rerank { choices, .. } => choices.as_slice(),
+        _ => &[],
+    }
+}
+
+/// The groups that all lists join, those before the amendment and those after it.
+fn region_groups(
+    alloc: Global,
+    papers: &Papers,
+    amendment: &Amendment,
+    start: SchoolNo,
+) -> Result<Vec<usize>, AllocError>
+    requires allowed { verdict papers.now amendment.now ≡ None }
+    requires start { start ≡ start_of papers.now amendment.now }
+    requires known { is_school papers.now start ≡ true }
+    ensures joined { IfOk result (λ groups. groups.items ≡ region_groups papers.now amendment.now) }
+    ensures one_each { IfOk result (λ groups. length groups.items ≡ length (schools_of papers.now)) }
+{
+    let mut groups = groups_of(alloc, papers)?;
+    join_list(papers, &mut groups, start, new_choices(amendment));
+    Ok(groups.into_numbers())
+}
+
+/// The region in order of entry.
+fn region_members(
+    alloc: Global,
+    papers: &Papers,
+    amendment: &Amendment,
+) -> Result<Vec<StudentNo>, AllocError>
+    requires { verdict papers.now amendment.now ≡ None }
+    ensures { IfOk result (λ members. members.items ≡ region_members papers.now amendment.now) }
+{
+    let start = start_of(papers, amendment);
+    let groups = region_groups(alloc, papers, amendment, start)?;
+    let group = groups[place_of(papers, start)];
+    let mut members = members_of(alloc, papers, groups.as_slice(), group)?;
+    if let Amendment::Enter { student, .. } = amendment {
+        members.push(*student)?;
+    }
+    Ok(members)
+}
+
+/// The students whom an amendment of the papers may concern, by rising number: the amended student, or
+/// whoever lists the amended school, and then each who lists a school that one of them lists, by the
+/// choices before the amendment or by those after it.
+///
+/// Answers the first refusal of the amendment that applies, as `Papers::check` does, or else want of
+/// memory. The papers are not changed.
+///
+/// The cost is one pass over all choices, with a look-up for each and steps to the root of its group, and a
+/// sort of the region. Memory is taken for each school and for each student of the region.
+pub fn region(alloc: Global, papers: &Papers, amendment: &Amendment) -> Result<RegionList, Refusal>
+    ensures allowed { OnOk result (verdict papers.now amendment.now ≡ None) }
+    ensures rising { IfOk result IsStrictlyIncreasing }
+    ensures region { IfOk result (λ region. (i : ℕ) → (Contains region i ↔ InRegion papers.now amendment.now i)) }
+    ensures refused { IfErr result (IsRefusal (verdict papers.now amendment.now)) }
+{
+    papers.check(amendment)?;
+    let members = region_members(alloc, papers, amendment)?;
+    // This call tells that the papers are well-formed.
+    prove!(papers.students_len() <= MOST_STUDENTS);
+    let region = RegionList::by_number(members);
+    // And this one that its numbers rise.
+    prove!(region.len() <= usize::MAX);
+    Ok(region)
+}
