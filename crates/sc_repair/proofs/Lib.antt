@@ -2,3 +2,14 @@ pub mod Positions
 pub mod Rewinding
 pub mod Resumption
 pub mod Kept
+pub mod Region
+pub mod Among
+pub mod Chains
+pub mod Course
+pub mod Parts
+pub mod Beginning
+pub mod Places
+pub mod InStep
+pub mod Ending
+pub mod Resettled
+pub mod Regional

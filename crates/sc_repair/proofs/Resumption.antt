@@ -26,7 +26,7 @@ use Rattle.sc_engine.proofs.Settling.{first-more}
 use Rattle.sc_repair.specs.Resumption.{placed_first, proposals_of_first, GoesOn}
 
 -- whether a number is among others, asked either way
-any-turned : (xs : List ℕ) (i : ℕ) → list_any (nat_eq i) xs ≡ list_any (λ j. j == i) xs
+pub any-turned : (xs : List ℕ) (i : ℕ) → list_any (nat_eq i) xs ≡ list_any (λ j. j == i) xs
 any-turned [] i = refl
 any-turned (x ∷ xs) i = ap (λ b. b || list_any (nat_eq i) xs) (nat_eq_equiv.symm i x) ∙ ap (λ b. (x == i) || b) (any-turned xs i)
 
@@ -36,11 +36,11 @@ entered-cut m ranks k well entered =
     ap (restricted m) (λ t i. (entered i ∙ any-turned (take k (students_of m)) i) t) ∙ sym (cut-restricted m k well)
 
 -- who stands after a log
-stands-among : (m : Market) (log : List Rejection) (students : List ℕ) (i : ℕ) → stands (next_choices_after m log students) i ≡ list_any (λ j. j == i) students
+pub stands-among : (m : Market) (log : List Rejection) (students : List ℕ) (i : ℕ) → stands (next_choices_after m log students) i ≡ list_any (λ j. j == i) students
 stands-among m log [] i = refl
 stands-among m log (x ∷ xs) i = ap (λ b. (x == i) || b) (stands-among m log xs i)
 
-students-next : (m : Market) (log : List Rejection) (students : List ℕ) → map (λ (s : NextChoice). s.student) (next_choices_after m log students) ≡ students
+pub students-next : (m : Market) (log : List Rejection) (students : List ℕ) → map (λ (s : NextChoice). s.student) (next_choices_after m log students) ≡ students
 students-next m log [] = refl
 students-next m log (x ∷ xs) = ap (λ ys. x ∷ ys) (students-next m log xs)
 
@@ -116,10 +116,10 @@ goes-on-more m kept chain r r' students segments k i here on enters more =
     }
 
 -- all have entered
-length-students : (m : Market) → length (students_of m) ≡ length m.students
+pub length-students : (m : Market) → length (students_of m) ≡ length m.students
 length-students m = length-map m.students (λ (e : ℕ × Student). e.0)
 
-whole-cut : (m : Market) → cut m (length m.students) ≡ m
+pub whole-cut : (m : Market) → cut m (length m.students) ≡ m
 whole-cut m = cut-all m (length m.students) (omega (arith, length-students m))
 
 pub segments-all : (m : Market) (kept : List (List Rejection)) (r : RoundView) (students : List ℕ) (segments : List (List Rejection)) → GoesOn m kept r students segments (length m.students) → IsSegmented m segments

@@ -91,7 +91,7 @@ unlisted-before m s i listed =
     false≢true (sym unlisted ∙ list_any_at (λ t. t == s) (choices_of m i) choice s within (eq-eqb (get_or (choices_of m i) choice s) s is))
 
 -- what is asked of a school is the same after a school has changed, where it is the same of that school
-field-kept : (f : School → ℕ) (s t : ℕ) (v w : School) (es : List (ℕ × School)) → lookup (nat_eq s) es ≡ Some v → (nat_eq s t ≡ true → f w ≡ f v)
+pub field-kept : (f : School → ℕ) (s t : ℕ) (v w : School) (es : List (ℕ × School)) → lookup (nat_eq s) es ≡ Some v → (nat_eq s t ≡ true → f w ≡ f v)
     → option_map_or f (lookup (nat_eq t) (set_value (nat_eq s) es w)) 0 ≡ option_map_or f (lookup (nat_eq t) es) 0
 field-kept f s t v w es found kept =
     ap (λ o. option_map_or f o 0) (lookup-set_value nat_eq_equiv (nat_eq s) (λ x y same. ap (λ n. nat_eq n y) (eqb-true s x same)) t w es (ap is_some found))

@@ -2,3 +2,5 @@ pub mod Standing
 pub mod Representation
 pub mod Rewinding
 pub mod Resumption
+pub mod Locality
+pub mod Course

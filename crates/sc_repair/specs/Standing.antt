@@ -1,17 +1,22 @@
 -- What a contract sees of a `Clearing`.
-use Rattle.std.specs.Prelude.{◌≡◌, ℕ, ◌+◌, List, length, take, Option, None, Some, Result, Ok, Err, if◌then◌else◌}
+use Rattle.std.specs.Prelude.{◌≡◌, ℕ, ◌+◌, Bool, true, List, length, take, drop, Option, None, Some, Result, Ok, Err, if◌then◌else◌}
 use Rattle.sc_papers.specs.Assignment.{assigned}
-use Rattle.sc_papers.specs.Log.{next_choice, IsSettled}
-use Rattle.sc_papers.specs.Market.{Market, is_student, is_school}
+use Rattle.sc_papers.specs.Log.{matching_of as gives, next_choice, IsSettled}
+use Rattle.sc_papers.specs.Market.{Market, is_student, is_school, students_of}
 use Rattle.sc_papers.specs.Matching.{Matching, held, IsStudentOptimal}
 use Rattle.sc_papers.specs.Progress.{placed}
-use Rattle.sc_papers.specs.Restriction.{joined, IsSegmented}
+use Rattle.sc_papers.specs.Restriction.{cut, joined, IsSegmented}
 use Rattle.sc_papers.specs.Verdict.{after}
 use Rattle.sc_papers.specs.WellFormed.{WellFormed}
 use Rattle.sc_papers.specs.declared.amendment.Amendment.{Amendment}
 use Rattle.sc_papers.specs.declared.amendment.Refusal.{Refusal}
 use Rattle.sc_papers.specs.declared.rejection.Rejection.{Rejection}
+use Rattle.sc_region.specs.Region.{InRegion}
+use Rattle.sc_weave.specs.Weaving.{part_of}
+use Rattle.sc_repair.specs.Course.{placed_of}
+use Rattle.sc_repair.specs.Locality.{TellsRegion}
 use Rattle.sc_repair.specs.Resumption.{proposals_of_first}
+use Rattle.sc_repair.specs.Rewinding.{rewind_point}
 
 -- the papers as they stand, who has which school, the rejections that led there in segments, one for
 -- each student in order of entry, and how many proposals the last settling made
@@ -66,3 +71,20 @@ place_of standing i = if is_student standing.papers i then Some (matching_of sta
 -- how many students have a school: nothing is said of a school that is not in the papers
 abbrev pub held_at : Standing → ℕ → Option ℕ
 held_at standing s = if is_school standing.papers s then Some (held standing.papers (matching_of standing) s) else None
+
+-- the last settling made the proposals of the students who pass, from position k on: each came to a
+-- rejection in one of their segments or to a place, beside the places that those before k had
+abbrev pub CountsInside : (ℕ → Bool) → ℕ → Standing → Type 0
+CountsInside test k standing =
+    standing.proposals + placed_of standing.papers test (gives (cut standing.papers k) (log_of_first standing k))
+    ≡ length (joined (part_of (drop k (students_of standing.papers)) test (drop k standing.segments))) + placed_of standing.papers test (matching_of standing)
+
+-- the last settling was that of an amendment: it made the proposals of the students of its region alone,
+-- from its rewind point on
+abbrev pub CountsRegion : Market → Amendment → Standing → Type 0
+CountsRegion m a standing = (test : ℕ → Bool) → TellsRegion m a test → CountsInside test (rewind_point m a) standing
+
+-- every student outside the region of an amendment is still there, and has the same
+abbrev pub KeepsOthers : Standing → Amendment → Standing → Type 0
+KeepsOthers old a new =
+    (i : ℕ) → is_student old.papers i ≡ true → (InRegion old.papers a i → ⊥) → (is_student new.papers i ≡ true) × (matching_of new i ≡ matching_of old i)

@@ -20,7 +20,7 @@ use sc_seats::Roll;
 use std::alloc::{AllocError, Global};
 
 /// Enters a student into a round, and puts the rejections of its chain at the end of the segments.
-fn enter_next<R: Roll>(
+pub(crate) fn enter_next<R: Roll>(
     round: &mut Round<R>,
     papers: &Papers,
     segments: &mut Segments,

@@ -97,6 +97,25 @@ fn a_correction_rewinds_to_the_start(rt: HostRuntime) {
     walk(&rt, rt.alloc(), FIVE_STUDENTS, opening, script);
 }
 
+/// Two schools with a seat each, and no student lists both. Students 2 and 3 have a sibling there.
+const TWO_PARTS: Files<'static> = Files {
+    schools: "10,0,1\n20,0,1\n",
+    students: "1,0,\n2,0,20\n3,0,10\n4,0,\n",
+    lists: "1,10\n2,20\n3,10\n4,20\n",
+};
+
+#[test]
+fn an_amendment_settles_its_region_alone(rt: HostRuntime) {
+    let script = "\
+withdraw,3 => ok, 0: 1:10 2:20 4:0 |(4,20)
+rerank,1,10 => ok, 1: 1:10 2:20 4:0 |(4,20)
+add,20,1 => ok, 2: 1:10 2:20 4:20 |
+enter,5,0,10,10 => ok, 1: 1:0 2:20 4:20 5:10 |(1,10)
+";
+    let opening = "1:0 2:20 3:10 4:0 |(1,10)(4,20)";
+    walk(&rt, rt.alloc(), TWO_PARTS, opening, script);
+}
+
 #[test]
 fn rerank_to_the_same(rt: HostRuntime) {
     let script = "\

@@ -1,56 +1,53 @@
-use Rattle.std.proofs.Common.{◌≡◌, refl, ap, sym, subst, ◌∙◌, length, take}
-use Rattle.sc_papers.specs.Restriction.{cut, AlikeUpTo, IsSegmented}
-use Rattle.sc_papers.specs.Verdict.{after, verdict, IsRefusal}
-use Rattle.sc_papers.specs.declared.amendment.Refusal.TheVariants.{OutOfMemory}
-use Rattle.sc_checkpoint.specs.Chains.{logs_in}
+use Rattle.std.proofs.Common.{◌≡◌, ◌-◌, sym, subst, ap, ◌∙◌, length, take}
+use Rattle.sc_papers.specs.Market.{students_of}
+use Rattle.sc_papers.specs.Verdict.{after}
+use Rattle.sc_repair.specs.Locality.{is_among, ChangesInside, TellsRegion}
 use Rattle.sc_repair.specs.Rewinding.{rewind_point}
-use Rattle.sc_repair.specs.Standing.{CountsFrom, Standing}
-use Rattle.sc_repair.proofs.Kept.{count-kept, logs-kept, theirs-kept}
-use Rattle.sc_repair.proofs.Rewinding.{alike-after}
+use Rattle.sc_repair.specs.Standing.{Standing, CountsInside}
+use Rattle.sc_repair.proofs.InStep.{changes-inside}
+use Rattle.sc_repair.proofs.Regional.{counts-region, keeps-others, list-tells}
+use Rattle.sc_repair.proofs.Resumption.{length-students}
 use Rattle.sc_repair.proofs.clearing.Clearing.amended.Goals as goal
 
-pub settled-requires-clause-theirs : goal.settled-requires-clause-theirs
-settled-requires-clause-theirs c =
+pub resettled-requires : goal.resettled-requires
+resettled-requires c =
     let m = c.self.inside.papers in
-    let point = c.in_ok-point.point in
-    let chains = c.self.inside.segments in
-    let kept = c.in_ok-segments.segments in
-    let alike : AlikeUpTo point m c.in_ok-papers.papers =
-    subst (AlikeUpTo point m) (sym c.in_ok-papers.ensures.accepted) (subst (λ k. AlikeUpTo k m (after m c.args.amendment)) (sym c.in_ok-point.ensures.point) (alike-after m c.args.amendment)) in
-    theirs-kept m c.in_ok-papers.papers point chains kept alike c.self.invariant.theirs (count-kept m point chains kept c.self.invariant.theirs c.in_ok-point.ensures.within c.in_ok-segments.ensures) c.in_ok-segments.ensures
+    let n = c.in_ok-papers.papers in
+    let test = is_among c.in_ok-region.region in
+    let tells : TellsRegion m c.args.amendment test = list-tells m c.args.amendment c.in_ok-region.region c.in_ok-region.ensures.region in
+    let gap : length (students_of m) - length (students_of (after m c.args.amendment)) ≡ c.saturating_sub-gap.result =
+    ap (λ k. length (students_of m) - length (students_of k)) (sym c.in_ok-papers.ensures.accepted)
+    ∙ (λ t. (length-students m ∙ sym c.students_len.ensures.count) t - (length-students n ∙ sym c.students_len-2.ensures.count) t)
+    ∙ sym c.saturating_sub-gap.ensures in
+    record {
+      changes = subst (λ (s : Standing). ChangesInside s.papers n test c.in_ok-point.point c.saturating_sub-gap.result) c.self.view_is
+          (subst (λ k. ChangesInside m k test c.in_ok-point.point c.saturating_sub-gap.result) (sym c.in_ok-papers.ensures.accepted)
+          (subst (λ k. ChangesInside m (after m c.args.amendment) test k c.saturating_sub-gap.result) (sym c.in_ok-point.ensures.point)
+          (subst (ChangesInside m (after m c.args.amendment) test (rewind_point m c.args.amendment)) gap
+          (changes-inside m c.args.amendment test c.self.invariant.certified.well_formed c.in_ok-point.ensures.allowed tells))));
+    }
 
-pub settled-requires-clause-segmented : goal.settled-requires-clause-segmented
-settled-requires-clause-segmented c =
-    let m = c.self.inside.papers in
-    let point = c.in_ok-point.point in
-    let chains = c.self.inside.segments in
-    let kept = c.in_ok-segments.segments in
-    let count = count-kept m point chains kept c.self.invariant.theirs c.in_ok-point.ensures.within c.in_ok-segments.ensures in
-    subst (λ n. IsSegmented (cut n (length kept)) (logs_in kept)) (sym c.in_ok-papers.ensures.accepted)
-    (subst (λ k. IsSegmented (cut (after m c.args.amendment) k) (logs_in kept)) (sym count)
-    (subst (IsSegmented (cut (after m c.args.amendment) point)) (sym (logs-kept point chains kept c.in_ok-segments.ensures))
-    (c.in_ok-point.ensures.kept (logs_in chains) c.self.invariant.certified.segmented)))
+pub returns-clause-stays : goal.returns-clause-stays
+returns-clause-stays c =
+    let at : c.in_ok-point.point ≡ rewind_point c.args.self.now.papers c.args.amendment =
+    c.in_ok-point.ensures.point ∙ ap (λ (s : Standing). rewind_point s.papers c.args.amendment) c.self.view_is in
+    subst (λ k. take k c.in_ok-clearing.clearing.segments ≡ take k c.args.self.now.segments) at c.in_ok-clearing.ensures.stays
 
-pub returns-in-Ok-clause-stays : goal.returns-in-Ok-clause-stays
-returns-in-Ok-clause-stays c =
-    let m = c.self.inside.papers in
-    let point = c.in_ok-point.point in
-    let chains = c.self.inside.segments in
-    let kept = c.in_ok-segments.segments in
-    let count = count-kept m point chains kept c.self.invariant.theirs c.in_ok-point.ensures.within c.in_ok-segments.ensures in
-    let at : point ≡ rewind_point m c.args.amendment = c.in_ok-point.ensures.point in
-    subst (λ (s : Standing). take (rewind_point s.papers c.args.amendment) c.in-Ok.clearing.segments ≡ take (rewind_point s.papers c.args.amendment) s.segments) c.self.view_is
-    (subst (λ k. take k c.in-Ok.clearing.segments ≡ take k (logs_in chains)) at
-    (ap (λ k. take k c.in-Ok.clearing.segments) (sym count) ∙ c.in-Ok.ensures.stays ∙ logs-kept point chains kept c.in_ok-segments.ensures))
+pub returns-clause-others : goal.returns-clause-others
+returns-clause-others c =
+    let tells : TellsRegion c.args.self.now.papers c.args.amendment (is_among c.in_ok-region.region) =
+    subst (λ (s : Standing). TellsRegion s.papers c.args.amendment (is_among c.in_ok-region.region)) c.self.view_is
+    (list-tells c.self.inside.papers c.args.amendment c.in_ok-region.region c.in_ok-region.ensures.region) in
+    keeps-others c.args.self.now c.in_ok-clearing.clearing c.args.amendment c.in_ok-region.region tells
+    (c.in_ok-clearing.ensures.papers ∙ c.in_ok-papers.ensures.accepted ∙ ap (λ (s : Standing). after s.papers c.args.amendment) c.self.view_is)
+    c.in_ok-clearing.ensures.others
 
-pub returns-in-Ok-clause-proposals : goal.returns-in-Ok-clause-proposals
-returns-in-Ok-clause-proposals c =
-    let m = c.self.inside.papers in
-    let count = count-kept m c.in_ok-point.point c.self.inside.segments c.in_ok-segments.segments c.self.invariant.theirs c.in_ok-point.ensures.within c.in_ok-segments.ensures in
-    subst (λ (s : Standing). CountsFrom (rewind_point s.papers c.args.amendment) c.in-Ok.clearing) c.self.view_is
-    (subst (λ k. CountsFrom k c.in-Ok.clearing) (count ∙ c.in_ok-point.ensures.point) c.in-Ok.ensures.proposals)
-
-pub returns-in-Err-clause-refused : goal.returns-in-Err-clause-refused
-returns-in-Err-clause-refused c =
-    subst (λ (s : Standing). IsRefusal (verdict s.papers c.args.amendment) OutOfMemory) c.self.view_is
-    (subst (λ v. IsRefusal v OutOfMemory) (sym c.in_ok-point.ensures.allowed) refl)
+pub returns-clause-proposals : goal.returns-clause-proposals
+returns-clause-proposals c =
+    let at : c.in_ok-point.point ≡ rewind_point c.args.self.now.papers c.args.amendment =
+    c.in_ok-point.ensures.point ∙ ap (λ (s : Standing). rewind_point s.papers c.args.amendment) c.self.view_is in
+    let tells : TellsRegion c.args.self.now.papers c.args.amendment (is_among c.in_ok-region.region) =
+    subst (λ (s : Standing). TellsRegion s.papers c.args.amendment (is_among c.in_ok-region.region)) c.self.view_is
+    (list-tells c.self.inside.papers c.args.amendment c.in_ok-region.region c.in_ok-region.ensures.region) in
+    counts-region c.args.self.now.papers c.args.amendment c.in_ok-region.region c.in_ok-clearing.clearing tells
+    (subst (λ k. CountsInside (is_among c.in_ok-region.region) k c.in_ok-clearing.clearing) at c.in_ok-clearing.ensures.proposals)

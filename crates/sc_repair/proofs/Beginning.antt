@@ -1,0 +1,136 @@
+-- A settling of the students who pass begins: those of the first students stand where they stood.
+use Rattle.std.proofs.Common.{◌≡◌, inl, inr, refl, ap, sym, subst, ◌∙◌, ℕ, ◌+◌, nat_eq, Bool, true, false, not, ◌&&◌, List, [], ◌∷◌, ◌++◌, cond, length, filter, take, drop, All, Contains, is_some, append-nil, arith}
+use Rattle.std.specs.List.{IsDistinct}
+use Rattle.std.proofs.Math.Bool.{and_comm}
+use Rattle.std.proofs.lemmas.Bool.{cases_Bool, eqb-true, and_left}
+use Rattle.std.proofs.lemmas.List.{drop_all, length-map, take-map, take-take, take_all}
+use Rattle.std.proofs.lemmas.List.Elements.{All-cons, All-contains_itself, All-nil, All-filter, All-map, All-take, All-weaker}
+use Rattle.std.proofs.lemmas.Map.Views.{any-filter_same}
+use Rattle.sc_papers.specs.Log.{next_choice, IsSettled}
+use Rattle.sc_papers.specs.Market.{Market, is_student, students_of}
+use Rattle.sc_papers.specs.WellFormed.{WellFormed}
+use Rattle.sc_papers.specs.Restriction.{cut, joined, restricted, entries_of, outside, AreApart, IsSegmented}
+use Rattle.sc_papers.specs.declared.records.Student.{Student}
+use Rattle.sc_papers.specs.declared.rejection.Rejection.{Rejection}
+use Rattle.sc_papers.proofs.Apart.{next-part}
+use Rattle.sc_papers.proofs.Cutting.{segments-settled}
+use Rattle.sc_papers.proofs.Positions.{among-student}
+use Rattle.sc_papers.proofs.Restriction.{next-dropped, next-kept, restricted-restricts}
+use Rattle.sc_papers.proofs.Students.{how_many-agree}
+use Rattle.sc_papers.proofs.Subsets.{well-cut, well-restricted}
+use Rattle.sc_checkpoint.specs.Chains.{logs_in, students_in, Chain}
+use Rattle.sc_checkpoint.specs.NextChoices.{next_choices_after, stands, AreNextChoices}
+use Rattle.sc_checkpoint.specs.declared.next_choice.NextChoice.{NextChoice}
+use Rattle.sc_engine.specs.RoundView.{RoundView, entered_papers, has_entered, next_of, nobody, standing_but, Continues, Fits}
+use Rattle.sc_engine.proofs.Proposals.{stays}
+use Rattle.sc_weave.proofs.Counts.{apart-cut, students-restricted}
+use Rattle.sc_repair.specs.Course.{log_of, placed_before, GoesOnInside}
+use Rattle.sc_repair.specs.Locality.{chains_of, is_among}
+use Rattle.sc_repair.proofs.Course.{entered-inside}
+use Rattle.sc_repair.proofs.Parts.{entries-chains, next-inside, part-inside}
+use Rattle.sc_repair.proofs.Resumption.{any-turned, stands-among, students-next}
+
+-- the first students are those of the papers cut there
+students-first : (m : Market) (k : ℕ) → take k (students_of m) ≡ students_of (cut m k)
+unfolding cut
+students-first m k = take-map (λ (e : ℕ × Student). e.0) k m.students
+
+-- of the first students those stand who pass
+stands-inside : (m : Market) (log : List Rejection) (test : ℕ → Bool) (students : List ℕ) (i : ℕ) → stands (next_choices_after m log (filter test students)) i ≡ (is_among students i && test i)
+stands-inside m log test students i =
+    stands-among m log (filter test students) i
+    ∙ sym (any-turned (filter test students) i)
+    ∙ any-filter_same (nat_eq i) test (test i) (λ j same. ap test (sym (eqb-true i j same))) students
+    ∙ and_comm (test i) (is_among students i)
+
+-- they stand where the log of those who pass leaves them
+next-alone : (m : Market) (test : ℕ → Bool) (log : List Rejection) (i : ℕ) → test i ≡ true → next_choice m log i ≡ next_choice m (entries_of test log) i
+next-alone m test log i passes = sym (next-part (restricted-restricts m test) log i passes) ∙ next-kept (restricted-restricts m test) (entries_of test log) i passes
+
+each-passes : (test : ℕ → Bool) (xs : List ℕ) → All (λ i. test i ≡ true) (filter test xs)
+each-passes test [] = All-nil (λ i. test i ≡ true)
+each-passes test (x ∷ xs) = go (test x) refl (each-passes test xs)
+  where
+    go : (b : Bool) → test x ≡ b → All (λ i. test i ≡ true) (filter test xs) → All (λ i. test i ≡ true) (cond b (x ∷ filter test xs) (filter test xs))
+    go true passes rest = All-cons (λ i. test i ≡ true) x (filter test xs) passes rest
+    go false fails rest = rest
+
+pub stand-inside : (m : Market) (test : ℕ → Bool) (chains : List Chain) (k : ℕ) → WellFormed m → AreApart m test → students_in chains ≡ take k (students_of m) → IsSegmented (cut m k) (logs_in chains)
+    → AreNextChoices m (log_of test chains) (next_choices_after m (joined (logs_in chains)) (filter test (take k (students_of m))))
+stand-inside m test chains k well apart theirs segmented =
+    let students = filter test (take k (students_of m)) in
+    let first = theirs ∙ students-first m k in
+    let apart_first = apart-cut m test k well apart in
+    let part = part-inside (cut m k) test chains (well-cut m k well) apart_first first segmented in
+    record {
+      known = All-map (λ (s : NextChoice). is_student m s.student ≡ true) stand students
+          (All-filter test (λ i. is_student m i ≡ true) (take k (students_of m))
+          (All-take (λ i. is_student m i ≡ true) k (students_of m) (All-weaker (Contains (students_of m)) (λ i. is_student m i ≡ true) (among-student m) (students_of m) (All-contains_itself (students_of m)))));
+      different = subst (IsDistinct nat_eq) (sym (students-next m (joined (logs_in chains)) students)) differ;
+      next = All-map (λ (s : NextChoice). s.next ≡ next_choice m (log_of test chains) s.student) stand students
+          (All-weaker (λ i. test i ≡ true) (λ i. next_choice m (joined (logs_in chains)) i ≡ next_choice m (log_of test chains) i)
+          (λ i passes. next-alone m test (joined (logs_in chains)) i passes ∙ ap (λ l. next_choice m l i) (entries-chains (cut m k) test chains (well-cut m k well) apart_first first segmented))
+          students (each-passes test (take k (students_of m))));
+      settled = subst (λ n. IsSettled n (log_of test chains))
+          (sym (entered-inside m test (stands (next_choices_after m (joined (logs_in chains)) students)) k well (λ i. stands-inside m (joined (logs_in chains)) test (take k (students_of m)) i)))
+          (segments-settled (restricted (cut m k) test) (logs_in (chains_of test chains)) part);
+    }
+  where
+    stand : ℕ → NextChoice
+    stand i = record { student = i; next = next_choice m (joined (logs_in chains)) i }
+
+    differ : IsDistinct nat_eq (filter test (take k (students_of m)))
+    differ = subst (IsDistinct nat_eq) (students-restricted (cut m k) test ∙ ap (filter test) (sym (students-first m k))) (well-restricted (cut m k) test (well-cut m k well)).students_differ
+
+-- so many of them are placed
+standing-inside : (m : Market) (test : ℕ → Bool) (chains : List Chain) (r : RoundView) (k : ℕ) → WellFormed m → AreApart m test → students_in chains ≡ take k (students_of m) → IsSegmented (cut m k) (logs_in chains)
+    → ((i : ℕ) → has_entered m r.ranks i ≡ (is_among (take k (students_of m)) i && test i)) → Continues m (log_of test chains) r → r.log ≡ []
+    → (i : ℕ) → (is_some (next_of m r.ranks i) && not false) ≡ (test i && is_some (next_choice (cut m k) (joined (logs_in chains)) i))
+standing-inside m test chains r k well apart theirs segmented entered continues no_log i =
+    let next : next_of m r.ranks i ≡ next_choice (restricted (cut m k) test) (log_of test chains) i =
+    sym (continues.next i) ∙ ap (λ l. next_choice (entered_papers m r.ranks) l i) (ap (λ l. log_of test chains ++ l) no_log ∙ append-nil (log_of test chains))
+    ∙ ap (λ n. next_choice n (log_of test chains) i) (entered-inside m test (has_entered m r.ranks) k well entered) in
+    stays (is_some (next_of m r.ranks i)) ∙ ap is_some next
+    ∙ elim (cases_Bool (test i)) [
+      | inl passes ↦
+          ap is_some (next-inside (cut m k) test chains i (well-cut m k well) (apart-cut m test k well apart) (theirs ∙ students-first m k) segmented passes)
+          ∙ ap (λ b. b && is_some (next_choice (cut m k) (joined (logs_in chains)) i)) (sym passes)
+      | inr fails ↦
+          ap is_some (next-dropped (restricted-restricts (cut m k) test) (log_of test chains) i fails)
+          ∙ sym (and_left (test i) (is_some (next_choice (cut m k) (joined (logs_in chains)) i)) fails)
+    ]
+
+-- the next choices after the first chains, as the code finds them
+pub next-choices-kept : (m : Market) (test : ℕ → Bool) (chains : List Chain) (k : ℕ) → k ≡ length chains
+    → next_choices_after m (joined (take k (logs_in chains))) (filter test (take k (students_of m))) ≡ next_choices_after m (joined (logs_in chains)) (filter test (take (length chains) (students_of m)))
+next-choices-kept m test chains k count =
+    ap (λ j. next_choices_after m (joined (take j (logs_in chains))) (filter test (take j (students_of m)))) count
+    ∙ ap (λ l. next_choices_after m (joined l) (filter test (take (length chains) (students_of m)))) (take_all (length chains) (logs_in chains) (omega (arith, length-map chains (λ (c : Chain). c.rejections))))
+
+-- it begins
+pub inside-begins : (m : Market) (test : ℕ → Bool) (old chains : List Chain) (gap : ℕ) (r : RoundView) (k : ℕ) → AreApart m test
+    → length chains ≡ k → chains ≡ take k old → students_in chains ≡ take k (students_of m) → IsSegmented (cut m k) (logs_in chains)
+    → chains_of (outside test) (take k old) ++ chains_of (outside test) (drop (k + gap) old) ≡ chains_of (outside test) old
+    → Fits m r → ((i : ℕ) → has_entered m r.ranks i ≡ stands (next_choices_after m (joined (logs_in chains)) (filter test (take k (students_of m)))) i)
+    → Continues m (log_of test chains) r → r.log ≡ [] → r.proposals ≡ 0
+    → GoesOnInside m test old k gap r chains k
+unfolding standing_but
+inside-begins m test old chains gap r k apart count first theirs segmented others fits entered continues no_log none =
+    let inside : (i : ℕ) → has_entered m r.ranks i ≡ (is_among (take k (students_of m)) i && test i) =
+    λ i. entered i ∙ stands-inside m (joined (logs_in chains)) test (take k (students_of m)) i in
+    let standing : standing_but m r.ranks nobody ≡ placed_before m test old k =
+    how_many-agree m (λ i. is_some (next_of m r.ranks i) && not false) (λ i. test i && is_some (next_choice (cut m k) (joined (take k (logs_in old))) i))
+    (λ i. standing-inside m test chains r k fits.well_formed apart theirs segmented inside continues no_log i
+    ∙ ap (λ l. test i && is_some (next_choice (cut m k) (joined l) i)) (ap logs_in first ∙ sym (take-map (λ (c : Chain). c.rejections) k old))) in
+    record {
+      fits = fits;
+      entered = inside;
+      continues = subst (λ cs. Continues m (log_of test cs) r) first continues;
+      theirs = theirs;
+      segmented = part-inside (cut m k) test chains (well-cut m k fits.well_formed) (apart-cut m test k fits.well_formed apart) (theirs ∙ students-first m k) segmented;
+      from_point = omega (arith, count);
+      stays = ap (take k) first ∙ take-take k k old (omega arith);
+      log = ap (log_of test) (drop_all k chains (omega (arith, count))) ∙ sym no_log;
+      others = ap (λ cs. chains_of (outside test) cs ++ chains_of (outside test) (drop (k + gap) old)) first ∙ others;
+      counted = omega (arith, none, standing, ap (λ (l : List Rejection). length l) no_log);
+    }

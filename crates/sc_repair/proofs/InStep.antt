@@ -1,0 +1,161 @@
+-- The students after an amendment stand in step with those before it, from the rewind point on.
+use Rattle.std.proofs.Common.{◌≡◌, ◌⊎◌, inl, inr, refl, ap, sym, ◌∙◌, ℕ, zero, suc, ◌+◌, ◌-◌, ◌≤◌, ◌<◌, nat_eq, Bool, true, false, cond, List, [], ◌∷◌, ◌++◌, length, Option, Some, None, slice_get, arith}
+use Rattle.std.specs.List.{position_or_len}
+use Rattle.std.specs.Map.{keys_of, remove_entry}
+use Rattle.std.specs.Option.{option_map_or}
+use Rattle.std.proofs.lemmas.Bool.{cases_Bool, cond-true, cond-false, eqb-true}
+use Rattle.std.specs.Prelude.{get_or}
+use Rattle.std.proofs.lemmas.List.{length-append, length-map, map-append}
+use Rattle.std.proofs.lemmas.List.Sums.{passes_at_first}
+use Rattle.std.proofs.lemmas.Map.{keys-set_value}
+use Rattle.std.proofs.lemmas.Option.{get_or_from_slice_get, none-some, same_Some, slice_get_within}
+use Rattle.sc_papers.specs.Market.{Market, student_of, school_of, students_of, seats_of}
+use Rattle.sc_papers.specs.WellFormed.{WellFormed}
+use Rattle.sc_papers.proofs.Amending.{WellFormed-after}
+use Rattle.sc_papers.specs.Verdict.{after, verdict, changed_student, with_seats}
+use Rattle.sc_papers.specs.declared.amendment.Amendment.{Amendment}
+use Rattle.sc_papers.specs.declared.amendment.Amendment.TheVariants.{Enter, Withdraw, Rerank, Add, Close, Correct}
+use Rattle.sc_papers.specs.declared.records.School.{School}
+use Rattle.sc_papers.specs.declared.records.Student.{Student}
+use Rattle.sc_papers.proofs.Changing.{put_school, put_student}
+use Rattle.sc_region.specs.Region.{amended}
+use Rattle.sc_repair.specs.Locality.{ChangesInside, KeepsStep, TellsRegion}
+use Rattle.sc_repair.proofs.Region.{region-alike, region-apart, region-apart_after}
+use Rattle.sc_repair.proofs.Resumption.{length-students}
+use Rattle.sc_repair.proofs.Rewinding.{alike-after, rewind-within, rewind-within_after}
+use Rattle.sc_repair.specs.Rewinding.{rewind_point}
+
+-- where the students are the same
+step-same : (test : ℕ → Bool) (old new : List ℕ) (point : ℕ) → new ≡ old → KeepsStep test old new point (length old - length new)
+step-same test old new point same =
+    let none : length old - length new ≡ 0 = omega (arith, ap length same) in
+    record {
+      one_at_most = omega (arith, none);
+      each = λ position i from here.
+          inl (ap (slice_get old) (the-place position (length old - length new) none) ∙ ap (λ xs. slice_get xs position) (sym same) ∙ here);
+      skipped = λ position i from below here. absurd (omega (arith, none, from, below));
+      end = omega (arith, ap length same);
+    }
+  where
+    the-place : (position gap : ℕ) → gap ≡ 0 → position + gap ≡ position
+    the-place position gap none = omega (arith, none)
+
+-- where one who passes comes last
+push-each : (xs : List ℕ) (i position j : ℕ) → length xs ≤ position → slice_get (xs ++ i ∷ []) position ≡ Some j → (i ≡ j) × (slice_get xs position ≡ None)
+push-each [] i zero j low here = (same_Some i j here, refl)
+push-each [] i (suc position) j low here = absurd (none-some j here)
+push-each (x ∷ xs) i zero j low here = absurd (omega (arith, low))
+push-each (x ∷ xs) i (suc position) j low here = push-each xs i position j (omega (arith, low)) here
+
+step-entered : (test : ℕ → Bool) (old new : List ℕ) (point i : ℕ) → new ≡ old ++ i ∷ [] → test i ≡ true → length old ≤ point → KeepsStep test old new point (length old - length new)
+step-entered test old new point i is passes low =
+    let more : length new ≡ length old + 1 = ap length is ∙ length-append old (i ∷ []) in
+    let none : length old - length new ≡ 0 = omega (arith, more) in
+    record {
+      one_at_most = omega (arith, none);
+      each = λ position j from here.
+          let (own, past) = push-each old i position j (omega (arith, low, from)) (ap (λ xs. slice_get xs position) (sym is) ∙ here) in
+          inr (ap (slice_get old) (the-place position (length old - length new) none) ∙ past, ap test (sym own) ∙ passes);
+      skipped = λ position j from below here. absurd (omega (arith, none, from, below));
+      end = omega (arith, more);
+    }
+  where
+    the-place : (position gap : ℕ) → gap ≡ 0 → position + gap ≡ position
+    the-place position gap none = omega (arith, none)
+
+-- where one who passes leaves
+left-each : {X : Type 0} (i : ℕ) (es : List (ℕ × X)) (position j : ℕ) → position_or_len (nat_eq i) (keys_of es) ≤ position → slice_get (keys_of (remove_entry (nat_eq i) es)) position ≡ Some j → slice_get (keys_of es) (suc position) ≡ Some j
+left-each i [] position j low here = absurd (none-some j here)
+left-each i (e ∷ es) position j low here =
+    elim (cases_Bool (nat_eq i e.0)) [
+      | inl own ↦ ap (λ fs. slice_get (keys_of fs) position) (sym (cond-true (nat_eq i e.0) es (e ∷ remove_entry (nat_eq i) es) own)) ∙ here
+      | inr other ↦
+          let rest : 1 + position_or_len (nat_eq i) (keys_of es) ≤ position = rw other at low in
+          later position rest (ap (λ fs. slice_get (keys_of fs) position) (sym (cond-false (nat_eq i e.0) es (e ∷ remove_entry (nat_eq i) es) other)) ∙ here) (left-each i es)
+    ]
+  where
+    later : (position : ℕ) → 1 + position_or_len (nat_eq i) (keys_of es) ≤ position → slice_get (e.0 ∷ keys_of (remove_entry (nat_eq i) es)) position ≡ Some j
+        → ((place k : ℕ) → position_or_len (nat_eq i) (keys_of es) ≤ place → slice_get (keys_of (remove_entry (nat_eq i) es)) place ≡ Some k → slice_get (keys_of es) (suc place) ≡ Some k)
+        → slice_get (keys_of es) position ≡ Some j
+    later zero low here next = absurd (omega (arith, low))
+    later (suc place) low here next = next place j (omega (arith, low)) here
+
+removed-or_same : {X : Type 0} (i : ℕ) (es : List (ℕ × X)) → (remove_entry (nat_eq i) es ≡ es) ⊎ (length es ≡ length (remove_entry (nat_eq i) es) + 1)
+removed-or_same i [] = inl refl
+removed-or_same {X = X} i (e ∷ es) = go (nat_eq i e.0) (remove_entry (nat_eq i) es) (removed-or_same i es)
+  where
+    go : (b : Bool) (rest : List (ℕ × X)) → (rest ≡ es) ⊎ (length es ≡ length rest + 1) → (cond b es (e ∷ rest) ≡ e ∷ es) ⊎ (length (e ∷ es) ≡ length (cond b es (e ∷ rest)) + 1)
+    go true rest before = inr (omega arith)
+    go false rest (inl same) = inl (ap (λ fs. e ∷ fs) same)
+    go false rest (inr less) = inr (omega (arith, less))
+
+first-is : (i : ℕ) (xs : List ℕ) (position j : ℕ) → position ≡ position_or_len (nat_eq i) xs → slice_get xs position ≡ Some j → i ≡ j
+first-is i xs position j at here =
+    let within : position < length xs = slice_get_within xs position j here in
+    eqb-true i j (ap (nat_eq i) (sym (get_or_from_slice_get xs position j 0 here) ∙ ap (λ k. get_or xs k 0) at) ∙ passes_at_first (nat_eq i) xs 0 (omega (arith, within, at)))
+
+step-left : {X : Type 0} (test : ℕ → Bool) (i : ℕ) (es : List (ℕ × X)) → test i ≡ true
+    → KeepsStep test (keys_of es) (keys_of (remove_entry (nat_eq i) es)) (position_or_len (nat_eq i) (keys_of es)) (length (keys_of es) - length (keys_of (remove_entry (nat_eq i) es)))
+step-left test i es passes =
+    elim (removed-or_same i es) [
+      | inl same ↦ step-same test (keys_of es) (keys_of (remove_entry (nat_eq i) es)) (position_or_len (nat_eq i) (keys_of es)) (ap keys_of same)
+      | inr less ↦
+          let one : length (keys_of es) - length (keys_of (remove_entry (nat_eq i) es)) ≡ 1 =
+          omega (arith, less, length-map es (λ e. e.0), length-map (remove_entry (nat_eq i) es) (λ e. e.0)) in
+          record {
+            one_at_most = omega (arith, one);
+            each = λ position j from here. inl (ap (slice_get (keys_of es)) (further position (length (keys_of es) - length (keys_of (remove_entry (nat_eq i) es))) one) ∙ left-each i es position j from here);
+            skipped = λ position j from below here.
+                let at : position ≡ position_or_len (nat_eq i) (keys_of es) = omega (arith, one, from, below) in
+                ap test (sym (first-is i (keys_of es) position j at here)) ∙ passes;
+            end = omega (arith, one);
+          }
+    ]
+  where
+    further : (position gap : ℕ) → gap ≡ 1 → position + gap ≡ suc position
+    further position gap one = omega (arith, one)
+
+-- a change of a student or a school leaves the students' numbers
+students-changed : (m : Market) (i : ℕ) (change : Student → Student) → students_of (changed_student m i change) ≡ students_of m
+students-changed m i change = go (student_of m i)
+  where
+    go : (found : Option Student) → students_of (option_map_or (λ student. put_student m i (change student)) found m) ≡ students_of m
+    go None = refl
+    go (Some student) = keys-set_value (nat_eq i) m.students (change student)
+
+students-seated : (m : Market) (s seats : ℕ) → students_of (with_seats m s seats) ≡ students_of m
+students-seated m s seats = go (school_of m s)
+  where
+    go : (found : Option School) → students_of (option_map_or (λ school. put_school m s (record school { seats = seats })) found m) ≡ students_of m
+    go None = refl
+    go (Some school) = refl
+
+-- so it is with every amendment
+pub keeps-step : (m : Market) (a : Amendment) (test : ℕ → Bool) → TellsRegion m a test → KeepsStep test (students_of m) (students_of (after m a)) (rewind_point m a) (length (students_of m) - length (students_of (after m a)))
+keeps-step m (Enter i zone siblings choices) test tells =
+    let student : Student = record { zone = zone; siblings = siblings; choices = choices } in
+    step-entered test (students_of m) (students_of (after m (Enter i zone siblings choices))) (length m.students) i
+    (map-append (λ (e : ℕ × Student). e.0) m.students ((i, student) ∷ [])) ((tells i).1 (amended i refl)) (omega (arith, length-students m))
+keeps-step m (Withdraw i) test tells = step-left test i m.students ((tells i).1 (amended i refl))
+keeps-step m (Rerank i choices) test tells =
+    step-same test (students_of m) (students_of (after m (Rerank i choices))) (rewind_point m (Rerank i choices)) (students-changed m i (λ student. record student { choices = choices }))
+keeps-step m (Add s count) test tells =
+    step-same test (students_of m) (students_of (after m (Add s count))) (rewind_point m (Add s count)) (students-seated m s (seats_of m s + count))
+keeps-step m (Close s count) test tells =
+    step-same test (students_of m) (students_of (after m (Close s count))) (rewind_point m (Close s count)) (students-seated m s (seats_of m s - count))
+keeps-step m (Correct i zone siblings) test tells =
+    step-same test (students_of m) (students_of (after m (Correct i zone siblings))) (rewind_point m (Correct i zone siblings)) (students-changed m i (λ student. record student { zone = zone; siblings = siblings }))
+
+-- and so an amendment changes papers inside its region, from its rewind point on
+pub changes-inside : (m : Market) (a : Amendment) (test : ℕ → Bool) → WellFormed m → verdict m a ≡ None → TellsRegion m a test
+    → ChangesInside m (after m a) test (rewind_point m a) (length (students_of m) - length (students_of (after m a)))
+changes-inside m a test well allowed tells = record {
+  well_formed = WellFormed-after m a well allowed;
+  apart_before = region-apart m a test tells;
+  apart = region-apart_after m a test tells;
+  outside = region-alike m a test tells;
+  before = alike-after m a;
+  within_old = rewind-within m a;
+  within_new = rewind-within_after m a;
+  in_step = keeps-step m a test tells;
+}

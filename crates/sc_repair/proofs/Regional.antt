@@ -1,0 +1,54 @@
+-- A clearing after an amendment, told by the amendment's region.
+use Rattle.std.proofs.Common.{◌≡◌, ◌↔◌, refl, ap, sym, subst, ◌∙◌, ℕ, nat_eq, Bool, true, false, not, List, None, Contains, IsTrue, is_some}
+use Rattle.std.specs.Map.{lookup}
+use Rattle.std.proofs.lemmas.Bool.{cond-true, eqb-true, false_from_ne_true}
+use Rattle.std.proofs.lemmas.Cmp.{nat_eq_equiv}
+use Rattle.std.proofs.lemmas.Map.Views.{list_any-from_Contains, Contains-from_any}
+use Rattle.sc_papers.specs.Market.{Market, is_student, student_of}
+use Rattle.sc_papers.specs.Restriction.{restricted, outside, AlikeOutside}
+use Rattle.sc_papers.specs.Verdict.{after}
+use Rattle.sc_papers.specs.declared.amendment.Amendment.{Amendment}
+use Rattle.sc_papers.proofs.Restriction.{student-restricted}
+use Rattle.sc_region.specs.Region.{InRegion}
+use Rattle.sc_repair.specs.Locality.{is_among, TellsRegion}
+use Rattle.sc_repair.specs.Rewinding.{rewind_point}
+use Rattle.sc_repair.specs.Standing.{matching_of, Standing, CountsInside, CountsRegion, KeepsOthers}
+use Rattle.sc_repair.proofs.Region.{region-alike}
+
+-- a list that has exactly the students of the region tells it
+pub list-tells : (m : Market) (a : Amendment) (region : List ℕ) → ((i : ℕ) → Contains region i ↔ InRegion m a i) → TellsRegion m a (is_among region)
+list-tells m a region tells i = (
+  λ among. (tells i).0 (Contains-from_any eqb-true i region among),
+  λ inside. list_any-from_Contains nat_eq_equiv i region ((tells i).1 inside),
+)
+
+-- a student outside stays in the papers
+student-outside : (m n : Market) (test : ℕ → Bool) (i : ℕ) → AlikeOutside test m n → test i ≡ false → student_of n i ≡ student_of m i
+unfolding restricted
+student-outside m n test i alike fails =
+    sym (cond-true (outside test i) (student_of n i) None (ap not fails))
+    ∙ sym (student-restricted n (outside test) i)
+    ∙ ap (lookup (nat_eq i)) alike.students
+    ∙ student-restricted m (outside test) i
+    ∙ cond-true (outside test i) (student_of m i) None (ap not fails)
+
+pub keeps-others : (old new : Standing) (a : Amendment) (region : List ℕ) → TellsRegion old.papers a (is_among region) → new.papers ≡ after old.papers a
+    → ((i : ℕ) → is_among region i ≡ false → matching_of new i ≡ matching_of old i) → KeepsOthers old a new
+keeps-others old new a region tells accepted same i there out =
+    let fails : is_among region i ≡ false = false_from_ne_true (is_among region i) (λ inside. out ((tells i).0 inside)) in (
+      ap (λ n. is_student n i) accepted ∙ ap is_some (student-outside old.papers (after old.papers a) (is_among region) i (region-alike old.papers a (is_among region) tells) fails) ∙ there,
+      same i fails,
+    )
+
+-- whichever test tells the region, it counts the same
+same-test : (p q : ℕ → Bool) → ((i : ℕ) → IsTrue (p i) ↔ IsTrue (q i)) → p ≡ q
+same-test p q same = λ t i. both (p i) (q i) (same i) t
+  where
+    both : (a b : Bool) → (IsTrue a ↔ IsTrue b) → a ≡ b
+    both true b same = sym (same.0 refl)
+    both false true same = same.1 refl
+    both false false same = refl
+
+pub counts-region : (m : Market) (a : Amendment) (region : List ℕ) (standing : Standing) → TellsRegion m a (is_among region) → CountsInside (is_among region) (rewind_point m a) standing → CountsRegion m a standing
+counts-region m a region standing tells counts test told =
+    subst (λ p. CountsInside p (rewind_point m a) standing) (same-test (is_among region) test (λ i. (λ first. (told i).1 ((tells i).0 first), λ second. (tells i).1 ((told i).0 second)))) counts

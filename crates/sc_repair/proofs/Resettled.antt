@@ -1,0 +1,91 @@
+-- A clearing whose papers change inside a region: what its settling needs, and what it comes to.
+use Rattle.std.proofs.Common.{◌≡◌, ◌⊎◌, inl, refl, ap, sym, subst, ◌∙◌, ℕ, zero, suc, ◌+◌, ◌≤◌, ◌<◌, Bool, true, false, List, ◌++◌, length, take, drop, Option, Some, None, slice_get, arith}
+use Rattle.std.proofs.lemmas.List.{take-append-drop, take-map}
+use Rattle.std.proofs.lemmas.List.Elements.{filter-append}
+use Rattle.sc_papers.specs.Assignment.{assigned}
+use Rattle.sc_papers.specs.Log.{next_choice}
+use Rattle.sc_papers.specs.Market.{Market, students_of}
+use Rattle.sc_papers.specs.Matching.{IsStudentOptimal}
+use Rattle.sc_papers.specs.Restriction.{cut, joined, outside, IsSegmented}
+use Rattle.sc_papers.specs.WellFormed.{WellFormed}
+use Rattle.sc_papers.proofs.Locality.{optimal-outside}
+use Rattle.sc_checkpoint.specs.Chains.{logs_in, students_in, Chain}
+use Rattle.sc_engine.specs.RoundView.{RoundView, next_of}
+use Rattle.sc_repair.specs.Course.{among_students, either_by, GoesOnInside, InStep}
+use Rattle.sc_repair.specs.Locality.{chains_of, ChangesInside}
+use Rattle.sc_repair.specs.Standing.{Standing, CountsInside, IsCertified}
+use Rattle.sc_repair.proofs.Chains.{drop-past}
+use Rattle.sc_repair.proofs.Course.{others-past}
+use Rattle.sc_repair.proofs.Ending.{matching-end, proposals-end, segments-end}
+use Rattle.sc_repair.proofs.Kept.{certified-of, logs-kept}
+use Rattle.sc_repair.proofs.Rewinding.{segments-rewound}
+
+-- the old chains are in step
+pub chains-step : (m n : Market) (test : ℕ → Bool) (old : List Chain) (point gap k : ℕ) → ChangesInside m n test point gap → students_in old ≡ students_of m → k ≡ point
+    → (position i : ℕ) → k ≤ position → slice_get (students_of n) position ≡ Some i → InStep test old (position + gap) i
+chains-step m n test old point gap k changes theirs count position i from here =
+    subst (λ xs. (slice_get xs (position + gap) ≡ Some i) ⊎ ((slice_get xs (position + gap) ≡ None) × (test i ≡ true))) (sym theirs)
+    (changes.in_step.each position i (omega (arith, from, count)) here)
+
+-- those skipped all pass
+chains-skipped : (m n : Market) (test : ℕ → Bool) (old : List Chain) (gap k : ℕ) → gap ≤ 1 → ((i : ℕ) → 0 < gap → slice_get (students_in old) k ≡ Some i → test i ≡ true)
+    → chains_of (outside test) (drop (k + gap) old) ≡ chains_of (outside test) (drop k old)
+chains-skipped m n test old zero k low skipped = ap (λ at. chains_of (outside test) (drop at old)) (same k)
+  where
+    same : (k : ℕ) → k + 0 ≡ k
+    same k = omega arith
+chains-skipped m n test old (suc zero) k low skipped = ap (λ at. chains_of (outside test) (drop at old)) (same k) ∙ go (slice_get (students_in old) k) refl
+  where
+    same : (k : ℕ) → k + 1 ≡ suc k
+    same k = omega arith
+
+    go : (found : Option ℕ) → slice_get (students_in old) k ≡ found → chains_of (outside test) (drop (suc k) old) ≡ chains_of (outside test) (drop k old)
+    go None none = let (here, past) = drop-past old k none in ap (chains_of (outside test)) (past ∙ sym here)
+    go (Some i) here = others-past test old k i (skipped i (omega arith) here) (inl here)
+chains-skipped m n test old (suc (suc gap)) k low skipped = absurd (omega (arith, low))
+
+pub chains-others : (m n : Market) (test : ℕ → Bool) (old : List Chain) (point gap k : ℕ) → ChangesInside m n test point gap → students_in old ≡ students_of m → k ≡ point
+    → chains_of (outside test) (take k old) ++ chains_of (outside test) (drop (k + gap) old) ≡ chains_of (outside test) old
+chains-others m n test old point gap k changes theirs count =
+    ap (λ cs. chains_of (outside test) (take k old) ++ cs) (chains-skipped m n test old gap k changes.in_step.one_at_most
+    (λ i some here. changes.in_step.skipped k i (omega (arith, count)) (omega (arith, count, some)) (ap (λ xs. slice_get xs k) (sym theirs) ∙ here)))
+    ∙ sym (filter-append (λ (c : Chain). outside test c.student) (take k old) (drop k old))
+    ∙ ap (chains_of (outside test)) (take-append-drop k old)
+
+-- the kept segments are segmented under the new papers
+pub kept-segmented : (m n : Market) (test : ℕ → Bool) (old kept : List Chain) (point gap : ℕ) → ChangesInside m n test point gap → IsSegmented m (logs_in old) → kept ≡ take point old → length kept ≡ point
+    → IsSegmented (cut n (length kept)) (logs_in kept)
+kept-segmented m n test old kept point gap changes segmented is count =
+    subst (λ k. IsSegmented (cut n k) (logs_in kept)) (sym count)
+    (subst (IsSegmented (cut n point)) (sym (logs-kept point old kept is)) (segments-rewound m n point changes.before changes.within_old changes.within_new (logs_in old) segmented))
+
+-- the first segments stay
+pub segments-stay : (old new : List Chain) (point k : ℕ) → k ≡ point → take k new ≡ take k old → take point (logs_in new) ≡ take point (logs_in old)
+segments-stay old new point k count same =
+    ap (λ j. take j (logs_in new)) (sym count) ∙ take-map (λ (c : Chain). c.rejections) k new ∙ ap logs_in same
+    ∙ sym (take-map (λ (c : Chain). c.rejections) k old) ∙ ap (λ j. take j (logs_in old)) count
+
+-- what the settling comes to: the new standing is certified, the others have what they had, and the
+-- proposals are counted
+pub record Comes (m n : Market) (test : ℕ → Bool) (point : ℕ) (old : List (ℕ × ℕ)) (new : Standing) : Type 0 where
+  pub certified : IsCertified new
+  pub others : (i : ℕ) → test i ≡ false → assigned new.places i ≡ assigned old i
+  pub proposals : CountsInside test point new
+
+pub comes : (m n : Market) (test : ℕ → Bool) (old : List Chain) (point gap k : ℕ) (r : RoundView) (chains : List Chain) (before after : List (ℕ × ℕ)) (proposals : ℕ)
+    → WellFormed m → ChangesInside m n test point gap → students_in old ≡ students_of m → IsSegmented m (logs_in old) → IsStudentOptimal m (assigned before) → k ≡ point
+    → GoesOnInside n test old k gap r chains (length n.students) → ((i : ℕ) → assigned after i ≡ among_students n (either_by test (next_of n r.ranks) (assigned before)) i) → proposals ≡ r.proposals
+    → Comes m n test point before (record { papers = n; places = after; segments = logs_in chains; proposals = proposals })
+comes m n test old point gap k r chains before after proposals well changes theirs segmented optimal count on given made =
+    let going = subst (λ j. GoesOnInside n test old j gap r chains (length n.students)) count on in
+    let new : IsSegmented n (logs_in chains) = segments-end m n test old point gap r chains well changes theirs segmented going in
+    let matching : (i : ℕ) → assigned after i ≡ next_choice n (joined (logs_in chains)) i =
+    λ i. given i ∙ matching-end m n test old point gap r chains (assigned before) well changes optimal new going i in
+    let certified = certified-of n after (logs_in chains) proposals changes.well_formed new matching in
+    record {
+      certified = certified;
+      others = λ i fails. sym (optimal-outside m n test (assigned before) (assigned after) well changes.well_formed changes.apart_before changes.apart changes.outside optimal certified.optimal i fails);
+      proposals =
+          let counted = proposals-end n test old point gap r chains (assigned after) changes.apart new going matching in
+          omega (arith, counted, made);
+    }
