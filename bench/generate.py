@@ -3,10 +3,12 @@
 
     generate.py FOLDER [--students N] [--schools N] [--choices N] [--seats N] [--zones N]
                        [--siblings PERCENT] [--popularity EXPONENT] [--random SEED]
+                       [--student-numbers FILE] [--school-numbers FILE]
 
 Each student lists as many different schools as `--choices` says. A school's popularity falls with its
 number: the k-th is drawn with a weight of 1 / k^EXPONENT (0: all alike). `--siblings` is how many
-students of a hundred have a sibling at one of their choices. The same arguments make the same files.
+students of a hundred have a sibling at one of their choices. A file of numbers, one a line, takes the
+place of the numbers that are drawn. The same arguments make the same files.
 """
 import argparse
 import itertools
@@ -24,6 +26,12 @@ def choices_of(source, numbers, weights, count):
     return list(chosen)
 
 
+def numbers_in(path, count):
+    """The first numbers of a file."""
+    with open(path) as file:
+        return [int(line) for line in itertools.islice(file, count)]
+
+
 def main():
     words = argparse.ArgumentParser(description=__doc__, formatter_class=argparse.RawDescriptionHelpFormatter)
     words.add_argument("folder")
@@ -35,11 +43,19 @@ def main():
     words.add_argument("--siblings", type=int, default=15)
     words.add_argument("--popularity", type=float, default=0.5)
     words.add_argument("--random", type=int, default=1)
+    words.add_argument("--student-numbers")
+    words.add_argument("--school-numbers")
     given = words.parse_args()
 
     source = random.Random(given.random)
     schools = source.sample(range(1, 100_000), given.schools)
     students = source.sample(range(1, 10_000_000), given.students)
+    if given.school_numbers:
+        schools = numbers_in(given.school_numbers, given.schools)
+        source.shuffle(schools)
+    if given.student_numbers:
+        students = numbers_in(given.student_numbers, given.students)
+        source.shuffle(students)
     weights = list(itertools.accumulate(1 / (place + 1) ** given.popularity for place in range(given.schools)))
 
     school_rows = [f"{number},{source.randint(0, given.zones)},{given.seats}\n" for number in schools]
