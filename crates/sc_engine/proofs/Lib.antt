@@ -6,7 +6,6 @@ pub mod Steps
 pub mod Hands
 pub mod Papers
 pub mod Moves
-pub mod Places
 pub mod Beginning
 pub mod Starting
 pub mod CountingLaws

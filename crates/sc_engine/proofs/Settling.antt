@@ -25,7 +25,6 @@ use Rattle.sc_engine.proofs.Tables.{next-among, length-mapped}
 use Rattle.sc_papers.proofs.Positions.{any-among}
 use Rattle.sc_engine.proofs.CountingLaws.{exact-none}
 use Rattle.sc_engine.proofs.Proposals.{stays}
-use Rattle.sc_engine.proofs.Places.{assigned-with_place}
 
 -- whether a number is among the first k
 abbrev pub among_first : List ℕ → ℕ → ℕ → Bool
@@ -146,13 +145,3 @@ gives-all m ranks pairs gives i = gives i ∙ go (next_of m ranks i) refl
         both false o e = sym e
     go (Some s) is = cond-true (among_first (students_of m) (length m.students) i) (next_of m ranks i) None
         (ap (λ n. among_first (students_of m) n i) (sym (length-mapped (λ (e : ℕ × Student). e.0) m.students)) ∙ first-all (students_of m) i (next-among m ranks i s is))
-
--- one more rank given, or none to one who had none
-pub given-some : (old : List (ℕ × ℕ)) (i s j : ℕ) → assigned (with_place old i s) j ≡ cond (nat_eq j i) (Some s) (assigned old j)
-given-some old i s j = assigned-with_place old i s j
-
-pub given-none : (old : List (ℕ × ℕ)) (i j : ℕ) → assigned old i ≡ None → assigned old j ≡ cond (nat_eq j i) None (assigned old j)
-given-none old i j none = elim (cases_Bool (nat_eq j i)) [
-  | inl same ↦ ap (assigned old) (eqb-true j i same) ∙ none ∙ sym (cond-true (nat_eq j i) None (assigned old j) same)
-  | inr apart ↦ sym (cond-false (nat_eq j i) None (assigned old j) apart)
-]

@@ -71,24 +71,9 @@ fn assignment_of(
         let Some(student) = papers.student_at(position) else {
             unreachable!()
         };
-        give(&mut assignment, student, choice_at(ranks, papers, position))?;
+        assignment.give(student, choice_at(ranks, papers, position))?;
     }
     Ok(assignment)
-}
-
-/// Gives a student who has none the school, if there is one.
-fn give(
-    assignment: &mut Assignment,
-    student: StudentNo,
-    school: Option<SchoolNo>,
-) -> Result<(), AllocError>
-    requires { assigned assignment.old student ≡ None }
-    ensures { OnOk result ((j : ℕ) → assigned assignment.new j ≡ (if nat_eq j student then school else assigned assignment.old j)) }
-{
-    if let Some(school) = school {
-        assignment.put(student, school)?;
-    }
-    Ok(())
 }
 
 /// The rank of the choice at which the student at the position stands: none past the end.

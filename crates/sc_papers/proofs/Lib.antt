@@ -1,4 +1,5 @@
 pub mod Repeats
+pub mod Assigning
 pub mod Keys
 pub mod Positions
 pub mod Hands

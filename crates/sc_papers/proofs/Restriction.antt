@@ -42,7 +42,7 @@ count-filter p test (x ∷ xs) = go p test x xs (count-filter p test xs) (test x
         ∙ sym (count-cons_fails (λ y. test y && p y) x xs (ap (λ t. t && p x) dropped))
 
 -- the numbers of the students that pass
-keys-filter : {X : Type 0} (test : ℕ → Bool) (es : List (ℕ × X)) → keys_of (filter (λ e. test e.0) es) ≡ filter test (keys_of es)
+pub keys-filter : {X : Type 0} (test : ℕ → Bool) (es : List (ℕ × X)) → keys_of (filter (λ e. test e.0) es) ≡ filter test (keys_of es)
 keys-filter test [] = refl
 keys-filter test (e ∷ es) = keys-cond (test e.0) e (filter (λ f. test f.0) es) ∙ ap (λ ks. cond (test e.0) (e.0 ∷ ks) ks) (keys-filter test es)
   where

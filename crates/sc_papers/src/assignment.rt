@@ -1,4 +1,4 @@
-ghost use Rattle.std.specs.Prelude.{◌≡◌, ℕ, ◌==◌, List, [], length, slice_get, nat_eq, IfOk, OnOk, OnErr};
+ghost use Rattle.std.specs.Prelude.{◌≡◌, ℕ, ◌==◌, List, [], None, length, slice_get, nat_eq, if◌then◌else◌, IfOk, OnOk, OnErr};
 ghost use Rattle.std.specs.List.{IsDistinct};
 ghost use Rattle.std.specs.Map.{keys_of};
 ghost use Rattle.sc_papers.specs.Assignment.{assigned, with_place};
@@ -51,6 +51,22 @@ impl Assignment {
         ensures unchanged { OnErr result (self.new ≡ self.old) }
     {
         let _ = self.places.insert(student, school)?;
+        Ok(())
+    }
+
+    /// Gives a student who has none the school, if there is one. A refused growth changes nothing.
+    pub fn give(
+        &mut self,
+        student: StudentNumber,
+        school: Option<SchoolNo>,
+    ) -> Result<(), AllocError>
+        requires { assigned self.old student ≡ None }
+        ensures given { OnOk result ((j : ℕ) → assigned self.new j ≡ (if nat_eq j student then school else assigned self.old j)) }
+        ensures unchanged { OnErr result (self.new ≡ self.old) }
+    {
+        if let Some(school) = school {
+            self.put(student, school)?;
+        }
         Ok(())
     }
 

@@ -124,21 +124,6 @@ fn place_after<R: Roll>(
     }
 }
 
-/// Gives a student the school, if there is one.
-fn give(
-    places: &mut Assignment,
-    student: StudentNo,
-    school: Option<SchoolNo>,
-) -> Result<(), AllocError>
-    requires { assigned places.old student ≡ None }
-    ensures { OnOk result ((j : ℕ) → assigned places.new j ≡ (if nat_eq j student then school else assigned places.old j)) }
-{
-    if let Some(school) = school {
-        places.put(student, school)?;
-    }
-    Ok(())
-}
-
 /// What the students of the papers have after the settling of a region.
 pub(crate) fn places_after<R: Roll>(
     alloc: Global,
@@ -151,13 +136,13 @@ pub(crate) fn places_after<R: Roll>(
     requires fits { Fits papers.now (view_of R.keys R.seats round.now) }
     ensures { IfOk result (λ after. (i : ℕ) → assigned after i ≡ among_students papers.now (either_by (is_among region.now) (next_of papers.now (view_of R.keys R.seats round.now).ranks) (assigned places.now)) i) }
 {
-    let mut after = Assignment::new(alloc);
+    let mut after = Assignment::with_room(alloc, papers.seed(), papers.students_len())?;
     for position in 0..papers.students_len() {
         let Some(student) = papers.student_at(position) else {
             unreachable!()
         };
         let place = place_after(papers, region, round, places, student);
-        give(&mut after, student, place)?;
+        after.give(student, place)?;
     }
     Ok(after)
 }

@@ -7,7 +7,7 @@ use Rattle.sc_papers.specs.Market.{Market, students_of, choices_of}
 use Rattle.sc_papers.specs.WellFormed.{WellFormed}
 use Rattle.sc_papers.specs.Restriction.{restricted, cut, outside, is_among_first, AreApart}
 use Rattle.sc_papers.proofs.Cutting.{cut-restricted}
-use Rattle.sc_papers.proofs.Restriction.{choices-restricted}
+use Rattle.sc_papers.proofs.Restriction.{choices-restricted, keys-filter}
 
 -- how many of the first k students pass
 abbrev pub passing : (ℕ → Bool) → ℕ → List ℕ → ℕ
@@ -24,14 +24,6 @@ filter-take test (suc k) (x ∷ xs) = go (test x) x (filter test (take k xs)) (f
     go false x first all same = same
 
 -- the numbers of the students who pass
-keys-filter : {X : Type 0} (test : ℕ → Bool) (es : List (ℕ × X)) → keys_of (filter (λ e. test e.0) es) ≡ filter test (keys_of es)
-keys-filter test [] = refl
-keys-filter test (e ∷ es) = keys-cond (test e.0) e (filter (λ f. test f.0) es) ∙ ap (λ ks. cond (test e.0) (e.0 ∷ ks) ks) (keys-filter test es)
-  where
-    keys-cond : {X : Type 0} (b : Bool) (e : ℕ × X) (es : List (ℕ × X)) → keys_of (cond b (e ∷ es) es) ≡ cond b (e.0 ∷ keys_of es) (keys_of es)
-    keys-cond true e es = refl
-    keys-cond false e es = refl
-
 pub students-restricted : (m : Market) (test : ℕ → Bool) → students_of (restricted m test) ≡ filter test (students_of m)
 unfolding restricted
 students-restricted m test = keys-filter test m.students

@@ -6,9 +6,9 @@ use Rattle.sc_engine.proofs.round.assignment_of.Goals as goal
 
 pub loop-position-preserved : goal.loop-position-preserved
 loop-position-preserved c =
-    gives-more c.args.papers.now c.args.ranks.now c.loop-position.assignment c.give.new.assignment c.loop-position.position c.in-Some.student (sym c.in-Some.ensures) c.loop-position.invariant
+    gives-more c.args.papers.now c.args.ranks.now c.loop-position.assignment c.give.new.self c.loop-position.position c.in-Some.student (sym c.in-Some.ensures) c.loop-position.invariant
     (λ j.
-    c.in_ok-give.ensures j
+    c.in_ok-give.ensures.given j
     ∙ ap (λ o. cond (nat_eq j c.in-Some.student) o (assigned c.loop-position.assignment j))
     (c.choice_at.ensures c.in-Some.student (place-position c.args.papers.now c.students_len-position-end.ensures.well_formed c.loop-position.position c.in-Some.student (sym c.in-Some.ensures))))
 

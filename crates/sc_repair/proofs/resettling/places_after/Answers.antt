@@ -15,8 +15,8 @@ give-requires g c =
 pub loop-position-preserved : goal.loop-position-preserved
 loop-position-preserved g c =
     let have : Matching = either_by (is_among c.args.region.now) (next_of c.args.papers.now c.args.round.now.ranks.items) (assigned c.args.places.now) in
-    gives-next c.args.papers.now have c.loop-position.after c.give.new.places c.loop-position.position c.in-Some.student (sym c.in-Some.ensures) c.loop-position.invariant
-    (λ j. c.in_ok-give.ensures j ∙ ap (λ o. cond (nat_eq j c.in-Some.student) o (assigned c.loop-position.after j)) c.place_after-place.ensures)
+    gives-next c.args.papers.now have c.loop-position.after c.give.new.self c.loop-position.position c.in-Some.student (sym c.in-Some.ensures) c.loop-position.invariant
+    (λ j. c.in_ok-give.ensures.given j ∙ ap (λ o. cond (nat_eq j c.in-Some.student) o (assigned c.loop-position.after j)) c.place_after-place.ensures)
 
 pub returns : goal.returns
 returns g c =
