@@ -28,13 +28,13 @@ well-changed_school m s change well = by_case (school_of m s) refl
     by_case (Some school) e = rw e (WellFormed-put_school m s (change school) well)
 
 pub WellFormed-after : (m : Market) (a : Amendment) → WellFormed m → verdict m a ≡ None → WellFormed (after m a)
-WellFormed-after m (Enter i zone siblings choices) well allowed =
-    let student : Student = record { zone = zone; siblings = siblings; choices = choices } in
+WellFormed-after m (Enter i zone siblings choices continuing) well allowed =
+    let student : Student = record { zone = zone; siblings = siblings; choices = choices; continuing = continuing } in
     WellFormed-with_student m i student well (MayEnter-allowed m i student allowed)
 WellFormed-after m (Withdraw i) well allowed = WellFormed-without_student m i well
 WellFormed-after m (Rerank i choices) well allowed =
     well-changed_student m i (λ student. record student { choices = choices }) well (λ student proper. IsProper-reranked m i student choices allowed proper)
 WellFormed-after m (Add s count) well allowed = well-changed_school m s _ well
 WellFormed-after m (Close s count) well allowed = well-changed_school m s _ well
-WellFormed-after m (Correct i zone siblings) well allowed =
-    well-changed_student m i (λ student. record student { zone = zone; siblings = siblings }) well (λ student proper. IsProper-corrected m i student zone siblings allowed proper)
+WellFormed-after m (Correct i zone siblings continuing) well allowed =
+    well-changed_student m i (λ student. record student { zone = zone; siblings = siblings; continuing = continuing }) well (λ student proper. IsProper-corrected m i student zone siblings continuing allowed proper)

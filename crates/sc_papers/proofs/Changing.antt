@@ -1,6 +1,6 @@
 -- Papers with a student gone, or with what they hold of a student or of a school changed, stay well-formed and within their
 -- limits.
-use Rattle.std.proofs.Common.{◌≡◌, ℕ, suc, ◌+◌, ◌≤◌, ◌==◌, nat_eq, Bool, false, List, [], ◌∷◌, length, map, Some, None, refl, sym, ap, ◌∙◌, subst, arith, inl, inr}
+use Rattle.std.proofs.Common.{◌≡◌, ℕ, suc, ◌+◌, ◌≤◌, ◌==◌, nat_eq, Bool, false, List, [], ◌∷◌, length, map, Option, Some, None, refl, sym, ap, ◌∙◌, subst, arith, inl, inr}
 use Rattle.std.specs.Prelude.{nat_lt, is_some, position, remove, slice_set}
 use Rattle.std.specs.Map.{keys_of, lookup, remove_entry, set_value}
 use Rattle.std.specs.List.{All, AllByRecursion, IsDistinct, position_or_len}
@@ -16,7 +16,7 @@ use Rattle.sc_papers.specs.WellFormed.{WellFormed, WithinLimits, IsProper, IsSho
 use Rattle.sc_papers.specs.declared.records.School.{School}
 use Rattle.sc_papers.specs.declared.records.Student.{Student}
 use Rattle.sc_papers.specs.declared.amendment.Refusal.TheVariants.{EmptyList}
-use Rattle.sc_papers.proofs.Objections.{first_of-none, refuse_if-none, too_long-none, twice_in-none, unknown_in-none}
+use Rattle.sc_papers.proofs.Objections.{first_of-none, refuse_if-none, too_long-none, twice_in-none, unknown_in-none, unknown_school-none}
 use Rattle.sc_papers.proofs.Entering.{IsProper-known}
 use Rattle.sc_papers.specs.declared.seats.TheConstants.Seats.{GREATEST}
 
@@ -213,6 +213,7 @@ IsProper-reranked m i student choices allowed proper =
       choices_differ = twice_in-none choices none.1.1.1.1.0;
       siblings_known = proper.siblings_known;
       siblings_differ = proper.siblings_differ;
+      continuing_known = proper.continuing_known;
     }
 
 pub IsShort-reranked : (m : Market) (i : ℕ) (student : Student) (choices : List ℕ) → first_of (objections_to_rerank m i choices) ≡ None
@@ -221,21 +222,22 @@ IsShort-reranked m i student choices allowed short =
     let none = first_of-none (objections_to_rerank m i choices) allowed in
     record { choices = too_long-none choices none.1.1.0; siblings = short.siblings }
 
--- nothing said against the siblings, they may stand in the old ones' place
-pub IsProper-corrected : (m : Market) (i : ℕ) (student : Student) (zone : ℕ) (siblings : List ℕ) → first_of (objections_to_correct m i siblings) ≡ None
-    → IsProper m student → IsProper m (record student { zone = zone; siblings = siblings })
-IsProper-corrected m i student zone siblings allowed proper =
-    let none = first_of-none (objections_to_correct m i siblings) allowed in
+-- nothing said against the circumstances, they may stand in the old ones' place
+pub IsProper-corrected : (m : Market) (i : ℕ) (student : Student) (zone : ℕ) (siblings : List ℕ) (continuing : Option ℕ) → first_of (objections_to_correct m i siblings continuing) ≡ None
+    → IsProper m student → IsProper m (record student { zone = zone; siblings = siblings; continuing = continuing })
+IsProper-corrected m i student zone siblings continuing allowed proper =
+    let none = first_of-none (objections_to_correct m i siblings continuing) allowed in
     record {
       choices_some = proper.choices_some;
       choices_known = proper.choices_known;
       choices_differ = proper.choices_differ;
       siblings_known = unknown_in-none m siblings none.1.1.0;
-      siblings_differ = twice_in-none siblings none.1.1.1.0;
+      siblings_differ = twice_in-none siblings none.1.1.1.1.0;
+      continuing_known = unknown_school-none m continuing none.1.1.1.0;
     }
 
-pub IsShort-corrected : (m : Market) (i : ℕ) (student : Student) (zone : ℕ) (siblings : List ℕ) → first_of (objections_to_correct m i siblings) ≡ None
-    → IsShort student → IsShort (record student { zone = zone; siblings = siblings })
-IsShort-corrected m i student zone siblings allowed short =
-    let none = first_of-none (objections_to_correct m i siblings) allowed in
+pub IsShort-corrected : (m : Market) (i : ℕ) (student : Student) (zone : ℕ) (siblings : List ℕ) (continuing : Option ℕ) → first_of (objections_to_correct m i siblings continuing) ≡ None
+    → IsShort student → IsShort (record student { zone = zone; siblings = siblings; continuing = continuing })
+IsShort-corrected m i student zone siblings continuing allowed short =
+    let none = first_of-none (objections_to_correct m i siblings continuing) allowed in
     record { choices = short.choices; siblings = too_long-none siblings none.1.0 }

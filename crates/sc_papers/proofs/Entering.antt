@@ -8,12 +8,13 @@ use Rattle.std.proofs.lemmas.Bool.Decides.{nat_tests}
 use Rattle.std.proofs.lemmas.Cmp.{nat_eq_equiv}
 use Rattle.std.proofs.lemmas.List.Elements.{All-push}
 use Rattle.std.proofs.lemmas.Map.Keys.{IsDistinct-push}
+use Rattle.std.proofs.lemmas.Option.{IfSome_then}
 use Rattle.sc_papers.specs.Market.{Market, is_school, is_student}
 use Rattle.sc_papers.specs.Verdict.{first_of, objections_to_enter, with_student}
 use Rattle.sc_papers.specs.WellFormed.{WellFormed, WithinLimits, IsProper, IsShort}
 use Rattle.sc_papers.specs.declared.records.Student.{Student}
 use Rattle.sc_papers.specs.declared.amendment.Refusal.TheVariants.{StudentExists, EmptyList, RosterFull}
-use Rattle.sc_papers.proofs.Objections.{first_of-none, refuse_if-none, too_long-none, twice_in-none, unknown_in-none}
+use Rattle.sc_papers.proofs.Objections.{first_of-none, refuse_if-none, too_long-none, twice_in-none, unknown_in-none, unknown_school-none}
 use Rattle.sc_papers.specs.declared.limits.TheConstants.{MOST_STUDENTS}
 
 -- what it takes to enter
@@ -29,13 +30,13 @@ is_some-false (Some x) e = cc
 
 -- nothing said against it, the student may
 pub MayEnter-allowed : (m : Market) (i : ℕ) (student : Student)
-    → first_of (objections_to_enter m i student.siblings student.choices) ≡ None → MayEnter m i student
+    → first_of (objections_to_enter m i student.siblings student.choices student.continuing) ≡ None → MayEnter m i student
 MayEnter-allowed m i student allowed =
     let choices = student.choices in
     let siblings = student.siblings in
-    let none = first_of-none (objections_to_enter m i siblings choices) allowed in
+    let none = first_of-none (objections_to_enter m i siblings choices student.continuing) allowed in
     let rest = none.1.1 in
-    let named = rest.1.1.1.1 in
+    let named = rest.1.1.1.1.1 in
     let some : (length choices == 0) ≡ false = refuse_if-none (length choices == 0) EmptyList none.1.0 in
     let room : nat_le MOST_STUDENTS (length m.students) ≡ false = refuse_if-none (nat_le MOST_STUDENTS (length m.students)) RosterFull named.1.1.0 in
     record {
@@ -47,6 +48,7 @@ MayEnter-allowed m i student allowed =
         choices_differ = twice_in-none choices named.0;
         siblings_known = unknown_in-none m siblings rest.1.1.1.0;
         siblings_differ = twice_in-none siblings named.1.0;
+        continuing_known = unknown_school-none m student.continuing rest.1.1.1.1.0;
       };
       short = record { choices = too_long-none choices rest.0; siblings = too_long-none siblings rest.1.0 };
     }
@@ -74,6 +76,7 @@ IsProper-known m n known student proper = record {
   choices_differ = proper.choices_differ;
   siblings_known = λ k d here. known _ (proper.siblings_known k d here);
   siblings_differ = proper.siblings_differ;
+  continuing_known = IfSome_then student.continuing proper.continuing_known known;
 }
 
 -- the papers stay well-formed

@@ -1,5 +1,5 @@
 -- What look-ups in the papers' tables give.
-use Rattle.std.proofs.Common.{◌≡◌, ℕ, nat_eq, List, get_or, map, Option, Some, None, refl, sym, ap, ◌∙◌, cond, false, is_some, position}
+use Rattle.std.proofs.Common.{◌≡◌, ℕ, nat_eq, List, get_or, Option, Some, None, refl, sym, ap, ◌∙◌, cond, false, is_some, position}
 use Rattle.std.specs.Prelude.{◌==◌, ◌&&◌}
 use Rattle.std.specs.List.{slice_get, list_any}
 use Rattle.sc_lottery.specs.Draw.{draw}
@@ -10,7 +10,7 @@ use Rattle.sc_papers.specs.StudentRow.{Row, row_of}
 use Rattle.sc_papers.specs.declared.records.School.{School}
 use Rattle.sc_papers.specs.declared.records.Student.{Student}
 use Rattle.std.specs.Map.{keys_of, lookup}
-use Rattle.std.specs.Option.{option_map, option_and_then}
+use Rattle.std.specs.Option.{option_map, option_and_then, option_eq}
 use Rattle.std.proofs.lemmas.Bool.{and_right}
 use Rattle.indexmap.proofs.MapLemmas.{some_index}
 use Rattle.std.proofs.lemmas.Option.{same_Some, slice_get-map, get_or_from_slice_get}
@@ -50,7 +50,7 @@ record-there m place i student entry known = sym (ap (option_and_then (student_o
 pub key-of_places : (m : Market) (place at i s class d : ℕ) (student : Student) (school : School)
     → slice_get m.students place ≡ Some (i, student) → slice_get m.schools at ≡ Some (s, school)
     → student_of m i ≡ Some student → school_of m s ≡ Some school
-    → class ≡ class_by (list_any (λ t. t == s) student.siblings) (same_zone student.zone school.zone)
+    → class ≡ class_by (option_eq nat_eq student.continuing (Some s)) (list_any (λ t. t == s) student.siblings) (same_zone student.zone school.zone)
     → d ≡ draw m.seed i
     → Some (record { class = class; draw = d; student = i }) ≡ key_at m place at
 unfolding key_of

@@ -1,14 +1,14 @@
 -- What follows where no objection to an amendment applies.
 use Rattle.std.proofs.Common.{◌≡◌, ℕ, ◌≤◌, ◌==◌, nat_eq, Bool, true, false, not, List, [], ◌∷◌, ◌++◌, length, Option, Some, None, refl, arith, inl, inr}
 use Rattle.std.specs.Prelude.{find, ◌||◌, nat_lt}
-use Rattle.std.specs.Option.{option_map}
+use Rattle.std.specs.Option.{option_map, IfSome}
 use Rattle.std.specs.List.{list_any, AllPass, AllByRecursion, IsDistinct}
 use Rattle.std.proofs.lemmas.Bool.{cases_Bool}
 use Rattle.std.proofs.lemmas.Bool.Decides.{nat_tests}
-use Rattle.std.proofs.lemmas.List.Elements.{All-cons, All-nil}
+use Rattle.std.proofs.lemmas.List.Elements.{All-cons, All-head, All-nil}
 use Rattle.std.proofs.lemmas.List.Folds.{list_any-append}
 use Rattle.sc_papers.specs.Market.{Market, is_school}
-use Rattle.sc_papers.specs.Verdict.{refuse_if, first_of, first_repeat, too_long, twice_in, unknown_in}
+use Rattle.sc_papers.specs.Verdict.{refuse_if, first_of, first_repeat, too_long, twice_in, unknown_in, unknown_school}
 use Rattle.sc_papers.specs.declared.amendment.Refusal.TheVariants.{ListTooLong, SchoolTwice, UnknownSchool}
 use Rattle.sc_papers.specs.declared.limits.TheConstants.{LONGEST_LIST}
 
@@ -71,6 +71,11 @@ twice_in-none xs none = (first_repeat-none [] xs (option_map-none SchoolTwice (f
 -- one to which nothing is objected for naming an unknown school names known ones
 pub unknown_in-none : (m : Market) (xs : List ℕ) → unknown_in m xs ≡ None → AllPass (is_school m) xs
 unknown_in-none m xs none = find_not-none (is_school m) xs (option_map-none UnknownSchool (find (λ s. not (is_school m s)) xs) none)
+
+-- and so is a single school, if there is one
+pub unknown_school-none : (m : Market) (school : Option ℕ) → unknown_school m school ≡ None → IfSome school (λ s. is_school m s ≡ true)
+unknown_school-none m None none = tt
+unknown_school-none m (Some s) none = All-head (λ t. is_school m t ≡ true) s [] (unknown_in-none m (s ∷ []) none)
 
 -- one to which nothing is objected for its length is short
 pub too_long-none : (xs : List ℕ) → too_long xs ≡ None → length xs ≤ LONGEST_LIST

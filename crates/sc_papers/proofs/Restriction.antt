@@ -1,8 +1,8 @@
 -- What the laws see of papers that are restricted to some of their students.
-use Rattle.std.proofs.Common.{◌≡◌, refl, ap, sym, ◌∙◌, ℕ, ◌+◌, ◌==◌, nat_eq, Bool, true, false, cond, not, ◌&&◌, List, [], ◌∷◌, Option, None, find, filter, count_by}
+use Rattle.std.proofs.Common.{◌≡◌, refl, ap, sym, ◌∙◌, ℕ, ◌+◌, ◌==◌, nat_eq, Bool, true, false, cond, not, ◌&&◌, List, [], ◌∷◌, Option, None, Some, find, filter, count_by}
 use Rattle.std.specs.List.{list_any}
 use Rattle.std.specs.Map.{keys_of}
-use Rattle.std.specs.Option.{option_map_or}
+use Rattle.std.specs.Option.{option_and_then, option_eq, option_map_or}
 use Rattle.std.proofs.lemmas.Bool.{cond-true, cond-false, eqb-true}
 use Rattle.std.proofs.lemmas.Map.Entries.{lookup-filter-keys}
 use Rattle.sc_papers.specs.Market.{Market, student_of, students_of, choices_of, seats_of, zone_at}
@@ -59,7 +59,10 @@ student-restricted m test i = lookup-filter-keys (nat_eq i) test (test i) (λ k 
 key_by : Market → Option Student → ℕ → ℕ → Key
 unfolding key_of
 key_by m found i s = record (key_of m i s) {
-  class = class_by (list_any (λ t. t == s) (option_map_or (λ student. student.siblings) found [])) (same_zone (option_map_or (λ student. student.zone) found 0) (zone_at m s));
+  class = class_by
+      (option_eq nat_eq (option_and_then (λ student. student.continuing) found) (Some s))
+      (list_any (λ t. t == s) (option_map_or (λ student. student.siblings) found []))
+      (same_zone (option_map_or (λ student. student.zone) found 0) (zone_at m s));
 }
 
 key-restricted : (m : Market) (test : ℕ → Bool) (i s : ℕ) → test i ≡ true → key_of (restricted m test) i s ≡ key_of m i s

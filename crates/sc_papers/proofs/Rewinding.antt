@@ -1,8 +1,8 @@
 -- Papers that are alike up to k have the same settled logs when they are cut at k.
-use Rattle.std.proofs.Common.{◌≡◌, inl, inr, refl, ap, sym, ◌∙◌, ℕ, ◌≤◌, ◌==◌, nat_eq, Bool, not, ◌&&◌, List, [], ◌∷◌, ◌++◌, Option, Contains, find, count_by, take, subst, arith}
+use Rattle.std.proofs.Common.{◌≡◌, inl, inr, refl, ap, sym, ◌∙◌, ℕ, ◌≤◌, ◌==◌, nat_eq, Bool, not, ◌&&◌, List, [], ◌∷◌, ◌++◌, Option, Some, Contains, find, count_by, take, subst, arith}
 use Rattle.std.specs.List.{list_any}
 use Rattle.std.specs.Map.{lookup, keys_of}
-use Rattle.std.specs.Option.{option_map_or}
+use Rattle.std.specs.Option.{option_and_then, option_eq, option_map_or}
 use Rattle.sc_lottery.specs.Draw.{draw}
 use Rattle.sc_papers.specs.Market.{Market, student_of, choices_of, seats_of, zone_at}
 use Rattle.sc_papers.specs.Key.{is_before, is_ahead, key_of, class_by, same_zone}
@@ -67,7 +67,10 @@ settled-alike alike log settled = record {
 -- a key, by what it is made of
 pub key_by : List ℕ → ℕ → Option Student → ℕ → ℕ → Key
 key_by seed zone found i s = record {
-  class = class_by (list_any (λ t. t == s) (option_map_or (λ student. student.siblings) found [])) (same_zone (option_map_or (λ student. student.zone) found 0) zone);
+  class = class_by
+      (option_eq nat_eq (option_and_then (λ student. student.continuing) found) (Some s))
+      (list_any (λ t. t == s) (option_map_or (λ student. student.siblings) found []))
+      (same_zone (option_map_or (λ student. student.zone) found 0) zone);
   draw = draw seed i;
   student = i;
 }

@@ -28,6 +28,7 @@ proper-restricted m test student proper = record {
   choices_differ = proper.choices_differ;
   siblings_known = proper.siblings_known;
   siblings_differ = proper.siblings_differ;
+  continuing_known = proper.continuing_known;
 }
 
 pub well-restricted : (m : Market) (test : ℕ → Bool) → WellFormed m → WellFormed (restricted m test)
@@ -88,6 +89,7 @@ proper-cut m k student proper = record {
   choices_differ = proper.choices_differ;
   siblings_known = proper.siblings_known;
   siblings_differ = proper.siblings_differ;
+  continuing_known = proper.continuing_known;
 }
 
 -- the first of a list with no repeats have none

@@ -5,21 +5,31 @@ use Rattle.std.specs.Option.{option_and_then, option_map}
 use Rattle.std.specs.Ordering.{nat_cmp, ordering_then}
 use Rattle.std.specs.declared.cmp.Ordering.{Ordering}
 use Rattle.sc_lottery.specs.Draw.{draw}
-use Rattle.sc_papers.specs.Market.{Market, schools_of, siblings_of, students_of, zone_of, zone_at}
+use Rattle.sc_papers.specs.Market.{Market, continues_at, schools_of, siblings_of, students_of, zone_of, zone_at}
 use Rattle.sc_papers.specs.declared.key.Key.{Key}
 
 -- whether two zones are the same zone; zone 0 is none and equals no zone
 abbrev pub same_zone : ℕ → ℕ → Bool
 same_zone a b = a == b && not (a == 0)
 
--- the priority class, best first: 0 sibling and zone, 1 sibling, 2 zone, 3 neither (priority groups
--- of the kind in Abdulkadiroğlu and Sönmez; the classes are this project's own)
-abbrev pub class_by : Bool → Bool → ℕ
-class_by sibling zone = if sibling then (if zone then 0 else 1) else (if zone then 2 else 3)
+-- the priority class, best first: 0 continues there, 1 sibling and zone, 2 sibling, 3 zone, 4 none of
+-- these (priority groups of the kind in Abdulkadiroğlu and Sönmez; the classes are this project's own)
+abbrev pub class_by : Bool → Bool → Bool → ℕ
+class_by continuing sibling zone =
+    if continuing then 0 else
+    (if sibling then (if zone then 1 else 2) else (if zone then 3 else 4))
+
+-- whether a sibling of a student is at a school
+abbrev pub has_sibling_at : Market → ℕ → ℕ → Bool
+has_sibling_at m i s = list_any (λ t. t == s) (siblings_of m i)
+
+-- whether a student lives in the zone of a school
+abbrev pub lives_in_zone_of : Market → ℕ → ℕ → Bool
+lives_in_zone_of m i s = same_zone (zone_of m i) (zone_at m s)
 
 -- the priority class of a student at a school
 abbrev pub class_at : Market → ℕ → ℕ → ℕ
-class_at m i s = class_by (list_any (λ t. t == s) (siblings_of m i)) (same_zone (zone_of m i) (zone_at m s))
+class_at m i s = class_by (continues_at m i s) (has_sibling_at m i s) (lives_in_zone_of m i s)
 
 -- the key of a student at a school: class, draw, number
 unfoldable pub key_of : Market → ℕ → ℕ → Key

@@ -1,6 +1,6 @@
 -- The papers as contracts see them, and the words that look into them.
-use Rattle.std.specs.Prelude.{ℕ, nat_eq, Bool, List, [], Option, is_some, slice_index_or}
-use Rattle.std.specs.Option.{option_map_or}
+use Rattle.std.specs.Prelude.{ℕ, nat_eq, Bool, List, [], Option, Some, is_some, slice_index_or}
+use Rattle.std.specs.Option.{option_and_then, option_eq, option_map_or}
 use Rattle.std.specs.Map.{lookup, keys_of}
 use Rattle.sc_papers.specs.declared.records.School.{School}
 use Rattle.sc_papers.specs.declared.records.Student.{Student}
@@ -47,6 +47,14 @@ choices_of m i = option_map_or (λ student. student.choices) (student_of m i) []
 -- the schools of a student's siblings; an unknown student has none
 abbrev pub siblings_of : Market → ℕ → List ℕ
 siblings_of m i = option_map_or (λ student. student.siblings) (student_of m i) []
+
+-- the school at which a student continues, if there is one; an unknown student continues nowhere
+abbrev pub continuing_of : Market → ℕ → Option ℕ
+continuing_of m i = option_and_then (λ student. student.continuing) (student_of m i)
+
+-- whether a student continues at this school
+abbrev pub continues_at : Market → ℕ → ℕ → Bool
+continues_at m i s = option_eq nat_eq (continuing_of m i) (Some s)
 
 -- a student's zone, 0 where there is none; an unknown student has none
 abbrev pub zone_of : Market → ℕ → ℕ

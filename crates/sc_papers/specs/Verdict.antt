@@ -1,6 +1,6 @@
 -- What the rules answer to an amendment: its refusal, or the papers after it.
 use Rattle.std.specs.Prelude.{◌≡◌, ℕ, ◌+◌, ◌-◌, ◌==◌, Bool, not, nat_eq, nat_lt, nat_le, List, [], ◌∷◌, ◌++◌, length, Option, None, Some, Result, Ok, Err, find, if◌then◌else◌}
-use Rattle.std.specs.Option.{option_map, option_map_or}
+use Rattle.std.specs.Option.{option_and_then, option_map, option_map_or}
 use Rattle.std.specs.List.{list_any}
 use Rattle.std.specs.Map.{remove_entry, set_value}
 use Rattle.sc_papers.specs.Market.{Market, is_school, is_student, school_of, student_of, seats_of}
@@ -27,6 +27,10 @@ too_long xs = refuse_if (nat_lt LONGEST_LIST (length xs)) ListTooLong
 abbrev pub unknown_in : Market → List ℕ → Option Refusal
 unknown_in m xs = option_map UnknownSchool (find (λ s. not (is_school m s)) xs)
 
+-- a school that comes alone, if there is one, has to be in the papers
+abbrev pub unknown_school : Market → Option ℕ → Option Refusal
+unknown_school m school = option_and_then (λ s. unknown_in m (s ∷ [])) school
+
 -- the first of xs that equals an earlier one, where `earlier` stands before xs
 abbrev pub first_repeat : List ℕ → List ℕ → Option ℕ
 first_repeat earlier [] = None
@@ -41,13 +45,13 @@ abbrev pub no_choices : List ℕ → Option Refusal
 no_choices choices = refuse_if (length choices == 0) EmptyList
 
 -- what can be said against entering a student, in the order of the refusals' codes; under one code
--- the choices come before the siblings
-abbrev pub objections_to_enter : Market → ℕ → List ℕ → List ℕ → List (Option Refusal)
-objections_to_enter m i siblings choices =
+-- the choices come before the siblings, and these before the school at which the student continues
+abbrev pub objections_to_enter : Market → ℕ → List ℕ → List ℕ → Option ℕ → List (Option Refusal)
+objections_to_enter m i siblings choices continuing =
     refuse_if (is_student m i) StudentExists
     ∷ no_choices choices
     ∷ too_long choices ∷ too_long siblings
-    ∷ unknown_in m choices ∷ unknown_in m siblings
+    ∷ unknown_in m choices ∷ unknown_in m siblings ∷ unknown_school m continuing
     ∷ twice_in choices ∷ twice_in siblings
     ∷ refuse_if (nat_le MOST_STUDENTS (length m.students)) RosterFull
     ∷ []
@@ -85,19 +89,23 @@ objections_to_close m s count =
     ∷ refuse_if (nat_lt (seats_of m s) count) TooFewSeats
     ∷ []
 
--- what can be said against other siblings, in the order of the refusals' codes; no zone is refused
-abbrev pub objections_to_correct : Market → ℕ → List ℕ → List (Option Refusal)
-objections_to_correct m i siblings =
-    unknown_student m i ∷ objections_to_list m siblings
+-- what can be said against other circumstances, in the order of the refusals' codes; no zone is refused
+abbrev pub objections_to_correct : Market → ℕ → List ℕ → Option ℕ → List (Option Refusal)
+objections_to_correct m i siblings continuing =
+    unknown_student m i
+    ∷ too_long siblings
+    ∷ unknown_in m siblings ∷ unknown_school m continuing
+    ∷ twice_in siblings
+    ∷ []
 
 -- what can be said against an amendment
 abbrev pub objections : Market → Amendment → List (Option Refusal)
-objections m (Enter i zone siblings choices) = objections_to_enter m i siblings choices
+objections m (Enter i zone siblings choices continuing) = objections_to_enter m i siblings choices continuing
 objections m (Withdraw i) = objections_to_withdraw m i
 objections m (Rerank i choices) = objections_to_rerank m i choices
 objections m (Add s count) = objections_to_add m s count
 objections m (Close s count) = objections_to_close m s count
-objections m (Correct i zone siblings) = objections_to_correct m i siblings
+objections m (Correct i zone siblings continuing) = objections_to_correct m i siblings continuing
 
 -- the first objection of the list that applies
 abbrev pub first_of : {R : Type 0} → List (Option R) → Option R
@@ -131,9 +139,11 @@ changed_school m s change =
 abbrev pub with_choices : Market → ℕ → List ℕ → Market
 with_choices m i choices = changed_student m i (λ student. record student { choices = choices })
 
--- the papers with this zone and these siblings for the student
-abbrev pub with_zone_and_siblings : Market → ℕ → ℕ → List ℕ → Market
-with_zone_and_siblings m i zone siblings = changed_student m i (λ student. record student { zone = zone; siblings = siblings })
+-- the papers with these circumstances of the student: the zone, the siblings, and the school at which
+-- the student continues
+abbrev pub with_circumstances : Market → ℕ → ℕ → List ℕ → Option ℕ → Market
+with_circumstances m i zone siblings continuing =
+    changed_student m i (λ student. record student { zone = zone; siblings = siblings; continuing = continuing })
 
 -- the papers with so many seats for the school
 abbrev pub with_seats : Market → ℕ → ℕ → Market
@@ -141,13 +151,13 @@ with_seats m s seats = changed_school m s (λ school. record school { seats = se
 
 -- the papers after an amendment that is not refused
 abbrev pub after : Market → Amendment → Market
-after m (Enter i zone siblings choices) =
-    with_student m i (record { zone = zone; siblings = siblings; choices = choices })
+after m (Enter i zone siblings choices continuing) =
+    with_student m i (record { zone = zone; siblings = siblings; choices = choices; continuing = continuing })
 after m (Withdraw i) = without_student m i
 after m (Rerank i choices) = with_choices m i choices
 after m (Add s count) = with_seats m s (seats_of m s + count)
 after m (Close s count) = with_seats m s (seats_of m s - count)
-after m (Correct i zone siblings) = with_zone_and_siblings m i zone siblings
+after m (Correct i zone siblings continuing) = with_circumstances m i zone siblings continuing
 
 -- what can be said against adding a school, in the order of the tests
 abbrev pub school_verdict : Market → ℕ → Option SchoolRefusal

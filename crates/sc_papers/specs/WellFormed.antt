@@ -1,18 +1,20 @@
 -- Papers that are well-formed, and the limits of their size.
-use Rattle.std.specs.Prelude.{◌≤◌, ◌<◌, nat_eq, length, All}
+use Rattle.std.specs.Prelude.{◌≡◌, ◌≤◌, ◌<◌, nat_eq, true, length, All, IfSome}
 use Rattle.std.specs.List.{IsDistinct, AllPass}
 use Rattle.sc_papers.specs.Market.{Market, schools_of, students_of, is_school}
 use Rattle.sc_papers.specs.declared.limits.TheConstants.{LONGEST_LIST, MOST_SCHOOLS, MOST_STUDENTS}
 use Rattle.sc_papers.specs.declared.records.Student.{Student}
 use Rattle.sc_papers.specs.declared.seats.TheConstants.Seats.{GREATEST}
 
--- a student's lists name schools of the papers, each once, and the choices are some
+-- a student's lists name schools of the papers, each once, and the choices are some; the school at which
+-- the student continues, if there is one, is in the papers
 pub record IsProper (m : Market) (student : Student) : Type 0 where
   pub choices_some : 0 < length student.choices
   pub choices_known : AllPass (is_school m) student.choices
   pub choices_differ : IsDistinct nat_eq student.choices
   pub siblings_known : AllPass (is_school m) student.siblings
   pub siblings_differ : IsDistinct nat_eq student.siblings
+  pub continuing_known : IfSome student.continuing (λ s. is_school m s ≡ true)
 
 -- no two schools and no two students have one number, and every student's lists are proper
 pub record WellFormed (m : Market) : Type 0 where

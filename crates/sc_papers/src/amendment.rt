@@ -14,19 +14,21 @@ use std::fmt;
 /// A change to the papers. One amendment is the atomic step of the whole system.
 #[derive(Debug, Drop)]
 pub enum Amendment {
-    /// The student is put last in the order of entry.
+    /// The student is put last in the order of entry. The school at which the student continues, if there
+    /// is one, need not be among the choices.
     Enter {
         student: StudentNumber,
         zone: Zone,
         siblings: SchoolList,
         choices: SchoolList,
+        continuing: Option<SchoolNo>,
     },
     /// The student is removed. The others keep their order.
     Withdraw {
         student: StudentNumber,
     },
-    /// The student's choices are replaced. The place in the order of entry stays, and so do the zone
-    /// and the siblings.
+    /// The student's choices are replaced. The place in the order of entry stays, and so do the zone,
+    /// the siblings and the school at which the student continues.
     Rerank {
         student: StudentNumber,
         choices: SchoolList,
@@ -41,12 +43,13 @@ pub enum Amendment {
         school: SchoolNo,
         count: Count,
     },
-    /// The student's zone and siblings are replaced. The place in the order of entry stays, and so do
-    /// the choices.
+    /// The student's zone, siblings and the school at which the student continues are replaced. The
+    /// place in the order of entry stays, and so do the choices.
     Correct {
         student: StudentNumber,
         zone: Zone,
         siblings: SchoolList,
+        continuing: Option<SchoolNo>,
     },
 }
 
@@ -64,7 +67,8 @@ pub enum Refusal {
     EmptyList,
     /// More than 20 choices, or more than 20 siblings.
     ListTooLong,
-    /// A named school is not in the papers: the first such school of its list.
+    /// A named school is not in the papers: the first such school of its list, or the one at which the
+    /// student continues.
     UnknownSchool { school: SchoolNo },
     /// A list names a school twice: the first school of the list that equals an earlier one.
     SchoolTwice { school: SchoolNo },

@@ -26,11 +26,13 @@ impl Papers {
                 zone,
                 siblings,
                 choices,
+                continuing,
             } => {
                 let record = Student {
                     zone,
                     siblings,
                     choices,
+                    continuing,
                 };
                 self.enter(student, record)?;
             }
@@ -42,7 +44,8 @@ impl Papers {
                 student,
                 zone,
                 siblings,
-            } => self.correct(student, zone, siblings),
+                continuing,
+            } => self.correct(student, zone, siblings, continuing),
         }
         Ok(())
     }

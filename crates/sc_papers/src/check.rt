@@ -2,7 +2,7 @@
 
 ghost use Rattle.std.specs.Prelude.{◌≡◌, [], not, find};
 ghost use Rattle.sc_papers.specs.Market.{is_school, seats_of};
-ghost use Rattle.sc_papers.specs.Verdict.{first_of, first_repeat, no_choices, objections_to_add, objections_to_close, objections_to_correct, objections_to_enter, objections_to_list, objections_to_rerank, objections_to_withdraw, too_long, twice_in, unknown_in, unknown_student, unless_refused, verdict};
+ghost use Rattle.sc_papers.specs.Verdict.{first_of, first_repeat, no_choices, objections_to_add, objections_to_close, objections_to_correct, objections_to_enter, objections_to_list, objections_to_rerank, objections_to_withdraw, too_long, twice_in, unknown_in, unknown_school, unknown_student, unless_refused, verdict};
 
 use crate::amendment::{Amendment, Refusal};
 use crate::count::Count;
@@ -60,6 +60,16 @@ fn check_known(papers: &Papers, list: &[SchoolNo]) -> Result<(), Refusal>
     }
 }
 
+/// The test of a school that comes alone, if there is one.
+fn check_school(papers: &Papers, school: Option<SchoolNo>) -> Result<(), Refusal>
+    ensures { result ≡ unless_refused (unknown_school papers.now school) }
+{
+    match school {
+        Some(school) if papers.school(school).is_none() => Err(Refusal::UnknownSchool { school }),
+        _ => Ok(()),
+    }
+}
+
 fn check_once(list: &[SchoolNo]) -> Result<(), Refusal>
     ensures { result ≡ unless_refused (twice_in list.now) }
 {
@@ -94,8 +104,9 @@ fn check_enter(
     student: StudentNumber,
     siblings: &[SchoolNo],
     choices: &[SchoolNo],
+    continuing: Option<SchoolNo>,
 ) -> Result<(), Refusal>
-    ensures { result ≡ unless_refused (first_of (objections_to_enter papers.now student siblings.now choices.now)) }
+    ensures { result ≡ unless_refused (first_of (objections_to_enter papers.now student siblings.now choices.now continuing)) }
 {
     if papers.student(student).is_some() {
         return Err(Refusal::StudentExists);
@@ -105,6 +116,7 @@ fn check_enter(
     check_length(siblings)?;
     check_known(papers, choices)?;
     check_known(papers, siblings)?;
+    check_school(papers, continuing)?;
     check_once(choices)?;
     check_once(siblings)?;
     if papers.students_len() >= MOST_STUDENTS {
@@ -168,11 +180,15 @@ fn check_correct(
     papers: &Papers,
     student: StudentNumber,
     siblings: &[SchoolNo],
+    continuing: Option<SchoolNo>,
 ) -> Result<(), Refusal>
-    ensures { result ≡ unless_refused (first_of (objections_to_correct papers.now student siblings.now)) }
+    ensures { result ≡ unless_refused (first_of (objections_to_correct papers.now student siblings.now continuing)) }
 {
     check_student(papers, student)?;
-    check_list(papers, siblings)?;
+    check_length(siblings)?;
+    check_known(papers, siblings)?;
+    check_school(papers, continuing)?;
+    check_once(siblings)?;
     Ok(())
 }
 
@@ -188,8 +204,15 @@ impl Papers {
                 student,
                 siblings,
                 choices,
+                continuing,
                 ..
-            } => check_enter(self, *student, siblings.as_slice(), choices.as_slice()),
+            } => check_enter(
+                self,
+                *student,
+                siblings.as_slice(),
+                choices.as_slice(),
+                *continuing,
+            ),
             Amendment::Withdraw { student } => check_withdraw(self, *student),
             Amendment::Rerank { student, choices } => {
                 check_rerank(self, *student, choices.as_slice())
@@ -199,8 +222,9 @@ impl Papers {
             Amendment::Correct {
                 student,
                 siblings,
+                continuing,
                 ..
-            } => check_correct(self, *student, siblings.as_slice()),
+            } => check_correct(self, *student, siblings.as_slice(), *continuing),
         }
     }
 }

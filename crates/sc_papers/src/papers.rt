@@ -56,16 +56,18 @@ fn has_sibling_at(row: &StudentRow, student: &Student, school: SchoolNo) -> bool
     row.has_siblings() && student.siblings.as_slice().contains(&school)
 }
 
-/// The priority class at a school of a student who has a sibling there or not, and lives in this zone.
-fn class_of(sibling: bool, zone: Zone, school: School) -> u8
-    ensures { result ≡ class_by sibling (same_zone zone school.zone) }
+/// The priority class at a school of a student who continues there or not, has a sibling there or not, and
+/// lives in this zone.
+fn class_of(continuing: bool, sibling: bool, zone: Zone, school: School) -> u8
+    ensures { result ≡ class_by continuing sibling (same_zone zone school.zone) }
 {
     let zone = zone == school.zone && zone.get() != 0;
-    match (sibling, zone) {
-        (true, true) => 0,
-        (true, false) => 1,
-        (false, true) => 2,
-        (false, false) => 3,
+    match (continuing, sibling, zone) {
+        (true, _, _) => 0,
+        (false, true, true) => 1,
+        (false, true, false) => 2,
+        (false, false, true) => 3,
+        (false, false, false) => 4,
     }
 }
 
@@ -97,7 +99,7 @@ impl Papers {
     ghost use Rattle.sc_papers.specs.Market.{Market, choices_of, school_of, student_at, student_of, schools_of, students_of, seats_of, is_school, is_student};
     ghost use Rattle.sc_papers.specs.Key.{key_at, key_of};
     ghost use Rattle.sc_papers.specs.WellFormed.{WellFormed, WithinLimits};
-    ghost use Rattle.sc_papers.specs.Verdict.{first_of, objections_to_add, objections_to_close, objections_to_correct, objections_to_enter, objections_to_rerank, objections_to_withdraw, with_choices, with_zone_and_siblings, with_seats, with_student, without_student, school_verdict, with_school, IsSchoolRefusal};
+    ghost use Rattle.sc_papers.specs.Verdict.{first_of, objections_to_add, objections_to_close, objections_to_correct, objections_to_enter, objections_to_rerank, objections_to_withdraw, with_choices, with_circumstances, with_seats, with_student, without_student, school_verdict, with_school, IsSchoolRefusal};
 
     /// Papers with this seed, no schools and no students. It takes no memory.
     pub fn new(alloc: Global, seed: Seed) -> Self
@@ -293,7 +295,9 @@ impl Papers {
         let (number, record) = self.students.get_index(student)?;
         let (name, entry) = self.schools.get_index(school)?;
         let row = &self.rows[student];
-        let class = class_of(has_sibling_at(row, record, *name), row.zone(), *entry);
+        let continuing = row.continuing() == Some(*name);
+        let sibling = has_sibling_at(row, record, *name);
+        let class = class_of(continuing, sibling, row.zone(), *entry);
         Some(Key {
             class,
             draw: row.draw(),
@@ -308,7 +312,7 @@ impl Papers {
         number: StudentNumber,
         student: Student,
     ) -> Result<(), AllocError>
-        requires { first_of (objections_to_enter self.old number student.siblings student.choices) ≡ None }
+        requires { first_of (objections_to_enter self.old number student.siblings student.choices student.continuing) ≡ None }
         ensures entered { OnOk result (self.new ≡ with_student self.old number student) }
         ensures unchanged { OnErr result (self.new ≡ self.old) }
     {
@@ -344,10 +348,16 @@ impl Papers {
         }
     }
 
-    /// Replaces a student's zone and siblings.
-    pub(crate) fn correct(&mut self, number: StudentNumber, zone: Zone, siblings: SchoolList)
-        requires { first_of (objections_to_correct self.old number siblings) ≡ None }
-        ensures { self.new ≡ with_zone_and_siblings self.old number zone siblings }
+    /// Replaces a student's zone, siblings and the school at which the student continues.
+    pub(crate) fn correct(
+        &mut self,
+        number: StudentNumber,
+        zone: Zone,
+        siblings: SchoolList,
+        continuing: Option<SchoolNo>,
+    )
+        requires { first_of (objections_to_correct self.old number siblings continuing) ≡ None }
+        ensures { self.new ≡ with_circumstances self.old number zone siblings continuing }
     {
         let Some(position) = self.students.get_index_of(&number) else {
             return;
@@ -356,6 +366,7 @@ impl Papers {
         if let Some(student) = self.students.get_mut(&number) {
             student.zone = zone;
             student.siblings = siblings;
+            student.continuing = continuing;
             self.rows[position] = StudentRow::new(draw, &self.positions, student);
         }
     }

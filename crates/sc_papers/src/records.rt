@@ -1,6 +1,7 @@
 ghost use Rattle.std.specs.Prelude.{◌≡◌, IfOk};
 
 use crate::school_list::SchoolList;
+use crate::school_no::SchoolNo;
 use crate::seats::Seats;
 use crate::zone::Zone;
 use std::alloc::{AllocError, Global};
@@ -12,13 +13,15 @@ pub struct School {
     pub seats: Seats,
 }
 
-/// What the papers hold of a student: where the student lives, the schools of siblings, and the
-/// rank-order list, best first.
+/// What the papers hold of a student: where the student lives, the schools of siblings, the rank-order
+/// list, best first, and the school at which the student continues, if there is one. It need not be among
+/// the choices.
 #[derive(Debug, Drop)]
 pub struct Student {
     pub zone: Zone,
     pub siblings: SchoolList,
     pub choices: SchoolList,
+    pub continuing: Option<SchoolNo>,
 }
 
 impl Student {
@@ -30,6 +33,7 @@ impl Student {
             zone: self.zone,
             siblings: self.siblings.copy(alloc)?,
             choices: self.choices.copy(alloc)?,
+            continuing: self.continuing,
         })
     }
 }
@@ -42,6 +46,7 @@ impl Clone for Student {
             zone: self.zone,
             siblings: self.siblings.clone()?,
             choices: self.choices.clone()?,
+            continuing: self.continuing,
         })
     }
 }

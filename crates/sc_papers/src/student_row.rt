@@ -15,6 +15,7 @@ pub(crate) struct StudentRow {
     draw: u64,
     zone: Zone,
     siblings: bool,
+    continuing: Option<SchoolNo>,
     // How many choices there are.
     count: u8,
     positions: [u16; 20],
@@ -54,6 +55,7 @@ impl StudentRow {
             draw,
             zone: student.zone,
             siblings: !student.siblings.as_slice().is_empty(),
+            continuing: student.continuing,
             count: choices.len() as u8,
             positions: fill_positions(table, choices),
         }
@@ -78,6 +80,13 @@ impl StudentRow {
         self.siblings
     }
 
+    /// The school at which the student continues, if there is one.
+    pub(crate) fn continuing(&self) -> Option<SchoolNo>
+        ensures { result ≡ self.now.continuing }
+    {
+        self.continuing
+    }
+
     /// The positions of the choices' schools, best first.
     pub(crate) fn choices(&self) -> &[u16]
         ensures { result.now ≡ self.now.choices }
@@ -94,6 +103,7 @@ impl Clone for StudentRow {
             draw: self.draw,
             zone: self.zone,
             siblings: self.siblings,
+            continuing: self.continuing,
             count: self.count,
             positions: self.positions,
         })

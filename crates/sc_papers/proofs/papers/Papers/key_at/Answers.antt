@@ -1,6 +1,5 @@
-use Rattle.std.proofs.Common.{sym, ◌∙◌, ap, ℕ}
-use Rattle.std.specs.Prelude.{◌==◌, Bool}
-use Rattle.std.specs.List.{list_any}
+use Rattle.std.proofs.Common.{sym, ◌∙◌, ap, ℕ, nat_eq, Option, Some}
+use Rattle.std.specs.Option.{option_eq}
 use Rattle.sc_papers.specs.Representation.{market_of}
 use Rattle.sc_papers.specs.StudentRow.{Row}
 use Rattle.sc_papers.specs.Key.{class_by, key_at, same_zone}
@@ -15,17 +14,19 @@ returns c =
     let record_there = c.in_ok-number.record.now in
     let row = row-there c.self.inside.lottery c.self.inside.positions c.self.inside.students.entries c.self.inside.rows.items c.args.student _ record_there c.index-row.result.now
     c.self.invariant.rows (sym student.entry) c.index-row.ensures in
-    let class_is =
-    c.class_of-class.ensures
-    ∙ ap (λ (sibling : Bool). class_by sibling (same_zone c.zone.result c.in_ok-name.entry.now.zone)) c.has_sibling_at.ensures
-    ∙ ap (λ (zone : ℕ). class_by (list_any (λ t. t == c.in_ok-name.name.now) record_there.siblings) (same_zone zone c.in_ok-name.entry.now.zone)) (c.zone.ensures ∙ ap (λ (r : Row). r.zone) row) in
+    let name = c.in_ok-name.name.now in
+    let zone = c.in_ok-name.entry.now.zone in
+    let continues = c.eq-continuing.ensures ∙ ap (λ (s : Option ℕ). option_eq nat_eq s (Some name)) (c.continuing.ensures ∙ ap (λ (r : Row). r.continuing) row) in
+    let sibling = c.has_sibling_at-sibling.ensures in
+    let lives = c.zone.ensures ∙ ap (λ (r : Row). r.zone) row in
+    let class_is = c.class_of-class.ensures ∙ (λ t. class_by (continues t) (sibling t) (same_zone (lives t) zone)) in
     let drawn = c.draw.ensures ∙ ap (λ (r : Row). r.draw) row in
     key-of_places (market_of c.self.inside) c.args.student c.args.school _ _ _ _ record_there c.in_ok-name.entry.now
     (sym student.entry) (sym school.entry) student.value school.value class_is drawn
     ∙ ap (λ (m : Market). key_at m c.args.student c.args.school) c.self.view_is
 
-pub has_sibling_at-requires : goal.has_sibling_at-requires
-has_sibling_at-requires c =
+pub has_sibling_at-sibling-requires : goal.has_sibling_at-sibling-requires
+has_sibling_at-sibling-requires c =
     let student = c.in_ok-number.ensures in
     ap (λ (r : Row). r.siblings) (row-there c.self.inside.lottery c.self.inside.positions c.self.inside.students.entries c.self.inside.rows.items c.args.student _ c.in_ok-number.record.now c.index-row.result.now
     c.self.invariant.rows (sym student.entry) c.index-row.ensures)
