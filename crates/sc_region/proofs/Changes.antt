@@ -111,11 +111,11 @@ withdraw-known m i allowed = not-false (is_student m i) (refuse_if-none (not (is
 rerank-known : (m : Market) (i : ℕ) (choices : List ℕ) → verdict m (Rerank i choices) ≡ None → is_student m i ≡ true
 rerank-known m i choices allowed = not-false (is_student m i) (refuse_if-none (not (is_student m i)) UnknownStudent (first_of-none (objections_to_rerank m i choices) allowed).0)
 
-correct-known : (m : Market) (i zone : ℕ) (siblings : List ℕ) → verdict m (Correct i zone siblings) ≡ None → is_student m i ≡ true
-correct-known m i zone siblings allowed = not-false (is_student m i) (refuse_if-none (not (is_student m i)) UnknownStudent (first_of-none (objections_to_correct m i siblings) allowed).0)
+correct-known : (m : Market) (i zone : ℕ) (siblings : List ℕ) (continuing : Option ℕ) → verdict m (Correct i zone siblings continuing) ≡ None → is_student m i ≡ true
+correct-known m i zone siblings continuing allowed = not-false (is_student m i) (refuse_if-none (not (is_student m i)) UnknownStudent (first_of-none (objections_to_correct m i siblings continuing) allowed).0)
 
-enter-may : (m : Market) (i zone : ℕ) (siblings choices : List ℕ) → verdict m (Enter i zone siblings choices) ≡ None → MayEnter m i (record { zone = zone; siblings = siblings; choices = choices })
-enter-may m i zone siblings choices allowed = MayEnter-allowed m i (record { zone = zone; siblings = siblings; choices = choices }) allowed
+enter-may : (m : Market) (i zone : ℕ) (siblings choices : List ℕ) (continuing : Option ℕ) → verdict m (Enter i zone siblings choices continuing) ≡ None → MayEnter m i (record { zone = zone; siblings = siblings; choices = choices; continuing = continuing })
+enter-may m i zone siblings choices continuing allowed = MayEnter-allowed m i (record { zone = zone; siblings = siblings; choices = choices; continuing = continuing }) allowed
 
 -- a change of a school changes no list
 school-keeps : (m : Market) (t : ℕ) (change : School → School) (i : ℕ) → choices_of (changed_school m t change) i ≡ choices_of m i
@@ -129,8 +129,8 @@ school-keeps m t change i = by_case (school_of m t) refl
 -- what a student lists after the amendment is an old choice, or a new one of the amended student
 pub old-or_new : (m : Market) (a : Amendment) → WellFormed m → verdict m a ≡ None → (i s : ℕ) → Contains (choices_of (after m a) i) s
     → Contains (choices_of m i) s ⊎ ((amended_student a ≡ Some i) × Contains (new_choices a) s)
-old-or_new m (Enter j zone siblings choices) well allowed i s listed =
-    let new : Student = record { zone = zone; siblings = siblings; choices = choices } in
+old-or_new m (Enter j zone siblings choices continuing) well allowed i s listed =
+    let new : Student = record { zone = zone; siblings = siblings; choices = choices; continuing = continuing } in
     let (student, found, among) = listed-found (with_student m j new) i s listed in
     elim (push-found m.students j new i student found) [
       | inl before ↦ inl (found-listed m i s student before among)
@@ -149,9 +149,9 @@ old-or_new m (Rerank j choices) well allowed i s listed =
     ]
 old-or_new m (Add t count) well allowed i s listed = inl (subst (λ list. Contains list s) (school-keeps m t _ i) listed)
 old-or_new m (Close t count) well allowed i s listed = inl (subst (λ list. Contains list s) (school-keeps m t _ i) listed)
-old-or_new m (Correct j zone siblings) well allowed i s listed =
-    let change : Student → Student = λ student. record student { zone = zone; siblings = siblings } in
-    let (old, held) = is-held m j (correct-known m j zone siblings allowed) in
+old-or_new m (Correct j zone siblings continuing) well allowed i s listed =
+    let change : Student → Student = λ student. record student { zone = zone; siblings = siblings; continuing = continuing } in
+    let (old, held) = is-held m j (correct-known m j zone siblings continuing allowed) in
     let (student, found, among) = listed-found (changed_student m j change) i s listed in
     elim (changed-found m j change old held i student found) [
       | inl before ↦ inl (found-listed m i s student before among)
@@ -160,11 +160,11 @@ old-or_new m (Correct j zone siblings) well allowed i s listed =
 
 -- the amended student lists the new choices
 pub new-listed : (m : Market) (a : Amendment) → verdict m a ≡ None → (i s : ℕ) → amended_student a ≡ Some i → Contains (new_choices a) s → Contains (choices_of (after m a) i) s
-new-listed m (Enter j zone siblings choices) allowed i s is among =
-    let new : Student = record { zone = zone; siblings = siblings; choices = choices } in
+new-listed m (Enter j zone siblings choices continuing) allowed i s is among =
+    let new : Student = record { zone = zone; siblings = siblings; choices = choices; continuing = continuing } in
     let same : j ≡ i = cc in
     subst (λ k. Contains (choices_of (with_student m j new) k) s) same
-    (found-listed (with_student m j new) j s new (push-own m.students j new (enter-may m j zone siblings choices allowed).new) among)
+    (found-listed (with_student m j new) j s new (push-own m.students j new (enter-may m j zone siblings choices continuing allowed).new) among)
 new-listed m (Withdraw j) allowed i s is (k, low, at) = absurd (omega (arith, low))
 new-listed m (Rerank j choices) allowed i s is among =
     let change : Student → Student = λ student. record student { choices = choices } in
@@ -174,31 +174,31 @@ new-listed m (Rerank j choices) allowed i s is among =
     (found-listed (changed_student m j change) j s (change old) (changed-own m j change old held) among)
 new-listed m (Add t count) allowed i s is (k, low, at) = absurd (omega (arith, low))
 new-listed m (Close t count) allowed i s is (k, low, at) = absurd (omega (arith, low))
-new-listed m (Correct j zone siblings) allowed i s is (k, low, at) = absurd (omega (arith, low))
+new-listed m (Correct j zone siblings continuing) allowed i s is (k, low, at) = absurd (omega (arith, low))
 
 -- the new choices are schools of the papers
 pub new-known : (m : Market) (a : Amendment) → verdict m a ≡ None → (s : ℕ) → Contains (new_choices a) s → is_school m s ≡ true
-new-known m (Enter j zone siblings choices) allowed s among =
-    All-contains (λ t. is_school m t ≡ true) choices s (enter-may m j zone siblings choices allowed).lists.choices_known among
+new-known m (Enter j zone siblings choices continuing) allowed s among =
+    All-contains (λ t. is_school m t ≡ true) choices s (enter-may m j zone siblings choices continuing allowed).lists.choices_known among
 new-known m (Withdraw j) allowed s (k, low, at) = absurd (omega (arith, low))
 new-known m (Rerank j choices) allowed s among =
     All-contains (λ t. is_school m t ≡ true) choices s (unknown_in-none m choices (first_of-none (objections_to_rerank m j choices) allowed).1.1.1.0) among
 new-known m (Add t count) allowed s (k, low, at) = absurd (omega (arith, low))
 new-known m (Close t count) allowed s (k, low, at) = absurd (omega (arith, low))
-new-known m (Correct j zone siblings) allowed s (k, low, at) = absurd (omega (arith, low))
+new-known m (Correct j zone siblings continuing) allowed s (k, low, at) = absurd (omega (arith, low))
 
 -- the amended student is one of the papers or enters
 pub amended-known : (m : Market) (a : Amendment) → verdict m a ≡ None → (i : ℕ) → amended_student a ≡ Some i → (is_student m i ≡ true) ⊎ Contains (entrants a) i
-amended-known m (Enter j zone siblings choices) allowed i is = let same : j ≡ i = cc in inr (0, omega arith, same)
+amended-known m (Enter j zone siblings choices continuing) allowed i is = let same : j ≡ i = cc in inr (0, omega arith, same)
 amended-known m (Withdraw j) allowed i is = let same : j ≡ i = cc in inl (subst (λ k. is_student m k ≡ true) same (withdraw-known m j allowed))
 amended-known m (Rerank j choices) allowed i is = let same : j ≡ i = cc in inl (subst (λ k. is_student m k ≡ true) same (rerank-known m j choices allowed))
 amended-known m (Add t count) allowed i is = absurd (none-some i is)
 amended-known m (Close t count) allowed i is = absurd (none-some i is)
-amended-known m (Correct j zone siblings) allowed i is = let same : j ≡ i = cc in inl (subst (λ k. is_student m k ≡ true) same (correct-known m j zone siblings allowed))
+amended-known m (Correct j zone siblings continuing) allowed i is = let same : j ≡ i = cc in inl (subst (λ k. is_student m k ≡ true) same (correct-known m j zone siblings continuing allowed))
 
 -- who enters is amended, and is new
 pub entrant-amended : (m : Market) (a : Amendment) (i : ℕ) → Contains (entrants a) i → amended_student a ≡ Some i
-entrant-amended m (Enter j zone siblings choices) i among = elim (contains-cons j [] i among) [
+entrant-amended m (Enter j zone siblings choices continuing) i among = elim (contains-cons j [] i among) [
   | inl same ↦ ap Some same
   | inr (k, low, at) ↦ absurd (omega (arith, low))
 ]
@@ -206,12 +206,12 @@ entrant-amended m (Withdraw j) i (k, low, at) = absurd (omega (arith, low))
 entrant-amended m (Rerank j choices) i (k, low, at) = absurd (omega (arith, low))
 entrant-amended m (Add t count) i (k, low, at) = absurd (omega (arith, low))
 entrant-amended m (Close t count) i (k, low, at) = absurd (omega (arith, low))
-entrant-amended m (Correct j zone siblings) i (k, low, at) = absurd (omega (arith, low))
+entrant-amended m (Correct j zone siblings continuing) i (k, low, at) = absurd (omega (arith, low))
 
 -- the amended student lists the school to begin with, before or after, and it is the amended school
 pub start-listed : (m : Market) (a : Amendment) → WellFormed m → verdict m a ≡ None → (i : ℕ) → amended_student a ≡ Some i → Lists m a i (start_of m a)
-start-listed m (Enter j zone siblings choices) well allowed i is =
-    inr (new-listed m (Enter j zone siblings choices) allowed i (slice_index choices 0) is (Contains-get_or choices 0 0 (enter-may m j zone siblings choices allowed).lists.choices_some))
+start-listed m (Enter j zone siblings choices continuing) well allowed i is =
+    inr (new-listed m (Enter j zone siblings choices continuing) allowed i (slice_index choices 0) is (Contains-get_or choices 0 0 (enter-may m j zone siblings choices continuing allowed).lists.choices_some))
 start-listed m (Withdraw j) well allowed i is =
     let same : j ≡ i = cc in
     subst (λ k. Lists m (Withdraw j) k (first_choice m j)) same (inl (first-listed m well j (withdraw-known m j allowed)))
@@ -220,57 +220,57 @@ start-listed m (Rerank j choices) well allowed i is =
     subst (λ k. Lists m (Rerank j choices) k (first_choice m j)) same (inl (first-listed m well j (rerank-known m j choices allowed)))
 start-listed m (Add t count) well allowed i is = absurd (none-some i is)
 start-listed m (Close t count) well allowed i is = absurd (none-some i is)
-start-listed m (Correct j zone siblings) well allowed i is =
+start-listed m (Correct j zone siblings continuing) well allowed i is =
     let same : j ≡ i = cc in
-    subst (λ k. Lists m (Correct j zone siblings) k (first_choice m j)) same (inl (first-listed m well j (correct-known m j zone siblings allowed)))
+    subst (λ k. Lists m (Correct j zone siblings continuing) k (first_choice m j)) same (inl (first-listed m well j (correct-known m j zone siblings continuing allowed)))
 
 pub start-amended : (m : Market) (a : Amendment) (s : ℕ) → amended_school a ≡ Some s → start_of m a ≡ s
-start-amended m (Enter j zone siblings choices) s is = absurd (none-some s is)
+start-amended m (Enter j zone siblings choices continuing) s is = absurd (none-some s is)
 start-amended m (Withdraw j) s is = absurd (none-some s is)
 start-amended m (Rerank j choices) s is = absurd (none-some s is)
 start-amended m (Add t count) s is = cc
 start-amended m (Close t count) s is = cc
-start-amended m (Correct j zone siblings) s is = absurd (none-some s is)
+start-amended m (Correct j zone siblings continuing) s is = absurd (none-some s is)
 
 -- where the amended student has old choices, it is the first of them
 pub start-first : (m : Market) (a : Amendment) → verdict m a ≡ None → (i s : ℕ) → amended_student a ≡ Some i → Contains (choices_of m i) s → start_of m a ≡ first_choice m i
-start-first m (Enter j zone siblings choices) allowed i s is listed =
+start-first m (Enter j zone siblings choices continuing) allowed i s is listed =
     let same : j ≡ i = cc in
     let (student, found, among) = listed-found m i s listed in
-    absurd (none-some student (sym (enter-may m j zone siblings choices allowed).new ∙ ap (student_of m) same ∙ found))
+    absurd (none-some student (sym (enter-may m j zone siblings choices continuing allowed).new ∙ ap (student_of m) same ∙ found))
 start-first m (Withdraw j) allowed i s is listed = let same : j ≡ i = cc in ap (first_choice m) same
 start-first m (Rerank j choices) allowed i s is listed = let same : j ≡ i = cc in ap (first_choice m) same
 start-first m (Add t count) allowed i s is listed = absurd (none-some i is)
 start-first m (Close t count) allowed i s is listed = absurd (none-some i is)
-start-first m (Correct j zone siblings) allowed i s is listed = let same : j ≡ i = cc in ap (first_choice m) same
+start-first m (Correct j zone siblings continuing) allowed i s is listed = let same : j ≡ i = cc in ap (first_choice m) same
 
 -- and it is a school of the papers
 pub start-known : (m : Market) (a : Amendment) → WellFormed m → verdict m a ≡ None → is_school m (start_of m a) ≡ true
-start-known m (Enter j zone siblings choices) well allowed =
-    new-known m (Enter j zone siblings choices) allowed (slice_index choices 0) (Contains-get_or choices 0 0 (enter-may m j zone siblings choices allowed).lists.choices_some)
+start-known m (Enter j zone siblings choices continuing) well allowed =
+    new-known m (Enter j zone siblings choices continuing) allowed (slice_index choices 0) (Contains-get_or choices 0 0 (enter-may m j zone siblings choices continuing allowed).lists.choices_some)
 start-known m (Withdraw j) well allowed = choice-known m well j (first_choice m j) (first-listed m well j (withdraw-known m j allowed))
 start-known m (Rerank j choices) well allowed = choice-known m well j (first_choice m j) (first-listed m well j (rerank-known m j choices allowed))
 start-known m (Add t count) well allowed = All-head (λ s. is_school m s ≡ true) t [] (unknown_in-none m (t ∷ []) (first_of-none (objections_to_add m t count) allowed).0)
 start-known m (Close t count) well allowed = All-head (λ s. is_school m s ≡ true) t [] (unknown_in-none m (t ∷ []) (first_of-none (objections_to_close m t count) allowed).0)
-start-known m (Correct j zone siblings) well allowed = choice-known m well j (first_choice m j) (first-listed m well j (correct-known m j zone siblings allowed))
+start-known m (Correct j zone siblings continuing) well allowed = choice-known m well j (first_choice m j) (first-listed m well j (correct-known m j zone siblings continuing allowed))
 
 -- new choices come with an amended student
 pub new-amended : (a : Amendment) (s : ℕ) → Contains (new_choices a) s → (i : ℕ) × (amended_student a ≡ Some i)
-new-amended (Enter j zone siblings choices) s among = (j, refl)
+new-amended (Enter j zone siblings choices continuing) s among = (j, refl)
 new-amended (Withdraw j) s among = (j, refl)
 new-amended (Rerank j choices) s among = (j, refl)
 new-amended (Add t count) s (k, low, at) = absurd (omega (arith, low))
 new-amended (Close t count) s (k, low, at) = absurd (omega (arith, low))
-new-amended (Correct j zone siblings) s among = (j, refl)
+new-amended (Correct j zone siblings continuing) s among = (j, refl)
 
 -- a student is amended or a school
 pub amended-some : (a : Amendment) → ((i : ℕ) × (amended_student a ≡ Some i)) ⊎ ((s : ℕ) × (amended_school a ≡ Some s))
-amended-some (Enter j zone siblings choices) = inl (j, refl)
+amended-some (Enter j zone siblings choices continuing) = inl (j, refl)
 amended-some (Withdraw j) = inl (j, refl)
 amended-some (Rerank j choices) = inl (j, refl)
 amended-some (Add t count) = inr (t, refl)
 amended-some (Close t count) = inr (t, refl)
-amended-some (Correct j zone siblings) = inl (j, refl)
+amended-some (Correct j zone siblings continuing) = inl (j, refl)
 
 absent : (i : ℕ) (xs : List ℕ) → ((j : ℕ) → Contains xs j → nat_eq i j ≡ false) → list_any (nat_eq i) xs ≡ false
 absent i [] apart = refl
@@ -279,25 +279,25 @@ absent i (x ∷ xs) apart = rw (apart x (contains-head x xs)) (absent i xs (λ j
 -- the members of a list and a student who enters differ where the list has students of the papers alone
 pub entrants-differ : (m : Market) (a : Amendment) → verdict m a ≡ None → (students : List ℕ) → ((i : ℕ) → Contains students i → is_student m i ≡ true)
     → IsDistinct nat_eq students → IsDistinct nat_eq (students ++ entrants a)
-entrants-differ m (Enter j zone siblings choices) allowed students known differ =
+entrants-differ m (Enter j zone siblings choices continuing) allowed students known differ =
     IsDistinct-push nat_eq_equiv students j differ (absent j students (λ i among. apart i (known i among)))
   where
     apart : (i : ℕ) → is_student m i ≡ true → nat_eq j i ≡ false
     apart i held = elim (cases_Bool (nat_eq j i)) [
-      | inl same ↦ absurd (false≢true (sym (ap is_some (enter-may m j zone siblings choices allowed).new) ∙ ap (is_student m) (eqb-true j i same) ∙ held))
+      | inl same ↦ absurd (false≢true (sym (ap is_some (enter-may m j zone siblings choices continuing allowed).new) ∙ ap (is_student m) (eqb-true j i same) ∙ held))
       | inr other ↦ other
     ]
 entrants-differ m (Withdraw j) allowed students known differ = rw (append-nil students) differ
 entrants-differ m (Rerank j choices) allowed students known differ = rw (append-nil students) differ
 entrants-differ m (Add t count) allowed students known differ = rw (append-nil students) differ
 entrants-differ m (Close t count) allowed students known differ = rw (append-nil students) differ
-entrants-differ m (Correct j zone siblings) allowed students known differ = rw (append-nil students) differ
+entrants-differ m (Correct j zone siblings continuing) allowed students known differ = rw (append-nil students) differ
 
 -- where nobody enters, there is no entrant
-pub entrants-none : (a : Amendment) → ((i zone : ℕ) (siblings choices : List ℕ) → a ≡ Enter i zone siblings choices → ⊥) → entrants a ≡ []
-entrants-none (Enter j zone siblings choices) other = absurd (other j zone siblings choices refl)
+pub entrants-none : (a : Amendment) → ((i zone : ℕ) (siblings choices : List ℕ) (continuing : Option ℕ) → a ≡ Enter i zone siblings choices continuing → ⊥) → entrants a ≡ []
+entrants-none (Enter j zone siblings choices continuing) other = absurd (other j zone siblings choices continuing refl)
 entrants-none (Withdraw j) other = refl
 entrants-none (Rerank j choices) other = refl
 entrants-none (Add t count) other = refl
 entrants-none (Close t count) other = refl
-entrants-none (Correct j zone siblings) other = refl
+entrants-none (Correct j zone siblings continuing) other = refl

@@ -41,30 +41,30 @@ joined_students m students = fold (joined_choices m) (range_with_len 0 (length (
 -- a school that the amendment concerns: the amended one, or a choice of the amended student, by the
 -- choices in the papers before or, where a student enters, by those that come with them
 abbrev pub start_of : Market → Amendment → ℕ
-start_of m (Enter i zone siblings choices) = slice_index choices 0
+start_of m (Enter i zone siblings choices continuing) = slice_index choices 0
 start_of m (Withdraw i) = first_choice m i
 start_of m (Rerank i choices) = first_choice m i
 start_of m (Add s count) = s
 start_of m (Close s count) = s
-start_of m (Correct i zone siblings) = first_choice m i
+start_of m (Correct i zone siblings continuing) = first_choice m i
 
 -- the choices that come with the amendment
 abbrev pub new_choices : Amendment → List ℕ
-new_choices (Enter i zone siblings choices) = choices
+new_choices (Enter i zone siblings choices continuing) = choices
 new_choices (Withdraw i) = []
 new_choices (Rerank i choices) = choices
 new_choices (Add s count) = []
 new_choices (Close s count) = []
-new_choices (Correct i zone siblings) = []
+new_choices (Correct i zone siblings continuing) = []
 
 -- the student who enters, if one does
 abbrev pub entrants : Amendment → List ℕ
-entrants (Enter i zone siblings choices) = i ∷ []
+entrants (Enter i zone siblings choices continuing) = i ∷ []
 entrants (Withdraw i) = []
 entrants (Rerank i choices) = []
 entrants (Add s count) = []
 entrants (Close s count) = []
-entrants (Correct i zone siblings) = []
+entrants (Correct i zone siblings continuing) = []
 
 -- the groups that all lists join, those before the amendment and those after it
 unfoldable pub region_groups : Market → Amendment → List ℕ

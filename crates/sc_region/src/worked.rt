@@ -28,7 +28,7 @@ fn list_of(rt: &impl Abort, alloc: Global, numbers: &[u32]) -> Result<SchoolList
     Ok(SchoolList::from_vec(schools))
 }
 
-/// A student of no zone and with no siblings enters.
+/// A student of no zone, with no siblings, who continues nowhere, enters.
 fn entry(
     rt: &impl Abort,
     alloc: Global,
@@ -40,6 +40,7 @@ fn entry(
         zone: Zone::new(0).expect(rt, "a zone"),
         siblings: list_of(rt, alloc, &[])?,
         choices: list_of(rt, alloc, choices)?,
+        continuing: None,
     })
 }
 
@@ -55,11 +56,14 @@ fn rerank(
     })
 }
 
+/// A student moves, and names schools that others list, as a sibling's and as the one to continue at: the
+/// region is about choices alone.
 fn correction(rt: &impl Abort, alloc: Global, number: u32) -> Result<Amendment, AllocError> {
     Ok(Amendment::Correct {
         student: student(rt, number),
         zone: Zone::new(1).expect(rt, "a zone"),
         siblings: list_of(rt, alloc, &[10])?,
+        continuing: Some(school(rt, 20)),
     })
 }
 
