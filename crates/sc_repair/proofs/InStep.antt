@@ -132,9 +132,9 @@ students-seated m s seats = go (school_of m s)
 
 -- so it is with every amendment
 pub keeps-step : (m : Market) (a : Amendment) (test : ℕ → Bool) → TellsRegion m a test → KeepsStep test (students_of m) (students_of (after m a)) (rewind_point m a) (length (students_of m) - length (students_of (after m a)))
-keeps-step m (Enter i zone siblings choices) test tells =
-    let student : Student = record { zone = zone; siblings = siblings; choices = choices } in
-    step-entered test (students_of m) (students_of (after m (Enter i zone siblings choices))) (length m.students) i
+keeps-step m (Enter i zone siblings choices continuing) test tells =
+    let student : Student = record { zone = zone; siblings = siblings; choices = choices; continuing = continuing } in
+    step-entered test (students_of m) (students_of (after m (Enter i zone siblings choices continuing))) (length m.students) i
     (map-append (λ (e : ℕ × Student). e.0) m.students ((i, student) ∷ [])) ((tells i).1 (amended i refl)) (omega (arith, length-students m))
 keeps-step m (Withdraw i) test tells = step-left test i m.students ((tells i).1 (amended i refl))
 keeps-step m (Rerank i choices) test tells =
@@ -143,8 +143,8 @@ keeps-step m (Add s count) test tells =
     step-same test (students_of m) (students_of (after m (Add s count))) (rewind_point m (Add s count)) (students-seated m s (seats_of m s + count))
 keeps-step m (Close s count) test tells =
     step-same test (students_of m) (students_of (after m (Close s count))) (rewind_point m (Close s count)) (students-seated m s (seats_of m s - count))
-keeps-step m (Correct i zone siblings) test tells =
-    step-same test (students_of m) (students_of (after m (Correct i zone siblings))) (rewind_point m (Correct i zone siblings)) (students-changed m i (λ student. record student { zone = zone; siblings = siblings }))
+keeps-step m (Correct i zone siblings continuing) test tells =
+    step-same test (students_of m) (students_of (after m (Correct i zone siblings continuing))) (rewind_point m (Correct i zone siblings continuing)) (students-changed m i (λ student. record student { zone = zone; siblings = siblings; continuing = continuing }))
 
 -- and so an amendment changes papers inside its region, from its rewind point on
 pub changes-inside : (m : Market) (a : Amendment) (test : ℕ → Bool) → WellFormed m → verdict m a ≡ None → TellsRegion m a test

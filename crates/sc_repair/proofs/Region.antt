@@ -98,12 +98,12 @@ alike-seated m test s seats listers = go (school_of m s) refl
         }
 
 pub region-alike : (m : Market) (a : Amendment) (test : ℕ → Bool) → TellsRegion m a test → AlikeOutside test m (after m a)
-region-alike m (Enter i zone siblings choices) test tells =
-    let student : Student = record { zone = zone; siblings = siblings; choices = choices } in
-    alike-entries m (after m (Enter i zone siblings choices)) test refl refl (others-entered test i m.students student ((tells i).1 (amended i refl)))
+region-alike m (Enter i zone siblings choices continuing) test tells =
+    let student : Student = record { zone = zone; siblings = siblings; choices = choices; continuing = continuing } in
+    alike-entries m (after m (Enter i zone siblings choices continuing)) test refl refl (others-entered test i m.students student ((tells i).1 (amended i refl)))
 region-alike m (Withdraw i) test tells =
     alike-entries m (after m (Withdraw i)) test refl refl (others-removed test i m.students ((tells i).1 (amended i refl)))
 region-alike m (Rerank i choices) test tells = alike-changed m test i (λ student. record student { choices = choices }) ((tells i).1 (amended i refl))
 region-alike m (Add s count) test tells = alike-seated m test s (seats_of m s + count) (λ i listed. (tells i).1 (concerned i s refl (inl listed)))
 region-alike m (Close s count) test tells = alike-seated m test s (seats_of m s - count) (λ i listed. (tells i).1 (concerned i s refl (inl listed)))
-region-alike m (Correct i zone siblings) test tells = alike-changed m test i (λ student. record student { zone = zone; siblings = siblings }) ((tells i).1 (amended i refl))
+region-alike m (Correct i zone siblings continuing) test tells = alike-changed m test i (λ student. record student { zone = zone; siblings = siblings; continuing = continuing }) ((tells i).1 (amended i refl))

@@ -126,23 +126,23 @@ alike-changed m i change = go (student_of m i)
 
 -- papers and what an amendment makes of them are alike up to its rewind point
 pub alike-after : (m : Market) (a : Amendment) → AlikeUpTo (rewind_point m a) m (after m a)
-alike-after m (Enter i zone siblings choices) =
-    let student : Student = record { zone = zone; siblings = siblings; choices = choices } in
+alike-after m (Enter i zone siblings choices continuing) =
+    let student : Student = record { zone = zone; siblings = siblings; choices = choices; continuing = continuing } in
     alike-students m (with_student m i student) (length m.students) refl refl (take-append-le (length m.students) m.students ((i, student) ∷ []) (omega arith))
 alike-after m (Withdraw i) = alike-students m (without_student m i) (position_of m i) refl refl (take-removed (nat_eq i) (position_of m i) m.students (omega arith))
 alike-after m (Rerank i choices) = alike-changed m i (λ student. record student { choices = choices })
 alike-after m (Add s count) = alike-seated m s (seats_of m s + count)
 alike-after m (Close s count) = alike-seated m s (seats_of m s - count)
-alike-after m (Correct i zone siblings) = alike-changed m i (λ student. record student { zone = zone; siblings = siblings })
+alike-after m (Correct i zone siblings continuing) = alike-changed m i (λ student. record student { zone = zone; siblings = siblings; continuing = continuing })
 
 -- the rewind point is within the papers
 pub rewind-within : (m : Market) (a : Amendment) → rewind_point m a ≤ length m.students
-rewind-within m (Enter i zone siblings choices) = omega arith
+rewind-within m (Enter i zone siblings choices continuing) = omega arith
 rewind-within m (Withdraw i) = position-within (nat_eq i) m.students
 rewind-within m (Rerank i choices) = position-within (nat_eq i) m.students
 rewind-within m (Add s count) = position-within (lists m s) m.students
 rewind-within m (Close s count) = position-within (lists m s) m.students
-rewind-within m (Correct i zone siblings) = position-within (nat_eq i) m.students
+rewind-within m (Correct i zone siblings continuing) = position-within (nat_eq i) m.students
 
 -- a change of a student or a school leaves as many students
 length-changed : (m : Market) (i : ℕ) (change : Student → Student) → length (changed_student m i change).students ≡ length m.students
@@ -161,16 +161,16 @@ length-seated m s seats = go (school_of m s)
 
 -- and within the amended papers
 pub rewind-within_after : (m : Market) (a : Amendment) → rewind_point m a ≤ length (after m a).students
-rewind-within_after m (Enter i zone siblings choices) =
-    let student : Student = record { zone = zone; siblings = siblings; choices = choices } in
+rewind-within_after m (Enter i zone siblings choices continuing) =
+    let student : Student = record { zone = zone; siblings = siblings; choices = choices; continuing = continuing } in
     omega (arith, length-append m.students ((i, student) ∷ []))
 rewind-within_after m (Withdraw i) = position-removed (nat_eq i) m.students
 rewind-within_after m (Rerank i choices) =
     omega (arith, position-within (nat_eq i) m.students, length-changed m i (λ student. record student { choices = choices }))
 rewind-within_after m (Add s count) = omega (arith, position-within (lists m s) m.students, length-seated m s (seats_of m s + count))
 rewind-within_after m (Close s count) = omega (arith, position-within (lists m s) m.students, length-seated m s (seats_of m s - count))
-rewind-within_after m (Correct i zone siblings) =
-    omega (arith, position-within (nat_eq i) m.students, length-changed m i (λ student. record student { zone = zone; siblings = siblings }))
+rewind-within_after m (Correct i zone siblings continuing) =
+    omega (arith, position-within (nat_eq i) m.students, length-changed m i (λ student. record student { zone = zone; siblings = siblings; continuing = continuing }))
 
 -- the segments before the rewind point still stand after the amendment
 pub segments-after : (m : Market) (a : Amendment) (segments : List (List Rejection)) → IsSegmented m segments → IsSegmented (cut (after m a) (rewind_point m a)) (take (rewind_point m a) segments)

@@ -20,9 +20,9 @@ first_to_list m s = position_or_len (lists m s) (students_of m)
 -- the position from which on an amendment may change anything: the students before it are there
 -- afterwards as they were, in their order, and no school that one of them lists has other seats
 abbrev pub rewind_point : Market → Amendment → ℕ
-rewind_point m (Enter i zone siblings choices) = length m.students
+rewind_point m (Enter i zone siblings choices continuing) = length m.students
 rewind_point m (Withdraw i) = position_of m i
 rewind_point m (Rerank i choices) = position_of m i
 rewind_point m (Add s count) = first_to_list m s
 rewind_point m (Close s count) = first_to_list m s
-rewind_point m (Correct i zone siblings) = position_of m i
+rewind_point m (Correct i zone siblings continuing) = position_of m i
