@@ -175,12 +175,12 @@ entered-students m n row None entered i = cc entered
 entered-students m n row (Some list) entered i = by (verdict m a) entered
   where
     a : Amendment
-    a = Enter row.student row.zone row.siblings list.choices
+    a = Enter row.student row.zone row.siblings list.choices row.continuing
 
-    by : (v : Option Refusal) → unless_refused m (Enter row.student row.zone row.siblings list.choices) v ≡ Ok n → is_student n i ≡ (is_student m i || nat_eq i row.student)
+    by : (v : Option Refusal) → unless_refused m (Enter row.student row.zone row.siblings list.choices row.continuing) v ≡ Ok n → is_student n i ≡ (is_student m i || nat_eq i row.student)
     by None is =
-        let same : after m (Enter row.student row.zone row.siblings list.choices) ≡ n = cc in
-        ap (λ (p : Market). is_student p i) (sym same) ∙ is_some-push m.students (row.student, record { zone = row.zone; siblings = row.siblings; choices = list.choices }) i
+        let same : after m (Enter row.student row.zone row.siblings list.choices row.continuing) ≡ n = cc in
+        ap (λ (p : Market). is_student p i) (sym same) ∙ is_some-push m.students (row.student, record { zone = row.zone; siblings = row.siblings; choices = list.choices; continuing = row.continuing }) i
     by (Some r) is = cc is
 
 -- who is in the papers after the roster has entered

@@ -1,5 +1,5 @@
 -- What the fields of a record read as.
-use Rattle.std.specs.Prelude.{ℕ, ◌==◌, Bool, ◌&&◌, nat_le, List, [], ◌∷◌, ◌++◌, length, if◌then◌else◌, ok_or, Result, Ok, Err}
+use Rattle.std.specs.Prelude.{ℕ, ◌==◌, Bool, ◌&&◌, nat_le, List, [], ◌∷◌, ◌++◌, length, if◌then◌else◌, ok_or, Option, None, Some, Result, Ok, Err}
 use Rattle.std.specs.List.{list_all}
 use Rattle.sc_decimal.specs.Number.{read_number}
 use Rattle.sc_lottery.specs.declared.number.TheConstants.StudentNumber.{GREATEST as greatest_student}
@@ -14,6 +14,10 @@ use Rattle.sc_intake.specs.declared.fault.Cause.TheVariants.{Number, Range}
 -- the number that a text of 1 to 9 decimal digits writes
 unfoldable pub number_of : List ℕ → Result ℕ Cause
 number_of text = ok_or (read_number text) Number
+
+-- the number that a text writes, or none where it is empty
+unfoldable pub number_or_none : List ℕ → Result (Option ℕ) Cause
+number_or_none text = if length text == 0 then Ok None else number_of text >>= λ n. Ok (Some n)
 
 -- a piece of a text as a word, where it has a byte
 abbrev pub word_of : List ℕ → List (List ℕ)
@@ -66,6 +70,11 @@ as_zone = within 0 greatest_zone
 -- a school's number
 abbrev pub as_school : ℕ → Result ℕ Cause
 as_school = within 1 greatest_school
+
+-- a school's number, if there is one
+abbrev pub as_school_or_none : Option ℕ → Result (Option ℕ) Cause
+as_school_or_none None = Ok None
+as_school_or_none (Some n) = as_school n >>= λ s. Ok (Some s)
 
 -- how many seats a school has
 abbrev pub as_seats : ℕ → Result ℕ Cause

@@ -38,11 +38,12 @@ rows_after first source read earlier [] = Ok earlier
 rows_after first source read earlier (fields ∷ rest) =
     in_row source (length earlier + first) (read earlier fields) >>= λ row. rows_after first source read (earlier ++ row ∷ []) rest
 
--- the records after the header, which the first record has to be
-unfoldable pub after_header : Source → (List (List ℕ) → Bool) → List (List (List ℕ)) → Result (List (List (List ℕ))) IntakeFault
+-- how many fields the header has, which the first record has to be, and the records after it
+unfoldable pub after_header : Source → (List (List ℕ) → Bool) → List (List (List ℕ)) → Result (ℕ × List (List (List ℕ))) IntakeFault
 after_header source is_header [] = Err (fault_at source 1 Header)
-after_header source is_header (fields ∷ rest) = if is_header fields then Ok rest else Err (fault_at source 1 Header)
+after_header source is_header (fields ∷ rest) = if is_header fields then Ok (length fields, rest) else Err (fault_at source 1 Header)
 
--- the rows of a file, which begin at row 2
-abbrev pub rows_in : {R : Type 0} → Source → (List (List ℕ) → Bool) → (List R → List (List ℕ) → Result R Cause) → List ℕ → Result (List R) IntakeFault
-rows_in source is_header read text = records_in source text >>= after_header source is_header >>= rows_after 2 source read []
+-- the rows of a file, which begin at row 2 and are read by the number of the header's fields
+abbrev pub rows_in : {R : Type 0} → Source → (List (List ℕ) → Bool) → (ℕ → List R → List (List ℕ) → Result R Cause) → List ℕ → Result (List R) IntakeFault
+rows_in source is_header read text =
+    records_in source text >>= after_header source is_header >>= λ below. rows_after 2 source (read below.0) [] below.1

@@ -54,7 +54,7 @@ amended m a = unless_refused m a (verdict m a)
 -- the papers after a student has entered by these rows of the roster and of the lists
 abbrev pub entered_by : Market → RosterRow → Option ListRow → Result Market Cause
 entered_by m row None = Err NoList
-entered_by m row (Some list) = amended m (Enter row.student row.zone row.siblings list.choices)
+entered_by m row (Some list) = amended m (Enter row.student row.zone row.siblings list.choices row.continuing)
 
 -- the papers after the students of the roster have entered, in the order of its rows
 unfoldable pub all_entered : List ListRow → Market → List RosterRow → Result Market IntakeFault

@@ -1,15 +1,16 @@
 -- Rows one after the other: what the next one reads as, and what is true of them together.
-use Rattle.std.specs.Prelude.{◌≡◌, ℕ, ◌+◌, ◌≤◌, nat_eq, nat_le, List, [], ◌∷◌, ◌++◌, length, map, if◌then◌else◌, Result, Ok, Err}
+use Rattle.std.specs.Prelude.{◌≡◌, ℕ, ◌+◌, ◌≤◌, ◌==◌, nat_eq, nat_le, List, [], ◌∷◌, ◌++◌, length, map, if◌then◌else◌, Result, Ok, Err}
 use Rattle.std.specs.List.{IsDistinct, list_any}
 use Rattle.sc_intake.specs.Fault.{◌>>=◌}
 use Rattle.sc_intake.specs.declared.fault.Cause.{Cause}
-use Rattle.sc_intake.specs.declared.fault.Cause.TheVariants.{TooLong, Twice}
+use Rattle.sc_intake.specs.declared.fault.Cause.TheVariants.{TooLong, Fields, Twice}
 
--- the next row: there may be one more, its fields read as a row, and no earlier row has its number
-abbrev pub next_row : {R : Type 0} → ℕ → (R → ℕ) → (ℕ → List (List ℕ) → Result R Cause) → List R → List (List ℕ) → Result R Cause
-next_row most number read earlier fields =
+-- the next row under a header of so many fields: there may be one more, it has as many, they read as a row, and
+-- no earlier row has its number
+abbrev pub next_row : {R : Type 0} → ℕ → (R → ℕ) → (ℕ → List (List ℕ) → Result R Cause) → ℕ → List R → List (List ℕ) → Result R Cause
+next_row most number read width earlier fields =
     if nat_le most (length earlier) then Err TooLong
-    else read (length earlier + 2) fields
+    else (if length fields == width then read (length earlier + 2) fields else Err Fields)
     >>= λ row. if list_any (nat_eq (number row)) (map number earlier) then Err Twice else Ok row
 
 -- the rows with the next one, where there is one

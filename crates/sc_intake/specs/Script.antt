@@ -1,5 +1,5 @@
 -- What a script reads as: each of its records is an amendment, or `Shape`.
-use Rattle.std.specs.Prelude.{ℕ, ◌==◌, Bool, List, length, map, codes, if◌then◌else◌, Result, Ok, Err}
+use Rattle.std.specs.Prelude.{ℕ, ◌==◌, Bool, ◌||◌, Option, List, length, map, codes, if◌then◌else◌, Result, Ok, Err}
 use Rattle.std.specs.Str.{bytes_eq}
 use Rattle.sc_lottery.specs.declared.number.TheConstants.StudentNumber.{GREATEST as greatest_student}
 use Rattle.sc_papers.specs.declared.amendment.Amendment.{Amendment}
@@ -10,7 +10,7 @@ use Rattle.sc_papers.specs.declared.count.TheConstants.Count.{GREATEST as greate
 use Rattle.sc_papers.specs.declared.school_no.TheConstants.SchoolNo.{GREATEST as greatest_school}
 use Rattle.sc_papers.specs.declared.zone.TheConstants.Zone.{GREATEST as greatest_zone}
 use Rattle.sc_intake.specs.Fault.{◌>>=◌}
-use Rattle.sc_intake.specs.Field.{all_schools, list_of, number_of, within}
+use Rattle.sc_intake.specs.Field.{all_schools, as_school_or_none, list_of, number_of, number_or_none, within}
 use Rattle.sc_intake.specs.File.{records_in, text_at}
 use Rattle.sc_intake.specs.declared.fault.Cause.{Cause}
 use Rattle.sc_intake.specs.declared.fault.Cause.TheVariants.{Fields}
@@ -41,14 +41,19 @@ count_at = number_at 1 greatest_count
 unfoldable pub list_at : List (List ℕ) → ℕ → Result (List ℕ) Cause
 list_at fields index = list_of (text_at fields index) >>= all_schools
 
--- `enter,STUDENT,ZONE,SIBLINGS,CHOICES`
+-- the school's number that a field writes, or none where it is empty or not there
+abbrev pub school_or_none_at : List (List ℕ) → ℕ → Result (Option ℕ) Cause
+school_or_none_at fields index = number_or_none (text_at fields index) >>= as_school_or_none
+
+-- `enter,STUDENT,ZONE,SIBLINGS,CHOICES`, and with a comma the school at which the student continues
 unfoldable pub enter_of : List (List ℕ) → Result Amendment Cause
-enter_of fields = if length fields == 5 then (do
+enter_of fields = if length fields == 5 || length fields == 6 then (do
   student ← student_at fields 1
   zone ← zone_at fields 2
   siblings ← list_at fields 3
   choices ← list_at fields 4
-  Ok (Enter student zone siblings choices)) else Err Fields
+  continuing ← school_or_none_at fields 5
+  Ok (Enter student zone siblings choices continuing)) else Err Fields
 
 -- `withdraw,STUDENT`
 unfoldable pub withdraw_of : List (List ℕ) → Result Amendment Cause
@@ -77,13 +82,14 @@ close_of fields = if length fields == 3 then (do
   count ← count_at fields 2
   Ok (Close school count)) else Err Fields
 
--- `correct,STUDENT,ZONE,SIBLINGS`
+-- `correct,STUDENT,ZONE,SIBLINGS`, and with a comma the school at which the student continues
 unfoldable pub correct_of : List (List ℕ) → Result Amendment Cause
-correct_of fields = if length fields == 4 then (do
+correct_of fields = if length fields == 4 || length fields == 5 then (do
   student ← student_at fields 1
   zone ← zone_at fields 2
   siblings ← list_at fields 3
-  Ok (Correct student zone siblings)) else Err Fields
+  continuing ← school_or_none_at fields 4
+  Ok (Correct student zone siblings continuing)) else Err Fields
 
 -- the first field of a record is this word
 abbrev pub begins : List (List ℕ) → List ℕ → Bool

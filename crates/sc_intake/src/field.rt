@@ -1,7 +1,7 @@
 //! The fields of a record: numbers, and the first of several.
 
 ghost use Rattle.std.specs.Prelude.{◌≡◌, ◌==◌, if◌then◌else◌, Ok, Err};
-ghost use Rattle.sc_intake.specs.Field.{first_number, number_of};
+ghost use Rattle.sc_intake.specs.Field.{first_number, number_of, number_or_none};
 ghost use Rattle.sc_intake.specs.declared.fault.Cause.TheVariants.{Number};
 
 use crate::fault::Cause;
@@ -15,6 +15,21 @@ pub(crate) fn number(text: &[u8]) -> Result<u32, Cause>
 {
     match read_number(text) {
         Some(number) => Ok(number),
+        None => Err(Cause::Number),
+    }
+}
+
+/// The number that a field without blanks writes, or `None` where it is empty; `Number` where it is neither empty
+/// nor 1 to 9 decimal digits.
+#[tactic(auto, unfolding(crate::specs::Field::number_of, crate::specs::Field::number_or_none))]
+pub(crate) fn number_or_none(text: &[u8]) -> Result<Option<u32>, Cause>
+    ensures { result ≡ number_or_none text.now }
+{
+    if text.is_empty() {
+        return Ok(None);
+    }
+    match read_number(text) {
+        Some(number) => Ok(Some(number)),
         None => Err(Cause::Number),
     }
 }

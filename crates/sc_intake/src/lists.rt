@@ -62,9 +62,6 @@ impl Row for ListRow {
     }
 
     fn read(alloc: Global, row: u64, fields: &Records) -> Result<Self, Cause> {
-        if fields.len() != 2 {
-            return Err(Cause::Fields);
-        }
         let student = number(fields.field(0))?;
         let choices = school_list(alloc, fields.field(1))?;
         Ok(ListRow {

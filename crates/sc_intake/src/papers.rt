@@ -97,13 +97,14 @@ fn enter_copied(
 
 /// Enters a student of the roster with these choices.
 fn enter(papers: &mut Papers, row: RosterRow, choices: SchoolList) -> Result<(), Cause>
-    ensures { Gives (λ _. papers.new) OutOfMemory (amended papers.old (Enter row.student row.zone row.siblings choices)) result }
+    ensures { Gives (λ _. papers.new) OutOfMemory (amended papers.old (Enter row.student row.zone row.siblings choices row.continuing)) result }
 {
     let amendment = Amendment::Enter {
         student: row.student,
         zone: row.zone,
         siblings: row.siblings,
         choices,
+        continuing: row.continuing,
     };
     match papers.apply(amendment) {
         Ok(()) => Ok(()),

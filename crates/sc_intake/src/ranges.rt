@@ -1,16 +1,28 @@
 //! Numbers of fields as the numbers of the papers.
 
 ghost use Rattle.std.specs.Prelude.{◌≡◌};
-ghost use Rattle.sc_intake.specs.Field.{as_count, as_school, as_seats, as_student, as_zone};
+ghost use Rattle.sc_intake.specs.Field.{as_count, as_school, as_school_or_none, as_student, as_zone};
 
 use crate::fault::Cause;
-use sc_papers::{Count, SchoolNo, Seats, StudentNo, Zone};
+use sc_papers::{Count, SchoolNo, StudentNo, Zone};
 
 pub(crate) fn school(number: u32) -> Result<SchoolNo, Cause>
     ensures { result ≡ as_school number }
 {
     match SchoolNo::new(number) {
         Some(school) => Ok(school),
+        None => Err(Cause::Range),
+    }
+}
+
+pub(crate) fn school_or_none(number: Option<u32>) -> Result<Option<SchoolNo>, Cause>
+    ensures { result ≡ as_school_or_none number }
+{
+    let Some(number) = number else {
+        return Ok(None);
+    };
+    match SchoolNo::new(number) {
+        Some(school) => Ok(Some(school)),
         None => Err(Cause::Range),
     }
 }
@@ -29,15 +41,6 @@ pub(crate) fn zone(number: u32) -> Result<Zone, Cause>
 {
     match Zone::new(number) {
         Some(zone) => Ok(zone),
-        None => Err(Cause::Range),
-    }
-}
-
-pub(crate) fn seats(number: u32) -> Result<Seats, Cause>
-    ensures { result ≡ as_seats number }
-{
-    match Seats::new(number) {
-        Some(seats) => Ok(seats),
         None => Err(Cause::Range),
     }
 }

@@ -1,4 +1,4 @@
-//! The roster: who takes part, where they live, and where they have siblings.
+//! The roster: who takes part, where they live, where they have siblings, and where they continue.
 
 ghost use Rattle.std.specs.Prelude.{◌≡◌};
 ghost use Rattle.sc_intake.specs.Fault.{Gives, no_memory};
@@ -6,12 +6,12 @@ ghost use Rattle.sc_intake.specs.Roster.{roster_in};
 ghost use Rattle.sc_intake.specs.declared.fault.Source.TheVariants.{Roster};
 
 use crate::fault::{Cause, IntakeFault, Source};
-use crate::field::number;
+use crate::field::{number, number_or_none};
 use crate::ranges;
 use crate::records::Records;
 use crate::rows::{Numbered, Row, Rows, read_rows};
 use crate::school_list::school_list;
-use sc_papers::{MOST_STUDENTS, SchoolList, StudentNo, Zone};
+use sc_papers::{MOST_STUDENTS, SchoolList, SchoolNo, StudentNo, Zone};
 use std::alloc::{AllocError, Global};
 
 /// A row of the roster.
@@ -23,6 +23,8 @@ pub struct RosterRow {
     pub zone: Zone,
     /// The schools of siblings.
     pub siblings: SchoolList,
+    /// The school at which the student continues, if there is one.
+    pub continuing: Option<SchoolNo>,
 }
 
 impl RosterRow {
@@ -37,6 +39,7 @@ impl RosterRow {
             student: self.student,
             zone: self.zone,
             siblings: self.siblings.copy(alloc)?,
+            continuing: self.continuing,
         })
     }
 }
@@ -75,30 +78,29 @@ impl Row for RosterRow {
     }
 
     fn is_header(fields: &Records) -> bool {
-        fields.len() == 3
+        (fields.len() == 3 || fields.len() == 4 && fields.reads(3, b"continuing"))
             && fields.reads(0, b"student")
             && fields.reads(1, b"zone")
             && fields.reads(2, b"siblings")
     }
 
     fn read(alloc: Global, row: u64, fields: &Records) -> Result<Self, Cause> {
-        if fields.len() != 3 {
-            return Err(Cause::Fields);
-        }
         let student = number(fields.field(0))?;
         let zone = number(fields.field(1))?;
         let siblings = school_list(alloc, fields.field(2))?;
+        let continuing = number_or_none(fields.field(3))?;
         Ok(RosterRow {
             row,
             student: ranges::student(student)?,
             zone: ranges::zone(zone)?,
             siblings: siblings?,
+            continuing: ranges::school_or_none(continuing)?,
         })
     }
 }
 
-/// Reads the roster, whose header is `student,zone,siblings`: its rows, or the first fault of the
-/// first faulty row.
+/// Reads the roster, whose header is `student,zone,siblings`, or `student,zone,siblings,continuing`: its rows, or
+/// the first fault of the first faulty row. Under the shorter header nobody continues anywhere.
 ///
 /// The cost is the length of the file, and the memory that of its rows.
 pub fn read_roster(alloc: Global, bytes: &[u8]) -> Result<RosterRows, IntakeFault>

@@ -50,7 +50,8 @@ pub(crate) trait Row: Numbered {
     fn is_header(fields: &Records) -> bool
         ensures { result ≡ is_header fields.now.current };
 
-    /// The row that the record read last is, under the record's number, or why it is none.
+    /// The row that the record read last is, under the record's number, or why it is none. It has as many fields as
+    /// the header.
     fn read(alloc: Global, row: u64, fields: &Records) -> Result<Self, Cause>
         ensures { Gives (λ found. found) OutOfMemory (reading row fields.now.current) result };
 }
@@ -99,33 +100,38 @@ impl<R: Numbered> Rows<R> {
     }
 }
 
-/// Takes the header.
+/// Takes the header, and says how many fields it has.
 #[tactic(auto, unfolding(crate::specs::File::after_header))]
-fn take_header<R: Row>(records: &mut Records) -> Result<(), IntakeFault>
-    ensures { Gives (λ _. records.new.left) (no_memory R.source) (after_header R.source R.is_header records.old.left) result }
+fn take_header<R: Row>(records: &mut Records) -> Result<usize, IntakeFault>
+    ensures { Gives (λ width. (width, records.new.left)) (no_memory R.source) (after_header R.source R.is_header records.old.left) result }
 {
     if records.advance(R::source())? && R::is_header(records) {
-        return Ok(());
+        return Ok(records.len());
     }
     Err(IntakeFault::at(R::source(), 1, Cause::Header))
 }
 
-/// Adds the row that the record read last is to the rows before it, whose numbers were seen.
+/// Adds the row that the record read last is, under a header of so many fields, to the rows before it, whose
+/// numbers were seen.
 fn add_row<R: Row>(
     alloc: Global,
+    width: usize,
     fields: &Records,
     rows: &mut Vec<R>,
     seen: &mut SeenNumbers,
 ) -> Result<(), Cause>
     requires rows { AreRows R.number R.MOST rows.old.items }
     requires seen { AreNumbers R.number rows.old.items seen.old }
-    ensures gives { Gives (λ _. rows.new.items) OutOfMemory (added rows.old.items (next_row R.MOST R.number R.reading rows.old.items fields.now.current)) result }
+    ensures gives { Gives (λ _. rows.new.items) OutOfMemory (added rows.old.items (next_row R.MOST R.number R.reading width rows.old.items fields.now.current)) result }
     ensures rows { OnOk result (AreRows R.number R.MOST rows.new.items) }
     ensures seen { OnOk result (AreNumbers R.number rows.new.items seen.new) }
     ensures more { OnOk result (length rows.new.items ≡ length rows.old.items + 1) }
 {
     if rows.len() >= R::MOST {
         return Err(Cause::TooLong);
+    }
+    if fields.len() != width {
+        return Err(Cause::Fields);
     }
     let found = R::read(alloc, rows.len() as u64 + 2, fields)?;
     if !seen.insert(found.number())? {
@@ -135,16 +141,20 @@ fn add_row<R: Row>(
     Ok(())
 }
 
-/// The rows after the header.
-fn take_rows<R: Row>(alloc: Global, records: &mut Records) -> Result<Vec<R>, IntakeFault>
-    ensures gives { Gives (λ rows. rows.items) (no_memory R.source) (rows_after 2 R.source (next_row R.MOST R.number R.reading) [] records.old.left) result }
+/// The rows after a header of so many fields.
+fn take_rows<R: Row>(
+    alloc: Global,
+    width: usize,
+    records: &mut Records,
+) -> Result<Vec<R>, IntakeFault>
+    ensures gives { Gives (λ rows. rows.items) (no_memory R.source) (rows_after 2 R.source (next_row R.MOST R.number R.reading width) [] records.old.left) result }
     ensures rows { IfOk result (λ rows. AreRows R.number R.MOST rows.items) }
 {
     let mut rows = Vec::new(alloc);
     let mut seen = SeenNumbers::new(alloc);
     'rows: while records.advance(R::source())? {
         let row = rows.len() as u64 + 2;
-        if let Err(cause) = add_row(alloc, records, &mut rows, &mut seen) {
+        if let Err(cause) = add_row(alloc, width, records, &mut rows, &mut seen) {
             return Err(IntakeFault::at(R::source(), row, cause));
         }
     }
@@ -156,7 +166,7 @@ pub(crate) fn read_rows<R: Row>(alloc: Global, bytes: &[u8]) -> Result<Rows<R>, 
     ensures { Gives (λ rows. rows) (no_memory R.source) (rows_in R.source R.is_header (next_row R.MOST R.number R.reading) bytes.now) result }
 {
     let mut records = records_in(alloc, R::source(), bytes)?;
-    take_header::<R>(&mut records)?;
-    let rows = take_rows(alloc, &mut records)?;
+    let width = take_header::<R>(&mut records)?;
+    let rows = take_rows(alloc, width, &mut records)?;
     Ok(Rows { rows })
 }

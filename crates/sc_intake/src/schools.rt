@@ -64,17 +64,19 @@ impl Row for SchoolRow {
     }
 
     fn read(_alloc: Global, row: u64, fields: &Records) -> Result<Self, Cause> {
-        if fields.len() != 3 {
-            return Err(Cause::Fields);
-        }
         let school = number(fields.field(0))?;
         let zone = number(fields.field(1))?;
         let seats = number(fields.field(2))?;
+        let number = ranges::school(school)?;
+        let zone = ranges::zone(zone)?;
+        let Some(seats) = Seats::new(seats) else {
+            return Err(Cause::Range);
+        };
         Ok(SchoolRow {
             row,
-            number: ranges::school(school)?,
-            zone: ranges::zone(zone)?,
-            seats: ranges::seats(seats)?,
+            number,
+            zone,
+            seats,
         })
     }
 }

@@ -8,7 +8,7 @@ ghost use Rattle.sc_intake.specs.declared.fault.Cause.TheVariants.{OutOfMemory};
 ghost use Rattle.sc_intake.specs.declared.fault.Source.TheVariants.{Script};
 
 use crate::fault::{Cause, IntakeFault, Source};
-use crate::field::number;
+use crate::field::{number, number_or_none};
 use crate::input::records_in;
 use crate::ranges;
 use crate::records::Records;
@@ -24,12 +24,12 @@ fn list_at(alloc: Global, fields: &Records, index: usize) -> Result<SchoolList, 
     Ok(school_list(alloc, fields.field(index))??)
 }
 
-/// `enter,STUDENT,ZONE,SIBLINGS,CHOICES`
+/// `enter,STUDENT,ZONE,SIBLINGS,CHOICES`, and with a comma the school at which the student continues.
 #[tactic(auto, unfolding(crate::specs::Script::enter_of))]
 fn enter_of(alloc: Global, fields: &Records) -> Result<Amendment, Cause>
     ensures { Gives (λ amendment. amendment) OutOfMemory (enter_of fields.now.current) result }
 {
-    if fields.len() != 5 {
+    if fields.len() != 5 && fields.len() != 6 {
         return Err(Cause::Fields);
     }
     Ok(Amendment::Enter {
@@ -37,6 +37,7 @@ fn enter_of(alloc: Global, fields: &Records) -> Result<Amendment, Cause>
         zone: ranges::zone(number(fields.field(2))?)?,
         siblings: list_at(alloc, fields, 3)?,
         choices: list_at(alloc, fields, 4)?,
+        continuing: ranges::school_or_none(number_or_none(fields.field(5))?)?,
     })
 }
 
@@ -95,18 +96,19 @@ fn close_of(fields: &Records) -> Result<Amendment, Cause>
     })
 }
 
-/// `correct,STUDENT,ZONE,SIBLINGS`
+/// `correct,STUDENT,ZONE,SIBLINGS`, and with a comma the school at which the student continues.
 #[tactic(auto, unfolding(crate::specs::Script::correct_of))]
 fn correct_of(alloc: Global, fields: &Records) -> Result<Amendment, Cause>
     ensures { Gives (λ amendment. amendment) OutOfMemory (correct_of fields.now.current) result }
 {
-    if fields.len() != 4 {
+    if fields.len() != 4 && fields.len() != 5 {
         return Err(Cause::Fields);
     }
     Ok(Amendment::Correct {
         student: ranges::student(number(fields.field(1))?)?,
         zone: ranges::zone(number(fields.field(2))?)?,
         siblings: list_at(alloc, fields, 3)?,
+        continuing: ranges::school_or_none(number_or_none(fields.field(4))?)?,
     })
 }
 

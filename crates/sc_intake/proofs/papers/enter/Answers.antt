@@ -5,4 +5,4 @@ use Rattle.sc_intake.proofs.papers.enter.Goals as goal
 pub returns-in-Err : goal.returns-in-Err
 returns-in-Err c =
     let row = c.args.row in
-    rw c.cause_of.ensures (amended-refused c.args.papers.now (Enter row.student row.zone row.siblings c.args.choices) c.in-Err.refusal c.in-Err.ensures.refused)
+    rw c.cause_of.ensures (amended-refused c.args.papers.now (Enter row.student row.zone row.siblings c.args.choices row.continuing) c.in-Err.refusal c.in-Err.ensures.refused)
