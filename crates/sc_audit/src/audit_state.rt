@@ -8,7 +8,6 @@ ghost use Rattle.sc_papers.specs.declared.rejection.Rejection.{Rejection as Reje
 ghost use Rattle.sc_papers.specs.Key.{key_cmp};
 ghost use Rattle.sc_audit.specs.Over.{IsFirstOver};
 
-use crate::choices::choice_at;
 use crate::least::lesser;
 use crate::offers::offer;
 use crate::stand::Stand;
@@ -51,11 +50,12 @@ impl AuditState {
         requires nowhere { stand_of papers.now self.old.stands.items (student_at papers.now student) ≡ None }
         ensures { OnOk result (MovesTo papers.now (view_of self.old) (student_at papers.now student) rank (view_of self.new)) }
     {
-        let Some(school) = choice_at(papers, student, rank) else {
+        let Some(proposal) = papers.proposal(student, rank) else {
             return Ok(());
         };
-        let (at, key) = papers.position_and_key(student, school);
-        let out = offer(&mut self.kept[at], papers.seats_of(school), key)?;
+        let school = proposal.school;
+        let seats = papers.seats_of(school);
+        let out = offer(&mut self.kept[proposal.position], seats, proposal.key)?;
         self.stands[student] = Some(Stand {
             rank,
             school,
@@ -94,7 +94,7 @@ impl AuditState {
     }
 
     /// Takes one more entry of a log, if it is valid after those before: the student leaves the school
-    /// and moves to the next choice. The cost is at most four look-ups by number and an offer.
+    /// and moves to the next choice. The cost is at most two look-ups of a student by number and an offer.
     pub(crate) fn take(&mut self, papers: &Papers, entry: Rejection) -> Result<bool, AllocError>
         requires fits { Fits papers.now (view_of self.old) }
         ensures { IfOk result (λ valid. (log : List Rejected) → IsValidLog papers.now log → Follows papers.now log (view_of self.old) → Finds papers.now log entry valid (view_of self.new)) }

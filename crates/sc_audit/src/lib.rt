@@ -6,7 +6,6 @@ mod audit_state;
 mod auditor;
 mod blocks;
 mod checker;
-mod choices;
 pub mod laws;
 mod least;
 mod membership;

@@ -10,6 +10,7 @@ ghost use Rattle.sc_engine.specs.Rolls.{rolls_of};
 
 mod resume;
 
+use crate::hints::Hints;
 use crate::settled::Settled;
 use sc_papers::{
     Assignment, Key, LONGEST_LIST, MOST_STUDENTS, Papers, Proposal, Rejection, SchoolNo, Seats,
@@ -33,6 +34,8 @@ pub struct Round<R: Roll> {
     proposals: u64,
     // A growth was refused: the rest is no longer to be trusted.
     spent: bool,
+    // Where those who have entered may stand, by their numbers.
+    hints: Hints,
 }
 
 /// The seats of the school at the position.
@@ -218,8 +221,8 @@ impl<R: Roll> Round<R> {
         };
         let school = proposal.school;
         let student = out.student;
-        // Whoever is put out is mostly the proposer.
-        let next = position_near(papers, student, proposer);
+        let guess = self.hints.guess(student);
+        let next = position_near(papers, student, guess);
         self.reject(next, Rejection { student, school })?;
         Ok(Some(next))
     }
@@ -246,6 +249,7 @@ impl<R: Roll> Round<R> {
         ensures { OnOk result (Enters papers.now (view_of R.keys R.seats self.old) (view_of R.keys R.seats self.new) student) }
     {
         let at = position_near(papers, student, self.ranks.len());
+        self.hints.note(student, at);
         make_room(&mut self.ranks, at)?;
         self.ranks[at] = Some(0);
         self.chain(papers, at)?;
@@ -269,6 +273,7 @@ impl<R: Roll> Round<R> {
             log: Vec::new(alloc),
             proposals: 0,
             spent: false,
+            hints: Hints::with_room(alloc, papers.students_len())?,
         })
     }
 

@@ -43,6 +43,7 @@ impl<R: Roll> Round<R> {
         ensures spent { is_spent self.new ≡ is_spent self.old }
     {
         let at = position_near(papers, choice.student, self.ranks.len());
+        self.hints.note(choice.student, at);
         make_room(&mut self.ranks, at)?;
         self.ranks[at] = Some(rank_in(papers.choices_at(at), choice.next) as u8);
         let Some(school) = choice.next else {
