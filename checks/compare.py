@@ -40,7 +40,11 @@ def market(rng):
     students = list(dict.fromkeys(pick_numbers(rng, rng.randint(0, 9), 999_999_999)))
     some = schools or [7]
     rows = [(school, rng.choice([0, 0, 1, 2]), rng.choice([0, 1, 1, 1, 2, 3])) for school in schools]
-    roster = [(student, rng.choice([0, 1, 2]), rng.sample(some, rng.choice([0, 0, 1, min(2, len(some))]))) for student in students]
+    roster = [[student, rng.choice([0, 1, 2]), rng.sample(some, rng.choice([0, 0, 1, min(2, len(some))]))] for student in students]
+    if rng.random() < 0.5:
+        # A roster of the longer form: a school at which the student continues, or nothing.
+        for row in roster:
+            row.append(rng.choice([rng.choice(some), ""]))
     lists = [(student, rng.sample(some, rng.randint(1, len(some)))) for student in students]
     rng.shuffle(lists)
     return rows, roster, lists
@@ -115,9 +119,18 @@ def amendments(rng, rows, roster, count):
 
     for _ in range(count):
         student, school, zone = rng.choice(students), rng.choice(schools), rng.choice([0, 1, 2])
-        yield rng.choice([["enter", student, zone, some(2), some(4)], ["withdraw", student], ["rerank", student, some(4)],
+        # Where a student continues: left out, or nothing, or a school.
+        continuing = rng.choice([[], [], [""], [rng.choice(schools)], [rng.choice(schools)]])
+        yield rng.choice([["enter", student, zone, some(2), some(4), *continuing], ["withdraw", student], ["rerank", student, some(4)],
                           ["add", school, rng.choice([1, 2, 3, 10_000])], ["close", school, rng.choice([1, 1, 2, 9_999])],
-                          ["correct", student, zone, some(2)], ["enter", rng.randint(1, 60), zone, some(2), some(5)]])
+                          ["correct", student, zone, some(2), *continuing],
+                          ["enter", rng.randint(1, 60), zone, some(2), some(5), *continuing]])
+
+
+def roster_header(rng, roster):
+    """The header of a roster whose rows have three fields or four."""
+    longer = len(roster[0]) == 4 if roster else rng.random() < 0.5
+    return ["student", "zone", "siblings", "continuing"] if longer else ["student", "zone", "siblings"]
 
 
 def seed_text(rng):
@@ -134,7 +147,7 @@ def make_case(seed, at):
     rows, roster, lists = market(rng)
     untidy = rng.random() < 0.3
     texts = {"schools": rendered(rng, ["school", "zone", "seats"], [list(row) for row in rows], untidy),
-             "roster": rendered(rng, ["student", "zone", "siblings"], [list(row) for row in roster], untidy),
+             "roster": rendered(rng, roster_header(rng, roster), roster, untidy),
              "lists": rendered(rng, ["student", "choices"], [list(row) for row in lists], untidy)}
     kind = rng.choice(["bundle", "bundle", "match", "run", "run", "audit", "replay", "words"])
     script = rendered(rng, None, list(amendments(rng, rows, roster, rng.randint(0, 8))), untidy)

@@ -151,11 +151,12 @@ def within(limits, *found):
             raise Bad("Range")
 
 
-def rows_of(source, text, header, most, read):
-    """The rows of a file with a header, each as `read` gives it: its own number first."""
+def rows_of(source, text, headers, most, read):
+    """The rows of a file with one of these headers, each as `read` gives it: its own number first."""
     found = records_of(source, text)
-    if not found or found[0] != header:
+    if not found or found[0] not in headers:
         raise intake(source, 1, "Header")
+    header = found[0]
     rows, seen = [], set()
     for at, fields in enumerate(found[1:], start=2):
         try:
@@ -179,10 +180,17 @@ def school_row(fields):
     return school, zone, seats
 
 
+def school_or_none(field):
+    """The number of a school, or nobody's where the field is empty."""
+    return number(field) if field else None
+
+
 def roster_row(fields):
     student, zone, siblings = number(fields[0]), number(fields[1]), numbers(fields[2])
+    continuing = school_or_none(fields[3]) if len(fields) == 4 else None
     within(STUDENT, student), within(ZONE, zone), within(SCHOOL, *siblings)
-    return student, zone, siblings
+    within(SCHOOL, *([] if continuing is None else [continuing]))
+    return student, zone, siblings, continuing
 
 
 def lists_row(fields):
@@ -198,16 +206,19 @@ NAMES = {1: "Shape", 2: "UnknownStudent", 3: "StudentExists", 4: "EmptyList", 5:
 
 
 class Papers:
-    """The seed, the schools by number as [zone, seats], and the students in order of entry as [zone, siblings, choices]."""
+    """The seed, the schools by number as [zone, seats], and the students in order of entry as [zone, siblings, choices, continuing]."""
 
     def __init__(self, key):
         self.key, self.schools, self.students = key, {}, {}
 
     def key_of(self, student, school):
-        zone, siblings, _ = self.students[student]
+        zone, siblings, _, continuing = self.students[student]
         there = self.schools[school][0]
         same = zone == there and zone != 0
-        kind = {(True, True): 0, (True, False): 1, (False, True): 2, (False, False): 3}[school in siblings, same]
+        if school == continuing:
+            kind = 0
+        else:
+            kind = {(True, True): 1, (True, False): 2, (False, True): 3, (False, False): 4}[school in siblings, same]
         return kind, draw(self.key, student), student
 
     def refusal(self, amendment):
@@ -219,12 +230,13 @@ class Papers:
             return (3,)
         choices = {"enter": lambda: rest[3], "rerank": lambda: rest[1]}.get(word, lambda: None)()
         siblings = rest[2] if word in ("enter", "correct") else None
+        continuing = [rest[-1]] if word in ("enter", "correct") and rest[-1] is not None else []
         lists = [found for found in (choices, siblings) if found is not None]
         if choices is not None and not choices:
             return (4,)
         if any(len(found) > MOST_LISTED for found in lists):
             return (5,)
-        for found in lists if word not in ("add", "close") else [[rest[0]]]:
+        for found in [*lists, continuing] if word not in ("add", "close") else [[rest[0]]]:
             for school in found:
                 if school not in self.schools:
                     return (6, school)
@@ -243,7 +255,7 @@ class Papers:
     def make(self, amendment):
         word, *rest = amendment
         if word == "enter":
-            self.students[rest[0]] = [rest[1], rest[2], rest[3]]
+            self.students[rest[0]] = rest[1:]
         elif word == "withdraw":
             del self.students[rest[0]]
         elif word == "rerank":
@@ -254,20 +266,22 @@ class Papers:
             self.schools[rest[0]][1] -= rest[1]
         else:
             self.students[rest[0]][0:2] = rest[1:3]
+            self.students[rest[0]][3] = rest[3]
 
 
 def papers_of(key, schools, roster, lists):
-    school_rows = rows_of("schools", schools, [b"school", b"zone", b"seats"], MOST_SCHOOLS, school_row)
-    roster_rows = rows_of("roster", roster, [b"student", b"zone", b"siblings"], MOST_STUDENTS, roster_row)
-    list_rows = rows_of("lists", lists, [b"student", b"choices"], MOST_STUDENTS, lists_row)
+    school_rows = rows_of("schools", schools, [[b"school", b"zone", b"seats"]], MOST_SCHOOLS, school_row)
+    first = [b"student", b"zone", b"siblings"]
+    roster_rows = rows_of("roster", roster, [first, [*first, b"continuing"]], MOST_STUDENTS, roster_row)
+    list_rows = rows_of("lists", lists, [[b"student", b"choices"]], MOST_STUDENTS, lists_row)
     papers = Papers(key)
     for _, school, zone, seats in school_rows:
         papers.schools[school] = [zone, seats]
     listed = {student: choices for _, student, choices in list_rows}
-    for row, student, zone, siblings in roster_rows:
+    for row, student, zone, siblings, continuing in roster_rows:
         if student not in listed:
             raise intake("roster", row, "NoList")
-        amendment = ("enter", student, zone, siblings, listed[student])
+        amendment = ("enter", student, zone, siblings, listed[student], continuing)
         refusal = papers.refusal(amendment)
         if refusal:
             raise intake("roster", row, "Refused " + " ".join(map(str, (refusal[0], NAMES[refusal[0]], *refusal[1:]))))
@@ -279,16 +293,23 @@ def papers_of(key, schools, roster, lists):
 
 
 def amendment_of(fields):
-    """The amendment that a script's record is, or None where it is none."""
-    forms = {b"enter": (STUDENT, ZONE, list, list), b"withdraw": (STUDENT,), b"rerank": (STUDENT, list),
-             b"add": (SCHOOL, COUNT), b"close": (SCHOOL, COUNT), b"correct": (STUDENT, ZONE, list)}
+    """The amendment that a script's record is, or None where it is none. The school at which a student continues may be left out."""
+    forms = {b"enter": (STUDENT, ZONE, list, list, None), b"withdraw": (STUDENT,), b"rerank": (STUDENT, list),
+             b"add": (SCHOOL, COUNT), b"close": (SCHOOL, COUNT), b"correct": (STUDENT, ZONE, list, None)}
     form = forms.get(fields[0])
-    if form is None or len(fields) != len(form) + 1:
+    if form is None:
+        return None
+    if form[-1] is None and len(fields) == len(form):
+        fields = [*fields, b""]
+    if len(fields) != len(form) + 1:
         return None
     found = []
     try:
         for kind, field in zip(form, fields[1:]):
-            if kind is list:
+            if kind is None:
+                found.append(school_or_none(field))
+                within(SCHOOL, *([] if found[-1] is None else [found[-1]]))
+            elif kind is list:
                 found.append(numbers(field))
                 within(SCHOOL, *found[-1])
             else:
@@ -301,7 +322,8 @@ def amendment_of(fields):
 
 def line_of(at, amendment):
     """The one spelling of an amendment in the journal, with its line's number."""
-    fields = [" ".join(map(str, part)) if isinstance(part, list) else str(part) for part in amendment]
+    told = amendment[:-1] if amendment[-1] is None else amendment
+    fields = [" ".join(map(str, part)) if isinstance(part, list) else str(part) for part in told]
     return ",".join([str(at), *fields]).encode()
 
 

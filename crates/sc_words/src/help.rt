@@ -36,6 +36,8 @@ A script has no header. Its records:
   add,SCHOOL,COUNT                      the school has so many seats more
   close,SCHOOL,COUNT                    the school has so many seats fewer
   correct,STUDENT,ZONE,SIBLINGS         the zone and the siblings' schools are replaced
+One more field at the end of enter and correct, CONTINUING, names the school at which the student continues;
+without it, or where it is empty, the student continues nowhere.
 Each has a reply before the report: its number and ok, or refused and why. A refused one changes nothing.
 
 Exit status: 0 done, 2 wrong words or a bad seed, 3 a fault in an input, 4 a file or stream that cannot be
@@ -74,7 +76,7 @@ pub(crate) const SCHOOLS: &str =
     "The schools, one a row under the header school,zone,seats (zone 0: none)";
 
 pub(crate) const ROSTER: &str =
-    "The students, one a row under the header student,zone,siblings (the schools of its siblings)";
+    "The students, one a row under the header student,zone,siblings (the schools of their siblings) or student,zone,siblings,continuing (and the school at which they continue, or nothing)";
 
 pub(crate) const LISTS: &str =
     "The students' choices, one student a row under the header student,choices (schools, best first)";
