@@ -113,6 +113,22 @@ impl Assignment {
         self.places.get(&student).copied()
     }
 
+    /// What `get` says. A student whose pair stands at the guessed position of the order is not looked up by
+    /// number. In constant time.
+    pub fn get_near(&self, student: StudentNumber, guess: usize) -> Option<SchoolNo>
+        ensures { result ≡ assigned self.now student }
+    {
+        // This call tells that no student stands twice.
+        prove!(self.len() <= usize::MAX);
+        let Some(pair) = self.at(guess) else {
+            return self.get(student);
+        };
+        if pair.0 != student {
+            return self.get(student);
+        }
+        Some(pair.1)
+    }
+
     /// The pair at a position of the order, from 0. In constant time.
     pub fn at(&self, position: usize) -> Option<(StudentNumber, SchoolNo)>
         ensures { result ≡ slice_get self.now position }

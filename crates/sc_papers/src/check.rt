@@ -24,13 +24,20 @@ fn find_repeat(list: &[SchoolNo]) -> Option<SchoolNo>
     None
 }
 
+/// Whether the school is in the papers.
+fn is_known(papers: &Papers, school: SchoolNo) -> bool
+    ensures { result ≡ is_school papers.now school }
+{
+    papers.school_position(school).is_some()
+}
+
 /// The first school of the list that is not in the papers.
 fn find_unknown(papers: &Papers, list: &[SchoolNo]) -> Option<SchoolNo>
     ensures { result ≡ find (λ s. not (is_school papers.now s)) list.now }
 {
     list.iter()
         .copied()
-        .find(|school| papers.school(*school).is_none())
+        .find(|school| !is_known(papers, *school))
 }
 
 fn check_length(list: &[SchoolNo]) -> Result<(), Refusal>
@@ -65,7 +72,7 @@ fn check_school(papers: &Papers, school: Option<SchoolNo>) -> Result<(), Refusal
     ensures { result ≡ unless_refused (unknown_school papers.now school) }
 {
     match school {
-        Some(school) if papers.school(school).is_none() => Err(Refusal::UnknownSchool { school }),
+        Some(school) if !is_known(papers, school) => Err(Refusal::UnknownSchool { school }),
         _ => Ok(()),
     }
 }

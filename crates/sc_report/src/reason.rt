@@ -75,7 +75,7 @@ pub(crate) fn push_reasons(
     requires well_formed { WellFormed papers.now }
     ensures { OnOk result (reasons.new.items ≡ reasons.old.items ++ reasons_of papers.now (assigned places.now) entrant.student) }
 {
-    let held = places.get(entrant.student);
+    let held = places.get_near(entrant.student, entrant.pair);
     let mut rank = 0;
     'ranks: while let Some(choice) = papers.proposal(entrant.position, rank) {
         if is_held(&held, choice.school) {
@@ -120,7 +120,7 @@ pub fn reasons(alloc: Global, clearing: &Clearing) -> Result<Vec<ReasonRow>, All
 {
     let papers = clearing.papers();
     let places = clearing.places();
-    let entrants = rising_entrants(alloc, papers)?;
+    let entrants = rising_entrants(alloc, papers, places)?;
     let rows = rows_in_order(alloc, papers, places)?;
     let reasons = reasons_among(alloc, entrants.as_slice(), rows.as_slice(), papers, places)?;
     Ok(reasons)

@@ -157,7 +157,7 @@ pub fn reason_text(alloc: Global, clearing: &Clearing) -> Result<Vec<u8>, AllocE
 {
     let papers = clearing.papers();
     let places = clearing.places();
-    let entrants = rising_entrants(alloc, papers)?;
+    let entrants = rising_entrants(alloc, papers, places)?;
     let rows = rows_in_order(alloc, papers, places)?;
     let mut text = Vec::with_capacity(alloc, room_for_reasons(clearing))?;
     push_reason_lines(

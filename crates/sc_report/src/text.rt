@@ -11,7 +11,7 @@ use crate::cutoff_lines::{push_cutoffs, room_for_cutoffs};
 use crate::entrants::{Entrant, rising_entrants};
 use crate::reason_lines::{push_reason_lines, room_for_reasons};
 use sc_decimal::push_number;
-use sc_papers::{Assignment, Papers, StudentNo};
+use sc_papers::{Assignment, Papers};
 use sc_repair::Clearing;
 use std::alloc::{AllocError, Global};
 
@@ -22,22 +22,22 @@ const HEADER: &[u8; 15] = b"student,school\n";
 const LONGEST_LINE: usize = 17;
 
 /// Adds what the student has, or a dash.
-fn push_place(text: &mut Vec<u8>, places: &Assignment, student: StudentNo) -> Result<(), AllocError>
-    ensures { OnOk result (text.new.items ≡ text.old.items ++ place_text (assigned places.now student)) }
+fn push_place(text: &mut Vec<u8>, places: &Assignment, entrant: Entrant) -> Result<(), AllocError>
+    ensures { OnOk result (text.new.items ≡ text.old.items ++ place_text (assigned places.now entrant.student)) }
 {
-    match places.get(student) {
+    match places.get_near(entrant.student, entrant.pair) {
         Some(school) => push_number(text, u64::from(school.get())),
         None => text.extend_from_slice(b"-"),
     }
 }
 
 /// Adds the line of a student.
-fn push_line(text: &mut Vec<u8>, places: &Assignment, student: StudentNo) -> Result<(), AllocError>
-    ensures { OnOk result (text.new.items ≡ text.old.items ++ assignment_line (assigned places.now) student) }
+fn push_line(text: &mut Vec<u8>, places: &Assignment, entrant: Entrant) -> Result<(), AllocError>
+    ensures { OnOk result (text.new.items ≡ text.old.items ++ assignment_line (assigned places.now) entrant.student) }
 {
-    push_number(text, u64::from(student.get()))?;
+    push_number(text, u64::from(entrant.student.get()))?;
     text.extend_from_slice(b",")?;
-    push_place(text, places, student)?;
+    push_place(text, places, entrant)?;
     text.extend_from_slice(b"\n")
 }
 
@@ -51,7 +51,7 @@ fn push_assignments(
 {
     text.extend_from_slice(HEADER)?;
     for entrant in entrants {
-        push_line(text, places, entrant.student)?;
+        push_line(text, places, *entrant)?;
     }
     Ok(())
 }
@@ -67,7 +67,7 @@ fn room_for_assignment(papers: &Papers) -> usize {
 pub fn assignment_text(alloc: Global, clearing: &Clearing) -> Result<Vec<u8>, AllocError>
     ensures { IfOk result (λ text. text.items ≡ assignment_text clearing.now.papers (matching_of clearing.now)) }
 {
-    let entrants = rising_entrants(alloc, clearing.papers())?;
+    let entrants = rising_entrants(alloc, clearing.papers(), clearing.places())?;
     let mut text = Vec::with_capacity(alloc, room_for_assignment(clearing.papers()))?;
     push_assignments(&mut text, entrants.as_slice(), clearing.places())?;
     Ok(text)
@@ -86,7 +86,7 @@ fn push_report(
     requires well_formed { WellFormed papers.now }
     ensures { OnOk result (text.new.items ≡ text.old.items ++ report_text papers.now (assigned places.now)) }
 {
-    let entrants = rising_entrants(alloc, papers)?;
+    let entrants = rising_entrants(alloc, papers, places)?;
     push_assignments(text, entrants.as_slice(), places)?;
     let cutoffs = rising_rows(alloc, rows)?;
     push_cutoffs(text, cutoffs.as_slice())?;

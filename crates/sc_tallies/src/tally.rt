@@ -37,24 +37,32 @@ fn with_student(tally: Tally, key: Key) -> Tally
 }
 
 /// The position of the school that the student at a position has, if it is one of the papers, and the
-/// student's key there.
+/// student's key there. Their pair may stand at the guessed position of the assignment.
 fn held_at(
     papers: &Papers,
     assignment: &Assignment,
     student: StudentNo,
     position: usize,
+    guess: usize,
 ) -> Option<(usize, Key)>
     requires { slice_get (students_of papers.now) position ≡ Some student }
     ensures { result ≡ held_at papers.now (assigned assignment.now) student }
 {
-    let school = assignment.get(student)?;
+    let school = assignment.get_near(student, guess)?;
     let at = papers.school_position(school)?;
     let key = papers.key_at(position, at)?;
     Some((at, key))
 }
 
-/// Counts the student at the position of the order of entry.
-fn count_student(tallies: &mut [Tally], papers: &Papers, assignment: &Assignment, position: usize)
+/// Counts the student at the position of the order of entry, whose pair may stand at the guessed position of the
+/// assignment, and answers the guess for the next one: mostly the pairs stand in the students' order.
+fn count_student(
+    tallies: &mut [Tally],
+    papers: &Papers,
+    assignment: &Assignment,
+    position: usize,
+    guess: usize,
+) -> usize
     requires within { position < length papers.now.students }
     requires well_formed { WellFormed papers.now }
     requires within_limits { WithinLimits papers.now }
@@ -64,9 +72,11 @@ fn count_student(tallies: &mut [Tally], papers: &Papers, assignment: &Assignment
     let Some(student) = papers.student_at(position) else {
         unreachable!()
     };
-    if let Some((at, key)) = held_at(papers, assignment, student, position) {
+    if let Some((at, key)) = held_at(papers, assignment, student, position, guess) {
         tallies[at] = with_student(tallies[at], key);
+        return guess.saturating_add(1);
     }
+    guess
 }
 
 /// A tally of nobody for each of so many schools.
@@ -86,8 +96,8 @@ fn no_tallies(alloc: Global, count: usize) -> Result<Vec<Tally>, AllocError>
 /// Each school's tally by the assignment, by the school's position in the order of entry. Whoever is not
 /// in the papers is not counted, and no more is a student who has a school that is not in them.
 ///
-/// The only error is a refused growth; memory is taken for each school. The cost is two look-ups by
-/// number for each student. Papers are always well-formed, and this call tells its callers so.
+/// The only error is a refused growth; memory is taken for each school. The cost is a look-up of a school for each
+/// student, and one of the student where the assignment's pairs are in another order than theirs. Papers are always well-formed, and this call tells its callers so.
 pub fn tallies(
     alloc: Global,
     papers: &Papers,
@@ -97,8 +107,9 @@ pub fn tallies(
     ensures well_formed { OnOk result (WellFormed papers.now) }
 {
     let mut tallies = no_tallies(alloc, papers.schools_len())?;
+    let mut guess = 0;
     for position in 0..papers.students_len() {
-        count_student(tallies.as_mut_slice(), papers, assignment, position);
+        guess = count_student(tallies.as_mut_slice(), papers, assignment, position, guess);
     }
     Ok(tallies)
 }

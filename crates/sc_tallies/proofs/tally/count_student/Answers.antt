@@ -55,8 +55,8 @@ returns-in-Some-held_at c =
     (λ t. set (c.requires.before t) at (c.with_student.ensures t)) ∙ sym step
     ∙ ap (λ students. map (tally m a students) (schools_of m)) (sym (take-one (students_of m) c.args.position c.in-Some.student (sym c.in-Some.ensures)))
 
-pub returns-in_default-held_at : goal.returns-in_default-held_at
-returns-in_default-held_at c =
+pub returns : goal.returns
+returns c =
     let m = c.args.papers.now in
     let a = assigned c.args.assignment.now in
     c.requires.before ∙ sym (tallies-same m a (take c.args.position (students_of m)) c.in-Some.student (sym c.in_default-held_at.ensures))
