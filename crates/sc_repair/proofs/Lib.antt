@@ -13,3 +13,7 @@ pub mod InStep
 pub mod Ending
 pub mod Resettled
 pub mod Regional
+pub mod Moves
+pub mod Entering
+pub mod Told
+pub mod Newcomer
