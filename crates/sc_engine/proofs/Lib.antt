@@ -13,3 +13,4 @@ pub mod Settling
 pub mod Putting
 pub mod Resuming
 pub mod Growing
+pub mod Forgetting

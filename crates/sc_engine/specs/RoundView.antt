@@ -94,6 +94,10 @@ pub record Continues (m : Market) (earlier : List Rejection) (r : RoundView) : T
   pub settled : IsSettled (entered_papers m r.ranks) (earlier ++ r.log)
   pub next : (i : ℕ) → next_choice (entered_papers m r.ranks) (earlier ++ r.log) i ≡ next_of m r.ranks i
 
+-- the round with its log and its count of proposals forgotten: whoever stands somewhere stays there
+abbrev pub without_log : RoundView → RoundView
+without_log r = record r { log = []; proposals = 0 }
+
 -- the same in the course of a chain, where a student is to propose
 pub record Midway (m : Market) (earlier : List Rejection) (r : RoundView) (proposer : ℕ) : Type 0 where
   pub chain : InChain (entered_papers m r.ranks) (earlier ++ r.log) proposer

@@ -5,7 +5,7 @@ ghost use Rattle.std.specs.Option.{option_map};
 ghost use Rattle.sc_papers.specs.Assignment.{assigned};
 ghost use Rattle.sc_papers.specs.Key.{key_of};
 ghost use Rattle.sc_papers.specs.Market.{choices_of, is_school, is_student, schools_of, seats_of, students_of, student_at};
-ghost use Rattle.sc_engine.specs.RoundView.{OffersAt, roll_at, next_of, Fits, FitsBut, only, Proposes, ChainEnds, Enters, Continues, has_entered, AreEmpty};
+ghost use Rattle.sc_engine.specs.RoundView.{OffersAt, roll_at, next_of, Fits, FitsBut, only, Proposes, ChainEnds, Enters, Continues, has_entered, without_log, AreEmpty};
 ghost use Rattle.sc_engine.specs.Rolls.{rolls_of};
 
 mod resume;
@@ -323,6 +323,16 @@ impl<R: Roll> Round<R> {
         ensures { result ≡ (view_of R.keys R.seats self.now).proposals }
     {
         self.proposals
+    }
+
+    /// Forgets the log and the count of proposals. Whoever stands somewhere stays there, and the round goes
+    /// on as after the log that it had. It takes no memory.
+    pub fn forget_log(&mut self)
+        ensures forgotten { view_of R.keys R.seats self.new ≡ without_log (view_of R.keys R.seats self.old) }
+        ensures spent { is_spent self.new ≡ is_spent self.old }
+    {
+        self.log.clear();
+        self.proposals = 0;
     }
 
     /// Whether a growth was refused, so that the round can no longer be used.

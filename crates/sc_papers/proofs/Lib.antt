@@ -1,5 +1,6 @@
 pub mod Repeats
 pub mod Assigning
+pub mod Moving
 pub mod Keys
 pub mod Positions
 pub mod Hands

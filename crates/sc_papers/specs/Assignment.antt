@@ -1,4 +1,4 @@
--- An assignment as contracts see it: pairs of a student and a school, in order of first entry.
+-- An assignment as contracts see it: pairs of a student and a school.
 use Rattle.std.specs.Prelude.{ℕ, nat_eq, List, Option}
 use Rattle.std.specs.Map.{lookup}
 use Rattle.indexmap.specs.IndexMap.{insert_entry}

@@ -1,4 +1,4 @@
-ghost use Rattle.std.specs.Prelude.{◌≡◌, ℕ, ◌==◌, List, [], None, length, slice_get, nat_eq, if◌then◌else◌, IfOk, OnOk, OnErr};
+ghost use Rattle.std.specs.Prelude.{◌≡◌, ℕ, ◌==◌, ◌&&◌, List, [], ◌∷◌, ◌++◌, None, Some, length, is_some, slice_get, nat_eq, if◌then◌else◌, IfOk, OnOk, OnErr};
 ghost use Rattle.std.specs.List.{IsDistinct};
 ghost use Rattle.std.specs.Map.{keys_of};
 ghost use Rattle.sc_papers.specs.Assignment.{assigned, with_place};
@@ -10,7 +10,8 @@ use sc_lottery::{Seed, StudentNumber};
 use std::alloc::{AllocError, Global};
 use std::marker::Model;
 
-/// Which students have which schools: a finite map, in order of first entry.
+/// Which students have which schools: a finite map. Each student who is put comes last in its order; where
+/// `move_to` takes a school away, the last pair takes that place.
 #[derive(Drop)]
 pub struct Assignment {
     places: IndexMap<StudentNumber, SchoolNo, SeededHash>,
@@ -70,6 +71,41 @@ impl Assignment {
         Ok(())
     }
 
+    /// Gives a student who has a school another one, or none; one who has none stays without. It takes no
+    /// memory. In constant time. Where the student is to have none, the last pair takes the place of theirs.
+    pub fn move_to(&mut self, student: StudentNumber, school: Option<SchoolNo>)
+        ensures moved { (j : ℕ) → assigned self.new j ≡ (if nat_eq j student && is_some (assigned self.old j) then school else assigned self.old j) }
+    {
+        match school {
+            Some(school) => self.replace(student, school),
+            None => self.remove(student),
+        }
+    }
+
+    /// Gives a student who has a school this one instead.
+    fn replace(&mut self, student: StudentNumber, school: SchoolNo)
+        ensures { (j : ℕ) → assigned self.new j ≡ (if nat_eq j student && is_some (assigned self.old j) then Some school else assigned self.old j) }
+    {
+        if let Some(place) = self.places.get_mut(&student) {
+            *place = school;
+        }
+    }
+
+    /// Takes a student's school away, if there is one.
+    fn remove(&mut self, student: StudentNumber)
+        ensures { (j : ℕ) → assigned self.new j ≡ (if nat_eq j student && is_some (assigned self.old j) then None else assigned self.old j) }
+    {
+        let _ = self.places.swap_remove(&student);
+    }
+
+    /// Takes the last pair away, such as the one that was put last: so a growth that is refused later can
+    /// leave what was there before. It takes no memory. In constant time.
+    pub fn take_last(&mut self)
+        ensures { (pairs : List (ℕ × ℕ)) (student school : ℕ) → self.old ≡ pairs ++ (student, school) ∷ [] → self.new ≡ pairs }
+    {
+        let _ = self.places.pop();
+    }
+
     /// The school that the student has, if any. In constant time.
     pub fn get(&self, student: StudentNumber) -> Option<SchoolNo>
         ensures { result ≡ assigned self.now student }
@@ -77,7 +113,7 @@ impl Assignment {
         self.places.get(&student).copied()
     }
 
-    /// The pair at a position of the order of first entry, from 0. In constant time.
+    /// The pair at a position of the order, from 0. In constant time.
     pub fn at(&self, position: usize) -> Option<(StudentNumber, SchoolNo)>
         ensures { result ≡ slice_get self.now position }
     {
