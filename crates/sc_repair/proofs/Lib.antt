@@ -14,6 +14,6 @@ pub mod Ending
 pub mod Resettled
 pub mod Regional
 pub mod Moves
-pub mod Entering
+pub mod Entry
 pub mod Told
 pub mod Newcomer

@@ -1,5 +1,5 @@
 -- Whom a newcomer's chain moves on, and where everybody stands after it.
-use Rattle.std.proofs.Common.{◌≡◌, inl, inr, refl, ap, sym, ◌∙◌, ℕ, nat_eq, ◌==◌, Bool, true, false, not, ◌&&◌, ◌||◌, cond, List, [], ◌∷◌, ◌++◌, Option, Some, None, find, is_some, append_assoc, append-nil}
+use Rattle.std.proofs.Common.{◌≡◌, inl, inr, refl, ap, sym, subst, ◌∙◌, ℕ, nat_eq, ◌==◌, Bool, true, false, not, ◌&&◌, ◌||◌, cond, List, [], ◌∷◌, ◌++◌, Option, Some, None, find, is_some, append_assoc, append-nil}
 use Rattle.std.specs.List.{list_any}
 use Rattle.std.proofs.lemmas.Bool.{cases_Bool, cond-true, cond-false, eq-eqb, eqb-false, eqb-true, ne_eqb, or_from, or_left, or_parts, not_from_true, not-false}
 use Rattle.std.proofs.lemmas.List.Folds.{list_any-append}
@@ -11,8 +11,8 @@ use Rattle.sc_papers.specs.Restriction.{restricted}
 use Rattle.sc_papers.specs.declared.rejection.Rejection.{Rejection}
 use Rattle.sc_papers.proofs.Rejections.{next-same}
 use Rattle.sc_papers.proofs.Restriction.{next-dropped, next-kept, restricted-restricts}
-use Rattle.sc_engine.specs.RoundView.{RoundView, has_entered, next_of}
-use Rattle.sc_repair.specs.Newcomer.{is_moved, EntersBy, StandsAfter}
+use Rattle.sc_engine.specs.RoundView.{RoundView, has_entered, next_of, without_log, Continues, Enters}
+use Rattle.sc_repair.specs.Newcomer.{is_moved, EntersBy}
 
 -- whom no entry of a chain names stays where they stood
 next-unmoved : (m : Market) (log chain : List Rejection) (i : ℕ) → is_moved chain i ≡ false → next_choice m (log ++ chain) i ≡ next_choice m log i
@@ -49,15 +49,15 @@ next-entered m entered log i =
       | inr out ↦ next-dropped (restricted-restricts m entered) log i out ∙ sym (cond-false (entered i) (next_choice m log i) None out)
     ]
 
-module _ (m : Market) (log chain : List Rejection) (old new : RoundView) (i made : ℕ) (stands : StandsAfter m log old) (enters : EntersBy m old new i chain made) where
+module _ (m : Market) (log chain : List Rejection) (old new : RoundView) (i made : ℕ) (continues : Continues m log old) (no_log : old.log ≡ []) (enters : EntersBy m old new i chain made) where
   next-before : (j : ℕ) → next_of m old.ranks j ≡ cond (has_entered m old.ranks j) (next_choice m log j) None
   next-before j =
-      sym (stands.continues.next j) ∙ ap (λ l. next_choice (restricted m (has_entered m old.ranks)) l j) (ap (λ l. log ++ l) stands.no_log ∙ append-nil log)
+      sym (continues.next j) ∙ ap (λ l. next_choice (restricted m (has_entered m old.ranks)) l j) (ap (λ l. log ++ l) no_log ∙ append-nil log)
       ∙ next-entered m (has_entered m old.ranks) log j
 
   next-after : (j : ℕ) → next_of m new.ranks j ≡ cond (has_entered m new.ranks j) (next_choice m (log ++ chain) j) None
   next-after j =
-      sym ((enters.enters.continues log stands.continues).next j) ∙ next-entered m (has_entered m new.ranks) (log ++ chain) j
+      sym ((enters.enters.continues log continues).next j) ∙ next-entered m (has_entered m new.ranks) (log ++ chain) j
 
   entered-before : (j : ℕ) → nat_eq j i ≡ false → has_entered m new.ranks j ≡ has_entered m old.ranks j
   entered-before j other = enters.enters.entered j ∙ without (has_entered m old.ranks j) (nat_eq j i) other
@@ -149,3 +149,18 @@ moves-next next log e before middle after first moved j =
     named true (Some s) (Some t) next is = refl
     named false None middle next is = ap (λ o. cond (is_some o) next o) is
     named false (Some s) middle next is = ap (λ o. cond (is_some o) next o) is
+
+-- a round that forgets its log has forgotten the newcomer's chain
+pub enters-by : (m : Market) (old middle new : RoundView) (i : ℕ) → Enters m old middle i → new ≡ without_log middle → EntersBy m old new i middle.log middle.proposals
+enters-by m old middle new i enters forgotten =
+    subst (λ r. EntersBy m old r i middle.log middle.proposals) (sym forgotten) (record { enters = enters; no_log = refl; no_proposals = refl })
+
+-- and everybody has the school at which they stand in it
+pub placed-after : (m : Market) (log : List Rejection) (old middle new : RoundView) (i : ℕ) (before given after : List (ℕ × ℕ)) → Continues m log old → old.log ≡ [] → Enters m old middle i → new ≡ without_log middle
+    → ((j : ℕ) → assigned before j ≡ next_of m old.ranks j)
+    → ((j : ℕ) → assigned given j ≡ cond (nat_eq j i) (next_of m middle.ranks i) (assigned before j))
+    → ((j : ℕ) → assigned after j ≡ cond (is_moved middle.log j && is_some (assigned given j)) (next_of m middle.ranks j) (assigned given j))
+    → (j : ℕ) → assigned after j ≡ next_of m new.ranks j
+placed-after m log old middle new i before given after continues no_log enters forgotten stood gave moved j =
+    places-follow m log middle.log old (without_log middle) i middle.proposals continues no_log (enters-by m old middle (without_log middle) i enters refl) before given after stood gave moved j
+    ∙ ap (λ (r : RoundView). next_of m r.ranks j) (sym forgotten)

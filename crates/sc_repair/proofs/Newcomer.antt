@@ -2,7 +2,7 @@
 use Rattle.std.proofs.Common.{◌≡◌, ◌⊎◌, inl, inr, refl, ap, sym, subst, ◌∙◌, ℕ, ◌+◌, nat_eq, Bool, true, false, not, ◌&&◌, ◌||◌, cond, List, [], ◌∷◌, ◌++◌, length, take, drop, Option, Some, None, Contains, count_by, is_some, append-nil, arith}
 use Rattle.std.specs.List.{list_any}
 use Rattle.std.proofs.lemmas.Bool.{and_left, cases_Bool, cond-true, cond-false, eq-eqb, false_from_ne_true, not-true, or_left, or_right}
-use Rattle.std.proofs.lemmas.List.{drop-append-le, drop_all, length-map, map-append, take-append-le, take_all}
+use Rattle.std.proofs.lemmas.List.{drop-append-le, drop_all, length-append, length-map, map-append, take-append-le, take_all}
 use Rattle.std.proofs.lemmas.List.Folds.{list_any-append}
 use Rattle.std.proofs.lemmas.Map.Made.{is_some-lookup}
 use Rattle.std.proofs.lemmas.Option.{none-some, same_Some}
@@ -27,11 +27,11 @@ use Rattle.sc_region.specs.Region.{amended, concerned, next, InRegion}
 use Rattle.sc_weave.specs.Weaving.{part_of}
 use Rattle.sc_repair.specs.Course.{placed_of}
 use Rattle.sc_repair.specs.Locality.{ChangesInside, TellsRegion}
-use Rattle.sc_repair.specs.Newcomer.{newcomer, AllStandAfter, EntersBy}
+use Rattle.sc_repair.specs.Newcomer.{newcomer, HasEntered, StandsAfter}
 use Rattle.sc_repair.specs.Resumption.{placed_first, GoesOn}
 use Rattle.sc_repair.specs.Rewinding.{rewind_point}
 use Rattle.sc_repair.specs.Standing.{Standing, CountsInside, CountsRegion, IsCertified, KeepsOthers}
-use Rattle.sc_repair.proofs.Entering.{all-stand-entered, cut-grown, goes-on-entered, is-entry, students-grown, with_log, IsEntry, StandGrown}
+use Rattle.sc_repair.proofs.Entry.{cut-grown, goes-on-entered, is-entry, next-to-enter, stands-entered, students-grown, with_log, IsEntry}
 use Rattle.sc_repair.proofs.InStep.{changes-inside}
 use Rattle.sc_repair.proofs.Kept.{certified-of}
 use Rattle.sc_repair.proofs.Resumption.{length-students, next-all, segments-all, students-all}
@@ -84,44 +84,53 @@ region-among m a i entry more _ (next j other s inside first (inl before)) =
     student-among (after m a) j (stays-there m (after m a) i more j (among-student m j (lister-among m j s before)))
 region-among m a i entry more _ (next j other s inside first (inr later)) = lister-among (after m a) j s later
 
--- the papers and the standing before, an amendment that enters a student, and what its settling made
-pub record Newcomes (m n : Market) (a : Amendment) (i : ℕ) (chains new : List Chain) (before given : List (ℕ × ℕ)) (proposals made : ℕ) (r r' : RoundView) (chain : List Rejection) : Type 0 where
+-- an amendment that enters a student, the papers and the standing before it, and what its settling made
+pub record Newcomes (m n : Market) (a : Amendment) (i : ℕ) (chains new : List Chain) (before given : List (ℕ × ℕ)) (proposals made : ℕ) (r : RoundView) : Type 0 where
   pub entry : newcomer a ≡ Some i
   pub allowed : verdict m a ≡ None
   pub grown : n ≡ after m a
   pub certified : IsCertified (record { papers = m; places = before; segments = logs_in chains; proposals = proposals })
   pub theirs : students_in chains ≡ students_of m
-  pub grows : StandGrown m n (joined (logs_in chains)) r
-  pub enters : EntersBy n r r' i chain made
-  pub pushed : new ≡ with_chain chains i chain
-  pub placed : (j : ℕ) → assigned given j ≡ next_of n r'.ranks j
+  pub has : HasEntered n chains new given r i made
 
-module _ (m n : Market) (a : Amendment) (i : ℕ) (chains new : List Chain) (before given : List (ℕ × ℕ)) (proposals made : ℕ) (r r' : RoundView) (chain : List Rejection) (comes : Newcomes m n a i chains new before given proposals made r r' chain) where
+module _ (m n : Market) (a : Amendment) (i : ℕ) (chains new : List Chain) (before given : List (ℕ × ℕ)) (proposals made : ℕ) (r : RoundView) (comes : Newcomes m n a i chains new before given proposals made r) where
   entry : IsEntry a i
   entry = is-entry a i comes.entry
+
+  abbrev chain : List Rejection
+  chain = comes.has.chain
 
   abbrev new_standing : Standing
   new_standing = record { papers = n; places = given; segments = logs_in new; proposals = made }
 
-  on : GoesOn n (logs_in chains) (with_log r' chain made) (students_in new) (logs_in new) (length n.students)
-  on = goes-on-entered m n i made entry.student chains new chain r r' (comes.grown ∙ entry.after m) comes.theirs comes.certified.segmented comes.grows comes.enters comes.pushed
-
   more : students_of n ≡ students_of m ++ i ∷ []
   more = ap students_of (comes.grown ∙ entry.after m) ∙ students-grown m i entry.student
 
-  pub newcomer-theirs : students_in new ≡ students_of n
-  newcomer-theirs = students-all n (logs_in chains) (with_log r' chain made) (students_in new) (logs_in new) on
+  all-chains : length chains + 1 ≡ length n.students
+  all-chains =
+      omega (arith, length-map chains (λ (c : Chain). c.student), ap (λ (xs : List ℕ). length xs) comes.theirs, ap (λ (xs : List ℕ). length xs) more,
+      length-append (students_of m) (i ∷ []), length-students n)
 
-  pub newcomer-stands : AllStandAfter n (joined (logs_in new)) r'
-  newcomer-stands = all-stand-entered m n i made chains new chain r r' comes.grows comes.enters on
+  on : GoesOn n (logs_in chains) (with_log r chain made) (students_in new) (logs_in new) (length n.students)
+  on =
+      subst (GoesOn n (logs_in chains) (with_log r chain made) (students_in new) (logs_in new)) all-chains
+      (goes-on-entered n i made chains new before given r
+      (next-to-enter m n i entry.student chains before (comes.grown ∙ entry.after m) comes.has.stood.fits.well_formed comes.theirs comes.certified.segmented comes.certified.matching)
+      comes.has)
+
+  pub newcomer-theirs : students_in new ≡ students_of n
+  newcomer-theirs = students-all n (logs_in chains) (with_log r chain made) (students_in new) (logs_in new) on
+
+  pub newcomer-stands : StandsAfter n new r
+  newcomer-stands = stands-entered n i made (length n.students) chains new given r comes.has on
 
   given-next : (j : ℕ) → assigned given j ≡ next_choice n (joined (logs_in new)) j
-  given-next j = comes.placed j ∙ next-all n (logs_in chains) (with_log r' chain made) (students_in new) (logs_in new) on j
+  given-next j = comes.has.placed j ∙ next-all n (logs_in chains) (with_log r chain made) (students_in new) (logs_in new) on j
 
   pub newcomer-certified : IsCertified (record { papers = n; places = given; segments = logs_in new; proposals = made })
   newcomer-certified =
       certified-of n given (logs_in new) made on.fits.well_formed
-      (segments-all n (logs_in chains) (with_log r' chain made) (students_in new) (logs_in new) on) given-next
+      (segments-all n (logs_in chains) (with_log r chain made) (students_in new) (logs_in new) on) given-next
 
   kept-length : length (logs_in chains) ≡ length m.students
   kept-length = comes.certified.segmented.one_each ∙ length-students m
@@ -166,11 +175,11 @@ module _ (m n : Market) (a : Amendment) (i : ℕ) (chains new : List Chain) (bef
         | inr out ↦ ap (λ o. not (test j) && is_some o) (gave-before j ∙ sym (same-outside test tells j out))
       ]
 
-  all-placed : standing_but n r'.ranks nobody ≡ placed n (assigned given)
+  all-placed : standing_but n r.ranks nobody ≡ placed n (assigned given)
   unfolding standing_but
   all-placed =
-      how_many-agree n (λ j. is_some (next_of n r'.ranks j) && not false) (λ j. is_some (assigned given j))
-      (λ j. stays (is_some (next_of n r'.ranks j)) ∙ ap is_some (sym (comes.placed j)))
+      how_many-agree n (λ j. is_some (next_of n r.ranks j) && not false) (λ j. is_some (assigned given j))
+      (λ j. stays (is_some (next_of n r.ranks j)) ∙ ap is_some (sym (comes.has.placed j)))
 
   -- of the segments from the newcomer's on, theirs is the only one
   own-segment : (test : ℕ → Bool) → test i ≡ true → joined (part_of (drop (length m.students) (students_of n)) test (drop (length m.students) (logs_in new))) ≡ chain
@@ -179,7 +188,7 @@ module _ (m n : Market) (a : Amendment) (i : ℕ) (chains new : List Chain) (bef
       ap (drop (length m.students)) more ∙ drop-append-le (length m.students) (students_of m) (i ∷ []) (omega (arith, length-students m))
       ∙ ap (λ xs. xs ++ i ∷ []) (drop_all (length m.students) (students_of m) (omega (arith, length-students m))) in
       let segments : drop (length m.students) (logs_in new) ≡ chain ∷ [] =
-      ap (drop (length m.students)) (ap logs_in comes.pushed ∙ map-append (λ (c : Chain). c.rejections) chains (record { student = i; rejections = chain } ∷ []))
+      ap (drop (length m.students)) (ap logs_in comes.has.pushed ∙ map-append (λ (c : Chain). c.rejections) chains (record { student = i; rejections = chain } ∷ []))
       ∙ drop-append-le (length m.students) (logs_in chains) (chain ∷ []) (omega (arith, kept-length))
       ∙ ap (λ ls. ls ++ chain ∷ []) (drop_all (length m.students) (logs_in chains) (omega (arith, kept-length))) in
       (λ t. joined (part_of (students t) test (segments t)))
