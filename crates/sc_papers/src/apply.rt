@@ -35,14 +35,18 @@ impl Papers {
                 self.enter(student, record)?;
             }
             Amendment::Withdraw { student } => self.withdraw(student),
-            Amendment::Rerank { student, choices } => self.rerank(student, choices),
+            Amendment::Rerank { student, choices } => {
+                let _ = self.rerank(student, choices);
+            }
             Amendment::Add { school, count } => self.add_seats(school, count),
             Amendment::Close { school, count } => self.close_seats(school, count),
             Amendment::Correct {
                 student,
                 zone,
                 siblings,
-            } => self.correct(student, zone, siblings),
+            } => {
+                let _ = self.correct(student, zone, siblings);
+            }
         }
         Ok(())
     }
