@@ -17,3 +17,4 @@ pub mod Moves
 pub mod Entry
 pub mod Told
 pub mod Newcomer
+pub mod Admitted

@@ -41,6 +41,7 @@ impl Clearing {
         );
         match entered {
             Ok(proposals) => {
+                drop(back);
                 self.proposals = proposals;
                 Ok(())
             }
