@@ -32,4 +32,7 @@ pub mod Cutting
 pub mod Reordering
 pub mod Locality
 pub mod Amending
+pub mod Unobjected
+pub mod TakingBack
+pub mod Exchanging
 pub mod Weaving

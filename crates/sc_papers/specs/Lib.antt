@@ -3,6 +3,7 @@ pub mod Market
 pub mod Key
 pub mod Refusal
 pub mod Verdict
+pub mod TakingBack
 pub mod WellFormed
 pub mod StudentRow
 pub mod Representation

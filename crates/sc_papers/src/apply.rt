@@ -37,7 +37,9 @@ impl Papers {
                 self.enter(student, record)?;
             }
             Amendment::Withdraw { student } => self.withdraw(student),
-            Amendment::Rerank { student, choices } => self.rerank(student, choices),
+            Amendment::Rerank { student, choices } => {
+                let _ = self.rerank(student, choices);
+            }
             Amendment::Add { school, count } => self.add_seats(school, count),
             Amendment::Close { school, count } => self.close_seats(school, count),
             Amendment::Correct {
@@ -45,7 +47,9 @@ impl Papers {
                 zone,
                 siblings,
                 continuing,
-            } => self.correct(student, zone, siblings, continuing),
+            } => {
+                let _ = self.correct(student, zone, siblings, continuing);
+            }
         }
         Ok(())
     }

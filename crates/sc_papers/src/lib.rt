@@ -10,6 +10,7 @@ mod apply;
 mod assignment;
 mod check;
 mod count;
+mod exchange;
 mod key;
 mod known;
 pub mod laws;

@@ -19,6 +19,7 @@ use indexmap::IndexMap;
 use sc_lottery::{Draws, Seed, StudentNumber};
 use std::alloc::{AllocError, Global};
 use std::marker::Model;
+use std::mem;
 
 /// The schools and the students of one school choice, and the seed of its lottery.
 ///
@@ -96,7 +97,7 @@ fn copy_students(
 impl Papers {
     ghost use Rattle.std.specs.Prelude.{◌≡◌, ℕ, ◌+◌, ◌-◌, ◌<◌, ◌≤◌, ◌↔◌, [], ◌∷◌, ◌++◌, length, map, slice_get, position, nat_eq, ◌&&◌, Some, None, if◌then◌else◌, OnOk, OnErr, IfErr, IfOk};
     ghost use Rattle.std.specs.Option.{option_and_then, option_copied};
-    ghost use Rattle.sc_papers.specs.Market.{Market, choices_of, school_of, student_at, student_of, schools_of, students_of, seats_of, is_school, is_student};
+    ghost use Rattle.sc_papers.specs.Market.{Market, choices_of, school_of, student_at, student_of, schools_of, students_of, seats_of, siblings_of, zone_of, continuing_of, is_school, is_student};
     ghost use Rattle.sc_papers.specs.Key.{key_at, key_of};
     ghost use Rattle.sc_papers.specs.WellFormed.{WellFormed, WithinLimits};
     ghost use Rattle.sc_papers.specs.Verdict.{first_of, objections_to_add, objections_to_close, objections_to_correct, objections_to_enter, objections_to_rerank, objections_to_withdraw, with_choices, with_circumstances, with_seats, with_student, without_student, school_verdict, with_school, IsSchoolRefusal};
@@ -333,42 +334,53 @@ impl Papers {
         }
     }
 
-    /// Replaces a student's choices.
-    pub(crate) fn rerank(&mut self, number: StudentNumber, choices: SchoolList)
+    /// Replaces a student's choices, and answers the old ones.
+    pub(crate) fn rerank(&mut self, number: StudentNumber, choices: SchoolList) -> SchoolList
         requires { first_of (objections_to_rerank self.old number choices) ≡ None }
-        ensures { self.new ≡ with_choices self.old number choices }
+        ensures new { self.new ≡ with_choices self.old number choices }
+        ensures old { result ≡ choices_of self.old number }
     {
         let Some(position) = self.students.get_index_of(&number) else {
-            return;
+            unreachable!()
         };
         let draw = self.rows[position].draw();
-        if let Some(student) = self.students.get_mut(&number) {
-            student.choices = choices;
-            self.rows[position] = StudentRow::new(draw, &self.positions, student);
-        }
+        let Some(student) = self.students.get_mut(&number) else {
+            unreachable!()
+        };
+        let before = mem::replace(&mut student.choices, choices);
+        self.rows[position] = StudentRow::new(draw, &self.positions, student);
+        before
     }
 
-    /// Replaces a student's zone, siblings and the school at which the student continues.
+    /// Replaces a student's zone, siblings and the school at which the student continues, and answers the old
+    /// ones.
     pub(crate) fn correct(
         &mut self,
         number: StudentNumber,
         zone: Zone,
         siblings: SchoolList,
         continuing: Option<SchoolNo>,
-    )
+    ) -> (Zone, SchoolList, Option<SchoolNo>)
         requires { first_of (objections_to_correct self.old number siblings continuing) ≡ None }
-        ensures { self.new ≡ with_circumstances self.old number zone siblings continuing }
+        ensures new { self.new ≡ with_circumstances self.old number zone siblings continuing }
+        ensures old { result ≡ (zone_of self.old number, siblings_of self.old number, continuing_of self.old number) }
     {
         let Some(position) = self.students.get_index_of(&number) else {
-            return;
+            unreachable!()
         };
         let draw = self.rows[position].draw();
-        if let Some(student) = self.students.get_mut(&number) {
-            student.zone = zone;
-            student.siblings = siblings;
-            student.continuing = continuing;
-            self.rows[position] = StudentRow::new(draw, &self.positions, student);
-        }
+        let Some(student) = self.students.get_mut(&number) else {
+            unreachable!()
+        };
+        let before = (
+            student.zone,
+            mem::replace(&mut student.siblings, siblings),
+            student.continuing,
+        );
+        student.zone = zone;
+        student.continuing = continuing;
+        self.rows[position] = StudentRow::new(draw, &self.positions, student);
+        before
     }
 
     /// Gives a school these seats.

@@ -13,3 +13,8 @@ pub mod InStep
 pub mod Ending
 pub mod Resettled
 pub mod Regional
+pub mod Moves
+pub mod Entry
+pub mod Told
+pub mod Newcomer
+pub mod Admitted

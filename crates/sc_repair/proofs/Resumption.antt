@@ -31,7 +31,7 @@ any-turned [] i = refl
 any-turned (x ∷ xs) i = ap (λ b. b || list_any (nat_eq i) xs) (nat_eq_equiv.symm i x) ∙ ap (λ b. (x == i) || b) (any-turned xs i)
 
 -- the papers of the first k students, if they alone have entered
-entered-cut : (m : Market) (ranks : List (Option ℕ)) (k : ℕ) → WellFormed m → ((i : ℕ) → has_entered m ranks i ≡ list_any (nat_eq i) (take k (students_of m))) → entered_papers m ranks ≡ cut m k
+pub entered-cut : (m : Market) (ranks : List (Option ℕ)) (k : ℕ) → WellFormed m → ((i : ℕ) → has_entered m ranks i ≡ list_any (nat_eq i) (take k (students_of m))) → entered_papers m ranks ≡ cut m k
 entered-cut m ranks k well entered =
     ap (restricted m) (λ t i. (entered i ∙ any-turned (take k (students_of m)) i) t) ∙ sym (cut-restricted m k well)
 

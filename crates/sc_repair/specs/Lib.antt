@@ -4,3 +4,4 @@ pub mod Rewinding
 pub mod Resumption
 pub mod Locality
 pub mod Course
+pub mod Newcomer

@@ -1,7 +1,11 @@
 -- How the type `Clearing` keeps its standing. Contracts see the `Standing` alone.
-use Rattle.std.specs.Prelude.{◌≡◌}
-use Rattle.sc_papers.specs.Market.{students_of}
-use Rattle.sc_checkpoint.specs.Chains.{logs_in, students_in}
+use Rattle.std.specs.Prelude.{◌≡◌, false, List, IfSome}
+use Rattle.sc_papers.specs.Market.{Market, students_of}
+use Rattle.sc_checkpoint.specs.Chains.{logs_in, students_in, Chain}
+use Rattle.sc_engine.specs.Round.{is_spent, view_of}
+use Rattle.sc_engine.specs.declared.round.Round.{Round}
+use Rattle.sc_seats.specs.Roll.{RollView}
+use Rattle.sc_repair.specs.Newcomer.{StandsAfter}
 use Rattle.sc_repair.specs.Standing.{Standing, IsCertified}
 use Rattle.sc_repair.specs.declared.clearing.Clearing.TheInside.{Inside}
 
@@ -9,7 +13,13 @@ use Rattle.sc_repair.specs.declared.clearing.Clearing.TheInside.{Inside}
 abbrev pub standing_of : Inside → Standing
 standing_of c = record { papers = c.papers; places = c.places; segments = logs_in c.segments; proposals = c.proposals }
 
--- what is true of the fields: the standing is certified, and each segment is its student's
+-- the students of the chains stand in a round, which can go on
+abbrev pub IsKept : Market → List Chain → Round RollView → Type 0
+IsKept m chains round = (is_spent round ≡ false) × StandsAfter m chains (view_of (λ roll. roll.keys) (λ roll. roll.seats) round)
+
+-- what is true of the fields: the standing is certified, each segment is its student's, and where a round
+-- is kept, everybody stands in it where the log leaves them
 pub record IsSound (c : Inside) : Type 0 where
   pub certified : IsCertified (standing_of c)
   pub theirs : students_in c.segments ≡ students_of c.papers
+  pub round : IfSome c.round (IsKept c.papers c.segments)

@@ -4,10 +4,12 @@ ghost use Rattle.sc_papers.specs.Market.{students_of};
 ghost use Rattle.sc_papers.specs.Matching.{has, held};
 
 mod amend;
+mod newcomer;
 mod resettle;
 
 use crate::settling::settle_on;
 use sc_checkpoint::Segments;
+use sc_engine::Round;
 use sc_papers::{Assignment, Papers, Rejection, SchoolNo, StudentNo};
 use sc_seats::HeapRoll;
 use std::alloc::{AllocError, Global};
@@ -25,6 +27,8 @@ pub struct Clearing {
     places: Assignment,
     segments: Segments,
     proposals: u64,
+    // The round in which everybody stands, from one newcomer to the next, where there is one.
+    round: Option<Round<HeapRoll>>,
 }
 
 impl Model for Clearing {
@@ -106,6 +110,7 @@ impl Clearing {
                 places: settled.assignment,
                 segments,
                 proposals: settled.proposals,
+                round: None,
             }),
             Err(_) => Err(OpenRefused { papers }),
         }

@@ -3,6 +3,7 @@
 #![tactic(auto)]
 
 mod clearing;
+mod entering;
 mod resettling;
 mod rewind;
 mod settling;

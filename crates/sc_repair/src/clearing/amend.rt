@@ -7,6 +7,7 @@ ghost use Rattle.sc_repair.specs.Rewinding.{rewind_point};
 ghost use Rattle.sc_repair.specs.Standing.{matching_of, papers_after, CountsRegion, IsCertified, KeepsOthers};
 
 use super::Clearing;
+use crate::entering::newcomer;
 use crate::rewind::rewind_point;
 use sc_papers::{Amendment, Papers, Refusal};
 use sc_region::region;
@@ -71,6 +72,10 @@ impl Clearing {
         ensures refused { IfErr result (IsRefusal (verdict self.old.papers amendment)) }
         ensures unchanged { OnErr result (self.new ≡ self.old) }
     {
+        if let Some(student) = newcomer(&amendment) {
+            self.admit(amendment, student)?;
+            return Ok(());
+        }
         *self = self.amended(amendment)?;
         Ok(())
     }

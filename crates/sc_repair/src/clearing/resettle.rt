@@ -46,6 +46,7 @@ impl Clearing {
             places,
             segments,
             proposals: round.proposals(),
+            round: None,
         })
     }
 }

@@ -1,6 +1,6 @@
 use Rattle.std.proofs.Common.{◌≡◌, ◌-◌, sym, subst, ap, ◌∙◌, length, take}
 use Rattle.sc_papers.specs.Market.{students_of}
-use Rattle.sc_papers.specs.Verdict.{after}
+use Rattle.sc_papers.specs.Verdict.{after, verdict}
 use Rattle.sc_repair.specs.Locality.{is_among, ChangesInside, TellsRegion}
 use Rattle.sc_repair.specs.Rewinding.{rewind_point}
 use Rattle.sc_repair.specs.Standing.{Standing, CountsInside}
@@ -26,6 +26,13 @@ resettled-requires c =
           (subst (ChangesInside m (after m c.args.amendment) test (rewind_point m c.args.amendment)) gap
           (changes-inside m c.args.amendment test c.self.invariant.certified.well_formed c.in_ok-point.ensures.allowed tells))));
     }
+
+pub returns-clause-allowed : goal.returns-clause-allowed
+returns-clause-allowed c = ap (λ (s : Standing). verdict s.papers c.args.amendment) (sym c.self.view_is) ∙ c.in_ok-point.ensures.allowed
+
+pub returns-clause-accepted : goal.returns-clause-accepted
+returns-clause-accepted c =
+    c.in_ok-clearing.ensures.papers ∙ c.in_ok-papers.ensures.accepted ∙ ap (λ (s : Standing). after s.papers c.args.amendment) c.self.view_is
 
 pub returns-clause-stays : goal.returns-clause-stays
 returns-clause-stays c =

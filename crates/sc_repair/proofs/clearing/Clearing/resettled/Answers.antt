@@ -57,6 +57,7 @@ invariant_of-result c =
     record {
       certified = made.certified;
       theirs = theirs-end c.args.papers region chains _ c.args.gap _ c.settle_region.new.segments c.in_ok-round.ensures.on;
+      round = tt;
     }
 
 pub returns-clause-certified : goal.returns-clause-certified

@@ -1,0 +1,25 @@
+use Rattle.std.proofs.Common.{◌≡◌, sym, ap, ◌∙◌, nat_eq, cond, Result, Ok, Err}
+use Rattle.std.specs.Prelude.{OnErr, OnOk}
+use Rattle.sc_papers.specs.Assignment.{assigned}
+use Rattle.sc_papers.proofs.Assigning.{assigned-with_place, with_place-new}
+use Rattle.sc_repair.proofs.entering.note.Goals as goal
+
+on_error : {A E : Type 0} (result : Result A E) (P : Type 0) → P → OnErr result P
+on_error (Ok done) P holds = tt
+on_error (Err refused) P holds = holds
+
+on_success : {A E : Type 0} (result : Result A E) (P : Type 0) → P → OnOk result P
+on_success (Ok done) P holds = holds
+on_success (Err refused) P holds = tt
+
+pub returns-then-is_err-clause-places_unchanged : goal.returns-then-is_err-clause-places_unchanged
+returns-then-is_err-clause-places_unchanged g c =
+    on_error c.push-pushed.result (c.take_last.new.self ≡ c.args.places.now)
+    (c.take_last.ensures c.args.places.now c.args.student c.in-Some.school
+    (c.in_ok-put.ensures.put ∙ with_place-new c.args.places.now c.args.student c.in-Some.school c.requires.unplaced))
+
+pub returns-else-is_err-clause-given : goal.returns-else-is_err-clause-given
+returns-else-is_err-clause-given g c = on_success c.push-pushed.result _
+    (λ j. ap (λ pairs. assigned pairs j) c.in_ok-put.ensures.put
+    ∙ assigned-with_place c.args.places.now c.args.student c.in-Some.school j
+    ∙ ap (λ o. cond (nat_eq j c.args.student) o (assigned c.args.places.now j)) (c.in-Some.ensures c.requires.ready))
