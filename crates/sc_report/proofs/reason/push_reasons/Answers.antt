@@ -23,7 +23,7 @@ returns-then-is_held c =
     let here : slice_get choices k ≡ Some s = sym (c.in-Some.ensures.school ∙ ap (λ (j : ℕ). slice_get (choices_of m j) k) (hand-is m c.args.entrant.position i c.requires.stands)) in
     let low : k < length choices = slice_get_within choices k s here in
     let is : s ≡ get_or choices k s = sym (get_or_from_slice_get choices k s s here) in
-    let holds = held-test a i s c.get-held.result c.is_held.result true c.get-held.ensures c.is_held.ensures c.if-is_held.true in
+    let holds = held-test a i s c.get_near-held.result c.is_held.result true c.get_near-held.ensures c.is_held.ensures c.if-is_held.true in
     c.ranks.invariant.rows
     ∙ ap (λ more. c.args.reasons.now.items ++ more)
     (reasons-are m a i choices k refl (passed-stop (λ t. has a t i) choices k s c.ranks.invariant.none low is holds))
@@ -49,7 +49,7 @@ ranks-preserved c =
     let here : slice_get choices k ≡ Some s = sym (c.in-Some.ensures.school ∙ ap (λ (j : ℕ). slice_get (choices_of m j) k) same) in
     let low : k < length choices = slice_get_within choices k s here in
     let is : s ≡ get_or choices k s = sym (get_or_from_slice_get choices k s s here) in
-    let fails = held-test a i s c.get-held.result c.is_held.result false c.get-held.ensures c.is_held.ensures c.if-is_held.false in
+    let fails = held-test a i s c.get_near-held.result c.is_held.result false c.get_near-held.ensures c.is_held.ensures c.if-is_held.false in
     let row = row-reason m a i s c.reason_of-reason.result
     (c.reason_of-reason.ensures m a c.requires.rows c.in-Some.ensures.position
     ∙ ap (reason_by (cutoff m a s)) (c.in-Some.ensures.key ∙ ap (λ (j : ℕ). key_of m j s) same)) in
