@@ -1,0 +1,108 @@
+#!/usr/bin/env python3
+"""Times amendments by kind: the built program runs a script of one kind of amendment after an opening.
+
+    amendments.py [--students N,N,..] [--times N] [--folder FOLDER] [--program PATH]
+
+Each market is made twice by generate.py: as one city whose students' lists connect all schools, and as districts that share
+none. A run with the script is timed beside one with an empty script, `--times` times each; the difference of the least
+processor times, divided by the number of amendments, is what one costs. So the opening, the reading and the report do not
+count. The last column is the run with the empty script, whole.
+"""
+import argparse
+import os
+import random
+import subprocess
+import sys
+import tempfile
+
+HERE = os.path.dirname(os.path.abspath(__file__))
+PROGRAM = os.path.join(HERE, "..", "crates", "clearinghouse", "out", "clearinghouse")
+SCHOOLS = {20_000: 200, 80_000: 700, 200_000: 2_000}
+CHOICES = 12
+KINDS = {"newcomer": 1_000, "withdrawal of the last": 20, "withdrawal of a random one": 20, "rerank": 20, "correction": 20,
+         "a seat more": 20, "a seat less": 20}
+
+
+def market(folder, students, districts):
+    target = os.path.join(folder, f"{students}-{districts}")
+    if not os.path.isdir(target):
+        schools = SCHOOLS.get(students, max(students // 100, districts))
+        subprocess.run([sys.executable, os.path.join(HERE, "generate.py"), target, "--students", str(students), "--schools", str(schools),
+                        "--choices", str(CHOICES), "--seats", str(students // schools), "--districts", str(districts)], check=True)
+    return target
+
+
+def rows(folder, name):
+    with open(os.path.join(folder, f"{name}.csv")) as file:
+        return [line.rstrip("\n").split(",") for line in file][1:]
+
+
+def script_of(kind, folder, districts, count):
+    """So many amendments of one kind, each of another student or school."""
+    source = random.Random(kind)
+    lists = dict(rows(folder, "lists"))
+    roster = rows(folder, "roster")
+    schools = [row[0] for row in rows(folder, "schools")]
+    near = [schools[first::districts] for first in range(districts)]
+    some = source.sample(roster, count)
+    for turn in range(count):
+        student, zone, siblings = some[turn]
+        if kind == "newcomer":
+            district = near[turn % districts]
+            choices = source.sample(district, min(CHOICES, len(district)))
+            yield f"enter,{20_000_000 + turn},{zone},,{' '.join(choices)}"
+        elif kind == "withdrawal of the last":
+            yield f"withdraw,{roster[-1 - turn][0]}"
+        elif kind == "withdrawal of a random one":
+            yield f"withdraw,{student}"
+        elif kind == "rerank":
+            choices = lists[student].split(" ")
+            source.shuffle(choices)
+            yield f"rerank,{student},{' '.join(choices)}"
+        elif kind == "correction":
+            yield f"correct,{student},{(int(zone) + 1) % 20},{siblings}"
+        else:
+            word = "add" if kind == "a seat more" else "close"
+            yield f"{word},{source.choice(schools)},1"
+
+
+def processor(words):
+    """Processor milliseconds of a run."""
+    process = subprocess.Popen(words, stdout=subprocess.DEVNULL)
+    _, status, used = os.wait4(process.pid, 0)
+    if status != 0:
+        sys.exit(f"{' '.join(words)} ended with {status}")
+    return (used.ru_utime + used.ru_stime) * 1e3
+
+
+def main():
+    words = argparse.ArgumentParser(description=__doc__, formatter_class=argparse.RawDescriptionHelpFormatter)
+    words.add_argument("--students", default="20000,80000,200000")
+    words.add_argument("--times", type=int, default=3)
+    words.add_argument("--folder", default=os.path.join(tempfile.gettempdir(), "clearinghouse-amendments"))
+    words.add_argument("--program", default=PROGRAM)
+    given = words.parse_args()
+    os.makedirs(given.folder, exist_ok=True)
+    print("| students | " + " | ".join(f"{kind}, ms" for kind in KINDS) + " | the whole opening, ms |")
+    print("|---" * (len(KINDS) + 2) + "|")
+    for students in map(int, given.students.split(",")):
+        for districts, name in ((1, "one city"), (200, "200 districts")):
+            folder = market(given.folder, students, min(districts, students // 100))
+            with open(os.path.join(folder, "seed")) as file:
+                opening = ["--seed", file.read()]
+            for file in ("schools", "roster", "lists"):
+                opening += [f"--{file}", os.path.join(folder, f"{file}.csv")]
+            script, journal = os.path.join(given.folder, "script"), os.path.join(given.folder, "journal")
+
+            def run(lines):
+                with open(script, "w") as file:
+                    file.write("".join(f"{line}\n" for line in lines))
+                return min(processor([given.program, "run", *opening, "--script", script, "--journal", journal]) for _ in range(given.times))
+
+            empty = run([])
+            costs = [(run(script_of(kind, folder, min(districts, students // 100), count)) - empty) / count for kind, count in KINDS.items()]
+            print(f"| {students:,}, {name} | " + " | ".join(f"{max(cost, 0):.2f}" for cost in costs) + f" | {empty:.0f} |", flush=True)
+
+
+if __name__ == "__main__":
+    main()
