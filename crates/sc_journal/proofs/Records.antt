@@ -1,17 +1,19 @@
 -- Lines, both ways.
-use Rattle.std.proofs.Common.{◌≡◌, ℕ, ◌<◌, ◌≤◌, true, false, List, [], ◌∷◌, length, refl, sym, ◌∙◌, ap, arith, append_assoc, ◌⊎◌, inl, inr}
-use Rattle.std.specs.Prelude.{◌==◌, codes, Ok, Err}
+use Rattle.std.proofs.Common.{◌≡◌, ℕ, ◌+◌, ◌<◌, ◌≤◌, true, false, List, [], ◌∷◌, drop, length, refl, sym, ◌∙◌, ap, arith, append_assoc, rules, ◌⊎◌, inl, inr}
+use Rattle.std.specs.Prelude.{◌==◌, ◌||◌, codes, Option, None, Some, Result, Ok, Err}
 use Rattle.std.specs.Fmt.{decimal}
 use Rattle.std.specs.List.{All, join_with_byte, slice_split}
 use Rattle.std.proofs.lemmas.Bool.Decides.{nat_tests}
+use Rattle.std.proofs.lemmas.List.{at_drop_all, at_drop_more}
+use Rattle.std.proofs.lemmas.Option.{unwrap_or-slice_get}
 use Rattle.std.proofs.lemmas.List.Elements.{All-append, All-cons, All-same}
 use Rattle.std.proofs.lemmas.List.Splits.{join_with_byte-slice_split}
 use Rattle.std.proofs.lemmas.Slice.Eq.{bytes_eq-Decides}
 use Rattle.sc_papers.specs.declared.amendment.Amendment.{Amendment}
 use Rattle.sc_papers.specs.declared.amendment.Amendment.TheVariants.{Enter, Withdraw, Rerank, Add, Close, Correct}
-use Rattle.sc_journal.specs.Line.{amendment_text, fields_of, line_text, list_text}
-use Rattle.sc_journal.specs.Reading.{add_in, amendment_in, close_in, correct_in, count_in, enter_in, field_at, is_named, line_in, line_of, list_in, ranged_in, rerank_in, school_in, student_in, withdraw_in, zone_in}
-use Rattle.sc_journal.specs.Spelling.{IsCount, IsInRanges, IsLineOf, IsSchool, IsStudent, IsZone}
+use Rattle.sc_journal.specs.Line.{amendment_text, continuing_fields, fields_of, line_text, list_text}
+use Rattle.sc_journal.specs.Reading.{◌>>=◌, add_in, amendment_in, close_in, correct_in, count_in, enter_in, field_at, is_named, line_in, line_of, list_in, ranged_in, rerank_in, school_in, school_or_none_in, student_in, withdraw_in, zone_in}
+use Rattle.sc_journal.specs.Spelling.{IsCount, IsInRanges, IsLineOf, IsSchool, IsSchoolOrNone, IsStudent, IsZone}
 use Rattle.sc_journal.specs.declared.reading.JournalLine.{JournalLine}
 use Rattle.sc_journal.specs.declared.unread.Unread.{Unread}
 use Rattle.sc_journal.specs.declared.unread.Unread.TheVariants.{NoLine, OutOfMemory}
@@ -77,16 +79,46 @@ abbrev AreFree : ℕ → List ℕ → List (List ℕ) → Type 0
 AreFree c first [] = IsFree c first
 AreFree c first (next ∷ rest) = IsFree c first × AreFree c next rest
 
+-- a last text without the byte, and the field of a school after it, if there is one
+free-to-the-end : (c : ℕ) (last : List ℕ) (continuing : Option ℕ) → IsOutside c → IsFree c last → IsSchoolOrNone continuing → AreFree c last (continuing_fields continuing)
+free-to-the-end c last None out free ok = free
+free-to-the-end c last (Some s) out free ok = (free, school-plain c s out ok)
+
 -- no field has it
 fields-free : (c n : ℕ) (a : Amendment) → IsOutside c → n ≤ 999999999 → IsInRanges a → AreFree c (decimal n) (fields_of a)
-fields-free c n (Enter i zone siblings choices) out small ok =
-    (plain c n out small, (out.enter, (student-plain c i out ok.0, (zone-plain c zone out ok.1, (list-plain c siblings out ok.2, list-plain c choices out ok.3)))))
+fields-free c n (Enter i zone siblings choices continuing) out small ok = (
+  plain c n out small,
+  (
+    out.enter,
+    (
+      student-plain c i out ok.0,
+      (
+        zone-plain c zone out ok.1,
+        (
+          list-plain c siblings out ok.2,
+          free-to-the-end c (list_text choices) continuing out (list-plain c choices out ok.3) ok.4,
+        ),
+      ),
+    ),
+  ),
+)
 fields-free c n (Withdraw i) out small ok = (plain c n out small, (out.withdraw, student-plain c i out ok))
 fields-free c n (Rerank i choices) out small ok = (plain c n out small, (out.rerank, (student-plain c i out ok.0, list-plain c choices out ok.1)))
 fields-free c n (Add s count) out small ok = (plain c n out small, (out.add, (school-plain c s out ok.0, count-plain c count out ok.1)))
 fields-free c n (Close s count) out small ok = (plain c n out small, (out.close, (school-plain c s out ok.0, count-plain c count out ok.1)))
-fields-free c n (Correct i zone siblings) out small ok =
-    (plain c n out small, (out.correct, (student-plain c i out ok.0, (zone-plain c zone out ok.1, list-plain c siblings out ok.2))))
+fields-free c n (Correct i zone siblings continuing) out small ok = (
+  plain c n out small,
+  (
+    out.correct,
+    (
+      student-plain c i out ok.0,
+      (
+        zone-plain c zone out ok.1,
+        free-to-the-end c (list_text siblings) continuing out (list-plain c siblings out ok.2) ok.3,
+      ),
+    ),
+  ),
+)
 
 -- texts without a comma, joined by commas, are the parts again
 split-joined : (first : List ℕ) (rest : List (List ℕ)) → AreFree 44 first rest → slice_split (λ b. b == 44) (join_with_byte 44 (first ∷ rest)) ≡ first ∷ rest
@@ -102,12 +134,12 @@ joined-free first (next ∷ rest) free =
 
 -- the fields joined are the line's text
 join-line : (n : ℕ) (a : Amendment) → join_with_byte 44 (decimal n ∷ fields_of a) ≡ line_text n a
-join-line n (Enter i zone siblings choices) = sym (append_assoc (decimal n) (codes ",") (amendment_text (Enter i zone siblings choices)))
+join-line n (Enter i zone siblings choices continuing) = sym (append_assoc (decimal n) (codes ",") (amendment_text (Enter i zone siblings choices continuing)))
 join-line n (Withdraw i) = sym (append_assoc (decimal n) (codes ",") (amendment_text (Withdraw i)))
 join-line n (Rerank i choices) = sym (append_assoc (decimal n) (codes ",") (amendment_text (Rerank i choices)))
 join-line n (Add s count) = sym (append_assoc (decimal n) (codes ",") (amendment_text (Add s count)))
 join-line n (Close s count) = sym (append_assoc (decimal n) (codes ",") (amendment_text (Close s count)))
-join-line n (Correct i zone siblings) = sym (append_assoc (decimal n) (codes ",") (amendment_text (Correct i zone siblings)))
+join-line n (Correct i zone siblings continuing) = sym (append_assoc (decimal n) (codes ",") (amendment_text (Correct i zone siblings continuing)))
 
 -- what stands between the commas of a line's text
 split-line : (n : ℕ) (a : Amendment) → n ≤ 999999999 → IsInRanges a → slice_split (λ b. b == 44) (line_text n a) ≡ decimal n ∷ fields_of a
@@ -119,15 +151,19 @@ line-free n a small ok = All-same (λ b. (b == 10) ≡ false) (line_text n a) (j
 
 -- the fields of an amendment read as that amendment
 amendment-fields : (n : ℕ) (a : Amendment) → IsInRanges a → amendment_in (decimal n ∷ fields_of a) ≡ Ok a
-unfolding amendment_in enter_in withdraw_in rerank_in add_in close_in correct_in
-amendment-fields n (Enter i zone siblings choices) ok =
+unfolding amendment_in enter_in withdraw_in rerank_in add_in close_in correct_in school_or_none_in
+amendment-fields n (Enter i zone siblings choices None) ok =
     rw (ranged-decimal 1 999999999 i (omega arith) ok.0, ranged-decimal 0 9999 zone (omega arith) ok.1, list-text siblings ok.2, list-text choices ok.3) refl
+amendment-fields n (Enter i zone siblings choices (Some s)) ok =
+    rw (ranged-decimal 1 999999999 i (omega arith) ok.0, ranged-decimal 0 9999 zone (omega arith) ok.1, list-text siblings ok.2, list-text choices ok.3, ranged-decimal 1 99999 s (omega arith) ok.4) refl
 amendment-fields n (Withdraw i) ok = rw (ranged-decimal 1 999999999 i (omega arith) ok) refl
 amendment-fields n (Rerank i choices) ok = rw (ranged-decimal 1 999999999 i (omega arith) ok.0, list-text choices ok.1) refl
 amendment-fields n (Add s count) ok = rw (ranged-decimal 1 99999 s (omega arith) ok.0, ranged-decimal 1 10000 count (omega arith) ok.1) refl
 amendment-fields n (Close s count) ok = rw (ranged-decimal 1 99999 s (omega arith) ok.0, ranged-decimal 1 10000 count (omega arith) ok.1) refl
-amendment-fields n (Correct i zone siblings) ok =
+amendment-fields n (Correct i zone siblings None) ok =
     rw (ranged-decimal 1 999999999 i (omega arith) ok.0, ranged-decimal 0 9999 zone (omega arith) ok.1, list-text siblings ok.2) refl
+amendment-fields n (Correct i zone siblings (Some s)) ok =
+    rw (ranged-decimal 1 999999999 i (omega arith) ok.0, ranged-decimal 0 9999 zone (omega arith) ok.1, list-text siblings ok.2, ranged-decimal 1 99999 s (omega arith) ok.3) refl
 
 -- fields of so many
 three : (fs : List (List ℕ)) → length fs ≡ 3 → fs ≡ field_at fs 0 ∷ field_at fs 1 ∷ field_at fs 2 ∷ []
@@ -141,16 +177,55 @@ four : (fs : List (List ℕ)) → length fs ≡ 4 → fs ≡ field_at fs 0 ∷ f
 four [] e = absurd (omega arith)
 four (a ∷ fs) e = ap (λ (gs : List (List ℕ)). a ∷ gs) (three fs (omega arith))
 
-five : (fs : List (List ℕ)) → length fs ≡ 5 → fs ≡ field_at fs 0 ∷ field_at fs 1 ∷ field_at fs 2 ∷ field_at fs 3 ∷ field_at fs 4 ∷ []
+-- the first fields, and the others
+five : (fs : List (List ℕ)) → 5 ≤ length fs → fs ≡ field_at fs 0 ∷ field_at fs 1 ∷ field_at fs 2 ∷ field_at fs 3 ∷ field_at fs 4 ∷ drop 5 fs
 five [] e = absurd (omega arith)
-five (a ∷ fs) e = ap (λ (gs : List (List ℕ)). a ∷ gs) (four fs (omega arith))
+five (a ∷ []) e = absurd (omega arith)
+five (a ∷ b ∷ []) e = absurd (omega arith)
+five (a ∷ b ∷ c ∷ []) e = absurd (omega arith)
+five (a ∷ b ∷ c ∷ d ∷ []) e = absurd (omega arith)
+five (a ∷ b ∷ c ∷ d ∷ f ∷ fs) e = refl
 
-six : (fs : List (List ℕ)) → length fs ≡ 6 → fs ≡ field_at fs 0 ∷ field_at fs 1 ∷ field_at fs 2 ∷ field_at fs 3 ∷ field_at fs 4 ∷ field_at fs 5 ∷ []
+six : (fs : List (List ℕ)) → 6 ≤ length fs → fs ≡ field_at fs 0 ∷ field_at fs 1 ∷ field_at fs 2 ∷ field_at fs 3 ∷ field_at fs 4 ∷ field_at fs 5 ∷ drop 6 fs
 six [] e = absurd (omega arith)
 six (a ∷ fs) e = ap (λ (gs : List (List ℕ)). a ∷ gs) (five fs (omega arith))
 
 cons-same : {x y : List ℕ} {xs ys : List (List ℕ)} → x ≡ y → xs ≡ ys → (x ∷ xs) ≡ (y ∷ ys)
 cons-same e f = rw (e, f) refl
+
+-- so many fields, or one more
+one-or-more : (size n : ℕ) → (size == n || size == n + 1) ≡ true → (size ≡ n) ⊎ (size ≡ n + 1)
+one-or-more size n e = grind (arith, nat_tests)
+
+at-least : (size n : ℕ) → (size ≡ n) ⊎ (size ≡ n + 1) → n ≤ size
+at-least size n (inl whole) = omega arith
+at-least size n (inr longer) = omega arith
+
+-- what the fields from an index on are that read as a school's number or none
+record AreOfSchool (fields : List (List ℕ)) (n : ℕ) (continuing : Option ℕ) : Type 0 where
+  pub spelled : drop n fields ≡ continuing_fields continuing
+  pub range : IsSchoolOrNone continuing
+
+-- a school's number that was read, as one that may be missing
+a-school : (read : Result ℕ Unread) (continuing : Option ℕ) → (read >>= λ s. Ok (Some s)) ≡ Ok continuing → (s : ℕ) × (read ≡ Ok s) × (Some s ≡ continuing)
+a-school (Ok s) continuing e = (s, refl, cc)
+a-school (Err unread) continuing e = cc e
+
+-- the school's number that was read is the last field, and none where there is no such field
+last-school : (fields : List (List ℕ)) (n : ℕ) (continuing : Option ℕ) → (length fields ≡ n) ⊎ (length fields ≡ n + 1) → school_or_none_in fields n ≡ Ok continuing → AreOfSchool fields n continuing
+unfolding school_or_none_in
+last-school fields n continuing (inl whole) reads =
+    let test : (length fields == n) ≡ true = grind (arith, nat_tests) in
+    let same : None ≡ continuing = search rules in
+    rw (← same) (record { spelled = at_drop_all (λ (fs : List (List ℕ)). fs) fields n (omega arith); range = tt })
+last-school fields n continuing (inr longer) reads =
+    let test : (length fields == n) ≡ false = grind (arith, nat_tests) in
+    let (s, read, made) = a-school (school_in (field_at fields n)) continuing (search rules) in
+    let is = decimal-ranged 1 99999 s (field_at fields n) read in
+    let rest : drop n fields ≡ field_at fields n ∷ [] =
+    at_drop_more (λ (fs : List (List ℕ)). fs) fields n [] (omega arith)
+    ∙ cons-same (sym (unwrap_or-slice_get fields n [])) (at_drop_all (λ (fs : List (List ℕ)). fs) fields (n + 1) (omega arith)) in
+    rw (← made) (record { spelled = rest ∙ cons-same is.spelled refl; range = is.range })
 
 -- what fields are that read as an amendment
 record AreFieldsOf (fields : List (List ℕ)) (a : Amendment) : Type 0 where
@@ -161,19 +236,22 @@ record AreFieldsOf (fields : List (List ℕ)) (a : Amendment) : Type 0 where
 fields-enter : (fields : List (List ℕ)) (a : Amendment) → field_at fields 1 ≡ codes "enter" → enter_in fields ≡ Ok a → AreFieldsOf fields a
 unfolding enter_in
 fields-enter fields a named reads =
-    let size = passed (length fields == 6) _ a reads in
-    let whole : length fields ≡ 6 = grind (arith, nat_tests, size.holds) in
+    let size = passed (length fields == 6 || length fields == 7) _ a reads in
+    let whole = one-or-more (length fields) 6 size.holds in
     let i = second (student_in (field_at fields 2)) _ a size.gave in
     let zone = second (zone_in (field_at fields 3)) _ a i.next in
     let siblings = second (list_in (field_at fields 4)) _ a zone.next in
     let choices = second (list_in (field_at fields 5)) _ a siblings.next in
-    let same : Enter i.first zone.first siblings.first choices.first ≡ a = cc choices.next in
+    let continuing = second (school_or_none_in fields 6) _ a choices.next in
+    let same : Enter i.first zone.first siblings.first choices.first continuing.first ≡ a = cc continuing.next in
     let is-i = decimal-ranged 1 999999999 i.first (field_at fields 2) i.gave in
     let is-zone = decimal-ranged 0 9999 zone.first (field_at fields 3) zone.gave in
     let is-siblings = text-list (field_at fields 4) siblings.first siblings.gave in
     let is-choices = text-list (field_at fields 5) choices.first choices.gave in
-    let spelled : fields ≡ field_at fields 0 ∷ fields_of (Enter i.first zone.first siblings.first choices.first) = six fields whole ∙ cons-same refl (cons-same named (cons-same is-i.spelled (cons-same is-zone.spelled (cons-same is-siblings.spelled (cons-same is-choices.spelled refl))))) in
-    rw (← same) (record { spelled = spelled; ranges = (is-i.range, is-zone.range, is-siblings.ranges, is-choices.ranges) })
+    let is-continuing = last-school fields 6 continuing.first whole continuing.gave in
+    let spelled : fields ≡ field_at fields 0 ∷ fields_of (Enter i.first zone.first siblings.first choices.first continuing.first) =
+    six fields (at-least (length fields) 6 whole) ∙ cons-same refl (cons-same named (cons-same is-i.spelled (cons-same is-zone.spelled (cons-same is-siblings.spelled (cons-same is-choices.spelled is-continuing.spelled))))) in
+    rw (← same) (record { spelled = spelled; ranges = (is-i.range, is-zone.range, is-siblings.ranges, is-choices.ranges, is-continuing.range) })
 
 -- fields that read as this amendment
 fields-withdraw : (fields : List (List ℕ)) (a : Amendment) → field_at fields 1 ≡ codes "withdraw" → withdraw_in fields ≡ Ok a → AreFieldsOf fields a
@@ -233,17 +311,20 @@ fields-close fields a named reads =
 fields-correct : (fields : List (List ℕ)) (a : Amendment) → field_at fields 1 ≡ codes "correct" → correct_in fields ≡ Ok a → AreFieldsOf fields a
 unfolding correct_in
 fields-correct fields a named reads =
-    let size = passed (length fields == 5) _ a reads in
-    let whole : length fields ≡ 5 = grind (arith, nat_tests, size.holds) in
+    let size = passed (length fields == 5 || length fields == 6) _ a reads in
+    let whole = one-or-more (length fields) 5 size.holds in
     let i = second (student_in (field_at fields 2)) _ a size.gave in
     let zone = second (zone_in (field_at fields 3)) _ a i.next in
     let siblings = second (list_in (field_at fields 4)) _ a zone.next in
-    let same : Correct i.first zone.first siblings.first ≡ a = cc siblings.next in
+    let continuing = second (school_or_none_in fields 5) _ a siblings.next in
+    let same : Correct i.first zone.first siblings.first continuing.first ≡ a = cc continuing.next in
     let is-i = decimal-ranged 1 999999999 i.first (field_at fields 2) i.gave in
     let is-zone = decimal-ranged 0 9999 zone.first (field_at fields 3) zone.gave in
     let is-siblings = text-list (field_at fields 4) siblings.first siblings.gave in
-    let spelled : fields ≡ field_at fields 0 ∷ fields_of (Correct i.first zone.first siblings.first) = five fields whole ∙ cons-same refl (cons-same named (cons-same is-i.spelled (cons-same is-zone.spelled (cons-same is-siblings.spelled refl)))) in
-    rw (← same) (record { spelled = spelled; ranges = (is-i.range, is-zone.range, is-siblings.ranges) })
+    let is-continuing = last-school fields 5 continuing.first whole continuing.gave in
+    let spelled : fields ≡ field_at fields 0 ∷ fields_of (Correct i.first zone.first siblings.first continuing.first) =
+    five fields (at-least (length fields) 5 whole) ∙ cons-same refl (cons-same named (cons-same is-i.spelled (cons-same is-zone.spelled (cons-same is-siblings.spelled is-continuing.spelled)))) in
+    rw (← same) (record { spelled = spelled; ranges = (is-i.range, is-zone.range, is-siblings.ranges, is-continuing.range) })
 
 -- a word that the second field was tested to be
 is-word : (fields : List (List ℕ)) (word : List ℕ) → is_named fields word ≡ true → field_at fields 1 ≡ word

@@ -1,5 +1,5 @@
 -- How a line is read. Public contracts do not cite it: they say what text a line is the spelling of.
-use Rattle.std.specs.Prelude.{◌≡◌, ◌⊎◌, ℕ, ◌==◌, Bool, ◌&&◌, nat_le, List, [], ◌∷◌, ◌++◌, length, slice_get, unwrap_or, ok_or, codes, if◌then◌else◌, Result, Ok, Err}
+use Rattle.std.specs.Prelude.{◌≡◌, ◌⊎◌, ℕ, ◌==◌, Bool, ◌&&◌, ◌||◌, nat_le, List, [], ◌∷◌, ◌++◌, length, slice_get, unwrap_or, ok_or, codes, if◌then◌else◌, Option, None, Some, Result, Ok, Err}
 use Rattle.std.specs.List.{slice_split}
 use Rattle.std.specs.Str.{bytes_eq}
 use Rattle.sc_decimal.specs.Number.{read_plain_number}
@@ -66,14 +66,19 @@ list_in text = if length text == 0 then Ok [] else schools_after [] (slice_split
 abbrev pub field_at : List (List ℕ) → ℕ → List ℕ
 field_at fields index = unwrap_or (slice_get fields index) []
 
--- `N,enter,STUDENT,ZONE,SIBLINGS,CHOICES`
+-- the school's number that a field writes, or none where the fields end before it
+unfoldable pub school_or_none_in : List (List ℕ) → ℕ → Result (Option ℕ) Unread
+school_or_none_in fields index = if length fields == index then Ok None else school_in (field_at fields index) >>= λ s. Ok (Some s)
+
+-- `N,enter,STUDENT,ZONE,SIBLINGS,CHOICES`, and with a comma the school at which the student continues
 unfoldable pub enter_in : List (List ℕ) → Result Amendment Unread
-enter_in fields = if length fields == 6 then (do
+enter_in fields = if length fields == 6 || length fields == 7 then (do
   student ← student_in (field_at fields 2)
   zone ← zone_in (field_at fields 3)
   siblings ← list_in (field_at fields 4)
   choices ← list_in (field_at fields 5)
-  Ok (Enter student zone siblings choices)) else Err NoLine
+  continuing ← school_or_none_in fields 6
+  Ok (Enter student zone siblings choices continuing)) else Err NoLine
 
 -- `N,withdraw,STUDENT`
 unfoldable pub withdraw_in : List (List ℕ) → Result Amendment Unread
@@ -102,13 +107,14 @@ close_in fields = if length fields == 4 then (do
   count ← count_in (field_at fields 3)
   Ok (Close school count)) else Err NoLine
 
--- `N,correct,STUDENT,ZONE,SIBLINGS`
+-- `N,correct,STUDENT,ZONE,SIBLINGS`, and with a comma the school at which the student continues
 unfoldable pub correct_in : List (List ℕ) → Result Amendment Unread
-correct_in fields = if length fields == 5 then (do
+correct_in fields = if length fields == 5 || length fields == 6 then (do
   student ← student_in (field_at fields 2)
   zone ← zone_in (field_at fields 3)
   siblings ← list_in (field_at fields 4)
-  Ok (Correct student zone siblings)) else Err NoLine
+  continuing ← school_or_none_in fields 5
+  Ok (Correct student zone siblings continuing)) else Err NoLine
 
 -- the second field of a line is this word
 abbrev pub is_named : List (List ℕ) → List ℕ → Bool

@@ -1,5 +1,5 @@
 -- What a text is the spelling of.
-use Rattle.std.specs.Prelude.{◌≡◌, ℕ, List, Option, None, Some}
+use Rattle.std.specs.Prelude.{◌≡◌, ⊤, ℕ, List, Option, None, Some}
 use Rattle.std.specs.Int.{IsInRange}
 use Rattle.std.specs.List.{All}
 use Rattle.sc_lottery.specs.declared.number.TheConstants.StudentNumber.{GREATEST as greatest_student}
@@ -24,18 +24,24 @@ IsZone zone = IsInRange 0 greatest_zone zone
 abbrev pub IsSchool : ℕ → Type 0
 IsSchool s = IsInRange 1 greatest_school s
 
+-- a school's number, if there is one
+abbrev pub IsSchoolOrNone : Option ℕ → Type 0
+IsSchoolOrNone None = ⊤
+IsSchoolOrNone (Some s) = IsSchool s
+
 -- how many seats are added or closed
 abbrev pub IsCount : ℕ → Type 0
 IsCount count = IsInRange 1 greatest_count count
 
 -- the numbers of an amendment are in their ranges, as those of every value of the type are
 abbrev pub IsInRanges : Amendment → Type 0
-IsInRanges (Enter i zone siblings choices) = IsStudent i × IsZone zone × All IsSchool siblings × All IsSchool choices
+IsInRanges (Enter i zone siblings choices continuing) =
+    IsStudent i × IsZone zone × All IsSchool siblings × All IsSchool choices × IsSchoolOrNone continuing
 IsInRanges (Withdraw i) = IsStudent i
 IsInRanges (Rerank i choices) = IsStudent i × All IsSchool choices
 IsInRanges (Add s count) = IsSchool s × IsCount count
 IsInRanges (Close s count) = IsSchool s × IsCount count
-IsInRanges (Correct i zone siblings) = IsStudent i × IsZone zone × All IsSchool siblings
+IsInRanges (Correct i zone siblings continuing) = IsStudent i × IsZone zone × All IsSchool siblings × IsSchoolOrNone continuing
 
 -- a text is the line, without its newline, of an amendment under a number
 pub record IsLineOf (text : List ℕ) (number : ℕ) (amendment : Amendment) : Type 0 where

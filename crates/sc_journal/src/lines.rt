@@ -1,6 +1,7 @@
 //! The line of an amendment.
-ghost use Rattle.std.specs.Prelude.{◌≡◌, ◌++◌, IfOk, OnOk, codes, decimal, flat_map};
-ghost use Rattle.sc_journal.specs.Line.{amendment_text, further_text, line_text, list_text};
+ghost use Rattle.std.specs.Prelude.{◌≡◌, ◌∷◌, ◌++◌, IfOk, OnOk, codes, decimal, flat_map};
+ghost use Rattle.std.specs.List.{join_with_byte};
+ghost use Rattle.sc_journal.specs.Line.{amendment_text, continuing_fields, further_text, line_text, list_text};
 
 use crate::line_no::LineNo;
 use sc_decimal::push_number;
@@ -55,6 +56,22 @@ fn push_home(text: &mut Vec<u8>, zone: Zone, siblings: &SchoolList) -> Result<()
     push_list_field(text, siblings)
 }
 
+/// Adds a comma and a list of schools, and after another comma the school at which a student
+/// continues, if there is one.
+fn push_last_fields(
+    text: &mut Vec<u8>,
+    schools: &SchoolList,
+    continuing: Option<SchoolNo>,
+) -> Result<(), AllocError>
+    ensures { OnOk result (text.new.items ≡ text.old.items ++ codes "," ++ join_with_byte 44 (list_text schools.now ∷ continuing_fields continuing)) }
+{
+    push_list_field(text, schools)?;
+    match continuing {
+        Some(school) => push_number_field(text, school.get()),
+        None => Ok(()),
+    }
+}
+
 /// Adds the record of an amendment.
 fn push_amendment(text: &mut Vec<u8>, amendment: &Amendment) -> Result<(), AllocError>
     ensures { OnOk result (text.new.items ≡ text.old.items ++ amendment_text amendment.now) }
@@ -65,11 +82,12 @@ fn push_amendment(text: &mut Vec<u8>, amendment: &Amendment) -> Result<(), Alloc
             zone,
             siblings,
             choices,
+            continuing,
         } => {
             text.extend_from_slice(b"enter")?;
             push_number_field(text, student.get())?;
             push_home(text, *zone, siblings)?;
-            push_list_field(text, choices)
+            push_last_fields(text, choices, *continuing)
         }
         Amendment::Withdraw { student } => {
             text.extend_from_slice(b"withdraw")?;
@@ -94,10 +112,12 @@ fn push_amendment(text: &mut Vec<u8>, amendment: &Amendment) -> Result<(), Alloc
             student,
             zone,
             siblings,
+            continuing,
         } => {
             text.extend_from_slice(b"correct")?;
             push_number_field(text, student.get())?;
-            push_home(text, *zone, siblings)
+            push_number_field(text, zone.get())?;
+            push_last_fields(text, siblings, *continuing)
         }
     }
 }
@@ -119,8 +139,9 @@ pub(crate) fn spelling(
 
 /// The line of an accepted amendment, with its newline: its number, a comma, and the amendment's
 /// record. Each amendment has this one spelling: decimal digits without leading zeros, one space
-/// between the numbers of a list, an empty field for an empty list, and no quotes. The only error is
-/// want of memory; the cost is the length of the line.
+/// between the numbers of a list, an empty field for an empty list, no field for a student who
+/// continues at no school, and no quotes. The only error is want of memory; the cost is the length of
+/// the line.
 pub fn line(alloc: Global, number: LineNo, amendment: &Amendment) -> Result<Vec<u8>, AllocError>
     ensures { IfOk result (λ text. text.items ≡ line_text number amendment.now ++ codes "\n") }
 {

@@ -1,14 +1,14 @@
 //! A line read back.
 
 ghost use Rattle.std.specs.Prelude.{◌≡◌, IfOk};
-ghost use Rattle.sc_journal.specs.Reading.{add_in, amendment_in, close_in, correct_in, enter_in, line_in, line_of, rerank_in, withdraw_in, Gives};
+ghost use Rattle.sc_journal.specs.Reading.{add_in, amendment_in, close_in, correct_in, enter_in, line_in, line_of, rerank_in, school_or_none_in, withdraw_in, Gives};
 ghost use Rattle.sc_journal.specs.Spelling.{ReadsAs};
 
 use crate::fields::Fields;
 use crate::line_no::LineNo;
 use crate::numbers::{count, line_no, list, school, student, zone};
 use crate::unread::Unread;
-use sc_papers::Amendment;
+use sc_papers::{Amendment, SchoolNo};
 use std::alloc::{AllocError, Global};
 
 /// A line of the journal: an accepted amendment, under its number.
@@ -18,12 +18,26 @@ pub struct JournalLine {
     pub amendment: Amendment,
 }
 
-/// `N,enter,STUDENT,ZONE,SIBLINGS,CHOICES`
+/// The school's number that a field writes, counted from 0, or `None` where the fields end before it.
+#[tactic(auto, unfolding(crate::specs::Reading::school_or_none_in))]
+fn school_or_none(fields: &Fields, index: usize) -> Result<Option<SchoolNo>, Unread>
+    ensures { result ≡ school_or_none_in fields.now index }
+{
+    if fields.len() == index {
+        return Ok(None);
+    }
+    match school(fields.at(index)) {
+        Ok(school) => Ok(Some(school)),
+        Err(unread) => Err(unread),
+    }
+}
+
+/// `N,enter,STUDENT,ZONE,SIBLINGS,CHOICES`, and with a comma the school at which the student continues.
 #[tactic(auto, unfolding(crate::specs::Reading::enter_in))]
 fn enter(alloc: Global, fields: &Fields) -> Result<Amendment, Unread>
     ensures { Gives (enter_in fields.now) result }
 {
-    if fields.len() != 6 {
+    if fields.len() != 6 && fields.len() != 7 {
         return Err(Unread::NoLine);
     }
     Ok(Amendment::Enter {
@@ -31,6 +45,7 @@ fn enter(alloc: Global, fields: &Fields) -> Result<Amendment, Unread>
         zone: zone(fields.at(3))?,
         siblings: list(alloc, fields.at(4))?,
         choices: list(alloc, fields.at(5))?,
+        continuing: school_or_none(fields, 6)?,
     })
 }
 
@@ -89,18 +104,19 @@ fn close(fields: &Fields) -> Result<Amendment, Unread>
     })
 }
 
-/// `N,correct,STUDENT,ZONE,SIBLINGS`
+/// `N,correct,STUDENT,ZONE,SIBLINGS`, and with a comma the school at which the student continues.
 #[tactic(auto, unfolding(crate::specs::Reading::correct_in))]
 fn correct(alloc: Global, fields: &Fields) -> Result<Amendment, Unread>
     ensures { Gives (correct_in fields.now) result }
 {
-    if fields.len() != 5 {
+    if fields.len() != 5 && fields.len() != 6 {
         return Err(Unread::NoLine);
     }
     Ok(Amendment::Correct {
         student: student(fields.at(2))?,
         zone: zone(fields.at(3))?,
         siblings: list(alloc, fields.at(4))?,
+        continuing: school_or_none(fields, 5)?,
     })
 }
 

@@ -17,9 +17,19 @@ fn file(alloc: Global, source: Source, header: &str, rows: &str) -> Result<Strin
     })
 }
 
-/// The papers of these schools (`SCHOOL,ZONE,SEATS` in each row), these students (`STUDENT,ZONE,SIBLINGS`)
-/// and their lists (`STUDENT,CHOICES`), under the seed of 64 zeros, or the fault of the three files: they
-/// are read as the program reads them, each with its header above these rows.
+/// The header of a roster of these rows: the longer one where the first row has a field more, the school
+/// at which the student continues.
+pub fn roster_header(rows: &str) -> &'static str {
+    match rows.lines().next() {
+        Some(first) if first.split(',').count() > 3 => "student,zone,siblings,continuing",
+        _ => "student,zone,siblings",
+    }
+}
+
+/// The papers of these schools (`SCHOOL,ZONE,SEATS` in each row), these students (`STUDENT,ZONE,SIBLINGS`
+/// or `STUDENT,ZONE,SIBLINGS,CONTINUING`) and their lists (`STUDENT,CHOICES`), under the seed of 64 zeros,
+/// or the fault of the three files: they are read as the program reads them, each with its header above
+/// these rows.
 pub fn papers(
     alloc: Global,
     schools: &str,
@@ -27,7 +37,7 @@ pub fn papers(
     lists: &str,
 ) -> Result<Papers, IntakeFault> {
     let schools = file(alloc, Source::Schools, "school,zone,seats", schools)?;
-    let roster = file(alloc, Source::Roster, "student,zone,siblings", students)?;
+    let roster = file(alloc, Source::Roster, roster_header(students), students)?;
     let lists = file(alloc, Source::Lists, "student,choices", lists)?;
     read(
         alloc,

@@ -1,5 +1,5 @@
 -- The journal of a run is replayed to the run's papers.
-use Rattle.std.proofs.Common.{◌≡◌, ◌≢◌, ℕ, ◌≤◌, ◌==◌, arith, Bool, true, false, ◌&&◌, if◌then◌else◌, List, [], ◌∷◌, ◌++◌, Option, None, Some, Result, Ok, Err, length, refl, sym, subst, ◌∙◌, append-nil}
+use Rattle.std.proofs.Common.{◌≡◌, ◌≢◌, ℕ, ◌≤◌, ◌==◌, arith, Bool, true, false, ◌&&◌, ◌||◌, if◌then◌else◌, List, [], ◌∷◌, ◌++◌, Option, None, Some, Result, Ok, Err, length, refl, sym, subst, ◌∙◌, append-nil}
 use Rattle.std.proofs.lemmas.Bool.Decides.{nat_tests}
 use Rattle.std.proofs.lemmas.List.Elements.{All-append, All-cons, All-head, All-nil, All-tail}
 use Rattle.std.specs.Int.{IsInRange}
@@ -12,14 +12,14 @@ use Rattle.sc_papers.specs.declared.amendment.Amendment.{Amendment}
 use Rattle.sc_papers.specs.declared.amendment.Amendment.TheVariants.{Enter, Withdraw, Rerank, Add, Close, Correct}
 use Rattle.sc_papers.specs.declared.amendment.Refusal.{Refusal}
 use Rattle.sc_intake.specs.Fault.{◌>>=◌}
-use Rattle.sc_intake.specs.Field.{all_schools, is_within, list_of, number_of, within}
+use Rattle.sc_intake.specs.Field.{all_schools, as_school, as_school_or_none, is_within, list_of, number_of, number_or_none, within}
 use Rattle.sc_intake.specs.File.{text_at, records_in}
-use Rattle.sc_intake.specs.Script.{add_of, amendment_in, amendment_of, close_of, correct_of, count_at, enter_of, list_at, number_at, or_shape, rerank_of, school_at, script_in, student_at, withdraw_of, zone_at}
+use Rattle.sc_intake.specs.Script.{add_of, amendment_in, amendment_of, close_of, correct_of, count_at, enter_of, list_at, number_at, or_shape, rerank_of, school_at, school_or_none_at, script_in, student_at, withdraw_of, zone_at}
 use Rattle.sc_intake.specs.declared.fault.Cause.{Cause}
 use Rattle.sc_intake.specs.declared.fault.Cause.TheVariants.{Fields, Range}
 use Rattle.sc_intake.specs.declared.fault.Source.TheVariants.{Script}
 use Rattle.sc_journal.specs.Journal.{after_all, journal_text, AreAccepted, IsReplay}
-use Rattle.sc_journal.specs.Spelling.{IsInRanges, IsSchool}
+use Rattle.sc_journal.specs.Spelling.{IsInRanges, IsSchool, IsSchoolOrNone}
 use Rattle.sc_journal.specs.declared.journal.Tail.TheVariants.{Whole}
 use Rattle.sc_runs.specs.Run.{accepted, accepted_in, after_record, after_script, unless_verdict}
 
@@ -95,7 +95,7 @@ list_at-ranged fields place schools is =
     let (tested, same) = schools-by (list_all (is_within 1 99999) ns) ns schools ranged in
     subst (All IsSchool) same (All-schools ns tested)
 
--- what readings of one to four fields make, each of which gives something
+-- what readings of one, two, four or five fields make, each of which gives something
 made-one : {A Y E : Type 0} (r : Result A E) (make : A → Y) (y : Y) → (r >>= λ a. Ok (make a)) ≡ Ok y → (a : A) × (r ≡ Ok a) × (make a ≡ y)
 made-one (Ok a) make y is = (a, refl, cc)
 made-one (Err e) make y is = cc
@@ -106,13 +106,6 @@ made-two (Ok a) (Ok b) make y is = (a, b, refl, refl, cc)
 made-two (Ok a) (Err e) make y is = cc
 made-two (Err e) s make y is = cc
 
-made-three : {A B C Y E : Type 0} (r : Result A E) (s : Result B E) (t : Result C E) (make : A → B → C → Y) (y : Y) → (r >>= λ a. s >>= λ b. t >>= λ c. Ok (make a b c)) ≡ Ok y
-    → (a : A) × (b : B) × (c : C) × (r ≡ Ok a) × (s ≡ Ok b) × (t ≡ Ok c) × (make a b c ≡ y)
-made-three (Ok a) (Ok b) (Ok c) make y is = (a, b, c, refl, refl, refl, cc)
-made-three (Ok a) (Ok b) (Err e) make y is = cc
-made-three (Ok a) (Err e) t make y is = cc
-made-three (Err e) s t make y is = cc
-
 made-four : {A B C D Y E : Type 0} (r : Result A E) (s : Result B E) (t : Result C E) (u : Result D E) (make : A → B → C → D → Y) (y : Y)
     → (r >>= λ a. s >>= λ b. t >>= λ c. u >>= λ d. Ok (make a b c d)) ≡ Ok y
     → (a : A) × (b : B) × (c : C) × (d : D) × (r ≡ Ok a) × (s ≡ Ok b) × (t ≡ Ok c) × (u ≡ Ok d) × (make a b c d ≡ y)
@@ -122,17 +115,45 @@ made-four (Ok a) (Ok b) (Err e) u make y is = cc
 made-four (Ok a) (Err e) t u make y is = cc
 made-four (Err e) s t u make y is = cc
 
+made-five : {A B C D F Y E : Type 0} (r : Result A E) (s : Result B E) (t : Result C E) (u : Result D E) (v : Result F E) (make : A → B → C → D → F → Y) (y : Y)
+    → (r >>= λ a. s >>= λ b. t >>= λ c. u >>= λ d. v >>= λ f. Ok (make a b c d f)) ≡ Ok y
+    → (a : A) × (b : B) × (c : C) × (d : D) × (f : F) × (r ≡ Ok a) × (s ≡ Ok b) × (t ≡ Ok c) × (u ≡ Ok d) × (v ≡ Ok f) × (make a b c d f ≡ y)
+made-five (Ok a) (Ok b) (Ok c) (Ok d) (Ok f) make y is = (a, b, c, d, f, refl, refl, refl, refl, refl, cc)
+made-five (Ok a) (Ok b) (Ok c) (Ok d) (Err e) make y is = cc
+made-five (Ok a) (Ok b) (Ok c) (Err e) v make y is = cc
+made-five (Ok a) (Ok b) (Err e) u v make y is = cc
+made-five (Ok a) (Err e) t u v make y is = cc
+made-five (Err e) s t u v make y is = cc
+
+within-school : (n s : ℕ) → as_school n ≡ Ok s → IsSchool s
+within-school n s is =
+    let (tested, same) = within-by (is_within 1 99999 n) n s is in
+    subst IsSchool same (IsInRange-tested 1 99999 n tested)
+
+-- a school's number that may be missing is of its range
+as_school_or_none-ranged : (found school : Option ℕ) → as_school_or_none found ≡ Ok school → IsSchoolOrNone school
+as_school_or_none-ranged None school is = let same : None ≡ school = cc is in subst IsSchoolOrNone same tt
+as_school_or_none-ranged (Some n) school is =
+    let made = made-one (as_school n) Some school is in
+    subst IsSchoolOrNone made.2 (within-school n made.0 made.1)
+
+school_or_none_at-ranged : (fields : List (List ℕ)) (place : ℕ) (school : Option ℕ) → school_or_none_at fields place ≡ Ok school → IsSchoolOrNone school
+school_or_none_at-ranged fields place school is =
+    let (found, read, ranged) = bind-ok (number_or_none (text_at fields place)) as_school_or_none school is in
+    as_school_or_none-ranged found school ranged
+
 -- an amendment that is read, of whatever word, is in the ranges
 enter_of-ranged : (fields : List (List ℕ)) (amendment : Amendment) → enter_of fields ≡ Ok amendment → IsInRanges amendment
 unfolding enter_of
 enter_of-ranged fields amendment is =
-    let made = made-four (student_at fields 1) (zone_at fields 2) (list_at fields 3) (list_at fields 4) Enter amendment
-    (if-ok (length fields == 5) (student_at fields 1 >>= λ i. zone_at fields 2 >>= λ z. list_at fields 3 >>= λ s. list_at fields 4 >>= λ c. Ok (Enter i z s c)) Fields amendment is) in
-    subst IsInRanges made.8 (
-      number_at-ranged 1 999999999 fields 1 made.0 made.4,
-      number_at-ranged 0 9999 fields 2 made.1 made.5,
-      list_at-ranged fields 3 made.2 made.6,
-      list_at-ranged fields 4 made.3 made.7,
+    let made = made-five (student_at fields 1) (zone_at fields 2) (list_at fields 3) (list_at fields 4) (school_or_none_at fields 5) Enter amendment
+    (if-ok (length fields == 5 || length fields == 6) (student_at fields 1 >>= λ i. zone_at fields 2 >>= λ z. list_at fields 3 >>= λ s. list_at fields 4 >>= λ c. school_or_none_at fields 5 >>= λ o. Ok (Enter i z s c o)) Fields amendment is) in
+    subst IsInRanges made.10 (
+      number_at-ranged 1 999999999 fields 1 made.0 made.5,
+      number_at-ranged 0 9999 fields 2 made.1 made.6,
+      list_at-ranged fields 3 made.2 made.7,
+      list_at-ranged fields 4 made.3 made.8,
+      school_or_none_at-ranged fields 5 made.4 made.9,
     )
 
 withdraw_of-ranged : (fields : List (List ℕ)) (amendment : Amendment) → withdraw_of fields ≡ Ok amendment → IsInRanges amendment
@@ -165,9 +186,14 @@ close_of-ranged fields amendment is =
 correct_of-ranged : (fields : List (List ℕ)) (amendment : Amendment) → correct_of fields ≡ Ok amendment → IsInRanges amendment
 unfolding correct_of
 correct_of-ranged fields amendment is =
-    let made = made-three (student_at fields 1) (zone_at fields 2) (list_at fields 3) Correct amendment
-    (if-ok (length fields == 4) (student_at fields 1 >>= λ i. zone_at fields 2 >>= λ z. list_at fields 3 >>= λ s. Ok (Correct i z s)) Fields amendment is) in
-    subst IsInRanges made.6 (number_at-ranged 1 999999999 fields 1 made.0 made.3, number_at-ranged 0 9999 fields 2 made.1 made.4, list_at-ranged fields 3 made.2 made.5)
+    let made = made-four (student_at fields 1) (zone_at fields 2) (list_at fields 3) (school_or_none_at fields 4) Correct amendment
+    (if-ok (length fields == 4 || length fields == 5) (student_at fields 1 >>= λ i. zone_at fields 2 >>= λ z. list_at fields 3 >>= λ s. school_or_none_at fields 4 >>= λ o. Ok (Correct i z s o)) Fields amendment is) in
+    subst IsInRanges made.8 (
+      number_at-ranged 1 999999999 fields 1 made.0 made.4,
+      number_at-ranged 0 9999 fields 2 made.1 made.5,
+      list_at-ranged fields 3 made.2 made.6,
+      school_or_none_at-ranged fields 4 made.3 made.7,
+    )
 
 -- one reading or another, by a test
 if-either : {A E : Type 0} (P : A → Type 0) (b : Bool) (r s : Result A E) (y : A) → (r ≡ Ok y → P y) → (s ≡ Ok y → P y) → (if b then r else s) ≡ Ok y → P y

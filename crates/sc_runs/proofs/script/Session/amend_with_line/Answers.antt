@@ -1,4 +1,5 @@
-use Rattle.std.proofs.Common.{sym, ◌∙◌, ◌∷◌, [], Err}
+use Rattle.std.proofs.Common.{sym, ◌∙◌, ◌∷◌, [], Result, Ok, Err}
+use Rattle.std.specs.Result.{OnOk}
 use Rattle.sc_report.specs.Reply.{reply_text}
 use Rattle.sc_report.specs.Watched.{device_of}
 use Rattle.sc_runs.specs.TwoWriters.{to_output}
@@ -19,3 +20,11 @@ returns-in-Err-reply-clause-writes g c =
     c.write_reply.result
     (sym (answer_with_line-refused c.args.line.now c.args.self.now.records c.args.self.now.clearing.papers c.args.amendment c.in-Err-reply.refusal (sym c.in-Err-reply.is ∙ c.in-Ok.ensures.reply)))
     (c.write_reply.ensures.writes (g.J.Recorder.contents c.args.journal.now))
+
+-- what is true is true where there is a value
+on_ok-known : {T E P : Type 0} (r : Result T E) → P → OnOk r P
+on_ok-known (Ok x) known = known
+on_ok-known (Err e) known = tt
+
+pub returns-in-Err-reply-clause-optimal : goal.returns-in-Err-reply-clause-optimal
+returns-in-Err-reply-clause-optimal g c = on_ok-known c.write_reply.result c.in-Ok.ensures.optimal
