@@ -48,18 +48,19 @@ moved-same x y g h same = elim (cases_Bool (g == max x y)) [
 moved-joins : (x y : ℕ) → moved (min x y) (max x y) x ≡ moved (min x y) (max x y) y
 moved-joins x y = grind (arith, nat_tests)
 
+-- a position that a search finds
+pub place-is : (test : ℕ → Bool) (xs : List ℕ) (p : ℕ) → position test xs ≡ Some p → position_or_len test xs ≡ p
+place-is test xs p found = elim (cases_Bool (nat_lt (position_or_len test xs) (length xs))) [
+  | inl within ↦ let same : Some (position_or_len test xs) ≡ Some p = rw within at found in cc
+  | inr past ↦ let none : None ≡ Some p = rw past at found in cc
+]
+
 -- a school of the papers has a place among them
 place-within : (m : Market) (s : ℕ) → is_school m s ≡ true → (place_of m s < length (schools_of m)) × (get_or (schools_of m) (place_of m s) s ≡ s)
 place-within m s known =
     let (at, found) = school-position m s known in
     let here = position-at (schools_of m) s at found in
     rw (place-is (nat_eq s) (schools_of m) at found) here
-  where
-    place-is : (test : ℕ → Bool) (xs : List ℕ) (p : ℕ) → position test xs ≡ Some p → position_or_len test xs ≡ p
-    place-is test xs p found = elim (cases_Bool (nat_lt (position_or_len test xs) (length xs))) [
-      | inl within ↦ let same : Some (position_or_len test xs) ≡ Some p = rw within at found in cc
-      | inr past ↦ let none : None ≡ Some p = rw past at found in cc
-    ]
 
 -- groups of all schools
 abbrev pub AreWhole : Market → List ℕ → Type 0

@@ -5,3 +5,4 @@ pub mod Joining
 pub mod Changes
 pub mod Filtering
 pub mod Reaching
+pub mod ChoicePlaces

@@ -52,15 +52,28 @@ pub(crate) fn join_list(
     }
 }
 
-/// Joins the choices of the student at a position.
+/// The position of the first choice of the student at a position, without a look-up by number.
+pub(crate) fn first_place_at(papers: &Papers, position: usize) -> usize
+    requires { position < length (students_of papers.now) }
+    ensures place { result ≡ place_of papers.now (first_choice papers.now (student_at papers.now position)) }
+    ensures within { result < length (schools_of papers.now) }
+{
+    // This call tells that the papers are well-formed, so that there are choices.
+    prove!(position < papers.students_len());
+    usize::from(papers.choice_positions_at(position)[0])
+}
+
+/// Joins the choices of the student at a position, by their positions alone.
 fn join_choices(papers: &Papers, groups: &mut SchoolGroups, position: usize)
     requires one_each { length groups.old ≡ length (schools_of papers.now) }
     requires within { position < length (students_of papers.now) }
     ensures joined { groups.new ≡ joined_choices papers.now groups.old (student_at papers.now position) }
     ensures one_each { length groups.new ≡ length (schools_of papers.now) }
 {
-    let first = first_choice_at(papers, position);
-    join_list(papers, groups, first, papers.choices_at(position));
+    let first = first_place_at(papers, position);
+    for place in papers.choice_positions_at(position) {
+        groups.join(first, usize::from(*place));
+    }
 }
 
 /// The groups that the choices of all students join.

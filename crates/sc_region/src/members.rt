@@ -4,7 +4,7 @@ ghost use Rattle.std.specs.Prelude.{◌≡◌, ◌<◌, length, IfOk};
 ghost use Rattle.sc_papers.specs.Market.{schools_of, student_at, students_of};
 ghost use Rattle.sc_region.specs.Groups.{is_member, members_of};
 
-use crate::grouping::{first_choice_at, place_of};
+use crate::grouping::first_place_at;
 use sc_papers::{Papers, StudentNo};
 use std::alloc::{AllocError, Global};
 
@@ -15,8 +15,7 @@ fn is_member(papers: &Papers, groups: &[usize], group: usize, position: usize) -
     requires within { position < length (students_of papers.now) }
     ensures { result ≡ is_member papers.now groups.now group (student_at papers.now position) }
 {
-    let first = first_choice_at(papers, position);
-    groups[place_of(papers, first)] == group
+    groups[first_place_at(papers, position)] == group
 }
 
 /// The students of the papers whose first choice is in a group, in order of entry.

@@ -94,7 +94,7 @@ fn region_members(
 /// Answers the first refusal of the amendment that applies, as `Papers::check` does, or else want of
 /// memory. The papers are not changed.
 ///
-/// The cost is one pass over all choices, with a look-up for each and steps to the root of its group, and a
+/// The cost is one pass over all choices, by their positions, with steps to the root of each one's group, and a
 /// sort of the region. Memory is taken for each school and for each student of the region.
 pub fn region(alloc: Global, papers: &Papers, amendment: &Amendment) -> Result<RegionList, Refusal>
     ensures allowed { OnOk result (verdict papers.now amendment.now ≡ None) }
