@@ -65,8 +65,9 @@ impl Papers {
                 siblings,
                 continuing,
             } => {
-                let (zone, siblings, continuing) =
-                    self.correct(student, zone, siblings, continuing);
+                let (zone, siblings, continuing) = self.correct(
+                    student, zone, siblings, continuing,
+                );
                 Ok(Amendment::Correct {
                     student,
                     zone,

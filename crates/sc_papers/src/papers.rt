@@ -290,6 +290,7 @@ impl Papers {
     /// The key of the student at a position at the school at a position, both of the orders of entry
     /// and from 0, or `None` where either is past the last one. The student need not list the school.
     /// In constant time, without a look-up by number; no draw is made.
+    #[inline]
     pub fn key_at(&self, student: usize, school: usize) -> Option<Key>
         ensures { result ≡ key_at self.now student school }
     {

@@ -20,6 +20,7 @@ pub struct Proposal {
 impl Papers {
     /// The choice at a rank, from 0, of the student at a position of the order of entry, from 0; `None` past the
     /// last choice. In constant time, without a look-up by number; no draw is made.
+    #[inline]
     pub fn proposal(&self, student: usize, rank: usize) -> Option<Proposal>
         requires { student < length self.now.students }
         ensures school { option_map (λ p. p.school) result ≡ slice_get (choices_of self.now (student_at self.now student)) rank }

@@ -19,9 +19,9 @@ pub struct School {
 #[derive(Debug, Drop)]
 pub struct Student {
     pub zone: Zone,
+    pub continuing: Option<SchoolNo>,
     pub siblings: SchoolList,
     pub choices: SchoolList,
-    pub continuing: Option<SchoolNo>,
 }
 
 impl Student {

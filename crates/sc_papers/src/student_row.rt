@@ -12,10 +12,11 @@ use std::marker::Model;
 /// What a proposal reads of a student, in one piece of memory.
 #[derive(Drop)]
 pub(crate) struct StudentRow {
+    // Fields are laid out in this order, which fills 64 bytes.
     draw: u64,
     zone: Zone,
-    siblings: bool,
     continuing: Option<SchoolNo>,
+    siblings: bool,
     // How many choices there are.
     count: u8,
     positions: [u16; 20],
