@@ -9,6 +9,6 @@ mod worked;
 pub use readings::{amendment, assignment, clearing, papers, roster_header};
 pub use texts::{log_text, places_text, standing};
 pub use worked::{
-    FIVE_STUDENTS, Files, MARKET_A, MARKET_B, MARKET_B_AND_NEWCOMER, TWO_STUDENTS, market_a,
-    market_b,
+    FIVE_STUDENTS, Files, MARKET_A, MARKET_B, MARKET_B_AND_NEWCOMER, MARKET_B_CONTINUING,
+    TWO_STUDENTS, market_a, market_b,
 };

@@ -42,6 +42,13 @@ pub const MARKET_B_AND_NEWCOMER: Files<'static> = Files {
     lists: "1,10 20\n2,20 10\n3,10\n",
 };
 
+/// Market B with its student 2 continuing at school 10.
+pub const MARKET_B_CONTINUING: Files<'static> = Files {
+    schools: "10,1,1\n20,0,1\n",
+    students: "1,0,20,\n2,0,10,10\n",
+    lists: "1,10 20\n2,20 10\n",
+};
+
 /// The market in which a correction of student 1 rewinds to the start.
 pub const FIVE_STUDENTS: Files<'static> = Files {
     schools: "10,1,1\n20,0,2\n",

@@ -4,7 +4,10 @@
 //! Each line of a script is a record and, after `=>`, what is wanted: the answer, how many proposals the
 //! last settling then made, and the standing that is left.
 use crate::given::{papers_of, school, student};
-use sc_markets::{FIVE_STUDENTS, Files, MARKET_A, MARKET_B, TWO_STUDENTS, amendment, standing};
+use sc_markets::{
+    FIVE_STUDENTS, Files, MARKET_A, MARKET_B, MARKET_B_CONTINUING, TWO_STUDENTS, amendment,
+    standing,
+};
 use sc_papers::Refusal;
 use sc_repair::Clearing;
 use std::alloc::{AllocError, Global};
@@ -149,6 +152,28 @@ add,20,1 => ok, 2: 1:10 2:20 |
 enter,3,1,10,10 => ok, 2: 1:20 2:20 3:10 |(1,10)
 ";
     walk(&rt, rt.alloc(), MARKET_B, "1:10 2:20 |", seat_first);
+}
+
+#[test]
+fn a_continuing_student(rt: HostRuntime) {
+    let files = Files {
+        schools: "1,1,1\n",
+        students: "1,1,,\n2,0,,1\n",
+        lists: "1,1\n2,1\n",
+    };
+    walk(&rt, rt.alloc(), files, "1:0 2:1 |(1,1)", "");
+}
+
+#[test]
+fn continuing_against_a_newcomer(rt: HostRuntime) {
+    let script = "\
+enter,3,1,10,10 => ok, 3: 1:20 2:10 3:0 |(1,10)(2,20)(3,10)
+correct,2,0,10 => ok, 4: 1:20 2:0 3:10 |(1,10)(2,20)(2,10)
+correct,2,0,10,77 => UnknownSchool 77, 4: 1:20 2:0 3:10 |(1,10)(2,20)(2,10)
+enter,4,0,77,10,78 => UnknownSchool 77, 4: 1:20 2:0 3:10 |(1,10)(2,20)(2,10)
+correct,2,0,10,10 => ok, 4: 1:20 2:10 3:0 |(1,10)(2,20)(3,10)
+";
+    walk(&rt, rt.alloc(), MARKET_B_CONTINUING, "1:10 2:20 |", script);
 }
 
 // The list of 21 schools has an unknown one, too: its length comes first.

@@ -47,20 +47,21 @@ fn expect_key(rt: &impl Abort, papers: &Papers, at: usize, number: u32, class: u
 }
 
 fn expect_keys(rt: &impl Abort, papers: &Papers) {
-    expect_key(rt, papers, 0, 1, 0, 0xe56a5d4028bd8653);
-    expect_key(rt, papers, 1, 2, 1, 0xb819d2bd1aed8da0);
-    expect_key(rt, papers, 2, 3, 2, 0xccef36a8c70d778b);
-    expect_key(rt, papers, 3, 4, 3, 0x7c5941da8d485751);
+    expect_key(rt, papers, 0, 1, 1, 0xe56a5d4028bd8653);
+    expect_key(rt, papers, 1, 2, 2, 0xb819d2bd1aed8da0);
+    expect_key(rt, papers, 2, 3, 3, 0xccef36a8c70d778b);
+    expect_key(rt, papers, 3, 4, 4, 0x7c5941da8d485751);
+    expect_key(rt, papers, 4, 5, 0, 0x3fe02477374ad8b8);
 }
 
-// The classes by the rule: sibling and zone, sibling, zone, neither. The draws are the lottery's
-// under the zero seed.
+// The classes by the rule: sibling and zone, sibling, zone, none of these, and before them all the last
+// student, who continues at the school. The draws are the lottery's under the zero seed.
 #[test]
 fn keys_by_class_draw_and_number(rt: HostRuntime) {
     let files = Files {
         schools: "10,1,1\n",
-        students: "1,1,10\n2,0,10\n3,1,\n4,2,\n",
-        lists: "1,10\n2,10\n3,10\n4,10\n",
+        students: "1,1,10,\n2,0,10,\n3,1,,\n4,2,,\n5,1,10,10\n",
+        lists: "1,10\n2,10\n3,10\n4,10\n5,10\n",
     };
     let papers = papers_of(&rt, rt.alloc(), files);
     expect_keys(&rt, &papers);

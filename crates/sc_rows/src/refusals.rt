@@ -40,6 +40,7 @@ fn entry(rt: &impl Abort, alloc: Global, number: u32) -> Result<Amendment, Alloc
         zone: Zone::new(0).expect(rt, "a zone"),
         siblings: SchoolList::from_vec(Vec::new(alloc)),
         choices: SchoolList::from_vec(choices),
+        continuing: None,
     })
 }
 
@@ -119,6 +120,8 @@ enter,4,0,,77 1 2 3 4 5 6 7 8 9 10 11 12 13 14 15 16 17 18 19 => UnknownSchool 7
 enter,4,0,,77 => UnknownSchool 77
 enter,4,0,,77 10 10 => UnknownSchool 77
 enter,4,0,77,10 10 => UnknownSchool 77
+enter,4,0,77,10,78 => UnknownSchool 77
+enter,4,0,10 10,10 10,77 => UnknownSchool 77
 enter,4,0,10 10,10 => SchoolTwice 10
 ";
     expect_of_market_b(&rt, rt.alloc(), script, 1);
@@ -142,6 +145,8 @@ fn refusals_to_correct_in_their_order(rt: HostRuntime) {
 correct,9,1,77 1 2 3 4 5 6 7 8 9 10 11 12 13 14 15 16 17 18 19 20 => UnknownStudent
 correct,1,1,77 1 2 3 4 5 6 7 8 9 10 11 12 13 14 15 16 17 18 19 20 => ListTooLong
 correct,1,1,10 10 77 => UnknownSchool 77
+correct,1,1,77,78 => UnknownSchool 77
+correct,1,1,20 20,77 => UnknownSchool 77
 correct,1,1,20 20 => SchoolTwice 20
 ";
     expect_of_market_b(&rt, rt.alloc(), script, 1);

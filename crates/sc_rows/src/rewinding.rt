@@ -1,6 +1,6 @@
 //! From where on an amendment settles anew.
 use crate::given::papers_of;
-use sc_markets::{Files, amendment};
+use sc_markets::{Files, MARKET_B_CONTINUING, amendment};
 use sc_papers::{Papers, Refusal};
 use sc_repair::rewind_point;
 use std::alloc::Global;
@@ -43,6 +43,18 @@ add,30,1 => 5
 withdraw,99 => UnknownStudent
 ";
     let papers = papers_of(&rt, rt.alloc(), files);
+    expect_points(&rt, rt.alloc(), &papers, script);
+    drop(papers);
+}
+
+#[test]
+fn continuing_against_a_newcomer(rt: HostRuntime) {
+    let script = "\
+correct,2,0,10 => 1
+correct,2,0,10,77 => UnknownSchool 77
+enter,3,1,10,10 => 2
+";
+    let papers = papers_of(&rt, rt.alloc(), MARKET_B_CONTINUING);
     expect_points(&rt, rt.alloc(), &papers, script);
     drop(papers);
 }

@@ -55,6 +55,7 @@ fn enter(
         zone: zone(rt, at),
         siblings,
         choices,
+        continuing: None,
     })
 }
 
