@@ -24,3 +24,5 @@ mod rolls;
 mod rounds;
 #[cfg(test)]
 mod segments;
+#[cfg(test)]
+mod taking_back;
