@@ -59,9 +59,10 @@ impl Clearing {
     /// segments of the students before the rewind point stay.
     ///
     /// An `Enter` costs its `check` and an offer for each proposal of the newcomer's chain, however many students
-    /// there are, and changes what stands in place; where a growth is refused, that is taken back. The first
-    /// `Enter` after the opening, or after another amendment or a refused growth, also costs an offer for each
-    /// student and a look at each entry of the log, to put everybody back where they stand.
+    /// there are, but for a table that grows now and then. It changes what stands in place, and takes that
+    /// back where a growth is refused. The first `Enter` after the opening, after another amendment or after a
+    /// refused growth also costs an offer for each student and a look at each entry of the log, by which
+    /// everybody is put back where they stand.
     ///
     /// Any other amendment costs that of finding the region and of a copy of the papers, the places and the
     /// log, and an offer for each proposal of the region's students from the rewind point on. The new standing

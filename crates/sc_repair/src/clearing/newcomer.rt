@@ -37,6 +37,7 @@ impl Clearing {
         );
         match entered {
             Ok(proposals) => {
+                // The newcomer stays.
                 drop(back);
                 self.proposals = proposals;
                 Ok(())
