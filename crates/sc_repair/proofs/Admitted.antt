@@ -1,5 +1,5 @@
 -- A clearing before and after a newcomer, and after one who found no memory.
-use Rattle.std.proofs.Common.{◌≡◌, ap, sym, subst, ◌∙◌, ℕ, false, List, take, Option, Some, None, IfSome}
+use Rattle.std.proofs.Common.{◌≡◌, sym, subst, ◌∙◌, ℕ, false, List, take, Option, Some, None, IfSome}
 use Rattle.std.specs.Option.{IsSomeAnd}
 use Rattle.sc_papers.specs.Market.{Market, students_of}
 use Rattle.sc_papers.specs.Verdict.{after, verdict}
@@ -11,15 +11,15 @@ use Rattle.sc_engine.specs.Round.{is_spent, view_of}
 use Rattle.sc_engine.specs.RoundView.{RoundView}
 use Rattle.sc_engine.specs.declared.round.Round.{Round}
 use Rattle.sc_seats.specs.Roll.{RollView}
-use Rattle.sc_repair.specs.Newcomer.{newcomer, HasEntered, IsNextToEnter, StandsAfter}
+use Rattle.sc_repair.specs.Newcomer.{newcomer, HasEntered, IsNextToEnter}
 use Rattle.sc_repair.specs.Representation.{IsKept}
 use Rattle.sc_repair.specs.Rewinding.{rewind_point}
-use Rattle.sc_repair.specs.Standing.{Standing, CountsRegion, IsCertified, KeepsOthers}
+use Rattle.sc_repair.specs.Standing.{CountsRegion, IsCertified, KeepsOthers}
 use Rattle.sc_repair.proofs.Entry.{is-entry, next-to-enter, stands-grown}
 use Rattle.sc_repair.proofs.Newcomer.{newcomer-certified, newcomer-counts, newcomer-others, newcomer-stands, newcomer-stays, newcomer-theirs, Newcomes}
 
 module _ (m n : Market) (a : Amendment) (i : ℕ) (chains : List Chain) (before : List (ℕ × ℕ)) (proposals : ℕ) (entry : newcomer a ≡ Some i) (allowed : verdict m a ≡ None) (grown : n ≡ after m a)
-  (sound : IsCertified (record { papers = m; places = before; segments = logs_in chains; proposals = proposals })) (own : students_in chains ≡ students_of m) where
+    (sound : IsCertified (record { papers = m; places = before; segments = logs_in chains; proposals = proposals })) (own : students_in chains ≡ students_of m) where
   well : WellFormed n
   well = subst WellFormed (sym grown) (WellFormed-after m a sound.well_formed allowed)
 

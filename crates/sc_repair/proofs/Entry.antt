@@ -1,8 +1,7 @@
 -- A round in which everybody stands: as it begins, when the papers have one more student, and when that student has entered.
-use Rattle.std.proofs.Common.{◌≡◌, refl, ap, sym, subst, ◌∙◌, ℕ, ◌+◌, ◌≤◌, nat_eq, ◌==◌, true, false, List, [], ◌∷◌, ◌++◌, length, take, Some, None, slice_get, append-nil, arith}
+use Rattle.std.proofs.Common.{◌≡◌, refl, ap, sym, subst, ◌∙◌, ℕ, ◌+◌, nat_eq, true, false, List, [], ◌∷◌, ◌++◌, length, take, Some, None, slice_get, append-nil, arith}
 use Rattle.std.specs.List.{list_any}
-use Rattle.std.proofs.lemmas.List.{length-append, length-map, map-append, take-append-le, take_all}
-use Rattle.std.proofs.lemmas.Map.Made.{is_some-lookup}
+use Rattle.std.proofs.lemmas.List.{length-map, map-append, take-append-le, take_all}
 use Rattle.std.proofs.lemmas.Option.{none-some, same_Some}
 use Rattle.sc_papers.specs.Assignment.{assigned}
 use Rattle.sc_papers.specs.Log.{next_choice, IsSettled}
@@ -17,18 +16,18 @@ use Rattle.sc_papers.specs.declared.rejection.Rejection.{Rejection}
 use Rattle.sc_papers.proofs.Choices.{contains-at}
 use Rattle.sc_papers.proofs.Entering.{is_some-false, MayEnter-allowed, MayEnter, WithinLimits-with_student}
 use Rattle.sc_papers.proofs.Positions.{among-student}
-use Rattle.sc_checkpoint.specs.Chains.{logs_in, students_in, with_chain, Chain}
+use Rattle.sc_checkpoint.specs.Chains.{logs_in, students_in, Chain}
 use Rattle.sc_checkpoint.specs.NextChoices.{next_choices_after, stands, AreNextChoices}
 use Rattle.sc_checkpoint.specs.declared.next_choice.NextChoice.{NextChoice}
 use Rattle.sc_engine.specs.RoundView.{RoundView, entered_papers, has_entered, next_of, rank_of, Continues, Fits}
-use Rattle.sc_engine.proofs.Growing.{continues-grown, entered-grown, fits-grown, next-grown}
+use Rattle.sc_engine.proofs.Growing.{continues-grown, entered-grown, fits-grown}
 use Rattle.sc_engine.proofs.Settling.{first-apart}
 use Rattle.sc_engine.proofs.Tables.{next-none}
 use Rattle.sc_region.specs.Region.{amended_school, amended_student}
 use Rattle.sc_repair.specs.Newcomer.{newcomer, HasEntered, IsNextToEnter, StandsAfter}
 use Rattle.sc_repair.specs.Resumption.{GoesOn}
 use Rattle.sc_repair.specs.Rewinding.{rewind_point}
-use Rattle.sc_repair.proofs.Resumption.{any-turned, entered-cut, goes-on-begins, goes-on-next, length-students, stand-segments, stands-among, whole-cut}
+use Rattle.sc_repair.proofs.Resumption.{any-turned, entered-cut, goes-on-begins, goes-on-next, length-students, stand-segments, stands-among}
 
 -- an amendment by which a student enters
 pub record IsEntry (a : Amendment) (i : ℕ) : Type 0 where

@@ -1,7 +1,6 @@
 -- Whom a newcomer's chain moves on, and where everybody stands after it.
 use Rattle.std.proofs.Common.{◌≡◌, inl, inr, refl, ap, sym, subst, ◌∙◌, ℕ, nat_eq, ◌==◌, Bool, true, false, not, ◌&&◌, ◌||◌, cond, List, [], ◌∷◌, ◌++◌, Option, Some, None, find, is_some, append_assoc, append-nil}
-use Rattle.std.specs.List.{list_any}
-use Rattle.std.proofs.lemmas.Bool.{cases_Bool, cond-true, cond-false, eq-eqb, eqb-false, eqb-true, ne_eqb, or_from, or_left, or_parts, not_from_true, not-false}
+use Rattle.std.proofs.lemmas.Bool.{cases_Bool, cond-true, cond-false, eq-eqb, eqb-false, eqb-true, ne_eqb, or_left, or_parts, not_from_true, not-false}
 use Rattle.std.proofs.lemmas.List.Folds.{list_any-append}
 use Rattle.std.proofs.lemmas.Option.{none-some}
 use Rattle.sc_papers.specs.Assignment.{assigned}

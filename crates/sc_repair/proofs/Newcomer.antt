@@ -1,32 +1,31 @@
 -- What a newcomer's settling comes to: the new standing is certified, all outside the region have what they had, and the proposals are counted.
-use Rattle.std.proofs.Common.{◌≡◌, ◌⊎◌, inl, inr, refl, ap, sym, subst, ◌∙◌, ℕ, ◌+◌, nat_eq, Bool, true, false, not, ◌&&◌, ◌||◌, cond, List, [], ◌∷◌, ◌++◌, length, take, drop, Option, Some, None, Contains, count_by, is_some, append-nil, arith}
+use Rattle.std.proofs.Common.{◌≡◌, inl, inr, refl, ap, sym, subst, ◌∙◌, ℕ, ◌+◌, nat_eq, Bool, true, false, not, ◌&&◌, ◌||◌, cond, List, [], ◌∷◌, ◌++◌, length, take, drop, Some, None, Contains, count_by, is_some, append-nil, arith}
 use Rattle.std.specs.List.{list_any}
-use Rattle.std.proofs.lemmas.Bool.{and_left, cases_Bool, cond-true, cond-false, eq-eqb, false_from_ne_true, not-true, or_left, or_right}
-use Rattle.std.proofs.lemmas.List.{drop-append-le, drop_all, length-append, length-map, map-append, take-append-le, take_all}
+use Rattle.std.proofs.lemmas.Bool.{and_left, cases_Bool, cond-true, cond-false, eq-eqb, false_from_ne_true, or_left, or_right}
+use Rattle.std.proofs.lemmas.List.{drop-append-le, drop_all, length-append, length-map, map-append, take_all}
 use Rattle.std.proofs.lemmas.List.Folds.{list_any-append}
 use Rattle.std.proofs.lemmas.Map.Made.{is_some-lookup}
 use Rattle.std.proofs.lemmas.Option.{none-some, same_Some}
 use Rattle.sc_papers.specs.Assignment.{assigned}
 use Rattle.sc_papers.specs.Log.{matching_of, next_choice}
-use Rattle.sc_papers.specs.Market.{Market, is_student, choices_of, students_of}
+use Rattle.sc_papers.specs.Market.{Market, is_student, students_of}
 use Rattle.sc_papers.specs.Matching.{how_many, Matching, IsStudentOptimal}
 use Rattle.sc_papers.specs.Progress.{placed}
 use Rattle.sc_papers.specs.Restriction.{cut, joined, outside}
 use Rattle.sc_papers.specs.Verdict.{after, verdict}
 use Rattle.sc_papers.specs.declared.amendment.Amendment.{Amendment}
-use Rattle.sc_papers.specs.declared.records.Student.{Student}
 use Rattle.sc_papers.specs.declared.rejection.Rejection.{Rejection}
 use Rattle.sc_papers.proofs.Counting.{count-cons_fails, count-cons_passes}
 use Rattle.sc_papers.proofs.Locality.{optimal-outside}
 use Rattle.sc_papers.proofs.Positions.{among-student, student-among}
 use Rattle.sc_papers.proofs.Students.{how_many-agree, lister-among}
-use Rattle.sc_checkpoint.specs.Chains.{logs_in, students_in, with_chain, Chain}
+use Rattle.sc_checkpoint.specs.Chains.{logs_in, students_in, Chain}
 use Rattle.sc_engine.specs.RoundView.{RoundView, next_of, nobody, standing_but}
 use Rattle.sc_engine.proofs.Proposals.{stays}
 use Rattle.sc_region.specs.Region.{amended, concerned, next, InRegion}
 use Rattle.sc_weave.specs.Weaving.{part_of}
 use Rattle.sc_repair.specs.Course.{placed_of}
-use Rattle.sc_repair.specs.Locality.{ChangesInside, TellsRegion}
+use Rattle.sc_repair.specs.Locality.{TellsRegion}
 use Rattle.sc_repair.specs.Newcomer.{newcomer, HasEntered, StandsAfter}
 use Rattle.sc_repair.specs.Resumption.{placed_first, GoesOn}
 use Rattle.sc_repair.specs.Rewinding.{rewind_point}
@@ -108,8 +107,14 @@ module _ (m n : Market) (a : Amendment) (i : ℕ) (chains new : List Chain) (bef
 
   all-chains : length chains + 1 ≡ length n.students
   all-chains =
-      omega (arith, length-map chains (λ (c : Chain). c.student), ap (λ (xs : List ℕ). length xs) comes.theirs, ap (λ (xs : List ℕ). length xs) more,
-      length-append (students_of m) (i ∷ []), length-students n)
+      omega (
+        arith,
+        length-map chains (λ (c : Chain). c.student),
+        ap (λ (xs : List ℕ). length xs) comes.theirs,
+        ap (λ (xs : List ℕ). length xs) more,
+        length-append (students_of m) (i ∷ []),
+        length-students n,
+      )
 
   on : GoesOn n (logs_in chains) (with_log r chain made) (students_in new) (logs_in new) (length n.students)
   on =

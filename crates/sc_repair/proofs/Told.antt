@@ -1,12 +1,8 @@
 -- Who has what outside a region that no list tells.
-use Rattle.std.proofs.Common.{◌≡◌, ◌↔◌, ◌⊎◌, inl, inr, refl, ap, sym, subst, ◌∙◌, ℕ, nat_eq, Bool, true, false, ◌||◌, List, [], ◌∷◌, ◌++◌, Option, Some, None, Contains, IsTrue, arith}
-use Rattle.std.proofs.lemmas.Bool.{cases_eq, eqb-true, eq-eqb, false_from_ne_true, false≢true, or_cases, or_left, or_right}
+use Rattle.std.proofs.Common.{◌≡◌, ◌↔◌, ◌⊎◌, inl, inr, refl, ap, sym, subst, ℕ, nat_eq, Bool, true, false, ◌||◌, List, [], ◌∷◌, Option, Some, None, Contains, IsTrue, arith}
+use Rattle.std.proofs.lemmas.Bool.{cases_eq, eqb-true, eq-eqb, false≢true, or_cases, or_left, or_right}
 use Rattle.std.proofs.lemmas.Option.{none-some, same_Some}
-use Rattle.sc_papers.specs.Market.{Market, is_student, students_of}
-use Rattle.sc_papers.specs.Matching.{Matching, IsStudentOptimal}
-use Rattle.sc_papers.specs.WellFormed.{WellFormed}
 use Rattle.sc_papers.proofs.Counting.{contains-cons, contains-head, contains-tail}
-use Rattle.sc_papers.proofs.Locality.{optimal-outside}
 
 -- it cannot be that no test tells who of a list has a property
 pub told-somehow : (P : ℕ → Type 0) (xs : List ℕ) → ((test : ℕ → Bool) → ((i : ℕ) → IsTrue (test i) ↔ (Contains xs i × P i)) → ⊥) → ⊥

@@ -27,7 +27,8 @@ pub struct Clearing {
     places: Assignment,
     segments: Segments,
     proposals: u64,
-    // The round in which everybody stands, from one newcomer to the next, where there is one.
+    // Where there is one, the round in which everybody stands: it is kept from newcomer to newcomer, and made
+    // again when it is wanted.
     round: Option<Round<HeapRoll>>,
 }
 

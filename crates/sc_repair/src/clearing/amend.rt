@@ -56,11 +56,18 @@ impl Clearing {
     /// stable matching of the papers as they then stand.
     ///
     /// Whoever is not in the region (`sc_region::region`) keeps their place and their segment, and the
-    /// segments of the students before the rewind point stay. The cost is that of finding the region and
-    /// of a copy of the papers, the places and the log, and an offer for each proposal of the region's
-    /// students from the rewind point on; a refused amendment costs its `check` alone. The new standing is
-    /// made whole beside the old one before it takes its place, so a refused growth leaves nothing half
-    /// done.
+    /// segments of the students before the rewind point stay.
+    ///
+    /// An `Enter` costs its `check` and an offer for each proposal of the newcomer's chain, however many students
+    /// there are, but for a table that grows now and then. It changes what stands in place, and takes that
+    /// back where a growth is refused. The first `Enter` after the opening, after another amendment or after a
+    /// refused growth also costs an offer for each student and a look at each entry of the log, by which
+    /// everybody is put back where they stand.
+    ///
+    /// Any other amendment costs that of finding the region and of a copy of the papers, the places and the
+    /// log, and an offer for each proposal of the region's students from the rewind point on. The new standing
+    /// is made whole beside the old one before it takes its place, so a refused growth leaves nothing half
+    /// done. A refused amendment costs its `check` alone.
     pub fn amend(&mut self, amendment: Amendment) -> Result<(), Refusal>
         ensures optimal { IsStudentOptimal (papers_after self.old.papers amendment result) (matching_of self.new) }
         ensures certified { IsCertified self.new }

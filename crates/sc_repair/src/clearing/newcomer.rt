@@ -15,11 +15,7 @@ impl Clearing {
     /// which everybody else stands. A refused amendment changes nothing. Where a growth is refused after
     /// the papers have the student, the amendment is taken back, and only the round is lost, which the next
     /// newcomer makes again.
-    pub(super) fn admit(
-        &mut self,
-        amendment: Amendment,
-        student: StudentNo,
-    ) -> Result<(), Refusal>
+    pub(super) fn admit(&mut self, amendment: Amendment, student: StudentNo) -> Result<(), Refusal>
         requires { newcomer amendment ≡ Some student }
         ensures allowed { OnOk result (verdict self.old.papers amendment ≡ None) }
         ensures accepted { OnOk result (self.new.papers ≡ after self.old.papers amendment) }
@@ -41,6 +37,7 @@ impl Clearing {
         );
         match entered {
             Ok(proposals) => {
+                // The newcomer stays.
                 drop(back);
                 self.proposals = proposals;
                 Ok(())

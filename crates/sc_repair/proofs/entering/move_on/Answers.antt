@@ -1,4 +1,4 @@
-use Rattle.std.proofs.Common.{nat_eq, ◌&&◌, is_some, cond, sym, subst, ap, ◌∙◌, ◌∷◌, ◌++◌, [], take, arith}
+use Rattle.std.proofs.Common.{nat_eq, ◌&&◌, is_some, cond, sym, subst, ap, ◌∙◌, ◌∷◌, ◌++◌, [], take}
 use Rattle.std.proofs.lemmas.List.{take_all, take_more}
 use Rattle.sc_papers.specs.Assignment.{assigned}
 use Rattle.sc_engine.specs.RoundView.{next_of}

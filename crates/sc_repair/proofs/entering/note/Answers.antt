@@ -1,4 +1,4 @@
-use Rattle.std.proofs.Common.{◌≡◌, sym, ap, ◌∙◌, nat_eq, cond, Result, Ok, Err}
+use Rattle.std.proofs.Common.{◌≡◌, ap, ◌∙◌, nat_eq, cond, Result, Ok, Err}
 use Rattle.std.specs.Prelude.{OnErr, OnOk}
 use Rattle.sc_papers.specs.Assignment.{assigned}
 use Rattle.sc_papers.proofs.Assigning.{assigned-with_place, with_place-new}
