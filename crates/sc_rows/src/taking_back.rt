@@ -17,6 +17,7 @@ fn expect_market_b(rt: &impl Abort, papers: &Papers) {
     assert!(rt; one.zone.get() == 0);
     assert!(rt; one.siblings.as_slice() == [school(rt, 20)].as_slice());
     assert!(rt; one.choices.as_slice() == [school(rt, 10), school(rt, 20)].as_slice());
+    assert!(rt; one.continuing.is_none());
 }
 
 fn is_withdrawal(amendment: &Amendment) -> bool
@@ -43,6 +44,7 @@ fn each_there_and_back(rt: &impl Abort, alloc: Global, papers: &mut Papers) {
     there_and_back(rt, alloc, papers, "enter,3,1,10,10");
     there_and_back(rt, alloc, papers, "rerank,1,20");
     there_and_back(rt, alloc, papers, "correct,1,7,");
+    there_and_back(rt, alloc, papers, "correct,1,7,,10");
     there_and_back(rt, alloc, papers, "add,10,1");
     there_and_back(rt, alloc, papers, "close,10,1");
 }
