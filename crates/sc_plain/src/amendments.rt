@@ -35,6 +35,14 @@ fn random_school(rt: &impl Abort, dice: &mut Dice, schools: u32) -> SchoolNo {
     school_no(rt, dice.roll(last).saturating_add(1))
 }
 
+/// A school, seldom a missing one, or more often none.
+fn random_school_or_none(rt: &impl Abort, dice: &mut Dice, schools: u32) -> Option<SchoolNo> {
+    match dice.roll(3) {
+        0 => Some(random_school(rt, dice, schools)),
+        _ => None,
+    }
+}
+
 /// One seat or two, now and then as many as a school may have.
 fn random_count(rt: &impl Abort, dice: &mut Dice) -> Count {
     let seats = if dice.roll(20) == 0 {
@@ -69,6 +77,7 @@ fn random_entry(
         zone: zone(rt, dice.roll(3)),
         siblings: random_list(rt, alloc, dice, schools)?,
         choices: random_list(rt, alloc, dice, schools)?,
+        continuing: random_school_or_none(rt, dice, schools),
     })
 }
 
@@ -94,6 +103,7 @@ fn random_correction(
         student: random_student(rt, dice),
         zone: zone(rt, dice.roll(3)),
         siblings: random_list(rt, alloc, dice, schools)?,
+        continuing: random_school_or_none(rt, dice, schools),
     })
 }
 

@@ -31,6 +31,7 @@ pub struct Family {
     zone: u32,
     siblings: Vec<u32>,
     choices: Vec<u32>,
+    continuing: Option<u32>,
 }
 
 /// The draw of a student under the zero seed.
@@ -58,6 +59,14 @@ pub fn some_schools(
         }
     }
     Ok(list)
+}
+
+/// One of the schools numbered from 1, or more often none.
+fn at_most_one_school(dice: &mut Dice, schools: u32) -> Option<u32> {
+    match dice.roll(3) {
+        0 => Some(dice.roll(schools).saturating_add(1)),
+        _ => None,
+    }
 }
 
 /// Up to three schools, numbered from 1, in one of two zones or in none, with no seat up to two, entering
@@ -92,6 +101,7 @@ pub fn random_families(
             zone: dice.roll(3),
             siblings: some_schools(dice, alloc, schools, siblings)?,
             choices: some_schools(dice, alloc, schools, choices)?,
+            continuing: at_most_one_school(dice, schools),
         })?;
     }
     if dice.roll(2) == 0 {
@@ -106,6 +116,14 @@ pub fn student_no(rt: &impl Abort, number: u32) -> StudentNo {
 
 pub fn school_no(rt: &impl Abort, number: u32) -> SchoolNo {
     SchoolNo::new(number).expect(rt, "a school")
+}
+
+/// The number of a school, if there is one.
+fn school_or_none(rt: &impl Abort, number: Option<u32>) -> Option<SchoolNo> {
+    match number {
+        Some(number) => Some(school_no(rt, number)),
+        None => None,
+    }
 }
 
 pub fn zone(rt: &impl Abort, number: u32) -> Zone {
@@ -136,6 +154,7 @@ fn entry_of(rt: &impl Abort, alloc: Global, family: &Family) -> Result<Amendment
         zone: zone(rt, family.zone),
         siblings: list_of(rt, alloc, family.siblings.as_slice())?,
         choices: list_of(rt, alloc, family.choices.as_slice())?,
+        continuing: school_or_none(rt, family.continuing),
     })
 }
 
@@ -175,6 +194,7 @@ pub fn plain_students(alloc: Global, families: &[Family]) -> Result<Vec<Student<
             zone: family.zone,
             siblings: family.siblings.as_slice(),
             choices: family.choices.as_slice(),
+            continuing: family.continuing,
         })?;
     }
     Ok(students)

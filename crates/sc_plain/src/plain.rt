@@ -18,6 +18,7 @@ pub struct Student<'a> {
     pub zone: u32,
     pub siblings: &'a [u32],
     pub choices: &'a [u32],
+    pub continuing: Option<u32>,
 }
 
 /// Small papers, the students in order of entry.
@@ -38,13 +39,16 @@ impl Student<'_> {
 
     /// The priority class at a school.
     fn class(&self, school: &School) -> u8 {
+        if self.continuing == Some(school.number) {
+            return 0;
+        }
         let sibling = self.siblings.contains(&school.number);
         let zone = self.zone != 0 && self.zone == school.zone;
         match (sibling, zone) {
-            (true, true) => 0,
-            (true, false) => 1,
-            (false, true) => 2,
-            (false, false) => 3,
+            (true, true) => 1,
+            (true, false) => 2,
+            (false, true) => 3,
+            (false, false) => 4,
         }
     }
 

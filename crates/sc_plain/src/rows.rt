@@ -18,6 +18,15 @@ fn student<'a>(number: u32, zone: u32, siblings: &'a [u32], choices: &'a [u32]) 
         zone,
         siblings,
         choices,
+        continuing: None,
+    }
+}
+
+/// The same student, who continues at a school.
+fn continuing<'a>(student: Student<'a>, school: u32) -> Student<'a> {
+    Student {
+        continuing: Some(school),
+        ..student
     }
 }
 
@@ -70,6 +79,17 @@ fn one_school(rt: HostRuntime) -> Result<(), Fail> {
         students: &zoned,
     };
     expect_optimal(&rt, alloc, "zone before draw", &market, &[Some(1), None])?;
+    let market = Market {
+        schools: &[school(1, 1, 1)],
+        students: &[zoned[0], continuing(zoned[1], 1)],
+    };
+    expect_optimal(
+        &rt,
+        alloc,
+        "a continuing student",
+        &market,
+        &[None, Some(1)],
+    )?;
     let market = Market {
         schools: &[school(1, 0, 2)],
         students: &students[..1],
@@ -133,6 +153,27 @@ fn markets_a_and_b(rt: HostRuntime) -> Result<(), Fail> {
         };
         expect_optimal(&rt, alloc, row, &market, &want[..count.min(3)])?;
     }
+    Ok(())
+}
+
+#[test]
+fn continuing_against_a_newcomer(rt: HostRuntime) -> Result<(), Fail> {
+    let alloc = rt.alloc();
+    let schools = [school(10, 1, 1), school(20, 0, 1)];
+    let [one, two, three] = newcomers();
+    let students = [one, continuing(two, 10), three];
+    let opening = Market {
+        schools: &schools,
+        students: &students[..2],
+    };
+    expect_optimal(&rt, alloc, "opening", &opening, &[Some(10), Some(20)])?;
+    let market = Market {
+        schools: &schools,
+        students: &students,
+    };
+    let want = [Some(20), Some(10), None];
+    expect_optimal(&rt, alloc, "a newcomer", &market, &want)?;
+    assert!(rt; market.is_settled(alloc, &[(1, 10), (2, 20), (3, 10)])?);
     Ok(())
 }
 
