@@ -91,10 +91,10 @@ fn write_files(rt: &HostRuntime) -> io::Result<()> {
 }
 
 const REPORT: &str =
-    "student,school\n1,10\n2,20\nschool,seats,held,class,draw,student\n10,1,1,3,e56a5d4028bd8653,1\n20,1,1,3,b819d2bd1aed8da0,2\nstudent,school,reason\n";
+    "student,school\n1,10\n2,20\nschool,seats,held,class,draw,student\n10,1,1,4,e56a5d4028bd8653,1\n20,1,1,4,b819d2bd1aed8da0,2\nstudent,school,reason\n";
 
 const NEWCOMER: &str =
-    "student,school\n1,20\n2,-\n3,10\nschool,seats,held,class,draw,student\n10,1,1,0,ccef36a8c70d778b,3\n20,1,1,1,e56a5d4028bd8653,1\nstudent,school,reason\n1,10,class\n2,20,class\n2,10,class\n";
+    "student,school\n1,20\n2,-\n3,10\nschool,seats,held,class,draw,student\n10,1,1,1,ccef36a8c70d778b,3\n20,1,1,2,e56a5d4028bd8653,1\nstudent,school,reason\n1,10,class\n2,20,class\n2,10,class\n";
 
 /// Logs of Market B after its newcomer, and what an audit says of each.
 const AUDITS: &[(&str, &str)] = &[
@@ -171,7 +171,7 @@ fn a_run_and_its_replay(rt: HostRuntime) -> io::Result<()> {
     write_files(&rt)?;
     let told = journaled(&rt, "enter,3,1,10,10\nnonsense\nwithdraw,3\n");
     let want =
-        "1,ok\n2,refused,1,Shape\n3,ok\nstudent,school\n1,10\n2,20\nschool,seats,held,class,draw,student\n10,1,1,3,e56a5d4028bd8653,1\n20,1,1,3,b819d2bd1aed8da0,2\nstudent,school,reason\n0|1,enter,3,1,10,10\n2,withdraw,3\n";
+        "1,ok\n2,refused,1,Shape\n3,ok\nstudent,school\n1,10\n2,20\nschool,seats,held,class,draw,student\n10,1,1,4,e56a5d4028bd8653,1\n20,1,1,4,b819d2bd1aed8da0,2\nstudent,school,reason\n0|1,enter,3,1,10,10\n2,withdraw,3\n";
     expect(&rt, told, "", want);
     for (journal, report, end) in REPLAYS {
         let told = ordered_after(
@@ -190,7 +190,7 @@ const THREE_SEATS: &str = "add,10,1\nadd,10,1\nadd,10,1\n";
 
 /// What a whole run of them gives, and its journal.
 const SEATS_ADDED: &str =
-    "1,ok\n2,ok\n3,ok\nstudent,school\n1,10\n2,20\nschool,seats,held,class,draw,student\n10,4,1,free,-,-\n20,1,1,3,b819d2bd1aed8da0,2\nstudent,school,reason\n0|1,add,10,1\n2,add,10,1\n3,add,10,1\n";
+    "1,ok\n2,ok\n3,ok\nstudent,school\n1,10\n2,20\nschool,seats,held,class,draw,student\n10,4,1,free,-,-\n20,1,1,4,b819d2bd1aed8da0,2\nstudent,school,reason\n0|1,add,10,1\n2,add,10,1\n3,add,10,1\n";
 
 /// The status of a run of them whose output takes so many bytes and then fails, and the journal that it
 /// leaves.

@@ -83,7 +83,7 @@ fn one_seat_two_students(rt: HostRuntime) -> Result<(), AllocError> {
             (View::Assignment, "student,school\n1,-\n2,1\n"),
             (
                 View::Cutoffs,
-                "school,seats,held,class,draw,student\n1,1,1,3,b819d2bd1aed8da0,2\n",
+                "school,seats,held,class,draw,student\n1,1,1,4,b819d2bd1aed8da0,2\n",
             ),
             (View::Reasons, "student,school,reason\n1,1,lottery\n"),
         ],
@@ -99,7 +99,7 @@ fn zone_before_draw(rt: HostRuntime) -> Result<(), AllocError> {
         &[
             (
                 View::Cutoffs,
-                "school,seats,held,class,draw,student\n1,1,1,2,e56a5d4028bd8653,1\n",
+                "school,seats,held,class,draw,student\n1,1,1,3,e56a5d4028bd8653,1\n",
             ),
             (View::Reasons, "student,school,reason\n2,1,class\n"),
         ],
@@ -135,7 +135,7 @@ fn a_newcomer_in_market_b(rt: HostRuntime) -> Result<(), AllocError> {
         MARKET_B_AND_A_NEWCOMER,
         &[(
             View::Report,
-            "student,school\n1,20\n2,-\n3,10\nschool,seats,held,class,draw,student\n10,1,1,0,ccef36a8c70d778b,3\n20,1,1,1,e56a5d4028bd8653,1\nstudent,school,reason\n1,10,class\n2,20,class\n2,10,class\n",
+            "student,school\n1,20\n2,-\n3,10\nschool,seats,held,class,draw,student\n10,1,1,1,ccef36a8c70d778b,3\n20,1,1,2,e56a5d4028bd8653,1\nstudent,school,reason\n1,10,class\n2,20,class\n2,10,class\n",
         )],
     )
 }

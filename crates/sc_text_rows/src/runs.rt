@@ -2,6 +2,7 @@
 mod faults;
 mod sections;
 
+use sc_markets::roster_header;
 use sc_papers::Seed;
 use sc_report::Watched;
 use sc_report::devices::{Ending, FailingWriter};
@@ -21,6 +22,15 @@ const MARKET_B: Rows = ("10,1,1\n20,0,1\n", "1,0,20\n2,0,10\n", "1,10 20\n2,20 1
 const TWO_STUDENTS: Rows = ("1,0,1\n", "1,0,\n2,0,\n", "1,1\n2,1\n");
 
 const ZONE_FIRST: Rows = ("1,1,1\n", "1,1,\n2,0,\n", "1,1\n2,1\n");
+
+const CONTINUING_FIRST: Rows = ("1,1,1\n", "1,1,,\n2,0,,1\n", "1,1\n2,1\n");
+
+/// Market B with its student 2 continuing at school 10.
+const MARKET_B_CONTINUING: Rows = (
+    "10,1,1\n20,0,1\n",
+    "1,0,20,\n2,0,10,10\n",
+    "1,10 20\n2,20 10\n",
+);
 
 const FREE_SEATS: Rows = ("10,0,2\n", "1,0,\n", "1,10\n");
 
@@ -60,8 +70,9 @@ fn written(alloc: Global, input: &str) -> Result<String, AllocError> {
 
 /// A bundle of rows under the zero seed.
 fn bundle(alloc: Global, (schools, roster, lists): Rows) -> Result<String, AllocError> {
+    let header = roster_header(roster);
     format!(in alloc;
-        "%seed\n{ZEROS}\n%schools\nschool,zone,seats\n{schools}%roster\nstudent,zone,siblings\n{roster}%lists\nstudent,choices\n{lists}"
+        "%seed\n{ZEROS}\n%schools\nschool,zone,seats\n{schools}%roster\n{header}\n{roster}%lists\nstudent,choices\n{lists}"
     )
 }
 
@@ -203,6 +214,18 @@ fn each_intake_fault_once(rt: HostRuntime) -> Result<(), AllocError> {
 const SCRIPTS: &[(&str, Rows, &str, &str)] = &[
     ("no record", MARKET_B, "", "student,school\n1,10\n2,20\n0"),
     (
+        "continuing against a newcomer: the opening",
+        MARKET_B_CONTINUING,
+        "",
+        "student,school\n1,10\n2,20\n0",
+    ),
+    (
+        "continuing against a newcomer: no more",
+        MARKET_B_CONTINUING,
+        "enter,3,1,10,10\ncorrect,2,0,10\n",
+        "1,ok\n2,ok\nstudent,school\n1,20\n2,-\n3,10\n0",
+    ),
+    (
         "the first script",
         MARKET_B,
         "enter,3,1,10,10\nenter,3,0,,10\n",
@@ -244,43 +267,55 @@ const WHOLE_REPORTS: &[(&str, Rows, &str, &str)] = &[
         "one seat, two students",
         TWO_STUDENTS,
         "",
-        "student,school\n1,-\n2,1\nschool,seats,held,class,draw,student\n1,1,1,3,b819d2bd1aed8da0,2\nstudent,school,reason\n1,1,lottery\n",
+        "student,school\n1,-\n2,1\nschool,seats,held,class,draw,student\n1,1,1,4,b819d2bd1aed8da0,2\nstudent,school,reason\n1,1,lottery\n",
     ),
     (
         "zone before draw",
         ZONE_FIRST,
         "",
-        "student,school\n1,1\n2,-\nschool,seats,held,class,draw,student\n1,1,1,2,e56a5d4028bd8653,1\nstudent,school,reason\n2,1,class\n",
+        "student,school\n1,1\n2,-\nschool,seats,held,class,draw,student\n1,1,1,3,e56a5d4028bd8653,1\nstudent,school,reason\n2,1,class\n",
+    ),
+    (
+        "a continuing student",
+        CONTINUING_FIRST,
+        "",
+        "student,school\n1,-\n2,1\nschool,seats,held,class,draw,student\n1,1,1,0,b819d2bd1aed8da0,2\nstudent,school,reason\n1,1,class\n",
     ),
     (
         "Market A, and a seat closed",
         MARKET_A,
         "close,10,1\n",
-        "1,ok\nstudent,school\n1,20\n2,-\nschool,seats,held,class,draw,student\n10,0,0,closed,-,-\n20,1,1,1,e56a5d4028bd8653,1\nstudent,school,reason\n1,10,seats\n2,20,class\n2,10,seats\n",
+        "1,ok\nstudent,school\n1,20\n2,-\nschool,seats,held,class,draw,student\n10,0,0,closed,-,-\n20,1,1,2,e56a5d4028bd8653,1\nstudent,school,reason\n1,10,seats\n2,20,class\n2,10,seats\n",
     ),
     (
         "Market B, and a newcomer",
         MARKET_B,
         "enter,3,1,10,10\n",
-        "1,ok\nstudent,school\n1,20\n2,-\n3,10\nschool,seats,held,class,draw,student\n10,1,1,0,ccef36a8c70d778b,3\n20,1,1,1,e56a5d4028bd8653,1\nstudent,school,reason\n1,10,class\n2,20,class\n2,10,class\n",
+        "1,ok\nstudent,school\n1,20\n2,-\n3,10\nschool,seats,held,class,draw,student\n10,1,1,1,ccef36a8c70d778b,3\n20,1,1,2,e56a5d4028bd8653,1\nstudent,school,reason\n1,10,class\n2,20,class\n2,10,class\n",
+    ),
+    (
+        "continuing against a newcomer",
+        MARKET_B_CONTINUING,
+        "enter,3,1,10,10\n",
+        "1,ok\nstudent,school\n1,20\n2,10\n3,-\nschool,seats,held,class,draw,student\n10,1,1,0,b819d2bd1aed8da0,2\n20,1,1,2,e56a5d4028bd8653,1\nstudent,school,reason\n1,10,class\n2,20,class\n3,10,class\n",
     ),
     (
         "the newcomer withdraws",
         MARKET_B,
         "enter,3,1,10,10\nwithdraw,3\n",
-        "1,ok\n2,ok\nstudent,school\n1,10\n2,20\nschool,seats,held,class,draw,student\n10,1,1,3,e56a5d4028bd8653,1\n20,1,1,3,b819d2bd1aed8da0,2\nstudent,school,reason\n",
+        "1,ok\n2,ok\nstudent,school\n1,10\n2,20\nschool,seats,held,class,draw,student\n10,1,1,4,e56a5d4028bd8653,1\n20,1,1,4,b819d2bd1aed8da0,2\nstudent,school,reason\n",
     ),
     (
         "a seat added",
         MARKET_B,
         "enter,3,1,10,10\nadd,10,1\n",
-        "1,ok\n2,ok\nstudent,school\n1,10\n2,20\n3,10\nschool,seats,held,class,draw,student\n10,2,2,3,e56a5d4028bd8653,1\n20,1,1,3,b819d2bd1aed8da0,2\nstudent,school,reason\n",
+        "1,ok\n2,ok\nstudent,school\n1,10\n2,20\n3,10\nschool,seats,held,class,draw,student\n10,2,2,4,e56a5d4028bd8653,1\n20,1,1,4,b819d2bd1aed8da0,2\nstudent,school,reason\n",
     ),
     (
         "rerank to the same",
         MARKET_B,
         "enter,3,1,10,10\nrerank,1,10 20\nrerank,1,10 10\n",
-        "1,ok\n2,ok\n3,refused,7,SchoolTwice,10\nstudent,school\n1,20\n2,-\n3,10\nschool,seats,held,class,draw,student\n10,1,1,0,ccef36a8c70d778b,3\n20,1,1,1,e56a5d4028bd8653,1\nstudent,school,reason\n1,10,class\n2,20,class\n2,10,class\n",
+        "1,ok\n2,ok\n3,refused,7,SchoolTwice,10\nstudent,school\n1,20\n2,-\n3,10\nschool,seats,held,class,draw,student\n10,1,1,1,ccef36a8c70d778b,3\n20,1,1,2,e56a5d4028bd8653,1\nstudent,school,reason\n1,10,class\n2,20,class\n2,10,class\n",
     ),
     (
         "free seats",
@@ -304,37 +339,37 @@ const WHOLE_REPORTS: &[(&str, Rows, &str, &str)] = &[
         "a correction rewinds to the start",
         FIVE_STUDENTS,
         "correct,1,0,\n",
-        "1,ok\nstudent,school\n1,-\n2,10\n3,-\n4,20\n5,20\nschool,seats,held,class,draw,student\n10,1,1,3,b819d2bd1aed8da0,2\n20,2,2,3,7c5941da8d485751,4\nstudent,school,reason\n1,10,lottery\n1,20,lottery\n3,20,lottery\n",
+        "1,ok\nstudent,school\n1,-\n2,10\n3,-\n4,20\n5,20\nschool,seats,held,class,draw,student\n10,1,1,4,b819d2bd1aed8da0,2\n20,2,2,4,7c5941da8d485751,4\nstudent,school,reason\n1,10,lottery\n1,20,lottery\n3,20,lottery\n",
     ),
     (
         "withdraw and return: the one who holds",
         TWO_STUDENTS,
         "withdraw,2\nenter,2,0,,1\n",
-        "1,ok\n2,ok\nstudent,school\n1,-\n2,1\nschool,seats,held,class,draw,student\n1,1,1,3,b819d2bd1aed8da0,2\nstudent,school,reason\n1,1,lottery\n",
+        "1,ok\n2,ok\nstudent,school\n1,-\n2,1\nschool,seats,held,class,draw,student\n1,1,1,4,b819d2bd1aed8da0,2\nstudent,school,reason\n1,1,lottery\n",
     ),
     (
         "withdraw and return: the other one",
         TWO_STUDENTS,
         "withdraw,1\nenter,1,0,,1\n",
-        "1,ok\n2,ok\nstudent,school\n1,-\n2,1\nschool,seats,held,class,draw,student\n1,1,1,3,b819d2bd1aed8da0,2\nstudent,school,reason\n1,1,lottery\n",
+        "1,ok\n2,ok\nstudent,school\n1,-\n2,1\nschool,seats,held,class,draw,student\n1,1,1,4,b819d2bd1aed8da0,2\nstudent,school,reason\n1,1,lottery\n",
     ),
     (
         "either order: a newcomer first",
         MARKET_B,
         "enter,3,1,10,10\nadd,20,1\n",
-        "1,ok\n2,ok\nstudent,school\n1,20\n2,20\n3,10\nschool,seats,held,class,draw,student\n10,1,1,0,ccef36a8c70d778b,3\n20,2,2,3,b819d2bd1aed8da0,2\nstudent,school,reason\n1,10,class\n",
+        "1,ok\n2,ok\nstudent,school\n1,20\n2,20\n3,10\nschool,seats,held,class,draw,student\n10,1,1,1,ccef36a8c70d778b,3\n20,2,2,4,b819d2bd1aed8da0,2\nstudent,school,reason\n1,10,class\n",
     ),
     (
         "either order: a seat first",
         MARKET_B,
         "add,20,1\nenter,3,1,10,10\n",
-        "1,ok\n2,ok\nstudent,school\n1,20\n2,20\n3,10\nschool,seats,held,class,draw,student\n10,1,1,0,ccef36a8c70d778b,3\n20,2,2,3,b819d2bd1aed8da0,2\nstudent,school,reason\n1,10,class\n",
+        "1,ok\n2,ok\nstudent,school\n1,20\n2,20\n3,10\nschool,seats,held,class,draw,student\n10,1,1,1,ccef36a8c70d778b,3\n20,2,2,4,b819d2bd1aed8da0,2\nstudent,school,reason\n1,10,class\n",
     ),
     (
         "the whole run",
         MARKET_B,
         "enter,3,1,10,10\nnonsense\nwithdraw,99\nadd,77,1\nwithdraw,3\n",
-        "1,ok\n2,refused,1,Shape\n3,refused,2,UnknownStudent\n4,refused,6,UnknownSchool,77\n5,ok\nstudent,school\n1,10\n2,20\nschool,seats,held,class,draw,student\n10,1,1,3,e56a5d4028bd8653,1\n20,1,1,3,b819d2bd1aed8da0,2\nstudent,school,reason\n",
+        "1,ok\n2,refused,1,Shape\n3,refused,2,UnknownStudent\n4,refused,6,UnknownSchool,77\n5,ok\nstudent,school\n1,10\n2,20\nschool,seats,held,class,draw,student\n10,1,1,4,e56a5d4028bd8653,1\n20,1,1,4,b819d2bd1aed8da0,2\nstudent,school,reason\n",
     ),
 ];
 
@@ -398,16 +433,24 @@ const MARKET_B_FILES: Files = (
     "student,choices\n1,10 20\n2,20 10\n",
 );
 
-/// What a run of a script over Market B leaves whose journal takes so many bytes and then fails: the output,
+/// The same with student 2 continuing at school 10.
+const MARKET_B_CONTINUING_FILES: Files = (
+    "school,zone,seats\n10,1,1\n20,0,1\n",
+    "student,zone,siblings,continuing\n1,0,20,\n2,0,10,10\n",
+    "student,choices\n1,10 20\n2,20 10\n",
+);
+
+/// What a run of a script over an opening leaves whose journal takes so many bytes and then fails: the output,
 /// the journal and the answer.
 fn ran(
     alloc: Global,
     seed: &Seed,
+    files: Files,
     room: usize,
     script: &'static str,
 ) -> Result<String, AllocError> {
     let mut inputs = Inputs {
-        opening: opening(MARKET_B_FILES),
+        opening: opening(files),
         script: Watched::new(script.as_bytes()),
     };
     let taken = Vec::with_capacity(alloc, room)?;
@@ -419,15 +462,16 @@ fn ran(
     format!(in alloc; "{output}|{journal}|{answer:?}")
 }
 
-/// Each script leaves what is wanted, where the journal takes so many bytes.
+/// Each script over the opening leaves what is wanted, where the journal takes so many bytes.
 fn expect_runs(
     rt: &impl Abort,
     alloc: Global,
+    files: Files,
     table: &[(usize, &'static str, &str)],
 ) -> Result<(), AllocError> {
     let seed = Seed::from_hex(ZEROS.as_bytes()).expect(rt, "a seed");
     for (room, script, want) in table {
-        let left = ran(alloc, &seed, *room, script)?;
+        let left = ran(alloc, &seed, files, *room, script)?;
         assert!(rt; left.as_str() == *want, "{left}");
     }
     Ok(())
@@ -438,10 +482,25 @@ fn the_whole_run(rt: HostRuntime) -> Result<(), AllocError> {
     expect_runs(
         &rt,
         rt.alloc(),
+        MARKET_B_FILES,
         &[(
             999,
             "enter,3,1,10,10\nnonsense\nwithdraw,99\nadd,77,1\nwithdraw,3\n",
-            "1,ok\n2,refused,1,Shape\n3,refused,2,UnknownStudent\n4,refused,6,UnknownSchool,77\n5,ok\nstudent,school\n1,10\n2,20\nschool,seats,held,class,draw,student\n10,1,1,3,e56a5d4028bd8653,1\n20,1,1,3,b819d2bd1aed8da0,2\nstudent,school,reason\n|1,enter,3,1,10,10\n2,withdraw,3\n|Ok(())",
+            "1,ok\n2,refused,1,Shape\n3,refused,2,UnknownStudent\n4,refused,6,UnknownSchool,77\n5,ok\nstudent,school\n1,10\n2,20\nschool,seats,held,class,draw,student\n10,1,1,4,e56a5d4028bd8653,1\n20,1,1,4,b819d2bd1aed8da0,2\nstudent,school,reason\n|1,enter,3,1,10,10\n2,withdraw,3\n|Ok(())",
+        )],
+    )
+}
+
+#[test]
+fn continuing_against_a_newcomer(rt: HostRuntime) -> Result<(), AllocError> {
+    expect_runs(
+        &rt,
+        rt.alloc(),
+        MARKET_B_CONTINUING_FILES,
+        &[(
+            999,
+            "enter,3,1,10,10\ncorrect,2,0,10\ncorrect,2,0,10,77\nenter,4,0,77,10,78\ncorrect,2,0,10,10\n",
+            "1,ok\n2,ok\n3,refused,6,UnknownSchool,77\n4,refused,6,UnknownSchool,77\n5,ok\nstudent,school\n1,20\n2,10\n3,-\nschool,seats,held,class,draw,student\n10,1,1,0,b819d2bd1aed8da0,2\n20,1,1,2,e56a5d4028bd8653,1\nstudent,school,reason\n1,10,class\n2,20,class\n3,10,class\n|1,enter,3,1,10,10\n2,correct,2,0,10\n3,correct,2,0,10,10\n|Ok(())",
         )],
     )
 }
@@ -452,6 +511,7 @@ fn failing_writers(rt: HostRuntime) -> Result<(), AllocError> {
     expect_runs(
         &rt,
         rt.alloc(),
+        MARKET_B_FILES,
         &[
             (0, script, "||Err(WriteJournal)"),
             (20, script, "1,ok\n|1,enter,3,1,10,10\n2,|Err(WriteJournal)"),
@@ -490,7 +550,7 @@ fn three_files(rt: HostRuntime) -> Result<(), AllocError> {
         "student,choices\n1,1\n2,1\n",
     );
     let want =
-        "student,school\n1,-\n2,1\nschool,seats,held,class,draw,student\n1,1,1,3,b819d2bd1aed8da0,2\nstudent,school,reason\n1,1,lottery\n|Ok(())";
+        "student,school\n1,-\n2,1\nschool,seats,held,class,draw,student\n1,1,1,4,b819d2bd1aed8da0,2\nstudent,school,reason\n1,1,lottery\n|Ok(())";
     expect_match(&rt, rt.alloc(), files, false, want)
 }
 

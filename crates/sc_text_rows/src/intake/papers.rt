@@ -258,6 +258,12 @@ fn each_fault_of_the_students_once(rt: HostRuntime) -> Result<(), AllocError> {
             ),
             (
                 SCHOOLS,
+                "student,zone,siblings,continuing\n1,0,20,\n2,0,10,99\n",
+                LISTS,
+                "roster row 3: Refused 6 UnknownSchool 99",
+            ),
+            (
+                SCHOOLS,
                 ROSTER,
                 "student,choices\n1,10 20\n2,\n",
                 "roster row 3: Refused 4 EmptyList",

@@ -164,6 +164,25 @@ fn rosters(rt: HostRuntime) -> Result<(), AllocError> {
 }
 
 #[test]
+fn rosters_of_the_longer_form(rt: HostRuntime) -> Result<(), AllocError> {
+    expect(
+        &rt,
+        rt.alloc(),
+        View::Roster,
+        "student,zone,siblings,continuing\n",
+        &[
+            ("1,0,20,\n2,0,10, 99999 \n", "2 rows"),
+            ("1,0,20,\n2,0,10,x\n", "roster row 3: Number"),
+            ("2,0,10,10 20\n", "roster row 2: Number"),
+            ("2,0,10,0\n", "roster row 2: Range"),
+            ("2,0,10\n", "roster row 2: Fields"),
+            ("2,0,10,10,\n", "roster row 2: Fields"),
+            ("2,0,,10\n2,0,,\n", "roster row 3: Twice"),
+        ],
+    )
+}
+
+#[test]
 fn lists_of_students(rt: HostRuntime) -> Result<(), AllocError> {
     expect(
         &rt,

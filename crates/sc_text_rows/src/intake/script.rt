@@ -12,7 +12,11 @@ fn each_kind_of_record_once(rt: HostRuntime) -> Result<(), AllocError> {
         &[
             (
                 "enter,3,1,20,10 20\n",
-                "Some(Ok(Enter { student: StudentNumber { number: 3 }, zone: Zone { number: 1 }, siblings: SchoolList { schools: [SchoolNo { number: 20 }] }, choices: SchoolList { schools: [SchoolNo { number: 10 }, SchoolNo { number: 20 }] } }))",
+                "Some(Ok(Enter { student: StudentNumber { number: 3 }, zone: Zone { number: 1 }, siblings: SchoolList { schools: [SchoolNo { number: 20 }] }, choices: SchoolList { schools: [SchoolNo { number: 10 }, SchoolNo { number: 20 }] }, continuing: None }))",
+            ),
+            (
+                "enter,3,1,,10,20\n",
+                "Some(Ok(Enter { student: StudentNumber { number: 3 }, zone: Zone { number: 1 }, siblings: SchoolList { schools: [] }, choices: SchoolList { schools: [SchoolNo { number: 10 }] }, continuing: Some(SchoolNo { number: 20 }) }))",
             ),
             (
                 "withdraw,3\n",
@@ -32,7 +36,11 @@ fn each_kind_of_record_once(rt: HostRuntime) -> Result<(), AllocError> {
             ),
             (
                 "correct,3,0,\n",
-                "Some(Ok(Correct { student: StudentNumber { number: 3 }, zone: Zone { number: 0 }, siblings: SchoolList { schools: [] } }))",
+                "Some(Ok(Correct { student: StudentNumber { number: 3 }, zone: Zone { number: 0 }, siblings: SchoolList { schools: [] }, continuing: None }))",
+            ),
+            (
+                "correct,3,0,,20\n",
+                "Some(Ok(Correct { student: StudentNumber { number: 3 }, zone: Zone { number: 0 }, siblings: SchoolList { schools: [] }, continuing: Some(SchoolNo { number: 20 }) }))",
             ),
             ("nonsense\n", "Some(Err(Shape))"),
             ("", "None"),
@@ -50,7 +58,7 @@ fn untidy_spellings_of_a_script(rt: HostRuntime) -> Result<(), AllocError> {
         &[
             (
                 "\u{FEFF}\r\n enter\t,\"03\", 1,\"\",10  20 \r\nnonsense",
-                "Some(Ok(Enter { student: StudentNumber { number: 3 }, zone: Zone { number: 1 }, siblings: SchoolList { schools: [] }, choices: SchoolList { schools: [SchoolNo { number: 10 }, SchoolNo { number: 20 }] } }))",
+                "Some(Ok(Enter { student: StudentNumber { number: 3 }, zone: Zone { number: 1 }, siblings: SchoolList { schools: [] }, choices: SchoolList { schools: [SchoolNo { number: 10 }, SchoolNo { number: 20 }] }, continuing: None }))",
             ),
             (
                 "\n\r\"rerank\" ,0003,\"20\"",
@@ -130,8 +138,16 @@ fn records_that_are_no_amendment(rt: HostRuntime) -> Result<(), AllocError> {
                 "+----",
             ),
             (
-                "correct,1,0,\ncorrect,1,0,10  20\ncorrect,1,0\ncorrect,1,x,\ncorrect,1,0,10,20\n",
+                "correct,1,0,\ncorrect,1,0,10  20\ncorrect,1,0\ncorrect,1,x,\ncorrect,1,0,10,20,30\n",
                 "++---",
+            ),
+            (
+                "enter,1,0,,10,\nenter,1,0,,10, 020 \nenter,1,0,,10,x\nenter,1,0,,10,0\nenter,1,0,,10,20 30\nenter,1,0,,10,20,\n",
+                "++----",
+            ),
+            (
+                "correct,1,0,,\ncorrect,1,0,,99999\ncorrect,1,0,,100000\ncorrect,1,0,,20,\n",
+                "++--",
             ),
         ],
     )

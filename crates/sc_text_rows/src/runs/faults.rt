@@ -13,7 +13,7 @@ const SCRIPT: &[u8] = b"enter,3,1,10,10\nnonsense\nwithdraw,99\nadd,77,1\nwithdr
 
 /// What the whole run writes to its output.
 const OUTPUT: &str =
-    "1,ok\n2,refused,1,Shape\n3,refused,2,UnknownStudent\n4,refused,6,UnknownSchool,77\n5,ok\nstudent,school\n1,10\n2,20\nschool,seats,held,class,draw,student\n10,1,1,3,e56a5d4028bd8653,1\n20,1,1,3,b819d2bd1aed8da0,2\nstudent,school,reason\n";
+    "1,ok\n2,refused,1,Shape\n3,refused,2,UnknownStudent\n4,refused,6,UnknownSchool,77\n5,ok\nstudent,school\n1,10\n2,20\nschool,seats,held,class,draw,student\n10,1,1,4,e56a5d4028bd8653,1\n20,1,1,4,b819d2bd1aed8da0,2\nstudent,school,reason\n";
 
 /// What the whole run writes to its journal.
 const JOURNAL: &str = "1,enter,3,1,10,10\n2,withdraw,3\n";
@@ -106,7 +106,7 @@ fn a_script_cut_short(rt: HostRuntime) {
     let cut = b"enter,3,1,10,1";
     let script = FailingReader::new(cut, 99, 99, ErrorKind::Other);
     let report =
-        "1,refused,6,UnknownSchool,1\nstudent,school\n1,10\n2,20\nschool,seats,held,class,draw,student\n10,1,1,3,e56a5d4028bd8653,1\n20,1,1,3,b819d2bd1aed8da0,2\nstudent,school,reason\n";
+        "1,refused,6,UnknownSchool,1\nstudent,school\n1,10\n2,20\nschool,seats,held,class,draw,student\n10,1,1,4,e56a5d4028bd8653,1\n20,1,1,4,b819d2bd1aed8da0,2\nstudent,school,reason\n";
     expect(
         &rt,
         rt.alloc(),
@@ -155,11 +155,11 @@ fn failing_flushes(rt: HostRuntime) {
 
 /// The report of Market B.
 const REPORT: &str =
-    "student,school\n1,10\n2,20\nschool,seats,held,class,draw,student\n10,1,1,3,e56a5d4028bd8653,1\n20,1,1,3,b819d2bd1aed8da0,2\nstudent,school,reason\n";
+    "student,school\n1,10\n2,20\nschool,seats,held,class,draw,student\n10,1,1,4,e56a5d4028bd8653,1\n20,1,1,4,b819d2bd1aed8da0,2\nstudent,school,reason\n";
 
 /// The report of Market B with its newcomer.
 const NEWCOMER: &str =
-    "student,school\n1,20\n2,-\n3,10\nschool,seats,held,class,draw,student\n10,1,1,0,ccef36a8c70d778b,3\n20,1,1,1,e56a5d4028bd8653,1\nstudent,school,reason\n1,10,class\n2,20,class\n2,10,class\n";
+    "student,school\n1,20\n2,-\n3,10\nschool,seats,held,class,draw,student\n10,1,1,1,ccef36a8c70d778b,3\n20,1,1,2,e56a5d4028bd8653,1\nstudent,school,reason\n1,10,class\n2,20,class\n2,10,class\n";
 
 /// What a replay of a journal over Market B writes, and its answer.
 fn replayed(alloc: Global, seed: &Seed, journal: &'static [u8]) -> Result<String, AllocError> {
