@@ -1,9 +1,9 @@
 -- The students after an amendment stand in step with those before it, from the rewind point on.
-use Rattle.std.proofs.Common.{◌≡◌, ◌⊎◌, inl, inr, refl, ap, sym, ◌∙◌, ℕ, zero, suc, ◌+◌, ◌-◌, ◌≤◌, ◌<◌, nat_eq, Bool, true, false, cond, List, [], ◌∷◌, ◌++◌, length, Option, Some, None, slice_get, arith}
+use Rattle.std.proofs.Common.{◌≡◌, ◌⊎◌, inl, inr, refl, ap, sym, subst, ◌∙◌, ℕ, zero, suc, ◌+◌, ◌-◌, ◌≤◌, ◌<◌, nat_eq, Bool, true, false, cond, List, [], ◌∷◌, ◌++◌, length, Option, Some, None, slice_get, arith}
 use Rattle.std.specs.List.{position_or_len}
 use Rattle.std.specs.Map.{keys_of, remove_entry}
 use Rattle.std.specs.Option.{option_map_or}
-use Rattle.std.proofs.lemmas.Bool.{cases_Bool, cond-true, cond-false, eqb-true}
+use Rattle.std.proofs.lemmas.Bool.{cases_Bool, cond-true, cond-false, eqb-true, true≢false}
 use Rattle.std.specs.Prelude.{get_or}
 use Rattle.std.proofs.lemmas.List.{length-append, length-map, map-append}
 use Rattle.std.proofs.lemmas.List.Sums.{passes_at_first}
@@ -12,6 +12,7 @@ use Rattle.std.proofs.lemmas.Option.{get_or_from_slice_get, none-some, same_Some
 use Rattle.sc_papers.specs.Market.{Market, student_of, school_of, students_of, seats_of}
 use Rattle.sc_papers.specs.WellFormed.{WellFormed}
 use Rattle.sc_papers.proofs.Amending.{WellFormed-after}
+use Rattle.sc_papers.specs.TakingBack.{is_withdrawal}
 use Rattle.sc_papers.specs.Verdict.{after, verdict, changed_student, with_seats}
 use Rattle.sc_papers.specs.declared.amendment.Amendment.{Amendment}
 use Rattle.sc_papers.specs.declared.amendment.Amendment.TheVariants.{Enter, Withdraw, Rerank, Add, Close, Correct}
@@ -20,6 +21,7 @@ use Rattle.sc_papers.specs.declared.records.Student.{Student}
 use Rattle.sc_papers.proofs.Changing.{put_school, put_student}
 use Rattle.sc_region.specs.Region.{amended}
 use Rattle.sc_repair.specs.Locality.{ChangesInside, KeepsStep, TellsRegion}
+use Rattle.sc_repair.specs.Newcomer.{newcomer}
 use Rattle.sc_repair.proofs.Region.{region-alike, region-apart, region-apart_after}
 use Rattle.sc_repair.proofs.Resumption.{length-students}
 use Rattle.sc_repair.proofs.Rewinding.{alike-after, rewind-within, rewind-within_after}
@@ -146,6 +148,15 @@ keeps-step m (Close s count) test tells =
 keeps-step m (Correct i zone siblings continuing) test tells =
     step-same test (students_of m) (students_of (after m (Correct i zone siblings continuing))) (rewind_point m (Correct i zone siblings continuing)) (students-changed m i (λ student. record student { zone = zone; siblings = siblings; continuing = continuing }))
 
+-- where nobody enters or withdraws, everybody stands where they did
+pub students-stay : (m : Market) (a : Amendment) → newcomer a ≡ None → is_withdrawal a ≡ false → students_of (after m a) ≡ students_of m
+students-stay m (Enter i zone siblings choices continuing) no_entry no_withdrawal = absurd (none-some i (sym no_entry))
+students-stay m (Withdraw i) no_entry no_withdrawal = absurd (true≢false no_withdrawal)
+students-stay m (Rerank i choices) no_entry no_withdrawal = students-changed m i (λ student. record student { choices = choices })
+students-stay m (Add s count) no_entry no_withdrawal = students-seated m s (seats_of m s + count)
+students-stay m (Close s count) no_entry no_withdrawal = students-seated m s (seats_of m s - count)
+students-stay m (Correct i zone siblings continuing) no_entry no_withdrawal = students-changed m i (λ student. record student { zone = zone; siblings = siblings; continuing = continuing })
+
 -- and so an amendment changes papers inside its region, from its rewind point on
 pub changes-inside : (m : Market) (a : Amendment) (test : ℕ → Bool) → WellFormed m → verdict m a ≡ None → TellsRegion m a test
     → ChangesInside m (after m a) test (rewind_point m a) (length (students_of m) - length (students_of (after m a)))
@@ -159,3 +170,9 @@ changes-inside m a test well allowed tells = record {
   within_new = rewind-within_after m a;
   in_step = keeps-step m a test tells;
 }
+
+pub changes-in-place : (m : Market) (a : Amendment) (test : ℕ → Bool) → newcomer a ≡ None → is_withdrawal a ≡ false → WellFormed m → verdict m a ≡ None → TellsRegion m a test
+    → ChangesInside m (after m a) test (rewind_point m a) 0
+changes-in-place m a test no_entry no_withdrawal well allowed tells =
+    let none : length (students_of m) - length (students_of (after m a)) ≡ 0 = omega (arith, ap (λ (xs : List ℕ). length xs) (students-stay m a no_entry no_withdrawal)) in
+    subst (ChangesInside m (after m a) test (rewind_point m a)) none (changes-inside m a test well allowed tells)

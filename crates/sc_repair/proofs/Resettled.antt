@@ -11,13 +11,14 @@ use Rattle.sc_papers.specs.WellFormed.{WellFormed}
 use Rattle.sc_papers.proofs.Locality.{optimal-outside}
 use Rattle.sc_checkpoint.specs.Chains.{logs_in, students_in, Chain}
 use Rattle.sc_engine.specs.RoundView.{RoundView, next_of}
+use Rattle.sc_repair.specs.Changed.{HaveChanged}
 use Rattle.sc_repair.specs.Course.{among_students, either_by, GoesOnInside, InStep}
 use Rattle.sc_repair.specs.Locality.{chains_of, ChangesInside}
 use Rattle.sc_repair.specs.Standing.{Standing, CountsInside, IsCertified}
 use Rattle.sc_repair.proofs.Chains.{drop-past}
 use Rattle.sc_repair.proofs.Course.{others-past}
-use Rattle.sc_repair.proofs.Ending.{matching-end, proposals-end, segments-end}
-use Rattle.sc_repair.proofs.Kept.{certified-of, logs-kept}
+use Rattle.sc_repair.proofs.Ending.{matching-end, proposals-end, segments-end, theirs-end}
+use Rattle.sc_repair.proofs.Kept.{certified-of, count-kept, logs-kept, theirs-kept}
 use Rattle.sc_repair.proofs.Rewinding.{segments-rewound}
 
 -- the old chains are in step
@@ -89,3 +90,44 @@ comes m n test old point gap k r chains before after proposals well changes thei
           let counted = proposals-end n test old point gap r chains (assigned after) changes.apart new going matching in
           omega (arith, counted, made);
     }
+
+-- the same of papers that have changed under a standing, whose first chains are kept
+module _ (n : Market) (places : List (ℕ × ℕ)) (old kept : List Chain) (test : ℕ → Bool) (point gap : ℕ) (changed : HaveChanged n places old test point gap) (is : kept ≡ take point old) where
+  count : length kept ≡ point
+  count = count-kept changed.before point old kept changed.stood.theirs changed.changes.within_old is
+
+  pub changed-step : (position i : ℕ) → length kept ≤ position → slice_get (students_of n) position ≡ Some i → InStep test old (position + gap) i
+  changed-step = chains-step changed.before n test old point gap (length kept) changed.changes changed.stood.theirs count
+
+  pub changed-outside : chains_of (outside test) (take (length kept) old) ++ chains_of (outside test) (drop (length kept + gap) old) ≡ chains_of (outside test) old
+  changed-outside = chains-others changed.before n test old point gap (length kept) changed.changes changed.stood.theirs count
+
+  pub changed-first : kept ≡ take (length kept) old
+  changed-first = is ∙ ap (λ k. take k old) (sym count)
+
+  pub changed-theirs : students_in kept ≡ take (length kept) (students_of n)
+  changed-theirs = theirs-kept changed.before n point old kept changed.changes.before changed.stood.theirs count is
+
+  pub changed-segmented : IsSegmented (cut n (length kept)) (logs_in kept)
+  changed-segmented = kept-segmented changed.before n test old kept point gap changed.changes changed.stood.segmented is count
+
+  -- what the settling leaves
+  pub record Leaves (after : List (ℕ × ℕ)) (chains : List Chain) (made : ℕ) : Type 0 where
+    pub certified : IsCertified (record { papers = n; places = after; segments = logs_in chains; proposals = made })
+    pub theirs : students_in chains ≡ students_of n
+    pub stays : take point (logs_in chains) ≡ take point (logs_in old)
+    pub others : (i : ℕ) → test i ≡ false → assigned after i ≡ assigned places i
+    pub proposals : CountsInside test point (record { papers = n; places = after; segments = logs_in chains; proposals = made })
+
+  pub changed-leaves : (r : RoundView) (chains : List Chain) (after : List (ℕ × ℕ)) (proposals : ℕ) → GoesOnInside n test old (length kept) gap r chains (length n.students)
+      → ((i : ℕ) → assigned after i ≡ among_students n (either_by test (next_of n r.ranks) (assigned places)) i) → proposals ≡ r.proposals → Leaves after chains proposals
+  changed-leaves r chains after proposals on given made =
+      let come = comes changed.before n test old point gap (length kept) r chains places after proposals
+      changed.stood.well_formed changed.changes changed.stood.theirs changed.stood.segmented changed.stood.optimal count on given made in
+      record {
+        certified = come.certified;
+        theirs = theirs-end n test old (length kept) gap r chains on;
+        stays = segments-stay old chains point (length kept) count on.stays;
+        others = come.others;
+        proposals = come.proposals;
+      }

@@ -5,3 +5,4 @@ pub mod Resumption
 pub mod Locality
 pub mod Course
 pub mod Newcomer
+pub mod Changed

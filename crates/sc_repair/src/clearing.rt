@@ -4,6 +4,7 @@ ghost use Rattle.sc_papers.specs.Market.{students_of};
 ghost use Rattle.sc_papers.specs.Matching.{has, held};
 
 mod amend;
+mod change;
 mod newcomer;
 mod resettle;
 

@@ -10,8 +10,10 @@ ghost use Rattle.sc_checkpoint.specs.NextChoices.{next_choices_after};
 ghost use Rattle.sc_checkpoint.specs.Chains.{Chain};
 ghost use Rattle.sc_engine.specs.RoundView.{next_of, Fits};
 ghost use Rattle.sc_engine.specs.Round.{is_spent, view_of};
+ghost use Rattle.sc_repair.specs.Changed.{standing_of, HaveChanged};
 ghost use Rattle.sc_repair.specs.Course.{among_students, either_by, GoesOnInside, InStep};
 ghost use Rattle.sc_repair.specs.Locality.{chains_of, is_among};
+ghost use Rattle.sc_repair.specs.Standing.{CountsInside, IsCertified};
 
 use crate::settling::enter_next;
 use sc_checkpoint::{NextChoice, Segments};
@@ -20,6 +22,14 @@ use sc_papers::{Assignment, Papers, SchoolNo, StudentNo};
 use sc_region::RegionList;
 use sc_seats::Roll;
 use std::alloc::{AllocError, Global};
+
+/// What a settling of a region leaves: who has which school, the segments, and how many proposals it made.
+#[derive(Drop)]
+pub(crate) struct Resettled {
+    pub places: Assignment,
+    pub segments: Segments,
+    pub proposals: u64,
+}
 
 /// Whether the student is in the region.
 fn is_among(region: &RegionList, student: StudentNo) -> bool
@@ -145,4 +155,37 @@ pub(crate) fn places_after<R: Roll>(
         after.give(student, place)?;
     }
     Ok(after)
+}
+
+/// Settles papers anew that changed only in a region and from a point on. The places and the segments are
+/// those of the papers before, which are lent: the students of the region are settled from the point on,
+/// and all others keep their places and their segments, which stand `gap` places further back among the
+/// old ones. The only error is want of memory.
+///
+/// The cost is a copy of the places and of the log, and an offer for each proposal of the region's students
+/// from the point on.
+pub(crate) fn resettle<R: Roll>(
+    alloc: Global,
+    papers: &Papers,
+    region: &RegionList,
+    point: usize,
+    gap: usize,
+    places: &Assignment,
+    segments: &Segments,
+) -> Result<Resettled, AllocError>
+    requires changed { HaveChanged papers.now places.now segments.now (is_among region.now) point gap }
+    ensures certified { IfOk result (λ settled. IsCertified (standing_of papers.now settled)) }
+    ensures theirs { IfOk result (λ settled. students_in settled.segments ≡ students_of papers.now) }
+    ensures stays { IfOk result (λ settled. take point (logs_in settled.segments) ≡ take point (logs_in segments.now)) }
+    ensures others { IfOk result (λ settled. (i : ℕ) → is_among region.now i ≡ false → assigned settled.places i ≡ assigned places.now i) }
+    ensures proposals { IfOk result (λ settled. CountsInside (is_among region.now) point (standing_of papers.now settled)) }
+{
+    let mut renewed = segments.copy_prefix(point)?;
+    let round: Round<R> = settle_region(alloc, papers, region, segments, gap, &mut renewed)?;
+    let given = places_after(alloc, papers, region, &round, places)?;
+    Ok(Resettled {
+        places: given,
+        segments: renewed,
+        proposals: round.proposals(),
+    })
 }

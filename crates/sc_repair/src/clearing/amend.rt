@@ -2,6 +2,7 @@
 
 ghost use Rattle.std.specs.Prelude.{◌≡◌, None, take, IfErr, IfOk, OnErr, OnOk};
 ghost use Rattle.sc_papers.specs.Matching.{IsStudentOptimal};
+ghost use Rattle.sc_papers.specs.TakingBack.{is_withdrawal};
 ghost use Rattle.sc_papers.specs.Verdict.{after, verdict, IsRefusal};
 ghost use Rattle.sc_repair.specs.Rewinding.{rewind_point};
 ghost use Rattle.sc_repair.specs.Standing.{matching_of, papers_after, CountsRegion, IsCertified, KeepsOthers};
@@ -21,6 +22,20 @@ fn amended_papers(papers: &Papers, amendment: Amendment) -> Result<Papers, Refus
     let mut amended = papers.copy()?;
     amended.apply(amendment)?;
     Ok(amended)
+}
+
+/// Whether a student withdraws by the amendment.
+fn is_withdrawal(amendment: &Amendment) -> bool
+    ensures { result ≡ is_withdrawal amendment.now }
+{
+    match amendment {
+        Amendment::Withdraw { .. } => true,
+        Amendment::Enter { .. }
+        | Amendment::Rerank { .. }
+        | Amendment::Add { .. }
+        | Amendment::Close { .. }
+        | Amendment::Correct { .. } => false,
+    }
 }
 
 impl Clearing {
@@ -64,9 +79,10 @@ impl Clearing {
     /// refused growth also costs an offer for each student and a look at each entry of the log, by which
     /// everybody is put back where they stand.
     ///
-    /// Any other amendment costs that of finding the region and of a copy of the papers, the places and the
-    /// log, and an offer for each proposal of the region's students from the rewind point on. The new standing
-    /// is made whole beside the old one before it takes its place, so a refused growth leaves nothing half
+    /// Any other amendment costs that of finding the region and of a copy of the places and the log, and an
+    /// offer for each proposal of the region's students from the rewind point on; a withdrawal copies the
+    /// papers too. The new places and segments are made whole beside the old ones before they take their
+    /// place, and papers that have changed by then go back where a growth is refused, so nothing is left half
     /// done. A refused amendment costs its `check` alone.
     pub fn amend(&mut self, amendment: Amendment) -> Result<(), Refusal>
         ensures optimal { IsStudentOptimal (papers_after self.old.papers amendment result) (matching_of self.new) }
@@ -83,7 +99,11 @@ impl Clearing {
             self.admit(amendment, student)?;
             return Ok(());
         }
-        *self = self.amended(amendment)?;
+        if is_withdrawal(&amendment) {
+            *self = self.amended(amendment)?;
+            return Ok(());
+        }
+        self.change(amendment)?;
         Ok(())
     }
 }

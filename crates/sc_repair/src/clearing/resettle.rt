@@ -5,8 +5,7 @@ ghost use Rattle.sc_repair.specs.Locality.{is_among, ChangesInside};
 ghost use Rattle.sc_repair.specs.Standing.{matching_of, CountsInside, IsCertified};
 
 use super::Clearing;
-use crate::resettling::{places_after, settle_region};
-use sc_engine::Round;
+use crate::resettling::resettle;
 use sc_papers::Papers;
 use sc_region::RegionList;
 use sc_seats::HeapRoll;
@@ -30,22 +29,21 @@ impl Clearing {
         ensures others { IfOk result (λ clearing. (i : ℕ) → is_among region.now i ≡ false → matching_of clearing i ≡ matching_of self.now i) }
         ensures proposals { IfOk result (CountsInside (is_among region.now) point) }
     {
-        let mut segments = self.segments.copy_prefix(point)?;
-        let round: Round<HeapRoll> = settle_region(
+        let settled = resettle::<HeapRoll>(
             self.alloc,
             &papers,
             region,
-            &self.segments,
+            point,
             gap,
-            &mut segments,
+            &self.places,
+            &self.segments,
         )?;
-        let places = places_after(self.alloc, &papers, region, &round, &self.places)?;
         Ok(Clearing {
             alloc: self.alloc,
             papers,
-            places,
-            segments,
-            proposals: round.proposals(),
+            places: settled.places,
+            segments: settled.segments,
+            proposals: settled.proposals,
             round: None,
         })
     }
