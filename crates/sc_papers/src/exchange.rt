@@ -12,9 +12,10 @@ use crate::records::Student;
 
 impl Papers {
     /// Makes an amendment that is no `Withdraw`, as `apply` does, and answers the one that takes it back: the
-    /// student who entered withdraws, the lists, the zone and the continuing school that were replaced come back, and as many seats as
-    /// were added are closed, or the other way round. Or it answers the first refusal that applies, as `check`
-    /// does, or else want of memory: then the papers are as before, and the amendment is given up.
+    /// student who entered withdraws, the lists, the zone and the school to continue at that were replaced come
+    /// back, and as many seats as were added are closed, or the other way round. Or it answers the first refusal
+    /// that applies, as `check` does, or else want of memory: then the papers are as before, and the amendment is
+    /// given up.
     ///
     /// The cost is that of `apply`. The old lists are moved and not copied, so only `Enter` takes memory.
     pub fn exchange(&mut self, amendment: Amendment) -> Result<Amendment, Refusal>

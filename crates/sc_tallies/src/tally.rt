@@ -97,7 +97,8 @@ fn no_tallies(alloc: Global, count: usize) -> Result<Vec<Tally>, AllocError>
 /// in the papers is not counted, and no more is a student who has a school that is not in them.
 ///
 /// The only error is a refused growth; memory is taken for each school. The cost is a look-up of a school for each
-/// student, and one of the student where the assignment's pairs are in another order than theirs. Papers are always well-formed, and this call tells its callers so.
+/// student, and one of the student where the assignment's pairs are in another order than theirs. Papers are
+/// always well-formed, and this call tells its callers so.
 pub fn tallies(
     alloc: Global,
     papers: &Papers,
