@@ -1,10 +1,10 @@
--- The refusals' codes, names and named schools.
+-- The refusals' codes, names and numbers.
 use Rattle.std.specs.Prelude.{ℕ, List, [], ◌++◌, codes, Option, None, Some}
 use Rattle.std.specs.Fmt.{decimal}
 use Rattle.sc_papers.specs.declared.amendment.Refusal.{Refusal}
-use Rattle.sc_papers.specs.declared.amendment.Refusal.TheVariants.{Shape, UnknownStudent, StudentExists, EmptyList, ListTooLong, UnknownSchool, SchoolTwice, RosterFull, TooManySeats, TooFewSeats, OutOfMemory}
+use Rattle.sc_papers.specs.declared.amendment.Refusal.TheVariants.{Shape, UnknownStudent, StudentExists, EmptyList, ListTooLong, UnknownSchool, SchoolTwice, RosterFull, TooManySeats, TooFewSeats, OutOfMemory, Stale, Spent}
 
--- a refusal's number, in the order in which refusals are tested
+-- a refusal's code. Refusals are tested in the order of their codes, but that want of memory comes last
 abbrev pub code_of : Refusal → ℕ
 code_of Shape = 1
 code_of UnknownStudent = 2
@@ -17,6 +17,8 @@ code_of RosterFull = 8
 code_of TooManySeats = 9
 code_of TooFewSeats = 10
 code_of OutOfMemory = 11
+code_of (Stale stamp) = 12
+code_of Spent = 13
 
 -- a refusal's name
 abbrev pub name_of : Refusal → List ℕ
@@ -31,26 +33,30 @@ name_of RosterFull = codes "RosterFull"
 name_of TooManySeats = codes "TooManySeats"
 name_of TooFewSeats = codes "TooFewSeats"
 name_of OutOfMemory = codes "OutOfMemory"
+name_of (Stale stamp) = codes "Stale"
+name_of Spent = codes "Spent"
 
--- the school that a refusal names, if it names one
-abbrev pub named_school : Refusal → Option ℕ
-named_school Shape = None
-named_school UnknownStudent = None
-named_school StudentExists = None
-named_school EmptyList = None
-named_school ListTooLong = None
-named_school (UnknownSchool s) = Some s
-named_school (SchoolTwice s) = Some s
-named_school RosterFull = None
-named_school TooManySeats = None
-named_school TooFewSeats = None
-named_school OutOfMemory = None
+-- the number that a refusal tells, if it tells one: the school that it names, or the record's stamp
+abbrev pub number_of : Refusal → Option ℕ
+number_of Shape = None
+number_of UnknownStudent = None
+number_of StudentExists = None
+number_of EmptyList = None
+number_of ListTooLong = None
+number_of (UnknownSchool s) = Some s
+number_of (SchoolTwice s) = Some s
+number_of RosterFull = None
+number_of TooManySeats = None
+number_of TooFewSeats = None
+number_of OutOfMemory = None
+number_of (Stale stamp) = Some stamp
+number_of Spent = None
 
--- a space and the school, or nothing for none
-abbrev pub school_words : Option ℕ → List ℕ
-school_words None = []
-school_words (Some s) = codes " " ++ decimal s
+-- a space and the number, or nothing for none
+abbrev pub number_words : Option ℕ → List ℕ
+number_words None = []
+number_words (Some n) = codes " " ++ decimal n
 
--- a refusal in words: its name, and the school that it names, if any
+-- a refusal in words: its name, and the number that it tells, if any
 abbrev pub refusal_words : Refusal → List ℕ
-refusal_words r = name_of r ++ school_words (named_school r)
+refusal_words r = name_of r ++ number_words (number_of r)

@@ -1,10 +1,11 @@
 ghost use Rattle.std.specs.Prelude.{◌≡◌, Some};
-ghost use Rattle.sc_papers.specs.Refusal.{code_of, name_of, named_school, refusal_words};
+ghost use Rattle.sc_papers.specs.Refusal.{code_of, name_of, number_of, refusal_words};
 ghost use Rattle.sc_papers.specs.declared.amendment.Refusal.TheVariants.{OutOfMemory};
 
 use crate::count::Count;
 use crate::school_list::SchoolList;
 use crate::school_no::SchoolNo;
+use crate::stamp::Stamp;
 use crate::zone::Zone;
 use sc_lottery::StudentNumber;
 use std::alloc::AllocError;
@@ -53,7 +54,15 @@ pub enum Amendment {
     },
 }
 
-/// Why an amendment is refused. The refusals are tested in the order of their codes, and want of
+/// An amendment as a desk hands it in, with the stamp of its record that the desk has seen last: of the
+/// student's record, or for `Add` and `Close` of the school's.
+#[derive(Debug, Drop)]
+pub struct Stamped {
+    pub stamp: Stamp,
+    pub amendment: Amendment,
+}
+
+/// Why an amendment is refused. The refusals are tested in the order of their codes, but that want of
 /// memory comes last.
 #[derive(Clone, Copy, Debug, PartialEq, Eq)]
 pub enum Refusal {
@@ -80,10 +89,15 @@ pub enum Refusal {
     TooFewSeats,
     /// A growth was refused.
     OutOfMemory,
+    /// The record's stamp is this one, and not the one that the amendment carries: the desk has not seen the
+    /// last amendment of the record.
+    Stale { stamp: Stamp },
+    /// As many amendments were accepted as there are stamps.
+    Spent,
 }
 
 impl Refusal {
-    /// The refusal's number in the order of the tests, from 1 to 11.
+    /// The refusal's number in the order of the tests, from 1 to 13.
     pub fn code(self) -> u8
         ensures { result ≡ code_of self }
     {
@@ -99,10 +113,12 @@ impl Refusal {
             Refusal::TooManySeats => 9,
             Refusal::TooFewSeats => 10,
             Refusal::OutOfMemory => 11,
+            Refusal::Stale { .. } => 12,
+            Refusal::Spent => 13,
         }
     }
 
-    /// The refusal's name, without the school that it may name.
+    /// The refusal's name, without the number that it may tell.
     pub fn name(self) -> &'static str
         ensures { result.now ≡ name_of self }
     {
@@ -118,15 +134,21 @@ impl Refusal {
             Refusal::TooManySeats => "TooManySeats",
             Refusal::TooFewSeats => "TooFewSeats",
             Refusal::OutOfMemory => "OutOfMemory",
+            Refusal::Stale { .. } => "Stale",
+            Refusal::Spent => "Spent",
         }
     }
 
-    /// The school that the refusal names, if it names one.
-    pub fn school(self) -> Option<SchoolNo>
-        ensures { result ≡ named_school self }
+    /// The number that the refusal tells, if it tells one: that of the school that it names, or the record's
+    /// stamp.
+    pub fn number(self) -> Option<u32>
+        ensures { result ≡ number_of self }
     {
         match self {
-            Refusal::UnknownSchool { school } | Refusal::SchoolTwice { school } => Some(school),
+            Refusal::UnknownSchool { school } | Refusal::SchoolTwice { school } => {
+                Some(school.get())
+            }
+            Refusal::Stale { stamp } => Some(stamp.get()),
             _ => None,
         }
     }
@@ -135,11 +157,11 @@ impl Refusal {
 impl fmt::Display for Refusal {
     ghost output = { λ r. Some (refusal_words r) };
 
-    /// The refusal's name, and after a space the school that it names, if any.
+    /// The refusal's name, and after a space the number that it tells, if any.
     fn fmt<W: fmt::Write>(&self, f: &mut fmt::Formatter<W>) -> fmt::Result {
         f.write_str(self.name())?;
-        match self.school() {
-            Some(school) => write!(f, " {}", school.get()),
+        match self.number() {
+            Some(number) => write!(f, " {}", number),
             None => Ok(()),
         }
     }

@@ -25,10 +25,11 @@ mod school_positions;
 mod school_refusal;
 mod seats;
 mod seeded_hash;
+mod stamp;
 mod student_row;
 mod zone;
 
-pub use amendment::{Amendment, Refusal};
+pub use amendment::{Amendment, Refusal, Stamped};
 pub use assignment::Assignment;
 pub use count::Count;
 pub use key::Key;
@@ -42,4 +43,5 @@ pub use school_list::SchoolList;
 pub use school_no::SchoolNo;
 pub use school_refusal::SchoolRefusal;
 pub use seats::Seats;
+pub use stamp::Stamp;
 pub use zone::Zone;
