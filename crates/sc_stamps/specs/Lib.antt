@@ -1,0 +1,4 @@
+pub mod History
+pub mod Record
+pub mod Stamps
+pub mod Verdict
