@@ -4,25 +4,21 @@ use Rattle.sc_report.specs.Text.{report_text, IsReportText}
 use Rattle.sc_report.specs.Watched.{device_of}
 use Rattle.sc_runs.specs.TwoWriters.{to_output}
 use Rattle.sc_runs.proofs.Openings.{Keeps-refl}
-use Rattle.sc_runs.proofs.TwoWriters.{is_journal_fault-text, GrowsByPrefix-flushed, IsFull-output, IsFull-text, Writes-flushed, Writes-output}
+use Rattle.sc_runs.proofs.TwoWriters.{is_journal_fault-text, GrowsByPrefix-flushed, Writes-flushed, Writes-output}
 use Rattle.sc_runs.proofs.Replies.{or-nothing}
 use Rattle.sc_runs.proofs.running.finish.Goals as goal
 
 pub returns-in-Err-clause-writes : goal.returns-in-Err-clause-writes
 returns-in-Err-clause-writes g c =
-    Writes-output (report_text c.args.clearing.now.papers (matching_of c.args.clearing.now)) (g.J.Recorder.contents c.args.journal.now) _ _ (Err c.in-Err.fault) c.in-Err.ensures.bytes
-
-pub returns-in-Err-clause-full : goal.returns-in-Err-clause-full
-returns-in-Err-clause-full g c =
-    IsFull-text (IsReportText c.args.clearing.now.papers (matching_of c.args.clearing.now)) _ _ (Err c.in-Err.fault) c.in-Err.ensures.bytes
+    Writes-output (report_text c.args.clearing.now.standing.papers (matching_of c.args.clearing.now.standing)) (g.J.Recorder.contents c.args.journal.now) _ _ (Err c.in-Err.fault) c.in-Err.ensures.bytes
 
 pub returns-in-Err-clause-journal_failed : goal.returns-in-Err-clause-journal_failed
 returns-in-Err-clause-journal_failed g c =
-    or-nothing _ _ (is_journal_fault-text (IsReportText c.args.clearing.now.papers (matching_of c.args.clearing.now)) _ _ (Err c.in-Err.fault) c.in-Err.ensures.bytes)
+    or-nothing _ _ (is_journal_fault-text (IsReportText c.args.clearing.now.standing.papers (matching_of c.args.clearing.now.standing)) _ _ (Err c.in-Err.fault) c.in-Err.ensures.bytes)
 
 pub returns-in-Err-flush-clause-writes : goal.returns-in-Err-flush-clause-writes
 returns-in-Err-flush-clause-writes g c =
-    let report = report_text c.args.clearing.now.papers (matching_of c.args.clearing.now) in
+    let report = report_text c.args.clearing.now.standing.papers (matching_of c.args.clearing.now.standing) in
     let journal = g.J.Recorder.contents c.args.journal.now in
     let output = g.W.Write.contents (device_of c.write_report_text.new.out) in
     GrowsByPrefix-flushed (to_output report ∷ [])
@@ -31,12 +27,9 @@ returns-in-Err-flush-clause-writes g c =
 
 pub returns-clause-writes : goal.returns-clause-writes
 returns-clause-writes g c =
-    let report = report_text c.args.clearing.now.papers (matching_of c.args.clearing.now) in
+    let report = report_text c.args.clearing.now.standing.papers (matching_of c.args.clearing.now.standing) in
     let journal = g.J.Recorder.contents c.args.journal.now in
     Writes-flushed (to_output report ∷ [])
     journal (g.J.Recorder.contents c.flush.new.self) (g.W.Write.contents (device_of c.args.out.now))
     (g.W.Write.contents (device_of c.write_report_text.new.out)) (g.W.Write.contents (device_of c.flush_output.new.out)) c.flush_output.result
     (Writes-output report journal _ _ (Ok tt) c.in_default.ensures.bytes) c.flush.ensures.bytes c.flush_output.ensures.bytes c.flush_output.ensures.kinds
-
-pub returns-clause-full : goal.returns-clause-full
-returns-clause-full g c = IsFull-output 0 c.flush_output.result c.flush_output.ensures.kinds

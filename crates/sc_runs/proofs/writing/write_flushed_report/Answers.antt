@@ -6,5 +6,5 @@ use Rattle.sc_runs.proofs.writing.write_flushed_report.Goals as goal
 pub returns-clause-bytes : goal.returns-clause-bytes
 returns-clause-bytes g c =
     let (text, is, written) = c.in_default.ensures.bytes in
-    WritesText-of (IsReportText c.args.clearing.now.papers (matching_of c.args.clearing.now)) text _ _ c.flush_output.result is
+    WritesText-of (IsReportText c.args.clearing.now.standing.papers (matching_of c.args.clearing.now.standing)) text _ _ c.flush_output.result is
     (WritesExactly-flushed text _ _ _ c.flush_output.result written c.flush_output.ensures.bytes c.flush_output.ensures.kinds)

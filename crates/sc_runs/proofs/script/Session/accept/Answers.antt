@@ -1,0 +1,9 @@
+use Rattle.sc_runs.proofs.Openings.{Keeps-refl}
+use Rattle.sc_runs.proofs.TwoWriters.{GrowsByPrefix-kept}
+use Rattle.sc_runs.proofs.script.Session.accept.Goals as goal
+
+pub returns-in-Err-clause-writes : goal.returns-in-Err-clause-writes
+returns-in-Err-clause-writes g c = GrowsByPrefix-kept _ _ _ _ _ (Keeps-refl _) (Keeps-refl _)
+
+pub returns-clause-writes : goal.returns-clause-writes
+returns-clause-writes g c = GrowsByPrefix-kept _ _ _ _ _ (Keeps-refl _) (Keeps-refl _)
