@@ -2,7 +2,7 @@ use Rattle.std.proofs.Common.{◌≡◌, ◌≤◌, take, count_by}
 use Rattle.sc_papers.specs.Assignment.{assigned}
 use Rattle.sc_papers.specs.Market.{students_of}
 use Rattle.sc_papers.specs.Matching.{has}
-use Rattle.sc_repair.proofs.clearing.count_held.Given as goal
+use Rattle.sc_repair.proofs.settlement.count_held.Given as goal
 
 abbrev pub invariant-loop-position : goal.invariant-loop-position
 invariant-loop-position l =

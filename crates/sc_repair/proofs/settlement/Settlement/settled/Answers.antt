@@ -1,6 +1,6 @@
 use Rattle.sc_checkpoint.specs.Chains.{logs_in}
 use Rattle.sc_repair.proofs.Kept.{certified-of}
-use Rattle.sc_repair.proofs.clearing.Clearing.settled.Goals as goal
+use Rattle.sc_repair.proofs.settlement.Settlement.settled.Goals as goal
 
 pub invariant_of-result : goal.invariant_of-result
 invariant_of-result c = record {

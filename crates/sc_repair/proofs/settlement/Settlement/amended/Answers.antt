@@ -7,7 +7,7 @@ use Rattle.sc_repair.specs.Standing.{Standing, CountsInside}
 use Rattle.sc_repair.proofs.InStep.{changes-inside}
 use Rattle.sc_repair.proofs.Regional.{counts-region, keeps-others, list-tells}
 use Rattle.sc_repair.proofs.Resumption.{length-students}
-use Rattle.sc_repair.proofs.clearing.Clearing.amended.Goals as goal
+use Rattle.sc_repair.proofs.settlement.Settlement.amended.Goals as goal
 
 pub resettled-requires : goal.resettled-requires
 resettled-requires c =

@@ -9,7 +9,7 @@ use Rattle.sc_repair.specs.Standing.{Standing, CountsInside, CountsRegion, Keeps
 use Rattle.sc_repair.proofs.Admitted.{still-certified}
 use Rattle.sc_repair.proofs.InStep.{changes-in-place}
 use Rattle.sc_repair.proofs.Regional.{counts-region, keeps-others, list-tells}
-use Rattle.sc_repair.proofs.clearing.Clearing.change.Goals as goal
+use Rattle.sc_repair.proofs.settlement.Settlement.change.Goals as goal
 
 pub resettle-settled-requires : goal.resettle-settled-requires
 resettle-settled-requires c =

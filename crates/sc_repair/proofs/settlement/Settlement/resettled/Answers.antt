@@ -3,7 +3,7 @@ use Rattle.sc_papers.specs.Assignment.{assigned}
 use Rattle.sc_checkpoint.specs.Chains.{logs_in}
 use Rattle.sc_repair.specs.Locality.{is_among, ChangesInside}
 use Rattle.sc_repair.specs.Standing.{matching_of, Standing}
-use Rattle.sc_repair.proofs.clearing.Clearing.resettled.Goals as goal
+use Rattle.sc_repair.proofs.settlement.Settlement.resettled.Goals as goal
 
 pub resettle-requires : goal.resettle-requires
 resettle-requires c = record {

@@ -5,7 +5,7 @@ use Rattle.std.proofs.lemmas.Map.Entries.{length-keys_of}
 use Rattle.sc_papers.specs.Assignment.{assigned}
 use Rattle.sc_papers.specs.Market.{students_of}
 use Rattle.sc_papers.specs.Matching.{has, how_many}
-use Rattle.sc_repair.proofs.clearing.count_held.Goals as goal
+use Rattle.sc_repair.proofs.settlement.count_held.Goals as goal
 
 pub returns : goal.returns
 unfolding how_many

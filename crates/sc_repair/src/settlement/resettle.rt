@@ -4,14 +4,14 @@ ghost use Rattle.std.specs.Prelude.{◌≡◌, ℕ, false, take, IfOk};
 ghost use Rattle.sc_repair.specs.Locality.{is_among, ChangesInside};
 ghost use Rattle.sc_repair.specs.Standing.{matching_of, CountsInside, IsCertified};
 
-use super::Clearing;
+use super::Settlement;
 use crate::resettling::resettle;
 use sc_papers::Papers;
 use sc_region::RegionList;
 use sc_seats::HeapRoll;
 use std::alloc::AllocError;
 
-impl Clearing {
+impl Settlement {
     /// The clearing of papers that differ only in a region and from a point on, beside this one. The
     /// students of the region are settled anew from there on, and all others keep their places and their
     /// segments, which stand `gap` places further back among these.
@@ -21,7 +21,7 @@ impl Clearing {
         region: &RegionList,
         point: usize,
         gap: usize,
-    ) -> Result<Clearing, AllocError>
+    ) -> Result<Settlement, AllocError>
         requires changes { ChangesInside self.now.papers papers (is_among region.now) point gap }
         ensures papers { IfOk result (λ clearing. clearing.papers ≡ papers) }
         ensures certified { IfOk result IsCertified }
@@ -38,7 +38,7 @@ impl Clearing {
             &self.places,
             &self.segments,
         )?;
-        Ok(Clearing {
+        Ok(Settlement {
             alloc: self.alloc,
             papers,
             places: settled.places,

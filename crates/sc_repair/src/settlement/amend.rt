@@ -7,7 +7,7 @@ ghost use Rattle.sc_papers.specs.Verdict.{after, verdict, IsRefusal};
 ghost use Rattle.sc_repair.specs.Rewinding.{rewind_point};
 ghost use Rattle.sc_repair.specs.Standing.{matching_of, papers_after, CountsRegion, IsCertified, KeepsOthers};
 
-use super::Clearing;
+use super::Settlement;
 use crate::entering::newcomer;
 use crate::rewind::rewind_point;
 use sc_papers::{Amendment, Papers, Refusal};
@@ -38,10 +38,10 @@ fn is_withdrawal(amendment: &Amendment) -> bool
     }
 }
 
-impl Clearing {
+impl Settlement {
     /// The clearing after the amendment, settled anew in its region from its rewind point on, beside this
     /// one. An amendment that is refused copies nothing.
-    fn amended(&self, amendment: Amendment) -> Result<Clearing, Refusal>
+    fn amended(&self, amendment: Amendment) -> Result<Settlement, Refusal>
         ensures allowed { OnOk result (verdict self.now.papers amendment ≡ None) }
         ensures accepted { IfOk result (λ amended. amended.papers ≡ after self.now.papers amendment) }
         ensures certified { IfOk result IsCertified }
@@ -84,7 +84,7 @@ impl Clearing {
     /// papers too. The new places and segments are made whole beside the old ones before they take their
     /// place, and papers that have changed by then go back where a growth is refused, so nothing is left half
     /// done. A refused amendment costs its `check` alone.
-    pub fn amend(&mut self, amendment: Amendment) -> Result<(), Refusal>
+    pub(crate) fn amend(&mut self, amendment: Amendment) -> Result<(), Refusal>
         ensures optimal { IsStudentOptimal (papers_after self.old.papers amendment result) (matching_of self.new) }
         ensures certified { IsCertified self.new }
         ensures stays { OnOk result (take (rewind_point self.old.papers amendment) self.new.segments ≡ take (rewind_point self.old.papers amendment) self.old.segments) }

@@ -5,7 +5,7 @@ use Rattle.sc_repair.specs.Representation.{IsKept}
 use Rattle.sc_repair.specs.Rewinding.{rewind_point}
 use Rattle.sc_repair.specs.Standing.{Standing, CountsRegion, KeepsOthers}
 use Rattle.sc_repair.proofs.Admitted.{admitted, admitted-next, kept-grown, still-certified}
-use Rattle.sc_repair.proofs.clearing.Clearing.admit.Goals as goal
+use Rattle.sc_repair.proofs.settlement.Settlement.admit.Goals as goal
 
 pub enter_newcomer-entered-requires-clause-next : goal.enter_newcomer-entered-requires-clause-next
 enter_newcomer-entered-requires-clause-next c =

@@ -7,14 +7,14 @@ ghost use Rattle.sc_repair.specs.Newcomer.{newcomer};
 ghost use Rattle.sc_repair.specs.Rewinding.{rewind_point};
 ghost use Rattle.sc_repair.specs.Standing.{CountsRegion, IsCertified, KeepsOthers};
 
-use super::Clearing;
+use super::Settlement;
 use crate::resettling::resettle;
 use crate::rewind::rewind_point;
 use sc_papers::{Amendment, Refusal};
 use sc_region::region;
 use sc_seats::HeapRoll;
 
-impl Clearing {
+impl Settlement {
     /// Makes an amendment by which nobody enters or withdraws, in place, and settles its region anew from its
     /// rewind point on, beside the places and the segments that stand. A refused amendment changes nothing.
     /// Where a growth is refused after the papers have changed, the amendment is taken back.

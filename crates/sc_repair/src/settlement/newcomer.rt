@@ -6,11 +6,11 @@ ghost use Rattle.sc_repair.specs.Newcomer.{newcomer};
 ghost use Rattle.sc_repair.specs.Rewinding.{rewind_point};
 ghost use Rattle.sc_repair.specs.Standing.{CountsRegion, IsCertified, KeepsOthers};
 
-use super::Clearing;
+use super::Settlement;
 use crate::entering::enter_newcomer;
 use sc_papers::{Amendment, Refusal, StudentNo};
 
-impl Clearing {
+impl Settlement {
     /// Makes the amendment that enters the student, in place, and lets their chain go on in the round in
     /// which everybody else stands. A refused amendment changes nothing. Where a growth is refused after
     /// the papers have the student, the amendment is taken back, and only the round is lost, which the next

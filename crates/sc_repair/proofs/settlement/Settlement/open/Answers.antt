@@ -3,9 +3,9 @@ use Rattle.std.specs.Prelude.{IfOk, ◌≡◌}
 use Rattle.sc_papers.specs.Restriction.{cut, IsSegmented}
 use Rattle.sc_checkpoint.specs.Chains.{logs_in, Chain}
 use Rattle.sc_repair.specs.Standing.{CountsFrom, Standing, proposals_from_scratch}
-use Rattle.sc_repair.specs.declared.clearing.OpenRefused.{OpenRefused}
+use Rattle.sc_repair.specs.declared.open_refused.OpenRefused.{OpenRefused}
 use Rattle.sc_repair.proofs.Kept.{from-scratch, none-segmented}
-use Rattle.sc_repair.proofs.clearing.Clearing.open.Goals as goal
+use Rattle.sc_repair.proofs.settlement.Settlement.open.Goals as goal
 
 pub settled-requires-clause-segmented : goal.settled-requires-clause-segmented
 settled-requires-clause-segmented c = subst (λ (chains : List Chain). IsSegmented (cut c.args.papers (length chains)) (logs_in chains)) (sym c.new.ensures) (none-segmented c.args.papers)
