@@ -19,7 +19,7 @@ use Rattle.sc_papers.specs.Verdict.{IsRefusal, IsSchoolRefusal, after, school_ve
 use Rattle.sc_papers.specs.declared.amendment.Amendment.{Amendment}
 use Rattle.sc_papers.specs.declared.amendment.Amendment.TheVariants.{Enter}
 use Rattle.sc_papers.specs.declared.amendment.Refusal.{Refusal}
-use Rattle.sc_papers.specs.declared.amendment.Refusal.TheVariants.{Shape, UnknownStudent, StudentExists, EmptyList, ListTooLong, UnknownSchool, SchoolTwice, RosterFull, TooManySeats, TooFewSeats, OutOfMemory as no_room}
+use Rattle.sc_papers.specs.declared.amendment.Refusal.TheVariants.{Shape, UnknownStudent, StudentExists, EmptyList, ListTooLong, UnknownSchool, SchoolTwice, RosterFull, TooManySeats, TooFewSeats, OutOfMemory as no_room, Stale, Spent}
 use Rattle.sc_intake.specs.Fault.{◌>>=◌, IsFault, fault_at, no_memory}
 use Rattle.sc_intake.specs.File.{in_row}
 use Rattle.sc_intake.specs.Lists.{list_number}
@@ -147,6 +147,8 @@ cause_of-other (SchoolTwice s) other = refl
 cause_of-other RosterFull other = refl
 cause_of-other TooManySeats other = refl
 cause_of-other TooFewSeats other = refl
+cause_of-other (Stale stamp) other = refl
+cause_of-other Spent other = refl
 
 -- the error of an amendment is the refusal's cause, or want of memory
 pub amended-refused : (m : Market) (a : Amendment) (r : Refusal) → IsRefusal (verdict m a) r → IsFault OutOfMemory (amended m a) (cause_of r)

@@ -6,6 +6,7 @@ use Rattle.sc_lottery.specs.declared.number.TheConstants.StudentNumber.{GREATEST
 use Rattle.sc_papers.specs.declared.count.TheConstants.Count.{GREATEST as greatest_count}
 use Rattle.sc_papers.specs.declared.school_no.TheConstants.SchoolNo.{GREATEST as greatest_school}
 use Rattle.sc_papers.specs.declared.seats.TheConstants.Seats.{GREATEST as greatest_seats}
+use Rattle.sc_papers.specs.declared.stamp.TheConstants.Stamp.{GREATEST as greatest_stamp}
 use Rattle.sc_papers.specs.declared.zone.TheConstants.Zone.{GREATEST as greatest_zone}
 use Rattle.sc_intake.specs.Fault.{◌>>=◌}
 use Rattle.sc_intake.specs.declared.fault.Cause.{Cause}
@@ -83,6 +84,10 @@ as_seats = within 0 greatest_seats
 -- how many seats are added or closed
 abbrev pub as_count : ℕ → Result ℕ Cause
 as_count = within 1 greatest_count
+
+-- the stamp of a record
+abbrev pub as_stamp : ℕ → Result ℕ Cause
+as_stamp = within 0 greatest_stamp
 
 -- the numbers of a list of schools
 abbrev pub all_schools : List ℕ → Result (List ℕ) Cause

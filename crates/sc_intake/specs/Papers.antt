@@ -8,7 +8,7 @@ use Rattle.sc_papers.specs.Verdict.{after, verdict}
 use Rattle.sc_papers.specs.declared.amendment.Amendment.{Amendment}
 use Rattle.sc_papers.specs.declared.amendment.Amendment.TheVariants.{Enter}
 use Rattle.sc_papers.specs.declared.amendment.Refusal.{Refusal}
-use Rattle.sc_papers.specs.declared.amendment.Refusal.TheVariants.{Shape, UnknownStudent, StudentExists, EmptyList, ListTooLong, UnknownSchool, SchoolTwice, RosterFull, TooManySeats, TooFewSeats, OutOfMemory}
+use Rattle.sc_papers.specs.declared.amendment.Refusal.TheVariants.{Shape, UnknownStudent, StudentExists, EmptyList, ListTooLong, UnknownSchool, SchoolTwice, RosterFull, TooManySeats, TooFewSeats, OutOfMemory, Stale, Spent}
 use Rattle.sc_intake.specs.Fault.{◌>>=◌, fault_at}
 use Rattle.sc_intake.specs.File.{in_row}
 use Rattle.sc_intake.specs.declared.fault.Cause.{Cause}
@@ -41,6 +41,8 @@ cause_of (SchoolTwice s) = Refused (SchoolTwice s)
 cause_of RosterFull = Refused RosterFull
 cause_of TooManySeats = Refused TooManySeats
 cause_of TooFewSeats = Refused TooFewSeats
+cause_of (Stale stamp) = Refused (Stale stamp)
+cause_of Spent = Refused Spent
 
 -- the papers after an amendment, unless it is refused
 abbrev pub unless_refused : Market → Amendment → Option Refusal → Result Market Cause

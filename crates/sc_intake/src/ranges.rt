@@ -1,10 +1,10 @@
 //! Numbers of fields as the numbers of the papers.
 
 ghost use Rattle.std.specs.Prelude.{◌≡◌};
-ghost use Rattle.sc_intake.specs.Field.{as_count, as_school, as_school_or_none, as_student, as_zone};
+ghost use Rattle.sc_intake.specs.Field.{as_count, as_school, as_school_or_none, as_stamp, as_student, as_zone};
 
 use crate::fault::Cause;
-use sc_papers::{Count, SchoolNo, StudentNo, Zone};
+use sc_papers::{Count, SchoolNo, Stamp, StudentNo, Zone};
 
 pub(crate) fn school(number: u32) -> Result<SchoolNo, Cause>
     ensures { result ≡ as_school number }
@@ -50,6 +50,15 @@ pub(crate) fn count(number: u32) -> Result<Count, Cause>
 {
     match Count::new(number) {
         Some(count) => Ok(count),
+        None => Err(Cause::Range),
+    }
+}
+
+pub(crate) fn stamp(number: u32) -> Result<Stamp, Cause>
+    ensures { result ≡ as_stamp number }
+{
+    match Stamp::new(number) {
+        Some(stamp) => Ok(stamp),
         None => Err(Cause::Range),
     }
 }

@@ -1,9 +1,9 @@
-//! The script: amendments, one a record.
+//! The script: stamped amendments, one a record.
 
 ghost use Rattle.std.specs.Prelude.{◌≡◌, ◌≢◌, ◌++◌, [], ◌∷◌, map, IfOk, MatchResult, OnOk};
 ghost use Rattle.sc_papers.specs.declared.amendment.Refusal.TheVariants.{Shape};
 ghost use Rattle.sc_intake.specs.Fault.{Gives, no_memory};
-ghost use Rattle.sc_intake.specs.Script.{add_of, amendment_in, amendment_of, close_of, correct_of, enter_of, list_at, rerank_of, script_in, withdraw_of};
+ghost use Rattle.sc_intake.specs.Script.{add_of, amendment_of, close_of, correct_of, enter_of, list_at, rerank_of, script_in, stamped_in, stamped_of, withdraw_of};
 ghost use Rattle.sc_intake.specs.declared.fault.Cause.TheVariants.{OutOfMemory};
 ghost use Rattle.sc_intake.specs.declared.fault.Source.TheVariants.{Script};
 
@@ -13,7 +13,7 @@ use crate::input::records_in;
 use crate::ranges;
 use crate::records::Records;
 use crate::school_list::school_list;
-use sc_papers::{Amendment, Refusal, SchoolList};
+use sc_papers::{Amendment, Refusal, SchoolList, Stamped};
 use std::alloc::{AllocError, Global};
 
 /// The list of schools that a field writes.
@@ -24,118 +24,129 @@ fn list_at(alloc: Global, fields: &Records, index: usize) -> Result<SchoolList, 
     Ok(school_list(alloc, fields.field(index))??)
 }
 
-/// `enter,STUDENT,ZONE,SIBLINGS,CHOICES`, and with a comma the school at which the student continues.
+/// `STAMP,enter,STUDENT,ZONE,SIBLINGS,CHOICES`, and with a comma the school at which the student continues.
 #[tactic(auto, unfolding(crate::specs::Script::enter_of))]
 fn enter_of(alloc: Global, fields: &Records) -> Result<Amendment, Cause>
     ensures { Gives (λ amendment. amendment) OutOfMemory (enter_of fields.now.current) result }
 {
-    if fields.len() != 5 && fields.len() != 6 {
+    if fields.len() != 6 && fields.len() != 7 {
         return Err(Cause::Fields);
     }
     Ok(Amendment::Enter {
-        student: ranges::student(number(fields.field(1))?)?,
-        zone: ranges::zone(number(fields.field(2))?)?,
-        siblings: list_at(alloc, fields, 3)?,
-        choices: list_at(alloc, fields, 4)?,
-        continuing: ranges::school_or_none(number_or_none(fields.field(5))?)?,
+        student: ranges::student(number(fields.field(2))?)?,
+        zone: ranges::zone(number(fields.field(3))?)?,
+        siblings: list_at(alloc, fields, 4)?,
+        choices: list_at(alloc, fields, 5)?,
+        continuing: ranges::school_or_none(number_or_none(fields.field(6))?)?,
     })
 }
 
-/// `withdraw,STUDENT`
+/// `STAMP,withdraw,STUDENT`
 #[tactic(auto, unfolding(crate::specs::Script::withdraw_of))]
 fn withdraw_of(fields: &Records) -> Result<Amendment, Cause>
     ensures { result ≡ withdraw_of fields.now.current }
 {
-    if fields.len() != 2 {
+    if fields.len() != 3 {
         return Err(Cause::Fields);
     }
     Ok(Amendment::Withdraw {
-        student: ranges::student(number(fields.field(1))?)?,
+        student: ranges::student(number(fields.field(2))?)?,
     })
 }
 
-/// `rerank,STUDENT,CHOICES`
+/// `STAMP,rerank,STUDENT,CHOICES`
 #[tactic(auto, unfolding(crate::specs::Script::rerank_of))]
 fn rerank_of(alloc: Global, fields: &Records) -> Result<Amendment, Cause>
     ensures { Gives (λ amendment. amendment) OutOfMemory (rerank_of fields.now.current) result }
 {
-    if fields.len() != 3 {
+    if fields.len() != 4 {
         return Err(Cause::Fields);
     }
     Ok(Amendment::Rerank {
-        student: ranges::student(number(fields.field(1))?)?,
-        choices: list_at(alloc, fields, 2)?,
+        student: ranges::student(number(fields.field(2))?)?,
+        choices: list_at(alloc, fields, 3)?,
     })
 }
 
-/// `add,SCHOOL,COUNT`
+/// `STAMP,add,SCHOOL,COUNT`
 #[tactic(auto, unfolding(crate::specs::Script::add_of))]
 fn add_of(fields: &Records) -> Result<Amendment, Cause>
     ensures { result ≡ add_of fields.now.current }
 {
-    if fields.len() != 3 {
+    if fields.len() != 4 {
         return Err(Cause::Fields);
     }
     Ok(Amendment::Add {
-        school: ranges::school(number(fields.field(1))?)?,
-        count: ranges::count(number(fields.field(2))?)?,
+        school: ranges::school(number(fields.field(2))?)?,
+        count: ranges::count(number(fields.field(3))?)?,
     })
 }
 
-/// `close,SCHOOL,COUNT`
+/// `STAMP,close,SCHOOL,COUNT`
 #[tactic(auto, unfolding(crate::specs::Script::close_of))]
 fn close_of(fields: &Records) -> Result<Amendment, Cause>
     ensures { result ≡ close_of fields.now.current }
 {
-    if fields.len() != 3 {
+    if fields.len() != 4 {
         return Err(Cause::Fields);
     }
     Ok(Amendment::Close {
-        school: ranges::school(number(fields.field(1))?)?,
-        count: ranges::count(number(fields.field(2))?)?,
+        school: ranges::school(number(fields.field(2))?)?,
+        count: ranges::count(number(fields.field(3))?)?,
     })
 }
 
-/// `correct,STUDENT,ZONE,SIBLINGS`, and with a comma the school at which the student continues.
+/// `STAMP,correct,STUDENT,ZONE,SIBLINGS`, and with a comma the school at which the student continues.
 #[tactic(auto, unfolding(crate::specs::Script::correct_of))]
 fn correct_of(alloc: Global, fields: &Records) -> Result<Amendment, Cause>
     ensures { Gives (λ amendment. amendment) OutOfMemory (correct_of fields.now.current) result }
 {
-    if fields.len() != 4 && fields.len() != 5 {
+    if fields.len() != 5 && fields.len() != 6 {
         return Err(Cause::Fields);
     }
     Ok(Amendment::Correct {
-        student: ranges::student(number(fields.field(1))?)?,
-        zone: ranges::zone(number(fields.field(2))?)?,
-        siblings: list_at(alloc, fields, 3)?,
-        continuing: ranges::school_or_none(number_or_none(fields.field(4))?)?,
+        student: ranges::student(number(fields.field(2))?)?,
+        zone: ranges::zone(number(fields.field(3))?)?,
+        siblings: list_at(alloc, fields, 4)?,
+        continuing: ranges::school_or_none(number_or_none(fields.field(5))?)?,
     })
 }
 
-/// The amendment that the record read last is, by its first word.
+/// The amendment that the record read last is, by the word after its stamp.
 #[tactic(auto, unfolding(crate::specs::Script::amendment_of))]
 fn amendment_of(alloc: Global, fields: &Records) -> Result<Amendment, Cause>
     ensures { Gives (λ amendment. amendment) OutOfMemory (amendment_of fields.now.current) result }
 {
-    if fields.reads(0, b"enter") {
+    if fields.reads(1, b"enter") {
         return enter_of(alloc, fields);
     }
-    if fields.reads(0, b"withdraw") {
+    if fields.reads(1, b"withdraw") {
         return withdraw_of(fields);
     }
-    if fields.reads(0, b"rerank") {
+    if fields.reads(1, b"rerank") {
         return rerank_of(alloc, fields);
     }
-    if fields.reads(0, b"add") {
+    if fields.reads(1, b"add") {
         return add_of(fields);
     }
-    if fields.reads(0, b"close") {
+    if fields.reads(1, b"close") {
         return close_of(fields);
     }
-    if fields.reads(0, b"correct") {
+    if fields.reads(1, b"correct") {
         return correct_of(alloc, fields);
     }
     Err(Cause::Fields)
+}
+
+/// The stamped amendment that the record read last is: the stamp is in its first field.
+#[tactic(auto, unfolding(crate::specs::Script::stamped_of))]
+fn stamped_of(alloc: Global, fields: &Records) -> Result<Stamped, Cause>
+    ensures { Gives (λ stamped. stamped) OutOfMemory (stamped_of fields.now.current) result }
+{
+    Ok(Stamped {
+        stamp: ranges::stamp(number(fields.field(0))?)?,
+        amendment: amendment_of(alloc, fields)?,
+    })
 }
 
 /// The refusal of a record that is no amendment; want of memory is an error of its own.
@@ -148,12 +159,12 @@ fn shape(cause: Cause) -> Result<Refusal, AllocError>
     }
 }
 
-/// What the record read last is: an amendment, or `Shape`.
-fn amendment_in(alloc: Global, fields: &Records) -> Result<Result<Amendment, Refusal>, AllocError>
-    ensures { IfOk result (λ found. found ≡ amendment_in fields.now.current) }
+/// What the record read last is: a stamped amendment, or `Shape`.
+fn stamped_in(alloc: Global, fields: &Records) -> Result<Result<Stamped, Refusal>, AllocError>
+    ensures { IfOk result (λ found. found ≡ stamped_in fields.now.current) }
 {
-    match amendment_of(alloc, fields) {
-        Ok(amendment) => Ok(Ok(amendment)),
+    match stamped_of(alloc, fields) {
+        Ok(stamped) => Ok(Ok(stamped)),
         Err(cause) => Ok(Err(shape(cause)?)),
     }
 }
@@ -162,20 +173,20 @@ fn amendment_in(alloc: Global, fields: &Records) -> Result<Result<Amendment, Ref
 fn add_record(
     alloc: Global,
     fields: &Records,
-    script: &mut Vec<Result<Amendment, Refusal>>,
+    script: &mut Vec<Result<Stamped, Refusal>>,
 ) -> Result<(), AllocError>
-    ensures { OnOk result (script.new.items ≡ script.old.items ++ amendment_in fields.now.current ∷ []) }
+    ensures { OnOk result (script.new.items ≡ script.old.items ++ stamped_in fields.now.current ∷ []) }
 {
-    script.push(amendment_in(alloc, fields)?)?;
+    script.push(stamped_in(alloc, fields)?)?;
     Ok(())
 }
 
-/// What the records are, each an amendment or `Shape`.
+/// What the records are, each a stamped amendment or `Shape`.
 fn take_script(
     alloc: Global,
     records: &mut Records,
-) -> Result<Vec<Result<Amendment, Refusal>>, IntakeFault>
-    ensures { MatchResult result (λ script. script.items ≡ map amendment_in records.old.left) (λ fault. fault ≡ no_memory Script) }
+) -> Result<Vec<Result<Stamped, Refusal>>, IntakeFault>
+    ensures { MatchResult result (λ script. script.items ≡ map stamped_in records.old.left) (λ fault. fault ≡ no_memory Script) }
 {
     let mut script = Vec::new(alloc);
     'records: while records.advance(Source::Script)? {
@@ -186,8 +197,8 @@ fn take_script(
     Ok(script)
 }
 
-/// Reads a script, which has no header: each of its records is an amendment, or `Shape` where it is
-/// none. The reading goes on after such a record.
+/// Reads a script, which has no header: each of its records is an amendment with the stamp of its record
+/// in front, or `Shape` where it is none. The reading goes on after such a record.
 ///
 /// The fault is `TooLong` of row 0 where the script is too long, and `Header` of row 1 where a
 /// second byte order mark follows the first. Want of memory is of row 0.
@@ -196,7 +207,7 @@ fn take_script(
 pub fn read_script(
     alloc: Global,
     bytes: &[u8],
-) -> Result<Vec<Result<Amendment, Refusal>>, IntakeFault>
+) -> Result<Vec<Result<Stamped, Refusal>>, IntakeFault>
     ensures { Gives (λ script. script.items) (no_memory Script) (script_in bytes.now) result }
 {
     let mut records = records_in(alloc, Source::Script, bytes)?;

@@ -1,17 +1,17 @@
 -- What a script's record is answered, as text.
 use Rattle.std.specs.Prelude.{ℕ, List, [], ◌++◌, codes, Option, None, Some, Result, Ok, Err}
 use Rattle.std.specs.Fmt.{decimal}
-use Rattle.sc_papers.specs.Refusal.{code_of, name_of, named_school}
+use Rattle.sc_papers.specs.Refusal.{code_of, name_of, number_of}
 use Rattle.sc_papers.specs.declared.amendment.Refusal.{Refusal}
 
--- a comma and the school, or nothing for none
-abbrev pub named_text : Option ℕ → List ℕ
-named_text None = []
-named_text (Some s) = codes "," ++ decimal s
+-- a comma and the number, or nothing for none
+abbrev pub number_text : Option ℕ → List ℕ
+number_text None = []
+number_text (Some n) = codes "," ++ decimal n
 
--- a refusal: its code, a comma, its name, and the school that it names, if any
+-- a refusal: its code, a comma, its name, and the number that it tells, if any
 abbrev pub refusal_text : Refusal → List ℕ
-refusal_text r = decimal (code_of r) ++ codes "," ++ name_of r ++ named_text (named_school r)
+refusal_text r = decimal (code_of r) ++ codes "," ++ name_of r ++ number_text (number_of r)
 
 -- the reply line of a script's record of this number
 abbrev pub reply_text : ℕ → Result (Unit {0}) Refusal → List ℕ

@@ -84,7 +84,7 @@ pub(crate) fn rising_rows(alloc: Global, rows: &[CutoffRow]) -> Result<Vec<Cutof
 /// The rows of all schools, by rising number. The only error is want of memory. The cost is one pass
 /// over the students and a sort of the schools' numbers.
 pub fn cutoffs(alloc: Global, clearing: &Clearing) -> Result<Vec<CutoffRow>, AllocError>
-    ensures { IfOk result (λ rows. rows.items ≡ cutoff_rows clearing.now.papers (matching_of clearing.now)) }
+    ensures { IfOk result (λ rows. rows.items ≡ cutoff_rows clearing.now.standing.papers (matching_of clearing.now.standing)) }
 {
     let rows = rows_in_order(alloc, clearing.papers(), clearing.places())?;
     let rising = rising_rows(alloc, rows.as_slice())?;

@@ -116,7 +116,7 @@ fn reasons_among(
 /// students by rising number, and a student's rows in order of choice. The only error is want of
 /// memory. The cost is one pass over the students, a sort of their numbers, and a look-up for each row.
 pub fn reasons(alloc: Global, clearing: &Clearing) -> Result<Vec<ReasonRow>, AllocError>
-    ensures { IfOk result (λ rows. rows.items ≡ reason_rows clearing.now.papers (matching_of clearing.now)) }
+    ensures { IfOk result (λ rows. rows.items ≡ reason_rows clearing.now.standing.papers (matching_of clearing.now.standing)) }
 {
     let papers = clearing.papers();
     let places = clearing.places();

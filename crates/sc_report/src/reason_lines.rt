@@ -153,7 +153,7 @@ pub(crate) fn room_for_reasons(clearing: &Clearing) -> usize {
 /// the reason, by the students' rising numbers and in order of choice. The only error is want of
 /// memory. The cost is that of `reasons`, and memory is taken for the text and for one student's rows.
 pub fn reason_text(alloc: Global, clearing: &Clearing) -> Result<Vec<u8>, AllocError>
-    ensures { IfOk result (λ text. text.items ≡ reason_text clearing.now.papers (matching_of clearing.now)) }
+    ensures { IfOk result (λ text. text.items ≡ reason_text clearing.now.standing.papers (matching_of clearing.now.standing)) }
 {
     let papers = clearing.papers();
     let places = clearing.places();

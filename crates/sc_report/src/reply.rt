@@ -1,35 +1,35 @@
 //! What a script's record is answered.
 ghost use Rattle.std.specs.Prelude.{◌≡◌, ◌++◌, IfOk, OnOk, codes, decimal};
-ghost use Rattle.sc_report.specs.Reply.{named_text, refusal_text, reply_text};
+ghost use Rattle.sc_report.specs.Reply.{number_text, refusal_text, reply_text};
 
 use sc_decimal::push_number;
-use sc_papers::{Refusal, SchoolNo};
+use sc_papers::Refusal;
 use std::alloc::{AllocError, Global};
 
-/// Adds a comma and a school, where there is one.
-fn push_named(line: &mut Vec<u8>, school: Option<SchoolNo>) -> Result<(), AllocError>
-    ensures { OnOk result (line.new.items ≡ line.old.items ++ named_text school) }
+/// Adds a comma and a number, where there is one.
+fn push_told(line: &mut Vec<u8>, number: Option<u32>) -> Result<(), AllocError>
+    ensures { OnOk result (line.new.items ≡ line.old.items ++ number_text number) }
 {
-    if let Some(school) = school {
+    if let Some(number) = number {
         line.extend_from_slice(b",")?;
-        push_number(line, u64::from(school.get()))?;
+        push_number(line, u64::from(number))?;
     }
     Ok(())
 }
 
-/// Adds a refusal's code, its name, and the school that it names, if any.
+/// Adds a refusal's code, its name, and the number that it tells, if any.
 fn push_refusal(line: &mut Vec<u8>, refusal: &Refusal) -> Result<(), AllocError>
     ensures { OnOk result (line.new.items ≡ line.old.items ++ refusal_text refusal.now) }
 {
     push_number(line, u64::from(refusal.code()))?;
     line.extend_from_slice(b",")?;
     line.extend_from_slice(refusal.name().as_bytes())?;
-    push_named(line, refusal.school())
+    push_told(line, refusal.number())
 }
 
 /// The reply line of a script's record, given its number, counted from 1, and what it was answered:
-/// `n,ok`, or `n,refused` with the refusal's code, its name, and the school that it names, if any.
-/// The only error is want of memory.
+/// `n,ok`, or `n,refused` with the refusal's code, its name, and the number that it tells, if any: that of
+/// a school, or the stamp that stands. The only error is want of memory.
 pub fn reply_line(
     alloc: Global,
     number: u64,

@@ -48,7 +48,7 @@ pub fn write_report<W: Write>(
     clearing: &Clearing,
     to: &mut Watched<W>,
 ) -> Result<(), ReportFault>
-    ensures bytes { WritesReport clearing.now.papers (matching_of clearing.now)
+    ensures bytes { WritesReport clearing.now.standing.papers (matching_of clearing.now.standing)
         (W.contents (device_of to.old)) (W.contents (device_of to.new)) result }
     ensures failed { has_failed to.new ≡ (has_failed to.old || is_write_fault result) }
 {

@@ -65,7 +65,7 @@ fn room_for_assignment(papers: &Papers) -> usize {
 /// the student has, or a dash. The only error is want of memory. The cost is a sort of the
 /// students' numbers and one pass.
 pub fn assignment_text(alloc: Global, clearing: &Clearing) -> Result<Vec<u8>, AllocError>
-    ensures { IfOk result (λ text. text.items ≡ assignment_text clearing.now.papers (matching_of clearing.now)) }
+    ensures { IfOk result (λ text. text.items ≡ assignment_text clearing.now.standing.papers (matching_of clearing.now.standing)) }
 {
     let entrants = rising_entrants(alloc, clearing.papers(), clearing.places())?;
     let mut text = Vec::with_capacity(alloc, room_for_assignment(clearing.papers()))?;
@@ -106,7 +106,7 @@ fn room_for_report(clearing: &Clearing) -> usize {
 /// of memory. The cost is one pass over the students for the cutoffs, a sort of the students' and the
 /// schools' numbers, and one pass for the lines.
 pub fn report_text(alloc: Global, clearing: &Clearing) -> Result<Vec<u8>, AllocError>
-    ensures { IfOk result (λ text. IsReportText clearing.now.papers (matching_of clearing.now) text.items) }
+    ensures { IfOk result (λ text. IsReportText clearing.now.standing.papers (matching_of clearing.now.standing) text.items) }
 {
     let papers = clearing.papers();
     let places = clearing.places();
