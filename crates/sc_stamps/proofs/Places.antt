@@ -56,10 +56,10 @@ out-here x xs test k ks here = ap (without_stamp (x ∷ xs)) (position-here test
 out-next : (x : ℕ) (xs : List ℕ) (test : ℕ → Bool) (k : ℕ) (ks : List ℕ) → test k ≡ false → without_stamp (x ∷ xs) (position test (k ∷ ks)) ≡ x ∷ without_stamp xs (position test ks)
 out-next x xs test k ks other = ap (without_stamp (x ∷ xs)) (position-next test k ks other) ∙ out-suc x xs (position test ks)
 
-remove-here : {X : Type 0} (test : ℕ → Bool) (e : ℕ × X) (es : List (ℕ × X)) → test e.0 ≡ true → remove_entry test (e ∷ es) ≡ es
+pub remove-here : {X : Type 0} (test : ℕ → Bool) (e : ℕ × X) (es : List (ℕ × X)) → test e.0 ≡ true → remove_entry test (e ∷ es) ≡ es
 remove-here test e es here = rw here refl
 
-remove-next : {X : Type 0} (test : ℕ → Bool) (e : ℕ × X) (es : List (ℕ × X)) → test e.0 ≡ false → remove_entry test (e ∷ es) ≡ e ∷ remove_entry test es
+pub remove-next : {X : Type 0} (test : ℕ → Bool) (e : ℕ × X) (es : List (ℕ × X)) → test e.0 ≡ false → remove_entry test (e ∷ es) ≡ e ∷ remove_entry test es
 remove-next test e es other = rw other refl
 
 -- to put a stamp in keeps how many there are
@@ -82,10 +82,10 @@ length-out test (e ∷ es) (x ∷ xs) same =
     ]
 
 -- whether a key is among entries, by the first of them
-known-here : {X : Type 0} (q : ℕ) (e : ℕ × X) (es : List (ℕ × X)) → nat_eq q e.0 ≡ true → is_some (lookup (nat_eq q) (e ∷ es)) ≡ true
+pub known-here : {X : Type 0} (q : ℕ) (e : ℕ × X) (es : List (ℕ × X)) → nat_eq q e.0 ≡ true → is_some (lookup (nat_eq q) (e ∷ es)) ≡ true
 known-here q e es here = rw here refl
 
-known-next : {X : Type 0} (q : ℕ) (e : ℕ × X) (es : List (ℕ × X)) → nat_eq q e.0 ≡ false → is_some (lookup (nat_eq q) (e ∷ es)) ≡ is_some (lookup (nat_eq q) es)
+pub known-next : {X : Type 0} (q : ℕ) (e : ℕ × X) (es : List (ℕ × X)) → nat_eq q e.0 ≡ false → is_some (lookup (nat_eq q) (e ∷ es)) ≡ is_some (lookup (nat_eq q) es)
 known-next q e es other = rw other refl
 
 -- a key that is not among them has stamp 0
@@ -110,14 +110,14 @@ read-known q es stamps =
     ]
 
 -- the stamp of a key once another one may have a new stamp
-abbrev pub stamped : Bool → Bool → ℕ → ℕ → ℕ
-stamped known same new old = cond known (cond same new old) 0
+abbrev pub marked : Bool → Bool → ℕ → ℕ → ℕ
+marked known same new old = cond known (cond same new old) 0
 
 -- keys at one place are one, and a key apart from the one there is another
 same-keys : (i q k : ℕ) → nat_eq i k ≡ true → nat_eq q k ≡ true → nat_eq i q ≡ true
 same-keys i q k first second = eq-eqb i q (eqb-true i k first ∙ sym (eqb-true q k second))
 
-apart-keys : (i q k : ℕ) → nat_eq i k ≡ true → nat_eq q k ≡ false → nat_eq i q ≡ false
+pub apart-keys : (i q k : ℕ) → nat_eq i k ≡ true → nat_eq q k ≡ false → nat_eq i q ≡ false
 apart-keys i q k first second = ne_eqb i q (λ same. false≢true (sym second ∙ eq-eqb q k (sym same ∙ eqb-true i k first)))
 
 apart-others : (i q k : ℕ) → nat_eq i k ≡ false → nat_eq q k ≡ true → nat_eq i q ≡ false
@@ -125,7 +125,7 @@ apart-others i q k first second = ne_eqb i q (λ same. false≢true (sym first �
 
 -- the stamps after one is put in at a key
 pub read-put : {X : Type 0} (i q w : ℕ) (es : List (ℕ × X)) (stamps : List ℕ) → length stamps ≡ length es
-    → read (with_stamp stamps (position (nat_eq i) (keys_of es)) w) q es ≡ stamped (is_some (lookup (nat_eq q) es)) (nat_eq i q) w (read stamps q es)
+    → read (with_stamp stamps (position (nat_eq i) (keys_of es)) w) q es ≡ marked (is_some (lookup (nat_eq q) es)) (nat_eq i q) w (read stamps q es)
 read-put i q w [] [] same = refl
 read-put i q w [] (x ∷ xs) same = absurd (omega (arith, same))
 read-put i q w (e ∷ es) [] same = absurd (omega (arith, same))
@@ -136,35 +136,35 @@ read-put i q w (e ∷ es) (x ∷ xs) same =
           ∙ elim (cases_Bool (nat_eq q e.0)) [
             | inl here ↦
                 read-here w xs q e es here
-                ∙ sym (λ t. stamped (known-here q e es here t) (same-keys i q e.0 put here t) w (read (x ∷ xs) q (e ∷ es)))
+                ∙ sym (λ t. marked (known-here q e es here t) (same-keys i q e.0 put here t) w (read (x ∷ xs) q (e ∷ es)))
             | inr other ↦
                 read-next w xs q e es other ∙ read-known q es xs
-                ∙ sym (λ t. stamped (known-next q e es other t) (apart-keys i q e.0 put other t) w (read-next x xs q e es other t))
+                ∙ sym (λ t. marked (known-next q e es other t) (apart-keys i q e.0 put other t) w (read-next x xs q e es other t))
           ]
       | inr after ↦
           ap (λ ys. read ys q (e ∷ es)) (put-next x xs (nat_eq i) e.0 (keys_of es) w after)
           ∙ elim (cases_Bool (nat_eq q e.0)) [
             | inl here ↦
                 read-here x (with_stamp xs (position (nat_eq i) (keys_of es)) w) q e es here
-                ∙ sym (λ t. stamped (known-here q e es here t) (apart-others i q e.0 after here t) w (read-here x xs q e es here t))
+                ∙ sym (λ t. marked (known-here q e es here t) (apart-others i q e.0 after here t) w (read-here x xs q e es here t))
             | inr other ↦
                 read-next x (with_stamp xs (position (nat_eq i) (keys_of es)) w) q e es other
                 ∙ read-put i q w es xs (omega (arith, same))
-                ∙ sym (λ t. stamped (known-next q e es other t) (nat_eq i q) w (read-next x xs q e es other t))
+                ∙ sym (λ t. marked (known-next q e es other t) (nat_eq i q) w (read-next x xs q e es other t))
           ]
     ]
 
 -- after one is put last, with a key that is new
 pub read-push : {X : Type 0} (i q w : ℕ) (v : X) (es : List (ℕ × X)) (stamps : List ℕ) → length stamps ≡ length es → is_some (lookup (nat_eq i) es) ≡ false
-    → read (stamps ++ w ∷ []) q (es ++ (i, v) ∷ []) ≡ stamped (is_some (lookup (nat_eq q) (es ++ (i, v) ∷ []))) (nat_eq i q) w (read stamps q es)
+    → read (stamps ++ w ∷ []) q (es ++ (i, v) ∷ []) ≡ marked (is_some (lookup (nat_eq q) (es ++ (i, v) ∷ []))) (nat_eq i q) w (read stamps q es)
 read-push i q w v [] [] same new =
     elim (cases_Bool (nat_eq q i)) [
       | inl here ↦
           read-here w [] q (i, v) [] here
-          ∙ sym (λ t. stamped (known-here q (i, v) [] here t) (same-keys i q i (eq-eqb i i refl) here t) w 0)
+          ∙ sym (λ t. marked (known-here q (i, v) [] here t) (same-keys i q i (eq-eqb i i refl) here t) w 0)
       | inr other ↦
           read-next w [] q (i, v) [] other
-          ∙ sym (λ t. stamped (known-next q (i, v) [] other t) (nat_eq i q) w 0)
+          ∙ sym (λ t. marked (known-next q (i, v) [] other t) (nat_eq i q) w 0)
     ]
 read-push i q w v [] (x ∷ xs) same new = absurd (omega (arith, same))
 read-push i q w v (e ∷ es) [] same new = absurd (omega (arith, same))
@@ -175,11 +175,11 @@ read-push i q w v (e ∷ es) (x ∷ xs) same new =
           elim (cases_Bool (nat_eq q e.0)) [
             | inl here ↦
                 read-here x (xs ++ w ∷ []) q e (es ++ (i, v) ∷ []) here
-                ∙ sym (λ t. stamped (known-here q e (es ++ (i, v) ∷ []) here t) (apart-others i q e.0 after here t) w (read-here x xs q e es here t))
+                ∙ sym (λ t. marked (known-here q e (es ++ (i, v) ∷ []) here t) (apart-others i q e.0 after here t) w (read-here x xs q e es here t))
             | inr other ↦
                 read-next x (xs ++ w ∷ []) q e (es ++ (i, v) ∷ []) other
                 ∙ read-push i q w v es xs (omega (arith, same)) (sym (known-next i e es after) ∙ new)
-                ∙ sym (λ t. stamped (known-next q e (es ++ (i, v) ∷ []) other t) (nat_eq i q) w (read-next x xs q e es other t))
+                ∙ sym (λ t. marked (known-next q e (es ++ (i, v) ∷ []) other t) (nat_eq i q) w (read-next x xs q e es other t))
           ]
     ]
 
@@ -194,7 +194,7 @@ absent-apart q k (e ∷ es) same apart =
 
 -- after one is taken out with its key
 pub read-out : {X : Type 0} (i q w : ℕ) (es : List (ℕ × X)) (stamps : List ℕ) → length stamps ≡ length es → IsDistinct nat_eq (keys_of es)
-    → read (without_stamp stamps (position (nat_eq i) (keys_of es))) q (remove_entry (nat_eq i) es) ≡ stamped (is_some (lookup (nat_eq q) (remove_entry (nat_eq i) es))) (nat_eq i q) w (read stamps q es)
+    → read (without_stamp stamps (position (nat_eq i) (keys_of es))) q (remove_entry (nat_eq i) es) ≡ marked (is_some (lookup (nat_eq q) (remove_entry (nat_eq i) es))) (nat_eq i q) w (read stamps q es)
 unfolding IsDistinct
 read-out i q w [] [] same differ = refl
 read-out i q w [] (x ∷ xs) same differ = absurd (omega (arith, same))
@@ -207,22 +207,22 @@ read-out i q w (e ∷ es) (x ∷ xs) same differ =
             | inl here ↦
                 let gone = absent-apart q e.0 es here differ.0 in
                 read-absent q es xs gone
-                ∙ sym (λ t. stamped (gone t) (nat_eq i q) w (read (x ∷ xs) q (e ∷ es)))
+                ∙ sym (λ t. marked (gone t) (nat_eq i q) w (read (x ∷ xs) q (e ∷ es)))
             | inr other ↦
                 read-known q es xs
-                ∙ sym (λ t. stamped (is_some (lookup (nat_eq q) es)) (apart-keys i q e.0 out other t) w (read-next x xs q e es other t))
+                ∙ sym (λ t. marked (is_some (lookup (nat_eq q) es)) (apart-keys i q e.0 out other t) w (read-next x xs q e es other t))
           ]
-          ∙ sym (λ t. stamped (is_some (lookup (nat_eq q) (remove-here (nat_eq i) e es out t))) (nat_eq i q) w (read (x ∷ xs) q (e ∷ es)))
+          ∙ sym (λ t. marked (is_some (lookup (nat_eq q) (remove-here (nat_eq i) e es out t))) (nat_eq i q) w (read (x ∷ xs) q (e ∷ es)))
       | inr after ↦
           (λ t. read (out-next x xs (nat_eq i) e.0 (keys_of es) after t) q (remove-next (nat_eq i) e es after t))
           ∙ elim (cases_Bool (nat_eq q e.0)) [
             | inl here ↦
                 read-here x (without_stamp xs (position (nat_eq i) (keys_of es))) q e (remove_entry (nat_eq i) es) here
-                ∙ sym (λ t. stamped (known-here q e (remove_entry (nat_eq i) es) here t) (apart-others i q e.0 after here t) w (read-here x xs q e es here t))
+                ∙ sym (λ t. marked (known-here q e (remove_entry (nat_eq i) es) here t) (apart-others i q e.0 after here t) w (read-here x xs q e es here t))
             | inr other ↦
                 read-next x (without_stamp xs (position (nat_eq i) (keys_of es))) q e (remove_entry (nat_eq i) es) other
                 ∙ read-out i q w es xs (omega (arith, same)) differ.1
-                ∙ sym (λ t. stamped (known-next q e (remove_entry (nat_eq i) es) other t) (nat_eq i q) w (read-next x xs q e es other t))
+                ∙ sym (λ t. marked (known-next q e (remove_entry (nat_eq i) es) other t) (nat_eq i q) w (read-next x xs q e es other t))
           ]
-          ∙ sym (λ t. stamped (is_some (lookup (nat_eq q) (remove-next (nat_eq i) e es after t))) (nat_eq i q) w (read (x ∷ xs) q (e ∷ es)))
+          ∙ sym (λ t. marked (is_some (lookup (nat_eq q) (remove-next (nat_eq i) e es after t))) (nat_eq i q) w (read (x ∷ xs) q (e ∷ es)))
     ]

@@ -18,7 +18,7 @@ length-changed_student m i change = by_case (student_of m i) refl
     by_case None e = rw e refl
     by_case (Some student) e = rw e (length-set_value (nat_eq i) m.students (change student))
 
-schools-changed_student : (m : Market) (i : ℕ) (change : Student → Student) → (changed_student m i change).schools ≡ m.schools
+pub schools-changed_student : (m : Market) (i : ℕ) (change : Student → Student) → (changed_student m i change).schools ≡ m.schools
 schools-changed_student m i change = by_case (student_of m i) refl
   where
     by_case : (found : Option Student) → student_of m i ≡ found → (changed_student m i change).schools ≡ m.schools
@@ -32,7 +32,7 @@ length-changed_school m s change = by_case (school_of m s) refl
     by_case None e = rw e refl
     by_case (Some school) e = rw e (length-set_value (nat_eq s) m.schools (change school))
 
-students-changed_school : (m : Market) (s : ℕ) (change : School → School) → (changed_school m s change).students ≡ m.students
+pub students-changed_school : (m : Market) (s : ℕ) (change : School → School) → (changed_school m s change).students ≡ m.students
 students-changed_school m s change = by_case (school_of m s) refl
   where
     by_case : (found : Option School) → school_of m s ≡ found → (changed_school m s change).students ≡ m.students
