@@ -1,3 +1,4 @@
 pub mod Places
 pub mod Step
 pub mod Stamping
+pub mod Turns

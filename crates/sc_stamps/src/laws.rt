@@ -1,13 +1,15 @@
 //! The laws of stamps. Each function does nothing: its contract is the law.
-ghost use Rattle.std.specs.Prelude.{◌≡◌, ◌+◌, None, if◌then◌else◌};
+ghost use Rattle.std.specs.Prelude.{◌≡◌, ◌+◌, ◌++◌, List, [], ◌∷◌, length, None, Some, if◌then◌else◌};
 ghost use Rattle.sc_papers.specs.Market.{Market};
 ghost use Rattle.sc_papers.specs.Verdict.{after, verdict};
 ghost use Rattle.sc_papers.specs.WellFormed.{WellFormed};
 ghost use Rattle.sc_papers.specs.declared.amendment.Amendment.{Amendment};
+ghost use Rattle.sc_papers.specs.declared.amendment.Refusal.{Refusal};
 ghost use Rattle.sc_papers.specs.declared.amendment.Stamped.{Stamped};
+ghost use Rattle.sc_stamps.specs.History.{accepted_among, after_list, last_of};
 ghost use Rattle.sc_stamps.specs.Record.{is_record, is_same, record_of};
 ghost use Rattle.sc_stamps.specs.Stamps.{Stamps, no_stamps, stamp_of, stamps_after, IsInStep};
-ghost use Rattle.sc_stamps.specs.Verdict.{StampedPapers, stamped_verdict};
+ghost use Rattle.sc_stamps.specs.Verdict.{StampedPapers, stamped_after, stamped_verdict, unamended};
 ghost use Rattle.sc_stamps.specs.declared.record.Record.{Record};
 
 /// There is a stamp for each student and each school, at the opening and after each accepted amendment.
@@ -27,4 +29,20 @@ pub fn accepted_amendment_stamps_its_record()
 /// An accepted amendment carried the stamp that its record had.
 pub fn accepted_amendment_carries_its_record_s_stamp()
     ensures { (p : StampedPapers) (stamped : Stamped) → stamped_verdict p stamped ≡ None → (verdict p.papers stamped.amendment ≡ None) × (stamp_of p.papers p.stamps (record_of stamped.amendment) ≡ stamped.stamp) }
+{}
+
+/// The stamp of a record that is in the papers is the greatest k for which the k-th accepted amendment was of
+/// this record, or 0 if there was none; that of an absent record is 0.
+pub fn stamp_is_the_number_of_the_last_amendment()
+    ensures accepted { (m : Market) (list : List Stamped) → (after_list (unamended m) list).stamps.accepted ≡ length (accepted_among (unamended m) list) }
+    ensures stamp { (m : Market) (list : List Stamped) (r : Record) → WellFormed m
+        → stamp_of (after_list (unamended m) list).papers (after_list (unamended m) list).stamps r ≡ (if is_record (after_list (unamended m) list).papers r then last_of r (accepted_among (unamended m) list) else 0) }
+{}
+
+/// Stamped amendments in turn, and so each interleaving of several desks' lists, are answered by the rules in
+/// the papers and with the stamps as they then stand; the papers stay well-formed.
+pub fn stamped_amendments_are_answered_in_turn()
+    ensures accepted { (p : StampedPapers) (list : List Stamped) (stamped : Stamped) → stamped_verdict (after_list p list) stamped ≡ None → after_list p (list ++ stamped ∷ []) ≡ stamped_after (after_list p list) stamped.amendment }
+    ensures refused { (p : StampedPapers) (list : List Stamped) (stamped : Stamped) (refusal : Refusal) → stamped_verdict (after_list p list) stamped ≡ Some refusal → after_list p (list ++ stamped ∷ []) ≡ after_list p list }
+    ensures well_formed { (p : StampedPapers) (list : List Stamped) → WellFormed p.papers → WellFormed (after_list p list).papers }
 {}
