@@ -2,3 +2,4 @@ pub mod Places
 pub mod Step
 pub mod Stamping
 pub mod Turns
+pub mod Rising

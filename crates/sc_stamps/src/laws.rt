@@ -1,12 +1,12 @@
 //! The laws of stamps. Each function does nothing: its contract is the law.
-ghost use Rattle.std.specs.Prelude.{◌≡◌, ◌+◌, ◌++◌, List, [], ◌∷◌, length, None, Some, if◌then◌else◌};
+ghost use Rattle.std.specs.Prelude.{◌≡◌, ℕ, ◌+◌, ◌<◌, ◌++◌, List, [], ◌∷◌, length, slice_get, None, Some, true, false, if◌then◌else◌};
 ghost use Rattle.sc_papers.specs.Market.{Market};
 ghost use Rattle.sc_papers.specs.Verdict.{after, verdict};
 ghost use Rattle.sc_papers.specs.WellFormed.{WellFormed};
 ghost use Rattle.sc_papers.specs.declared.amendment.Amendment.{Amendment};
 ghost use Rattle.sc_papers.specs.declared.amendment.Refusal.{Refusal};
 ghost use Rattle.sc_papers.specs.declared.amendment.Stamped.{Stamped};
-ghost use Rattle.sc_stamps.specs.History.{accepted_among, after_list, last_of};
+ghost use Rattle.sc_stamps.specs.History.{accepted_among, after_list, is_entry, last_of};
 ghost use Rattle.sc_stamps.specs.Record.{is_record, is_same, record_of};
 ghost use Rattle.sc_stamps.specs.Stamps.{Stamps, no_stamps, stamp_of, stamps_after, IsInStep};
 ghost use Rattle.sc_stamps.specs.Verdict.{StampedPapers, stamped_after, stamped_verdict, unamended};
@@ -37,6 +37,15 @@ pub fn stamp_is_the_number_of_the_last_amendment()
     ensures accepted { (m : Market) (list : List Stamped) → (after_list (unamended m) list).stamps.accepted ≡ length (accepted_among (unamended m) list) }
     ensures stamp { (m : Market) (list : List Stamped) (r : Record) → WellFormed m
         → stamp_of (after_list (unamended m) list).papers (after_list (unamended m) list).stamps r ≡ (if is_record (after_list (unamended m) list).papers r then last_of r (accepted_among (unamended m) list) else 0) }
+{}
+
+/// No two accepted amendments of one record carried the same stamp, entries aside: the later one carried the
+/// greater.
+pub fn accepted_amendments_of_a_record_carry_rising_stamps()
+    ensures { (m : Market) (list : List Stamped) (j k : ℕ) (earlier later : Stamped) → WellFormed m → j < k
+        → slice_get (accepted_among (unamended m) list) j ≡ Some earlier → slice_get (accepted_among (unamended m) list) k ≡ Some later
+        → is_same (record_of earlier.amendment) (record_of later.amendment) ≡ true → is_entry later.amendment ≡ false
+        → earlier.stamp < later.stamp }
 {}
 
 /// Stamped amendments in turn, and so each interleaving of several desks' lists, are answered by the rules in
