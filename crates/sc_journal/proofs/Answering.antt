@@ -6,8 +6,9 @@ use Rattle.std.specs.List.{All}
 use Rattle.std.proofs.lemmas.Bool.Decides.{nat_tests}
 use Rattle.std.proofs.lemmas.List.Elements.{All-head, All-tail}
 use Rattle.sc_papers.specs.Market.{Market}
-use Rattle.sc_papers.specs.Verdict.{after, verdict}
+use Rattle.sc_papers.specs.Verdict.{verdict}
 use Rattle.sc_papers.specs.declared.amendment.Amendment.{Amendment}
+use Rattle.sc_stamps.specs.Verdict.{StampedPapers, stamped_after}
 use Rattle.sc_journal.specs.Journal.{after_all, AreAccepted, IsCause, IsFirstFault, IsReplay, IsReplayed, IsUnbroken, journal_text, tail_of}
 use Rattle.sc_journal.specs.Line.{line_text}
 use Rattle.sc_journal.specs.Spelling.{IsInRanges, IsLineOf}
@@ -79,25 +80,25 @@ record AreReplays (xs ys : List Amendment) (rest more : List ℕ) : Type 0 where
   pub amendments : xs ≡ ys
   pub left : rest ≡ more
 
-same-replay : (m : Market) (first p q : ℕ) (xs ys : List Amendment) (rest more : List ℕ) → 1 ≤ first
+same-replay : (before : StampedPapers) (first p q : ℕ) (xs ys : List Amendment) (rest more : List ℕ) → 1 ≤ first
     → p ≡ first + length xs → q ≡ first + length ys → p ≤ 1000000000 → q ≤ 1000000000
-    → All IsInRanges xs → All IsInRanges ys → AreAccepted m xs → AreAccepted m ys
+    → All IsInRanges xs → All IsInRanges ys → AreAccepted before xs → AreAccepted before ys
     → journal_text first xs ++ rest ≡ journal_text first ys ++ more
-    → Stops (after_all m xs) p rest → Stops (after_all m ys) q more → AreReplays xs ys rest more
-same-replay m first p q [] [] rest more least ep eq sp sq rx ry ax ay e stops halts = record { amendments = refl; left = e }
-same-replay m first p q [] (y ∷ ys) rest more least ep eq sp sq rx ry ax ay e stops halts =
+    → Stops (after_all before xs).papers p rest → Stops (after_all before ys).papers q more → AreReplays xs ys rest more
+same-replay before first p q [] [] rest more least ep eq sp sq rx ry ax ay e stops halts = record { amendments = refl; left = e }
+same-replay before first p q [] (y ∷ ys) rest more least ep eq sp sq rx ry ax ay e stops halts =
     let number : p ≡ first = omega arith in
     let line = is-line first y least (omega arith) (All-head IsInRanges y ys ry) in
     let cut : rest ≡ line_text first y ++ 10 ∷ (journal_text (first + 1) ys ++ more) =
     e ∙ append_assoc (line_text first y ++ codes "\n") (journal_text (first + 1) ys) more ∙ append_assoc (line_text first y) (codes "\n") (journal_text (first + 1) ys ++ more) in
     absurd (stops (line_text first y) y (journal_text (first + 1) ys ++ more) (rw number line) ay.0 cut)
-same-replay m first p q (x ∷ xs) [] rest more least ep eq sp sq rx ry ax ay e stops halts =
+same-replay before first p q (x ∷ xs) [] rest more least ep eq sp sq rx ry ax ay e stops halts =
     let number : q ≡ first = omega arith in
     let line = is-line first x least (omega arith) (All-head IsInRanges x xs rx) in
     let cut : more ≡ line_text first x ++ 10 ∷ (journal_text (first + 1) xs ++ rest) =
     sym e ∙ append_assoc (line_text first x ++ codes "\n") (journal_text (first + 1) xs) rest ∙ append_assoc (line_text first x) (codes "\n") (journal_text (first + 1) xs ++ rest) in
     absurd (halts (line_text first x) x (journal_text (first + 1) xs ++ rest) (rw number line) ax.0 cut)
-same-replay m first p q (x ∷ xs) (y ∷ ys) rest more least ep eq sp sq rx ry ax ay e stops halts =
+same-replay before first p q (x ∷ xs) (y ∷ ys) rest more least ep eq sp sq rx ry ax ay e stops halts =
     let line-x = is-line first x least (omega arith) (All-head IsInRanges x xs rx) in
     let line-y = is-line first y least (omega arith) (All-head IsInRanges y ys ry) in
     let cut-x = append_assoc (line_text first x ++ codes "\n") (journal_text (first + 1) xs) rest ∙ append_assoc (line_text first x) (codes "\n") (journal_text (first + 1) xs ++ rest) in
@@ -106,40 +107,40 @@ same-replay m first p q (x ∷ xs) (y ∷ ys) rest more least ep eq sp sq rx ry 
     (line-unbroken (line_text first x) first x line-x) (line-unbroken (line_text first y) first y line-y) (sym cut-x ∙ e ∙ cut-y) in
     let other : IsLineOf (line_text first x) first y = rw cut.before line-y in
     let same : x ≡ y = (one-line (line_text first x) first first x y line-x other).amendment in
-    let later = same-replay (after m x) (first + 1) p q xs ys rest more (omega arith) (omega arith) (omega arith) sp sq
+    let later = same-replay (stamped_after before x) (first + 1) p q xs ys rest more (omega arith) (omega arith) (omega arith) sp sq
     (All-tail IsInRanges x xs rx) (All-tail IsInRanges y ys ry) ax.1 (rw same ay.1) cut.after stops (rw same halts) in
     record { amendments = rw (same, later.amendments) refl; left = later.left }
 
 -- two replays of the same bytes
-both : (m now other : Market) (bytes rest more : List ℕ) (a : IsReplayed m now bytes rest) (b : IsReplayed m other bytes more)
-    → Stops now (1 + length a.amendments) rest → Stops other (1 + length b.amendments) more → AreReplays a.amendments b.amendments rest more
-both m now other bytes rest more a b stops halts =
+both : (before now other : StampedPapers) (bytes rest more : List ℕ) (a : IsReplayed before now bytes rest) (b : IsReplayed before other bytes more)
+    → Stops now.papers (1 + length a.amendments) rest → Stops other.papers (1 + length b.amendments) more → AreReplays a.amendments b.amendments rest more
+both before now other bytes rest more a b stops halts =
     let few = a.count in
     let some = b.count in
-    same-replay m 1 (1 + length a.amendments) (1 + length b.amendments) a.amendments b.amendments rest more (omega arith) refl refl (omega arith) (omega arith)
+    same-replay before 1 (1 + length a.amendments) (1 + length b.amendments) a.amendments b.amendments rest more (omega arith) refl refl (omega arith) (omega arith)
     a.ranges b.ranges a.accepted b.accepted (sym a.text ∙ b.text) (rw (← a.papers) stops) (rw (← b.papers) halts)
 
-replay-stops : (m now : Market) (bytes : List ℕ) (tail : Tail) (number : ℕ) (a : IsReplay m now bytes tail) → Stops now number a.rest
-replay-stops m now bytes tail number a = stops-end now number a.rest a.unbroken
+replay-stops : (before now : StampedPapers) (bytes : List ℕ) (tail : Tail) (number : ℕ) (a : IsReplay before now bytes tail) → Stops now.papers number a.rest
+replay-stops before now bytes tail number a = stops-end now.papers number a.rest a.unbroken
 
-fault-stops : (m : Market) (bytes : List ℕ) (fault : JournalFault) (a : IsFirstFault m bytes fault) → Stops a.now (1 + length a.replayed.amendments) (a.line ++ codes "\n" ++ a.rest)
-fault-stops m bytes fault a =
+fault-stops : (before : StampedPapers) (bytes : List ℕ) (fault : JournalFault) (a : IsFirstFault before bytes fault) → Stops a.now.papers (1 + length a.replayed.amendments) (a.line ++ codes "\n" ++ a.rest)
+fault-stops before bytes fault a =
     let number : 1 + length a.replayed.amendments ≡ fault.line = omega (arith, a.number) in
-    rw number (stops-fault a.now fault.line a.line a.rest fault.cause a.unbroken a.cause)
+    rw number (stops-fault a.now.papers fault.line a.line a.rest fault.cause a.unbroken a.cause)
 
-pub one-papers : (m now other : Market) (bytes : List ℕ) (tail last : Tail) → IsReplay m now bytes tail → IsReplay m other bytes last → now ≡ other
-one-papers m now other bytes tail last a b =
-    let same = both m now other bytes a.rest b.rest a.replayed b.replayed (replay-stops m now bytes tail _ a) (replay-stops m other bytes last _ b) in
-    a.replayed.papers ∙ ap (after_all m) same.amendments ∙ sym b.replayed.papers
+pub one-papers : (before now other : StampedPapers) (bytes : List ℕ) (tail last : Tail) → IsReplay before now bytes tail → IsReplay before other bytes last → now ≡ other
+one-papers before now other bytes tail last a b =
+    let same = both before now other bytes a.rest b.rest a.replayed b.replayed (replay-stops before now bytes tail _ a) (replay-stops before other bytes last _ b) in
+    a.replayed.papers ∙ ap (after_all before) same.amendments ∙ sym b.replayed.papers
 
-pub one-tail : (m now other : Market) (bytes : List ℕ) (tail last : Tail) → IsReplay m now bytes tail → IsReplay m other bytes last → tail ≡ last
-one-tail m now other bytes tail last a b =
-    let same = both m now other bytes a.rest b.rest a.replayed b.replayed (replay-stops m now bytes tail _ a) (replay-stops m other bytes last _ b) in
+pub one-tail : (before now other : StampedPapers) (bytes : List ℕ) (tail last : Tail) → IsReplay before now bytes tail → IsReplay before other bytes last → tail ≡ last
+one-tail before now other bytes tail last a b =
+    let same = both before now other bytes a.rest b.rest a.replayed b.replayed (replay-stops before now bytes tail _ a) (replay-stops before other bytes last _ b) in
     a.ending ∙ ap tail_of same.left ∙ sym b.ending
 
-pub no-fault : (m now : Market) (bytes : List ℕ) (tail : Tail) (fault : JournalFault) → IsReplay m now bytes tail → IsFirstFault m bytes fault → ⊥
-no-fault m now bytes tail fault a b =
-    let same = both m now b.now bytes a.rest (b.line ++ codes "\n" ++ b.rest) a.replayed b.replayed (replay-stops m now bytes tail _ a) (fault-stops m bytes fault b) in
+pub no-fault : (before now : StampedPapers) (bytes : List ℕ) (tail : Tail) (fault : JournalFault) → IsReplay before now bytes tail → IsFirstFault before bytes fault → ⊥
+no-fault before now bytes tail fault a b =
+    let same = both before now b.now bytes a.rest (b.line ++ codes "\n" ++ b.rest) a.replayed b.replayed (replay-stops before now bytes tail _ a) (fault-stops before bytes fault b) in
     no-cut a.rest b.line b.rest a.unbroken (same.left ∙ append_assoc b.line (codes "\n") b.rest)
 
 -- a line has one cause
@@ -175,14 +176,14 @@ one-cause m number text OutOfMemory OutOfMemory why other = absurd why
 same-fault : (f g : JournalFault) → f.line ≡ g.line → f.cause ≡ g.cause → f ≡ g
 same-fault f g line cause = ap (λ n. record { line = n; cause = f.cause }) line ∙ ap (λ c. record { line = g.line; cause = c }) cause
 
-pub one-fault : (m : Market) (bytes : List ℕ) (f g : JournalFault) → IsFirstFault m bytes f → IsFirstFault m bytes g → f ≡ g
-one-fault m bytes f g a b =
-    let same = both m a.now b.now bytes (a.line ++ codes "\n" ++ a.rest) (b.line ++ codes "\n" ++ b.rest) a.replayed b.replayed (fault-stops m bytes f a) (fault-stops m bytes g b) in
+pub one-fault : (before : StampedPapers) (bytes : List ℕ) (f g : JournalFault) → IsFirstFault before bytes f → IsFirstFault before bytes g → f ≡ g
+one-fault before bytes f g a b =
+    let same = both before a.now b.now bytes (a.line ++ codes "\n" ++ a.rest) (b.line ++ codes "\n" ++ b.rest) a.replayed b.replayed (fault-stops before bytes f a) (fault-stops before bytes g b) in
     let cut = cut-one a.line b.line a.rest b.rest a.unbroken b.unbroken (sym (append_assoc a.line (codes "\n") a.rest) ∙ same.left ∙ append_assoc b.line (codes "\n") b.rest) in
     let number : f.line ≡ g.line = a.number ∙ ap (λ (xs : List Amendment). length xs + 1) same.amendments ∙ sym b.number in
-    let papers : a.now ≡ b.now = a.replayed.papers ∙ ap (after_all m) same.amendments ∙ sym b.replayed.papers in
-    let why : IsCause a.now f.line a.line g.cause = rw (papers, number, cut.before) b.cause in
-    let cause = one-cause a.now f.line a.line f.cause g.cause a.cause why in
+    let papers : a.now ≡ b.now = a.replayed.papers ∙ ap (after_all before) same.amendments ∙ sym b.replayed.papers in
+    let why : IsCause a.now.papers f.line a.line g.cause = rw (papers, number, cut.before) b.cause in
+    let cause = one-cause a.now.papers f.line a.line f.cause g.cause a.cause why in
     same-fault f g number cause
 
 -- the texts of two lines are the same only for one number and one amendment

@@ -2,21 +2,21 @@
 use Rattle.std.proofs.Common.{◌≡◌, ℕ, ◌+◌, List, [], ◌∷◌, ◌++◌, length, refl, sym, ◌∙◌, ap, arith, append_assoc}
 use Rattle.std.specs.Prelude.{codes, None}
 use Rattle.std.proofs.lemmas.List.{append-nil}
-use Rattle.sc_papers.specs.Market.{Market}
-use Rattle.sc_papers.specs.Verdict.{after, verdict}
+use Rattle.sc_papers.specs.Verdict.{verdict}
 use Rattle.sc_papers.specs.declared.amendment.Amendment.{Amendment}
+use Rattle.sc_stamps.specs.Verdict.{StampedPapers, stamped_after}
 use Rattle.sc_journal.specs.Journal.{after_all, AreAccepted, journal_text}
 use Rattle.sc_journal.specs.Line.{line_text}
 
--- the papers after one amendment more
-pub after-more : (m : Market) (xs : List Amendment) (a : Amendment) → after_all m (xs ++ a ∷ []) ≡ after (after_all m xs) a
-after-more m [] a = refl
-after-more m (x ∷ xs) a = after-more (after m x) xs a
+-- the papers and the stamps after one amendment more
+pub after-more : (p : StampedPapers) (xs : List Amendment) (a : Amendment) → after_all p (xs ++ a ∷ []) ≡ stamped_after (after_all p xs) a
+after-more p [] a = refl
+after-more p (x ∷ xs) a = after-more (stamped_after p x) xs a
 
 -- one amendment more is accepted
-pub accepted-more : (m : Market) (xs : List Amendment) (a : Amendment) → AreAccepted m xs → verdict (after_all m xs) a ≡ None → AreAccepted m (xs ++ a ∷ [])
-accepted-more m [] a ok next = (next, tt)
-accepted-more m (x ∷ xs) a ok next = (ok.0, accepted-more (after m x) xs a ok.1 next)
+pub accepted-more : (p : StampedPapers) (xs : List Amendment) (a : Amendment) → AreAccepted p xs → verdict (after_all p xs).papers a ≡ None → AreAccepted p (xs ++ a ∷ [])
+accepted-more p [] a ok next = (next, tt)
+accepted-more p (x ∷ xs) a ok next = (ok.0, accepted-more (stamped_after p x) xs a ok.1 next)
 
 -- the journal with one line more
 pub journal-more : (first : ℕ) (xs : List Amendment) (a : Amendment) → journal_text first (xs ++ a ∷ []) ≡ journal_text first xs ++ (line_text (first + length xs) a ++ codes "\n")

@@ -3,8 +3,9 @@ use Rattle.std.proofs.Common.{◌≡◌, ◌≢◌, ℕ, ◌+◌, ◌-◌, ◌<�
 use Rattle.std.specs.Prelude.{codes, slice_range}
 use Rattle.std.proofs.lemmas.List.{at_drop_all, at_drop_more, drop-drop, length-append, length-drop, take_all, take-append-drop, take_more, get_or-drop}
 use Rattle.std.proofs.lemmas.List.Elements.{All-nil, All-push, All-same}
-use Rattle.sc_papers.specs.Market.{Market}
-use Rattle.sc_papers.specs.Verdict.{after, verdict}
+use Rattle.sc_papers.specs.Verdict.{verdict}
+use Rattle.sc_stamps.specs.Verdict.{StampedPapers, stamped_after}
+use Rattle.sc_journal.proofs.Stamping.{accepted-after}
 use Rattle.sc_journal.specs.Journal.{IsCause, IsFirstFault, IsReplayed, IsReplayFault, IsUnbroken, journal_text, tail_of}
 use Rattle.sc_journal.specs.Line.{line_text}
 use Rattle.sc_journal.specs.Replaying.{IsCauseOrMemory, IsLineEnd, IsTaken, line_of}
@@ -52,20 +53,22 @@ tail-torn bytes i inside = sym (ap tail_of (at_drop_more (λ (bs : List ℕ). bs
 pub tail-whole : (bytes : List ℕ) (i : ℕ) → length bytes ≤ i → Whole ≡ tail_of (drop i bytes)
 tail-whole bytes i past = sym (ap tail_of (at_drop_all (λ (bs : List ℕ). bs) bytes i past))
 
--- where a replay stands: the whole lines before an index are taken, so many of them
-pub record IsGoing (before now : Market) (bytes : List ℕ) (start number : ℕ) : Type 0 where
+-- where a replay stands: the whole lines before an index are taken, so many of them, and as many amendments are counted
+pub record IsGoing (before now : StampedPapers) (bytes : List ℕ) (start number : ℕ) : Type 0 where
   pub inside : start ≤ length bytes
   pub replayed : IsReplayed before now bytes (drop start bytes)
   pub count : number ≡ length replayed.amendments
+  pub accepted : now.stamps.accepted ≡ number
 
-pub going-start : (m : Market) (bytes : List ℕ) → IsGoing m m bytes 0 0
-going-start m bytes = record {
+pub going-start : (p : StampedPapers) (bytes : List ℕ) → p.stamps.accepted ≡ 0 → IsGoing p p bytes 0 0
+going-start p bytes none = record {
   inside = omega arith;
   replayed = record { amendments = []; ranges = All-nil IsInRanges; count = omega arith; text = refl; accepted = tt; papers = refl };
   count = refl;
+  accepted = none;
 }
 
-pub going-more : (before now next : Market) (bytes : List ℕ) (start number end : ℕ) → IsGoing before now bytes start number
+pub going-more : (before now next : StampedPapers) (bytes : List ℕ) (start number end : ℕ) → IsGoing before now bytes start number
     → IsLineEnd bytes start end → IsTaken now next (number + 1) (slice_range bytes start end) → IsGoing before next bytes (end + 1) (number + 1)
 going-more before now next bytes start number end at line taken =
     let r = at.replayed in
@@ -91,15 +94,16 @@ going-more before now next bytes start number end at line taken =
         ranges = All-push IsInRanges xs a r.ranges taken.spelled.amendment_in_ranges;
         count = omega (arith, size, high);
         text = text;
-        accepted = accepted-more before xs a r.accepted (ap (λ m. verdict m a) (sym r.papers) ∙ taken.accepted);
-        papers = taken.papers ∙ ap (λ m. after m a) r.papers ∙ sym (after-more before xs a);
+        accepted = accepted-more before xs a r.accepted (ap (λ p. verdict p.papers a) (sym r.papers) ∙ taken.accepted);
+        papers = taken.papers ∙ ap (λ p. stamped_after p a) r.papers ∙ sym (after-more before xs a);
       };
       count = sym size;
+      accepted = ap (λ p. p.stamps.accepted) taken.papers ∙ accepted-after now a ∙ ap (λ n. n + 1) at.accepted;
     }
 
 -- the line that follows an index, which is not taken for this cause, is the first
-pub is-first : (before now : Market) (bytes : List ℕ) (start number end : ℕ) (fault : JournalFault) → IsGoing before now bytes start number
-    → IsLineEnd bytes start end → fault.line ≡ number + 1 → IsCause now (number + 1) (slice_range bytes start end) fault.cause → IsFirstFault before bytes fault
+pub is-first : (before now : StampedPapers) (bytes : List ℕ) (start number end : ℕ) (fault : JournalFault) → IsGoing before now bytes start number
+    → IsLineEnd bytes start end → fault.line ≡ number + 1 → IsCause now.papers (number + 1) (slice_range bytes start end) fault.cause → IsFirstFault before bytes fault
 is-first before now bytes start number end fault at line is why =
     let r = at.replayed in
     let text = slice_range bytes start end in
@@ -120,8 +124,8 @@ is-first before now bytes start number end fault at line is why =
       cause = rw is why;
     }
 
-pub first-fault : (before now : Market) (bytes : List ℕ) (start number end : ℕ) (cause : JournalCause) → IsGoing before now bytes start number
-    → IsLineEnd bytes start end → IsCauseOrMemory now (number + 1) (slice_range bytes start end) cause
+pub first-fault : (before now : StampedPapers) (bytes : List ℕ) (start number end : ℕ) (cause : JournalCause) → IsGoing before now bytes start number
+    → IsLineEnd bytes start end → IsCauseOrMemory now.papers (number + 1) (slice_range bytes start end) cause
     → IsReplayFault before bytes (record { line = line_of (number + 1) cause; cause = cause })
 first-fault before now bytes start number end cause at line (inl memory) = inl (rw memory refl)
 first-fault before now bytes start number end Shape at line (inr why) = inr (is-first before now bytes start number end _ at line refl why)

@@ -1,9 +1,10 @@
--- The journal's text, and what replaying it comes to.
+-- The journal's text, and what replaying it comes to. A line has no stamp, so no line is ever stale.
 use Rattle.std.specs.Prelude.{◌≡◌, ◌≢◌, ◌⊎◌, ⊤, ℕ, ◌+◌, ◌<◌, ◌≤◌, List, [], ◌∷◌, ◌++◌, length, codes, None, Some}
 use Rattle.std.specs.List.{All}
 use Rattle.sc_papers.specs.Market.{Market}
-use Rattle.sc_papers.specs.Verdict.{after, verdict}
+use Rattle.sc_papers.specs.Verdict.{verdict}
 use Rattle.sc_papers.specs.declared.amendment.Amendment.{Amendment}
+use Rattle.sc_stamps.specs.Verdict.{StampedPapers, stamped_after}
 use Rattle.sc_journal.specs.Line.{line_text}
 use Rattle.sc_journal.specs.Spelling.{IsInRanges, IsLineOf}
 use Rattle.sc_journal.specs.declared.fault.JournalCause.{JournalCause}
@@ -18,23 +19,23 @@ abbrev pub journal_text : ℕ → List Amendment → List ℕ
 journal_text first [] = []
 journal_text first (amendment ∷ rest) = line_text first amendment ++ codes "\n" ++ journal_text (first + 1) rest
 
--- the papers after amendments in turn
-abbrev pub after_all : Market → List Amendment → Market
-after_all m [] = m
-after_all m (amendment ∷ rest) = after_all (after m amendment) rest
+-- the papers and the stamps after amendments in turn
+abbrev pub after_all : StampedPapers → List Amendment → StampedPapers
+after_all p [] = p
+after_all p (amendment ∷ rest) = after_all (stamped_after p amendment) rest
 
--- each amendment is accepted, in the papers after those before it
-abbrev pub AreAccepted : Market → List Amendment → Type 0
-AreAccepted m [] = ⊤
-AreAccepted m (amendment ∷ rest) = (verdict m amendment ≡ None) × AreAccepted (after m amendment) rest
+-- each amendment is accepted by the papers after those before it
+abbrev pub AreAccepted : StampedPapers → List Amendment → Type 0
+AreAccepted p [] = ⊤
+AreAccepted p (amendment ∷ rest) = (verdict p.papers amendment ≡ None) × AreAccepted (stamped_after p amendment) rest
 
 -- no newline stands in a text
 abbrev pub IsUnbroken : List ℕ → Type 0
 IsUnbroken text = All (λ byte. byte ≢ 10) text
 
 -- the bytes begin with the journal of amendments that papers accept in turn, which makes them these other
--- papers, and `rest` follows it
-pub record IsReplayed (before now : Market) (bytes rest : List ℕ) : Type 0 where
+-- papers with these stamps, and `rest` follows it
+pub record IsReplayed (before now : StampedPapers) (bytes rest : List ℕ) : Type 0 where
   pub amendments : List Amendment
   pub ranges : All IsInRanges amendments
   pub count : length amendments ≤ greatest_line
@@ -48,8 +49,8 @@ tail_of [] = Whole
 tail_of (byte ∷ rest) = Torn
 
 -- the whole lines of the bytes are the journal of amendments that papers accept in turn, which makes them
--- these other papers, and the tail says whether bytes follow the last newline
-pub record IsReplay (before now : Market) (bytes : List ℕ) (tail : Tail) : Type 0 where
+-- these other papers with these stamps, and the tail says whether bytes follow the last newline
+pub record IsReplay (before now : StampedPapers) (bytes : List ℕ) (tail : Tail) : Type 0 where
   pub rest : List ℕ
   pub replayed : IsReplayed before now bytes rest
   pub unbroken : IsUnbroken rest
@@ -65,19 +66,19 @@ IsCause m number text (Refused refusal) = (amendment : Amendment) × IsLineOf te
 IsCause m number text OutOfMemory = ⊥
 
 -- the lines before the faulty one are taken, and this one is not, for this cause
-pub record IsFirstFault (before : Market) (bytes : List ℕ) (fault : JournalFault) : Type 0 where
-  pub now : Market
+pub record IsFirstFault (before : StampedPapers) (bytes : List ℕ) (fault : JournalFault) : Type 0 where
+  pub now : StampedPapers
   pub line : List ℕ
   pub rest : List ℕ
   pub replayed : IsReplayed before now bytes (line ++ codes "\n" ++ rest)
   pub unbroken : IsUnbroken line
   pub number : fault.line ≡ length replayed.amendments + 1
-  pub cause : IsCause now fault.line line fault.cause
+  pub cause : IsCause now.papers fault.line line fault.cause
 
 -- want of memory, which is of no line
 abbrev pub no_memory : JournalFault
 no_memory = record { line = 0; cause = OutOfMemory }
 
 -- a replay's fault: the first, or in its place want of memory
-abbrev pub IsReplayFault : Market → List ℕ → JournalFault → Type 0
+abbrev pub IsReplayFault : StampedPapers → List ℕ → JournalFault → Type 0
 IsReplayFault before bytes fault = (fault ≡ no_memory) ⊎ IsFirstFault before bytes fault

@@ -1,10 +1,13 @@
 //! The journal replayed over the papers that it was kept for.
-ghost use Rattle.std.specs.Prelude.{◌≡◌, ◌≤◌, drop, length, IfOk, MatchOption, MatchResult};
+ghost use Rattle.std.specs.Prelude.{◌≡◌, ◌+◌, ◌≤◌, drop, length, IfOk, MatchOption, MatchResult};
 ghost use Rattle.sc_journal.specs.Journal.{tail_of, IsReplay, IsReplayFault, IsUnbroken};
 ghost use Rattle.sc_journal.specs.Replaying.{IsCauseOrMemory, IsEnd, IsLineEnd, IsReadCause, IsTaken};
 ghost use Rattle.sc_journal.specs.Spelling.{IsLineOf};
+ghost use Rattle.sc_stamps.specs.Verdict.{unamended};
+ghost use Rattle.sc_repair.specs.Stamped.{stamped_papers};
 ghost use Rattle.sc_repair.specs.Standing.{proposals_from_scratch, IsCertified};
 
+use crate::amended::Amended;
 use crate::fault::{JournalCause, JournalFault};
 use crate::line_no::LineNo;
 use crate::reading::read_line;
@@ -53,20 +56,21 @@ fn numbered(alloc: Global, number: u64, text: &[u8]) -> Result<Amendment, Journa
     Ok(line.amendment)
 }
 
-/// Makes the amendment of the line of this number.
+/// Makes the amendment of the line of this number, which is the next.
 fn apply_line(
     alloc: Global,
-    papers: &mut Papers,
+    amended: &mut Amended,
     number: u64,
     text: &[u8],
 ) -> Result<(), JournalCause>
-    ensures { MatchResult result (λ done. IsTaken papers.old papers.new number text.now) (IsCauseOrMemory papers.old number text.now) }
+    requires next { number ≡ amended.old.stamps.accepted + 1 }
+    ensures { MatchResult result (λ done. IsTaken amended.old amended.new number text.now) (IsCauseOrMemory amended.old.papers number text.now) }
 {
     let amendment = match numbered(alloc, number, text) {
         Ok(amendment) => amendment,
         Err(cause) => return Err(cause),
     };
-    match papers.apply(amendment) {
+    match amended.apply(amendment) {
         Ok(()) => Ok(()),
         Err(Refusal::OutOfMemory) => Err(JournalCause::OutOfMemory),
         Err(refusal) => Err(JournalCause::Refused(refusal)),
@@ -74,14 +78,15 @@ fn apply_line(
 }
 
 /// Makes the amendments of the whole lines in turn, and says where the last of them ends.
-fn apply_lines(alloc: Global, papers: &mut Papers, bytes: &[u8]) -> Result<usize, JournalFault>
-    ensures { MatchResult result (IsEnd papers.old papers.new bytes.now) (IsReplayFault papers.old bytes.now) }
+fn apply_lines(alloc: Global, amended: &mut Amended, bytes: &[u8]) -> Result<usize, JournalFault>
+    requires unamended { amended.old.stamps.accepted ≡ 0 }
+    ensures { MatchResult result (IsEnd amended.old amended.new bytes.now) (IsReplayFault amended.old bytes.now) }
 {
     let mut start = 0;
     let mut number = 0;
     'lines: while let Some(end) = line_end(bytes, start) {
         number += 1;
-        if let Err(cause) = apply_line(alloc, papers, number, &bytes[start..end]) {
+        if let Err(cause) = apply_line(alloc, amended, number, &bytes[start..end]) {
             return Err(JournalFault::at(number, cause));
         }
         start = end + 1;
@@ -101,24 +106,31 @@ fn tail_after(bytes: &[u8], end: usize) -> Tail
 }
 
 /// Makes the amendments of a journal in turn, and opens a clearing of the papers as they then stand:
-/// that of the run whose journal it is, order of entry included. Bytes after the last newline are
-/// left unread, and the tail says whether there are any.
+/// that of the run whose journal it is, order of entry and stamps included. Bytes after the last newline
+/// are left unread, and the tail says whether there are any.
+///
+/// The papers are those of an opening, whose stamps are 0. A line has no stamp, so no line is ever stale:
+/// the amendment of the line of number k gives its record the stamp k.
 ///
 /// The fault names the first line that is not taken, with the first cause that applies. After a fault
 /// the papers are given up; who needs them keeps a copy.
 ///
-/// The cost is one pass over the bytes, the cost of each amendment's `apply`, and one settling.
+/// The cost is one pass over the bytes, the cost of each amendment's `apply` and a look-up, and one
+/// settling.
 pub fn replay(alloc: Global, papers: Papers, bytes: &[u8]) -> Result<(Clearing, Tail), JournalFault>
-    ensures replay { MatchResult result (λ done. IsReplay papers done.0.papers bytes.now done.1) (IsReplayFault papers bytes.now) }
-    ensures certified { IfOk result (λ done. IsCertified done.0) }
-    ensures proposals { IfOk result (λ done. done.0.proposals ≡ proposals_from_scratch done.0) }
+    ensures replay { MatchResult result (λ done. IsReplay (unamended papers) (stamped_papers done.0) bytes.now done.1) (IsReplayFault (unamended papers) bytes.now) }
+    ensures certified { IfOk result (λ done. IsCertified done.0.standing) }
+    ensures proposals { IfOk result (λ done. done.0.standing.proposals ≡ proposals_from_scratch done.0.standing) }
 {
-    let mut papers = papers;
-    let end = apply_lines(alloc, &mut papers, bytes)?;
+    let mut amended = match Amended::of(alloc, papers) {
+        Ok(amended) => amended,
+        Err(_) => return Err(JournalFault::no_memory()),
+    };
+    let end = apply_lines(alloc, &mut amended, bytes)?;
     let tail = tail_after(bytes, end);
     // One settling at the end is enough: the standing assignment of the papers is the same however they
     // came to be as they are.
-    match Clearing::open(alloc, papers) {
+    match amended.settle(alloc) {
         Ok(clearing) => Ok((clearing, tail)),
         Err(_) => Err(JournalFault::no_memory()),
     }

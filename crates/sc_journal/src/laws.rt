@@ -2,8 +2,8 @@
 ghost use Rattle.std.specs.Prelude.{◌≡◌, ℕ, ◌≤◌, List, length};
 ghost use Rattle.std.specs.Int.{IsInRange};
 ghost use Rattle.std.specs.List.{All};
-ghost use Rattle.sc_papers.specs.Market.{Market};
 ghost use Rattle.sc_papers.specs.declared.amendment.Amendment.{Amendment};
+ghost use Rattle.sc_stamps.specs.Verdict.{StampedPapers};
 ghost use Rattle.sc_journal.specs.Journal.{after_all, journal_text, AreAccepted, IsFirstFault, IsReplay};
 ghost use Rattle.sc_journal.specs.Line.{line_text};
 ghost use Rattle.sc_journal.specs.Spelling.{IsInRanges};
@@ -20,16 +20,16 @@ pub fn spellings_differ()
 {}
 
 /// The journal of amendments that papers accept in turn is replayed to the papers after them, order
-/// of entry included.
+/// of entry included, and to the stamps after them.
 pub fn journal_is_replayed()
-    ensures { (m : Market) (amendments : List Amendment) → All IsInRanges amendments → length amendments ≤ LineNo.GREATEST → AreAccepted m amendments → IsReplay m (after_all m amendments) (journal_text 1 amendments) Whole }
+    ensures { (before : StampedPapers) (amendments : List Amendment) → All IsInRanges amendments → length amendments ≤ LineNo.GREATEST → AreAccepted before amendments → IsReplay before (after_all before amendments) (journal_text 1 amendments) Whole }
 {}
 
-/// The same papers and the same bytes have one answer: the same papers and tail, or the same first
+/// The same papers and the same bytes have one answer: the same papers, stamps and tail, or the same first
 /// fault, and never both a replay and a fault.
 pub fn replay_has_one_answer()
-    ensures papers { (m now other : Market) (bytes : List ℕ) (tail last : Tail) → IsReplay m now bytes tail → IsReplay m other bytes last → now ≡ other }
-    ensures tail { (m now other : Market) (bytes : List ℕ) (tail last : Tail) → IsReplay m now bytes tail → IsReplay m other bytes last → tail ≡ last }
-    ensures fault { (m : Market) (bytes : List ℕ) (fault other : JournalFault) → IsFirstFault m bytes fault → IsFirstFault m bytes other → fault ≡ other }
-    ensures either { (m now : Market) (bytes : List ℕ) (tail : Tail) (fault : JournalFault) → IsReplay m now bytes tail → IsFirstFault m bytes fault → ⊥ }
+    ensures papers { (before now other : StampedPapers) (bytes : List ℕ) (tail last : Tail) → IsReplay before now bytes tail → IsReplay before other bytes last → now ≡ other }
+    ensures tail { (before now other : StampedPapers) (bytes : List ℕ) (tail last : Tail) → IsReplay before now bytes tail → IsReplay before other bytes last → tail ≡ last }
+    ensures fault { (before : StampedPapers) (bytes : List ℕ) (fault other : JournalFault) → IsFirstFault before bytes fault → IsFirstFault before bytes other → fault ≡ other }
+    ensures either { (before now : StampedPapers) (bytes : List ℕ) (tail : Tail) (fault : JournalFault) → IsReplay before now bytes tail → IsFirstFault before bytes fault → ⊥ }
 {}

@@ -4,6 +4,7 @@
 //! `specs/`.
 #![tactic(auto)]
 
+mod amended;
 mod fault;
 mod fields;
 mod journal;

@@ -1,53 +1,83 @@
 -- The journal of a run is replayed to the run's papers.
-use Rattle.std.proofs.Common.{◌≡◌, ◌≢◌, ℕ, ◌≤◌, ◌==◌, arith, Bool, true, false, ◌&&◌, ◌||◌, if◌then◌else◌, List, [], ◌∷◌, ◌++◌, Option, None, Some, Result, Ok, Err, length, refl, sym, subst, ◌∙◌, append-nil}
+use Rattle.std.proofs.Common.{◌≡◌, ◌≢◌, ℕ, ◌+◌, ◌≤◌, ◌==◌, arith, ap, Bool, true, false, ◌&&◌, ◌||◌, if◌then◌else◌, List, [], ◌∷◌, ◌++◌, Option, None, Some, Result, Ok, Err, length, refl, sym, subst, ◌∙◌, append-nil}
 use Rattle.std.proofs.lemmas.Bool.Decides.{nat_tests}
 use Rattle.std.proofs.lemmas.List.Elements.{All-append, All-cons, All-head, All-nil, All-tail}
 use Rattle.std.specs.Int.{IsInRange}
 use Rattle.std.specs.List.{All, list_all}
 use Rattle.std.specs.Prelude.{map, ⊤}
-use Rattle.sc_papers.specs.Interleaving.{after_verdict}
 use Rattle.sc_papers.specs.Market.{Market}
-use Rattle.sc_papers.specs.Verdict.{verdict}
 use Rattle.sc_papers.specs.declared.amendment.Amendment.{Amendment}
 use Rattle.sc_papers.specs.declared.amendment.Amendment.TheVariants.{Enter, Withdraw, Rerank, Add, Close, Correct}
 use Rattle.sc_papers.specs.declared.amendment.Refusal.{Refusal}
+use Rattle.sc_papers.specs.declared.amendment.Stamped.{Stamped}
+use Rattle.sc_stamps.specs.Verdict.{StampedPapers, after_stamped_verdict, stamped_verdict, unamended}
 use Rattle.sc_intake.specs.Fault.{◌>>=◌}
 use Rattle.sc_intake.specs.Field.{all_schools, as_school, as_school_or_none, is_within, list_of, number_of, number_or_none, within}
 use Rattle.sc_intake.specs.File.{text_at, records_in}
-use Rattle.sc_intake.specs.Script.{add_of, amendment_in, amendment_of, close_of, correct_of, count_at, enter_of, list_at, number_at, or_shape, rerank_of, school_at, school_or_none_at, script_in, student_at, withdraw_of, zone_at}
+use Rattle.sc_intake.specs.Script.{add_of, amendment_of, close_of, correct_of, count_at, enter_of, list_at, number_at, or_shape, rerank_of, school_at, school_or_none_at, script_in, stamp_at, stamped_in, stamped_of, student_at, withdraw_of, zone_at}
 use Rattle.sc_intake.specs.declared.fault.Cause.{Cause}
 use Rattle.sc_intake.specs.declared.fault.Cause.TheVariants.{Fields, Range}
 use Rattle.sc_intake.specs.declared.fault.Source.TheVariants.{Script}
 use Rattle.sc_journal.specs.Journal.{after_all, journal_text, AreAccepted, IsReplay}
 use Rattle.sc_journal.specs.Spelling.{IsInRanges, IsSchool, IsSchoolOrNone}
 use Rattle.sc_journal.specs.declared.journal.Tail.TheVariants.{Whole}
+use Rattle.sc_journal.proofs.Stamping.{accepted-after}
 use Rattle.sc_runs.specs.Run.{accepted, accepted_in, after_record, after_script, unless_verdict}
+use Rattle.sc_runs.proofs.Allowing.{allowed-papers, allowed-room}
 
 -- a first amendment of this verdict, and those accepted after it
-AreAccepted-first : (m : Market) (amendment : Amendment) (found : Option Refusal) (rest : List Amendment) → verdict m amendment ≡ found
-    → AreAccepted (after_verdict m amendment found) rest → AreAccepted m (unless_verdict amendment found ++ rest)
-AreAccepted-first m amendment None rest is accepted_after = (is, accepted_after)
-AreAccepted-first m amendment (Some refusal) rest is accepted_after = accepted_after
+AreAccepted-first : (p : StampedPapers) (stamped : Stamped) (found : Option Refusal) (rest : List Amendment) → stamped_verdict p stamped ≡ found
+    → AreAccepted (after_stamped_verdict p stamped.amendment found) rest → AreAccepted p (unless_verdict stamped.amendment found ++ rest)
+AreAccepted-first p stamped None rest is accepted_after = (allowed-papers p stamped is, accepted_after)
+AreAccepted-first p stamped (Some refusal) rest is accepted_after = accepted_after
 
 -- the accepted amendments of a script are accepted in turn
-AreAccepted-accepted : (m : Market) (script : List (Result Amendment Refusal)) → AreAccepted m (accepted m script)
-AreAccepted-accepted m [] = tt
-AreAccepted-accepted m (Ok amendment ∷ rest) =
-    AreAccepted-first m amendment (verdict m amendment) (accepted (after_record m (Ok amendment)) rest) refl (AreAccepted-accepted (after_record m (Ok amendment)) rest)
-AreAccepted-accepted m (Err refusal ∷ rest) = AreAccepted-accepted m rest
+AreAccepted-accepted : (p : StampedPapers) (script : List (Result Stamped Refusal)) → AreAccepted p (accepted p script)
+AreAccepted-accepted p [] = tt
+AreAccepted-accepted p (Ok stamped ∷ rest) =
+    AreAccepted-first p stamped (stamped_verdict p stamped) (accepted (after_record p (Ok stamped)) rest) refl (AreAccepted-accepted (after_record p (Ok stamped)) rest)
+AreAccepted-accepted p (Err refusal ∷ rest) = AreAccepted-accepted p rest
 
-after_all-first : (m : Market) (amendment : Amendment) (found : Option Refusal) (rest : List Amendment)
-    → after_all m (unless_verdict amendment found ++ rest) ≡ after_all (after_verdict m amendment found) rest
-after_all-first m amendment None rest = refl
-after_all-first m amendment (Some refusal) rest = refl
+after_all-first : (p : StampedPapers) (amendment : Amendment) (found : Option Refusal) (rest : List Amendment)
+    → after_all p (unless_verdict amendment found ++ rest) ≡ after_all (after_stamped_verdict p amendment found) rest
+after_all-first p amendment None rest = refl
+after_all-first p amendment (Some refusal) rest = refl
 
--- they make the papers after the script
-after_all-accepted : (m : Market) (script : List (Result Amendment Refusal)) → after_all m (accepted m script) ≡ after_script m script
-after_all-accepted m [] = refl
-after_all-accepted m (Ok amendment ∷ rest) =
-    after_all-first m amendment (verdict m amendment) (accepted (after_record m (Ok amendment)) rest)
-    ∙ after_all-accepted (after_record m (Ok amendment)) rest
-after_all-accepted m (Err refusal ∷ rest) = after_all-accepted m rest
+-- they make the papers and the stamps after the script
+after_all-accepted : (p : StampedPapers) (script : List (Result Stamped Refusal)) → after_all p (accepted p script) ≡ after_script p script
+after_all-accepted p [] = refl
+after_all-accepted p (Ok stamped ∷ rest) =
+    after_all-first p stamped.amendment (stamped_verdict p stamped) (accepted (after_record p (Ok stamped)) rest)
+    ∙ after_all-accepted (after_record p (Ok stamped)) rest
+after_all-accepted p (Err refusal ∷ rest) = after_all-accepted p rest
+
+-- an amendment of this verdict is counted where it is accepted, and there is room for it
+counted-first : (p : StampedPapers) (stamped : Stamped) (found : Option Refusal) (rest : List Amendment) → stamped_verdict p stamped ≡ found
+    → (after_stamped_verdict p stamped.amendment found).stamps.accepted + length rest ≤ 999999999
+    → p.stamps.accepted + length (unless_verdict stamped.amendment found ++ rest) ≤ 999999999
+counted-first p stamped None rest is room =
+    let more = accepted-after p stamped.amendment in
+    omega arith
+counted-first p stamped (Some refusal) rest is room = room
+
+room-after : (p : StampedPapers) (stamped : Stamped) (found : Option Refusal) → stamped_verdict p stamped ≡ found → p.stamps.accepted ≤ 999999999
+    → (after_stamped_verdict p stamped.amendment found).stamps.accepted ≤ 999999999
+room-after p stamped None is room =
+    let more = accepted-after p stamped.amendment in
+    let left = allowed-room p stamped is in
+    omega arith
+room-after p stamped (Some refusal) is room = room
+
+-- no more amendments of a script are accepted than there are numbers for
+counted : (p : StampedPapers) (script : List (Result Stamped Refusal)) → p.stamps.accepted ≤ 999999999 → p.stamps.accepted + length (accepted p script) ≤ 999999999
+counted p [] room = omega arith
+counted p (Ok stamped ∷ rest) room =
+    counted-first p stamped (stamped_verdict p stamped) (accepted (after_record p (Ok stamped)) rest) refl
+    (counted (after_record p (Ok stamped)) rest (room-after p stamped (stamped_verdict p stamped) refl room))
+counted p (Err refusal ∷ rest) room = counted p rest room
+
+pub length-accepted : (m : Market) (script : List (Result Stamped Refusal)) → length (accepted (unamended m) script) ≤ 999999999
+length-accepted m script = let few = counted (unamended m) script (omega arith) in omega arith
 
 -- the steps of a reading that gives something
 bind-ok : {A B E : Type 0} (r : Result A E) (f : A → Result B E) (y : B) → (r >>= f) ≡ Ok y → (x : A) × (r ≡ Ok x) × (f x ≡ Ok y)
@@ -146,53 +176,53 @@ school_or_none_at-ranged fields place school is =
 enter_of-ranged : (fields : List (List ℕ)) (amendment : Amendment) → enter_of fields ≡ Ok amendment → IsInRanges amendment
 unfolding enter_of
 enter_of-ranged fields amendment is =
-    let made = made-five (student_at fields 1) (zone_at fields 2) (list_at fields 3) (list_at fields 4) (school_or_none_at fields 5) Enter amendment
-    (if-ok (length fields == 5 || length fields == 6) (student_at fields 1 >>= λ i. zone_at fields 2 >>= λ z. list_at fields 3 >>= λ s. list_at fields 4 >>= λ c. school_or_none_at fields 5 >>= λ o. Ok (Enter i z s c o)) Fields amendment is) in
+    let made = made-five (student_at fields 2) (zone_at fields 3) (list_at fields 4) (list_at fields 5) (school_or_none_at fields 6) Enter amendment
+    (if-ok (length fields == 6 || length fields == 7) (student_at fields 2 >>= λ i. zone_at fields 3 >>= λ z. list_at fields 4 >>= λ s. list_at fields 5 >>= λ c. school_or_none_at fields 6 >>= λ o. Ok (Enter i z s c o)) Fields amendment is) in
     subst IsInRanges made.10 (
-      number_at-ranged 1 999999999 fields 1 made.0 made.5,
-      number_at-ranged 0 9999 fields 2 made.1 made.6,
-      list_at-ranged fields 3 made.2 made.7,
-      list_at-ranged fields 4 made.3 made.8,
-      school_or_none_at-ranged fields 5 made.4 made.9,
+      number_at-ranged 1 999999999 fields 2 made.0 made.5,
+      number_at-ranged 0 9999 fields 3 made.1 made.6,
+      list_at-ranged fields 4 made.2 made.7,
+      list_at-ranged fields 5 made.3 made.8,
+      school_or_none_at-ranged fields 6 made.4 made.9,
     )
 
 withdraw_of-ranged : (fields : List (List ℕ)) (amendment : Amendment) → withdraw_of fields ≡ Ok amendment → IsInRanges amendment
 unfolding withdraw_of
 withdraw_of-ranged fields amendment is =
-    let made = made-one (student_at fields 1) Withdraw amendment (if-ok (length fields == 2) (student_at fields 1 >>= λ i. Ok (Withdraw i)) Fields amendment is) in
-    subst IsInRanges made.2 (number_at-ranged 1 999999999 fields 1 made.0 made.1)
+    let made = made-one (student_at fields 2) Withdraw amendment (if-ok (length fields == 3) (student_at fields 2 >>= λ i. Ok (Withdraw i)) Fields amendment is) in
+    subst IsInRanges made.2 (number_at-ranged 1 999999999 fields 2 made.0 made.1)
 
 rerank_of-ranged : (fields : List (List ℕ)) (amendment : Amendment) → rerank_of fields ≡ Ok amendment → IsInRanges amendment
 unfolding rerank_of
 rerank_of-ranged fields amendment is =
-    let made = made-two (student_at fields 1) (list_at fields 2) Rerank amendment
-    (if-ok (length fields == 3) (student_at fields 1 >>= λ i. list_at fields 2 >>= λ c. Ok (Rerank i c)) Fields amendment is) in
-    subst IsInRanges made.4 (number_at-ranged 1 999999999 fields 1 made.0 made.2, list_at-ranged fields 2 made.1 made.3)
+    let made = made-two (student_at fields 2) (list_at fields 3) Rerank amendment
+    (if-ok (length fields == 4) (student_at fields 2 >>= λ i. list_at fields 3 >>= λ c. Ok (Rerank i c)) Fields amendment is) in
+    subst IsInRanges made.4 (number_at-ranged 1 999999999 fields 2 made.0 made.2, list_at-ranged fields 3 made.1 made.3)
 
 add_of-ranged : (fields : List (List ℕ)) (amendment : Amendment) → add_of fields ≡ Ok amendment → IsInRanges amendment
 unfolding add_of
 add_of-ranged fields amendment is =
-    let made = made-two (school_at fields 1) (count_at fields 2) Add amendment
-    (if-ok (length fields == 3) (school_at fields 1 >>= λ s. count_at fields 2 >>= λ n. Ok (Add s n)) Fields amendment is) in
-    subst IsInRanges made.4 (number_at-ranged 1 99999 fields 1 made.0 made.2, number_at-ranged 1 10000 fields 2 made.1 made.3)
+    let made = made-two (school_at fields 2) (count_at fields 3) Add amendment
+    (if-ok (length fields == 4) (school_at fields 2 >>= λ s. count_at fields 3 >>= λ n. Ok (Add s n)) Fields amendment is) in
+    subst IsInRanges made.4 (number_at-ranged 1 99999 fields 2 made.0 made.2, number_at-ranged 1 10000 fields 3 made.1 made.3)
 
 close_of-ranged : (fields : List (List ℕ)) (amendment : Amendment) → close_of fields ≡ Ok amendment → IsInRanges amendment
 unfolding close_of
 close_of-ranged fields amendment is =
-    let made = made-two (school_at fields 1) (count_at fields 2) Close amendment
-    (if-ok (length fields == 3) (school_at fields 1 >>= λ s. count_at fields 2 >>= λ n. Ok (Close s n)) Fields amendment is) in
-    subst IsInRanges made.4 (number_at-ranged 1 99999 fields 1 made.0 made.2, number_at-ranged 1 10000 fields 2 made.1 made.3)
+    let made = made-two (school_at fields 2) (count_at fields 3) Close amendment
+    (if-ok (length fields == 4) (school_at fields 2 >>= λ s. count_at fields 3 >>= λ n. Ok (Close s n)) Fields amendment is) in
+    subst IsInRanges made.4 (number_at-ranged 1 99999 fields 2 made.0 made.2, number_at-ranged 1 10000 fields 3 made.1 made.3)
 
 correct_of-ranged : (fields : List (List ℕ)) (amendment : Amendment) → correct_of fields ≡ Ok amendment → IsInRanges amendment
 unfolding correct_of
 correct_of-ranged fields amendment is =
-    let made = made-four (student_at fields 1) (zone_at fields 2) (list_at fields 3) (school_or_none_at fields 4) Correct amendment
-    (if-ok (length fields == 4 || length fields == 5) (student_at fields 1 >>= λ i. zone_at fields 2 >>= λ z. list_at fields 3 >>= λ s. school_or_none_at fields 4 >>= λ o. Ok (Correct i z s o)) Fields amendment is) in
+    let made = made-four (student_at fields 2) (zone_at fields 3) (list_at fields 4) (school_or_none_at fields 5) Correct amendment
+    (if-ok (length fields == 5 || length fields == 6) (student_at fields 2 >>= λ i. zone_at fields 3 >>= λ z. list_at fields 4 >>= λ s. school_or_none_at fields 5 >>= λ o. Ok (Correct i z s o)) Fields amendment is) in
     subst IsInRanges made.8 (
-      number_at-ranged 1 999999999 fields 1 made.0 made.4,
-      number_at-ranged 0 9999 fields 2 made.1 made.5,
-      list_at-ranged fields 3 made.2 made.6,
-      school_or_none_at-ranged fields 4 made.3 made.7,
+      number_at-ranged 1 999999999 fields 2 made.0 made.4,
+      number_at-ranged 0 9999 fields 3 made.1 made.5,
+      list_at-ranged fields 4 made.2 made.6,
+      school_or_none_at-ranged fields 5 made.3 made.7,
     )
 
 -- one reading or another, by a test
@@ -212,23 +242,29 @@ amendment_of-ranged fields amendment is =
     is
 
 -- a record of a script, where it is an amendment, is in the ranges
-abbrev IsRecordInRanges : Result Amendment Refusal → Type 0
-IsRecordInRanges (Ok amendment) = IsInRanges amendment
+abbrev IsRecordInRanges : Result Stamped Refusal → Type 0
+IsRecordInRanges (Ok stamped) = IsInRanges stamped.amendment
 IsRecordInRanges (Err refusal) = ⊤
 
-or_shape-ranged : (read : Result Amendment Cause) → ((amendment : Amendment) → read ≡ Ok amendment → IsInRanges amendment) → IsRecordInRanges (or_shape read)
-or_shape-ranged (Ok amendment) ranged = ranged amendment refl
+stamped_of-ranged : (fields : List (List ℕ)) (stamped : Stamped) → stamped_of fields ≡ Ok stamped → IsInRanges stamped.amendment
+unfolding stamped_of
+stamped_of-ranged fields stamped is =
+    let made = made-two (stamp_at fields 0) (amendment_of fields) (λ stamp amendment. record { stamp = stamp; amendment = amendment }) stamped is in
+    subst IsInRanges (ap (λ s. s.amendment) made.4) (amendment_of-ranged fields made.1 made.3)
+
+or_shape-ranged : (read : Result Stamped Cause) → ((stamped : Stamped) → read ≡ Ok stamped → IsInRanges stamped.amendment) → IsRecordInRanges (or_shape read)
+or_shape-ranged (Ok stamped) ranged = ranged stamped refl
 or_shape-ranged (Err cause) ranged = tt
 
-All-ranged : (records : List (List (List ℕ))) → All IsRecordInRanges (map amendment_in records)
+All-ranged : (records : List (List (List ℕ))) → All IsRecordInRanges (map stamped_in records)
 All-ranged [] = All-nil IsRecordInRanges
 All-ranged (fields ∷ rest) =
-    All-cons IsRecordInRanges (amendment_in fields) (map amendment_in rest) (or_shape-ranged (amendment_of fields) (amendment_of-ranged fields)) (All-ranged rest)
+    All-cons IsRecordInRanges (stamped_in fields) (map stamped_in rest) (or_shape-ranged (stamped_of fields) (stamped_of-ranged fields)) (All-ranged rest)
 
-script_in-ranged : (text : List ℕ) (script : List (Result Amendment Refusal)) → script_in text ≡ Ok script → All IsRecordInRanges script
+script_in-ranged : (text : List ℕ) (script : List (Result Stamped Refusal)) → script_in text ≡ Ok script → All IsRecordInRanges script
 script_in-ranged text script is =
-    let (records, cut, mapped) = bind-ok (records_in Script text) (λ records. Ok (map amendment_in records)) script is in
-    let same : map amendment_in records ≡ script = cc in
+    let (records, cut, mapped) = bind-ok (records_in Script text) (λ records. Ok (map stamped_in records)) script is in
+    let same : map stamped_in records ≡ script = cc in
     subst (All IsRecordInRanges) same (All-ranged records)
 
 unless_verdict-ranged : (amendment : Amendment) (found : Option Refusal) → IsInRanges amendment → All IsInRanges (unless_verdict amendment found)
@@ -236,28 +272,28 @@ unless_verdict-ranged amendment None ranged = All-cons IsInRanges amendment [] r
 unless_verdict-ranged amendment (Some refusal) ranged = All-nil IsInRanges
 
 -- and so are the accepted amendments of a script
-accepted-ranged : (m : Market) (script : List (Result Amendment Refusal)) → All IsRecordInRanges script → All IsInRanges (accepted m script)
-accepted-ranged m [] ranged = All-nil IsInRanges
-accepted-ranged m (Ok amendment ∷ rest) ranged =
-    let first = All-head IsRecordInRanges (Ok amendment) rest ranged in
-    let later = All-tail IsRecordInRanges (Ok amendment) rest ranged in
-    All-append IsInRanges (accepted_in m (Ok amendment)) (accepted (after_record m (Ok amendment)) rest)
-    (unless_verdict-ranged amendment (verdict m amendment) first) (accepted-ranged (after_record m (Ok amendment)) rest later)
-accepted-ranged m (Err refusal ∷ rest) ranged =
-    accepted-ranged m rest (All-tail IsRecordInRanges (Err refusal) rest ranged)
+accepted-ranged : (p : StampedPapers) (script : List (Result Stamped Refusal)) → All IsRecordInRanges script → All IsInRanges (accepted p script)
+accepted-ranged p [] ranged = All-nil IsInRanges
+accepted-ranged p (Ok stamped ∷ rest) ranged =
+    let first = All-head IsRecordInRanges (Ok stamped) rest ranged in
+    let later = All-tail IsRecordInRanges (Ok stamped) rest ranged in
+    All-append IsInRanges (accepted_in p (Ok stamped)) (accepted (after_record p (Ok stamped)) rest)
+    (unless_verdict-ranged stamped.amendment (stamped_verdict p stamped) first) (accepted-ranged (after_record p (Ok stamped)) rest later)
+accepted-ranged p (Err refusal ∷ rest) ranged =
+    accepted-ranged p rest (All-tail IsRecordInRanges (Err refusal) rest ranged)
 
--- the journal of a run is replayed to its papers
-pub IsReplay-run : (m : Market) (text : List ℕ) (script : List (Result Amendment Refusal)) → script_in text ≡ Ok script → length (accepted m script) ≤ 999999999
-    → IsReplay m (after_script m script) (journal_text 1 (accepted m script)) Whole
-IsReplay-run m text script read count = record {
+-- the journal of a run is replayed to its papers and their stamps
+pub IsReplay-run : (m : Market) (text : List ℕ) (script : List (Result Stamped Refusal)) → script_in text ≡ Ok script
+    → IsReplay (unamended m) (after_script (unamended m) script) (journal_text 1 (accepted (unamended m) script)) Whole
+IsReplay-run m text script read = record {
   rest = [];
   replayed = record {
-    amendments = accepted m script;
-    ranges = accepted-ranged m script (script_in-ranged text script read);
-    count = count;
-    text = sym (append-nil (journal_text 1 (accepted m script)));
-    accepted = AreAccepted-accepted m script;
-    papers = sym (after_all-accepted m script);
+    amendments = accepted (unamended m) script;
+    ranges = accepted-ranged (unamended m) script (script_in-ranged text script read);
+    count = length-accepted m script;
+    text = sym (append-nil (journal_text 1 (accepted (unamended m) script)));
+    accepted = AreAccepted-accepted (unamended m) script;
+    papers = sym (after_all-accepted (unamended m) script);
   };
   unbroken = All-nil (λ byte. byte ≢ 10);
   ending = refl;

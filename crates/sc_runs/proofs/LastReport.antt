@@ -1,31 +1,32 @@
 -- The papers after a script are well-formed, and so they have a report.
 use Rattle.std.proofs.Common.{◌≡◌, ℕ, List, [], ◌∷◌, Option, None, Some, Result, Ok, Err, refl}
-use Rattle.sc_papers.specs.Interleaving.{after_verdict}
 use Rattle.sc_papers.specs.Market.{Market}
-use Rattle.sc_papers.specs.Verdict.{verdict}
 use Rattle.sc_papers.specs.WellFormed.{WellFormed}
-use Rattle.sc_papers.specs.declared.amendment.Amendment.{Amendment}
 use Rattle.sc_papers.specs.declared.amendment.Refusal.{Refusal}
+use Rattle.sc_papers.specs.declared.amendment.Stamped.{Stamped}
+use Rattle.sc_stamps.specs.Verdict.{StampedPapers, after_stamped_verdict, stamped_verdict, unamended}
 use Rattle.sc_papers.proofs.Amending.{WellFormed-after}
 use Rattle.sc_papers.proofs.Existence.{optimal-exists}
 use Rattle.sc_report.specs.Text.{report_text}
 use Rattle.sc_runs.specs.Opening.{IsReport}
 use Rattle.sc_runs.specs.Run.{after_record, after_script, Opened, IsLastReport}
+use Rattle.sc_runs.proofs.Allowing.{allowed-papers}
 
 -- an amendment of any verdict leaves the papers well-formed
-WellFormed-after_verdict : (m : Market) (amendment : Amendment) (found : Option Refusal) → WellFormed m → verdict m amendment ≡ found → WellFormed (after_verdict m amendment found)
-WellFormed-after_verdict m amendment None well accepted = WellFormed-after m amendment well accepted
-WellFormed-after_verdict m amendment (Some refusal) well refused = well
+WellFormed-after_verdict : (p : StampedPapers) (stamped : Stamped) (found : Option Refusal) → WellFormed p.papers → stamped_verdict p stamped ≡ found
+    → WellFormed (after_stamped_verdict p stamped.amendment found).papers
+WellFormed-after_verdict p stamped None well accepted = WellFormed-after p.papers stamped.amendment well (allowed-papers p stamped accepted)
+WellFormed-after_verdict p stamped (Some refusal) well refused = well
 
 -- and so does a record of a script
-WellFormed-after_record : (m : Market) (entry : Result Amendment Refusal) → WellFormed m → WellFormed (after_record m entry)
-WellFormed-after_record m (Ok amendment) well = WellFormed-after_verdict m amendment (verdict m amendment) well refl
-WellFormed-after_record m (Err refusal) well = well
+WellFormed-after_record : (p : StampedPapers) (entry : Result Stamped Refusal) → WellFormed p.papers → WellFormed (after_record p entry).papers
+WellFormed-after_record p (Ok stamped) well = WellFormed-after_verdict p stamped (stamped_verdict p stamped) well refl
+WellFormed-after_record p (Err refusal) well = well
 
 -- and so does a script
-WellFormed-after_script : (m : Market) (script : List (Result Amendment Refusal)) → WellFormed m → WellFormed (after_script m script)
-WellFormed-after_script m [] well = well
-WellFormed-after_script m (entry ∷ rest) well = WellFormed-after_script (after_record m entry) rest (WellFormed-after_record m entry well)
+WellFormed-after_script : (p : StampedPapers) (script : List (Result Stamped Refusal)) → WellFormed p.papers → WellFormed (after_script p script).papers
+WellFormed-after_script p [] well = well
+WellFormed-after_script p (entry ∷ rest) well = WellFormed-after_script (after_record p entry) rest (WellFormed-after_record p entry well)
 
 -- well-formed papers have a report
 IsReport-some : (m : Market) → WellFormed m → (report : List ℕ) × IsReport m report
@@ -35,4 +36,5 @@ IsReport-some m well =
 
 -- a run that opened well-formed papers has a report to write last
 pub IsLastReport-some : (opened : Opened) → WellFormed opened.papers → (report : List ℕ) × IsLastReport opened report
-IsLastReport-some opened well = IsReport-some (after_script opened.papers opened.script) (WellFormed-after_script opened.papers opened.script well)
+IsLastReport-some opened well =
+    IsReport-some (after_script (unamended opened.papers) opened.script).papers (WellFormed-after_script (unamended opened.papers) opened.script well)

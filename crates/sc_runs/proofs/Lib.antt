@@ -1,3 +1,4 @@
+pub mod Allowing
 pub mod Cutting
 pub mod Openings
 pub mod Reading

@@ -6,7 +6,7 @@ use Rattle.std.specs.Prelude.{IfErr}
 use Rattle.sc_report.specs.Whole.{AppendsPrefix}
 use Rattle.sc_runs.proofs.Openings.{Appends-kept, Keeps-refl}
 use Rattle.sc_runs.specs.Opening.{WritesText}
-use Rattle.sc_runs.specs.Run.{is_journal_fault, IsFull, Writes}
+use Rattle.sc_runs.specs.Run.{is_journal_fault, Writes}
 use Rattle.sc_runs.specs.declared.fault.RunFault.{RunFault}
 use Rattle.sc_runs.specs.declared.fault.RunFault.TheVariants.{Read, Intake, Journal, WriteOut, WriteJournal, OutOfMemory}
 use Rattle.sc_runs.specs.TwoWriters.{Contents, Piece, journal_of, output_of, to_journal, to_output, GrowsByAll, GrowsByPrefix, IsPrefix}
@@ -156,16 +156,6 @@ is_journal_fault-text Is o o' (Err (Journal fault)) wrote = refl
 is_journal_fault-text Is o o' (Err (Read source)) wrote = refl
 is_journal_fault-text Is o o' (Err (Intake fault)) wrote = refl
 
--- nor for a full journal
-pub IsFull-text : (Is : List ℕ → Type 0) (o o' : Option (List ℕ)) (result : Result (Unit {0}) RunFault) → WritesText Is o o' result → IsFull 0 result
-IsFull-text Is o o' (Ok done) wrote = tt
-IsFull-text Is o o' (Err WriteOut) wrote = tt
-IsFull-text Is o o' (Err OutOfMemory) wrote = tt
-IsFull-text Is o o' (Err WriteJournal) wrote = tt
-IsFull-text Is o o' (Err (Journal fault)) wrote = absurd wrote
-IsFull-text Is o o' (Err (Read source)) wrote = tt
-IsFull-text Is o o' (Err (Intake fault)) wrote = tt
-
 -- the writes of pieces by another name
 pub Writes-same : (xs ys : List Piece) (old new : Contents) (result : Result (Unit {0}) RunFault) → xs ≡ ys → Writes xs old new result → Writes ys old new result
 Writes-same xs ys old new result same wrote = subst (λ pieces. Writes pieces old new result) same wrote
@@ -180,7 +170,7 @@ Writes-after line rest j j' o o' (Ok done) written wrote =
 Writes-after line rest j j' o o' (Err WriteOut) written wrote = GrowsByPrefix-line line rest j j' o o' written wrote
 Writes-after line rest j j' o o' (Err WriteJournal) written wrote = GrowsByPrefix-line line rest j j' o o' written wrote
 Writes-after line rest j j' o o' (Err OutOfMemory) written wrote = GrowsByPrefix-line line rest j j' o o' written wrote
-Writes-after line rest j j' o o' (Err (Journal fault)) written wrote = GrowsByPrefix-line line rest j j' o o' written wrote
+Writes-after line rest j j' o o' (Err (Journal fault)) written wrote = absurd wrote
 Writes-after line rest j j' o o' (Err (Read source)) written wrote = absurd wrote
 Writes-after line rest j j' o o' (Err (Intake fault)) written wrote = absurd wrote
 
@@ -205,11 +195,7 @@ Writes-flushed pieces j j' o o' o'' (Err fault) grown kept_journal kept_output k
     subst (λ f. Writes {A = Unit {0}} pieces (record { journal = j; output = o }) (record { journal = j'; output = o'' }) (Err f)) (sym kind)
     (GrowsByPrefix-flushed pieces j j' o o' o'' grown kept_journal kept_output)
 
--- a flush of the output does not end for the journal, nor for a full one
+-- a flush of the output does not end for the journal
 pub is_journal_fault-output : (result : Result (Unit {0}) RunFault) → IfErr result (λ fault. fault ≡ WriteOut) → is_journal_fault result ≡ false
 is_journal_fault-output (Ok done) kind = refl
 is_journal_fault-output (Err fault) kind = ap (λ f. is_journal_fault {A = Unit {0}} (Err f)) kind
-
-pub IsFull-output : (lines : ℕ) (result : Result (Unit {0}) RunFault) → IfErr result (λ fault. fault ≡ WriteOut) → IsFull lines result
-IsFull-output lines (Ok done) kind = tt
-IsFull-output lines (Err fault) kind = subst (λ f. IsFull {A = Unit {0}} lines (Err f)) (sym kind) tt

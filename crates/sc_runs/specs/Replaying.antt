@@ -2,6 +2,7 @@
 use Rattle.std.specs.Prelude.{◌≡◌, ◌⊎◌, ℕ, List, [], ◌∷◌, ◌++◌, Option, Result, Ok, Err}
 use Rattle.std.specs.Io.KnownBytes.{Appends, Keeps}
 use Rattle.sc_papers.specs.Market.{Market}
+use Rattle.sc_stamps.specs.Verdict.{StampedPapers, unamended}
 use Rattle.sc_intake.specs.declared.fault.IntakeFault.{IntakeFault}
 use Rattle.sc_journal.specs.Journal.{IsFirstFault, IsReplay}
 use Rattle.sc_journal.specs.declared.fault.JournalFault.{JournalFault}
@@ -16,7 +17,7 @@ use Rattle.sc_runs.specs.declared.fault.RunFault.TheVariants.{Read, Intake, Jour
 
 -- a text is the report after a journal was replayed over papers, which ended so
 abbrev pub IsReplayReport : Market → List ℕ → Tail → List ℕ → Type 0
-IsReplayReport m journal tail text = (now : Market) × IsReplay m now journal tail × IsReport now text
+IsReplayReport m journal tail text = (now : StampedPapers) × IsReplay (unamended m) now journal tail × IsReport now.papers text
 
 -- a replay answers how the journal ends, and wrote the report of the papers after it; a prefix of it where
 -- the writer failed, and nothing where the inputs or the journal have a fault
@@ -24,7 +25,7 @@ abbrev pub WritesReplay : Result Market IntakeFault → List ℕ → Option (Lis
 WritesReplay reading journal old new (Ok tail) =
     (m : Market) × (reading ≡ Ok m) × ((text : List ℕ) × IsReplayReport m journal tail text × Appends old new text)
 WritesReplay reading journal old new (Err (Intake fault)) = (reading ≡ Err fault) × Keeps old new
-WritesReplay reading journal old new (Err (Journal fault)) = (m : Market) × (reading ≡ Ok m) × IsFirstFault m journal fault × Keeps old new
+WritesReplay reading journal old new (Err (Journal fault)) = (m : Market) × (reading ≡ Ok m) × IsFirstFault (unamended m) journal fault × Keeps old new
 WritesReplay reading journal old new (Err WriteOut) =
     (m : Market) × (reading ≡ Ok m) × ((text : List ℕ) × (tail : Tail) × IsReplayReport m journal tail text × AppendsPrefix old new text)
 WritesReplay reading journal old new (Err OutOfMemory) = Keeps old new

@@ -15,7 +15,7 @@ pub enum RunFault {
     Read { source: Source },
     /// An input is faulty.
     Intake(IntakeFault),
-    /// The journal is faulty, or full.
+    /// A journal that is to be replayed is faulty.
     Journal(JournalFault),
     /// The output could not be written.
     WriteOut,

@@ -1,16 +1,24 @@
 //! What the texts of a run come to. Each function does nothing: its contract is the law.
 ghost use Rattle.std.specs.Prelude.{◌≡◌, ℕ, ◌≤◌, List, length, Result, Ok};
 ghost use Rattle.sc_papers.specs.Market.{Market};
-ghost use Rattle.sc_papers.specs.declared.amendment.Amendment.{Amendment};
 ghost use Rattle.sc_papers.specs.declared.amendment.Refusal.{Refusal};
+ghost use Rattle.sc_papers.specs.declared.amendment.Stamped.{Stamped};
+ghost use Rattle.sc_stamps.specs.Verdict.{unamended};
 ghost use Rattle.sc_intake.specs.Script.{script_in};
 ghost use Rattle.sc_journal.specs.Journal.{journal_text, IsReplay};
 ghost use Rattle.sc_journal.specs.declared.journal.Tail.TheVariants.{Whole};
 ghost use Rattle.sc_runs.specs.Run.{accepted, after_script};
 
+use sc_journal::LineNo;
+
 /// The journal of a run is replayed, over the papers of the opening, to the papers after the run, order
-/// of entry included, and no line of it is torn.
+/// of entry included, and to the stamps after it, and no line of it is torn.
 pub fn journal_of_a_run_is_replayed()
-    ensures { (m : Market) (text : List ℕ) (script : List (Result Amendment Refusal)) → script_in text ≡ Ok script
-        → length (accepted m script) ≤ 999999999 → IsReplay m (after_script m script) (journal_text 1 (accepted m script)) Whole }
+    ensures { (m : Market) (text : List ℕ) (script : List (Result Stamped Refusal)) → script_in text ≡ Ok script
+        → IsReplay (unamended m) (after_script (unamended m) script) (journal_text 1 (accepted (unamended m) script)) Whole }
+{}
+
+/// The journal of a run never has more lines than there are numbers for.
+pub fn journal_of_a_run_is_never_full()
+    ensures { (m : Market) (script : List (Result Stamped Refusal)) → length (accepted (unamended m) script) ≤ LineNo.GREATEST }
 {}

@@ -1,6 +1,7 @@
 //! From three files to an assignment.
 
 ghost use Rattle.std.specs.Prelude.{◌≡◌, ◌||◌, All, IfOk, Ok};
+ghost use Rattle.sc_stamps.specs.Stamps.{no_stamps};
 ghost use Rattle.sc_repair.specs.Standing.{IsCertified};
 ghost use Rattle.sc_report.specs.Watched.{device_of, has_failed};
 ghost use Rattle.sc_runs.specs.Inputs.{opening_turns, texts_of, TakesWithin};
@@ -23,8 +24,8 @@ fn write_opened<W: Write>(
     show_log: bool,
     out: &mut Watched<W>,
 ) -> Result<(), RunFault>
-    requires certified { IsCertified clearing.now }
-    ensures bytes { WritesMatch show_log (Ok clearing.now.papers)
+    requires certified { IsCertified clearing.now.standing }
+    ensures bytes { WritesMatch show_log (Ok clearing.now.standing.papers)
         (W.contents (device_of out.old)) (W.contents (device_of out.new)) result }
     ensures failed { has_failed out.new ≡ (has_failed out.old || is_output_fault result) }
 {
@@ -68,7 +69,8 @@ fn match_owned<W: Write>(
 ) -> Result<Clearing, RunFault>
     ensures bytes { WritesMatch show_log (opening_in seed.now (texts_of texts))
         (W.contents (device_of out.old)) (W.contents (device_of out.new)) result }
-    ensures papers { IfOk result (λ clearing. opening_in seed.now (texts_of texts) ≡ Ok clearing.papers) }
+    ensures papers { IfOk result (λ clearing. opening_in seed.now (texts_of texts) ≡ Ok clearing.standing.papers) }
+    ensures unamended { IfOk result (λ clearing. clearing.stamps ≡ no_stamps clearing.standing.papers) }
     ensures failed { has_failed out.new ≡ (has_failed out.old || is_output_fault result) }
 {
     let clearing = match open_owned(alloc, seed, texts) {
@@ -84,7 +86,8 @@ fn match_owned<W: Write>(
     }
 }
 
-/// Does what `match_files` does, and answers what stands, for a caller that goes on with it.
+/// Does what `match_files` does, and answers what stands, each stamp of it 0, for a caller that goes on
+/// with it.
 pub fn match_standing<R: Read, W: Write>(
     alloc: Global,
     seed: &Seed,
@@ -94,7 +97,8 @@ pub fn match_standing<R: Read, W: Write>(
 ) -> Result<Clearing, RunFault>
     ensures bytes { MatchesFiles seed.now show_log (opening_turns R.remaining opening.old opening.new)
         (W.contents (device_of out.old)) (W.contents (device_of out.new)) result }
-    ensures papers { IfOk result (λ clearing. ArePapersOf seed.now (opening_turns R.remaining opening.old opening.new) clearing.papers) }
+    ensures papers { IfOk result (λ clearing. ArePapersOf seed.now (opening_turns R.remaining opening.old opening.new) clearing.standing.papers) }
+    ensures unamended { IfOk result (λ clearing. clearing.stamps ≡ no_stamps clearing.standing.papers) }
     ensures failed { has_failed out.new ≡ (has_failed out.old || is_output_fault result) }
     ensures limit { All TakesWithin (opening_turns R.remaining opening.old opening.new) }
 {

@@ -1,6 +1,8 @@
 //! From the texts of an opening to its papers, and to their standing assignment.
 
 ghost use Rattle.std.specs.Prelude.{◌≡◌, IfErr, IfOk, MatchResult, Ok};
+ghost use Rattle.sc_stamps.specs.Stamps.{no_stamps};
+ghost use Rattle.sc_repair.specs.Stamped.{StampedStanding};
 ghost use Rattle.sc_repair.specs.Standing.{IsCertified};
 ghost use Rattle.sc_runs.specs.Inputs.{texts_of};
 ghost use Rattle.sc_runs.specs.Opening.{opening_in, papers_in, IsOpeningFault};
@@ -26,10 +28,11 @@ pub fn read_papers(alloc: Global, seed: &Seed, texts: OpeningSlices<'_>) -> Resu
     Ok(papers)
 }
 
-/// The standing assignment of papers. The only fault is want of memory.
+/// The standing assignment of papers, each stamp of which is 0. The only fault is want of memory.
 fn open_papers(alloc: Global, papers: Papers) -> Result<Clearing, RunFault>
-    ensures opened { IfOk result (λ clearing. clearing.papers ≡ papers) }
-    ensures certified { IfOk result IsCertified }
+    ensures opened { IfOk result (λ clearing. clearing.standing.papers ≡ papers) }
+    ensures certified { IfOk result (λ clearing. IsCertified clearing.standing) }
+    ensures unamended { IfOk result (λ clearing. clearing.stamps ≡ no_stamps clearing.standing.papers) }
     ensures refused { IfErr result (λ fault. fault ≡ OutOfMemory) }
 {
     match Clearing::open(alloc, papers) {
@@ -45,7 +48,7 @@ pub fn open_texts(
     texts: OpeningSlices<'_>,
 ) -> Result<Clearing, RunFault>
     ensures { MatchResult result
-        (λ clearing. (papers_in seed.now texts.entry.schools.now texts.entry.roster.now texts.entry.lists.now ≡ Ok clearing.papers) × IsCertified clearing)
+        (λ clearing. (papers_in seed.now texts.entry.schools.now texts.entry.roster.now texts.entry.lists.now ≡ Ok clearing.standing.papers) × IsCertified clearing.standing × (clearing.stamps ≡ no_stamps clearing.standing.papers))
         (IsOpeningFault (papers_in seed.now texts.entry.schools.now texts.entry.roster.now texts.entry.lists.now)) }
 {
     match read_papers(alloc, seed, texts) {
@@ -67,7 +70,7 @@ fn read_owned(alloc: Global, seed: &Seed, texts: OpeningTexts) -> Result<Papers,
 /// once the papers are read, so that their memory serves the settling.
 pub fn open_owned(alloc: Global, seed: &Seed, texts: OpeningTexts) -> Result<Clearing, RunFault>
     ensures { MatchResult result
-        (λ clearing. (opening_in seed.now (texts_of texts) ≡ Ok clearing.papers) × IsCertified clearing)
+        (λ clearing. (opening_in seed.now (texts_of texts) ≡ Ok clearing.standing.papers) × IsCertified clearing.standing × (clearing.stamps ≡ no_stamps clearing.standing.papers))
         (IsOpeningFault (opening_in seed.now (texts_of texts))) }
 {
     match read_owned(alloc, seed, texts) {

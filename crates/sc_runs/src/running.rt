@@ -1,6 +1,7 @@
 //! From four files to replies and an assignment.
 
 ghost use Rattle.std.specs.Prelude.{◌≡◌, ◌||◌, ℕ, List, ◌++◌, ◌∷◌, [], All, Option, false, MatchResult, Ok};
+ghost use Rattle.sc_stamps.specs.Stamps.{no_stamps};
 ghost use Rattle.sc_intake.specs.Script.{script_in};
 ghost use Rattle.sc_intake.specs.declared.fault.Source.TheVariants as input;
 ghost use Rattle.sc_repair.specs.Standing.{matching_of, IsCertified};
@@ -9,7 +10,7 @@ ghost use Rattle.sc_report.specs.Watched.{device_of, has_failed};
 ghost use Rattle.sc_runs.specs.Opening.{is_output_fault, papers_in, IsOpeningFault};
 ghost use Rattle.sc_runs.specs.Inputs.{opening_turns, turn_of, TakesWithin};
 ghost use Rattle.sc_runs.specs.TwoWriters.{to_output};
-ghost use Rattle.sc_runs.specs.Run.{is_journal_fault, opened_in, IsFull, RunsFiles, Writes, WritesRun};
+ghost use Rattle.sc_runs.specs.Run.{is_journal_fault, opened_in, RunsFiles, Writes, WritesRun};
 
 use crate::fault::RunFault;
 use crate::inputs::{Inputs, OpeningSlices, read_inputs};
@@ -18,14 +19,14 @@ use crate::recorder::Recorder;
 use crate::script::Session;
 use crate::writing::{flush_output, write_report_text};
 use sc_intake::{Source, read_script};
-use sc_papers::{Amendment, Refusal, Seed};
+use sc_papers::{Refusal, Seed, Stamped};
 use sc_repair::Clearing;
 use sc_report::Watched;
 use std::alloc::Global;
 use std::io::{Read, Write};
 
 /// The records of a script, or the fault of it.
-fn read_records(alloc: Global, script: &[u8]) -> Result<Vec<Result<Amendment, Refusal>>, RunFault>
+fn read_records(alloc: Global, script: &[u8]) -> Result<Vec<Result<Stamped, Refusal>>, RunFault>
     ensures { MatchResult result (λ records. script_in script.now ≡ Ok records.items) (IsOpeningFault (script_in script.now)) }
 {
     let records = read_script(alloc, script)?;
@@ -39,10 +40,9 @@ fn finish<W: Write, J: Recorder>(
     out: &mut Watched<W>,
     journal: &mut J,
 ) -> Result<(), RunFault>
-    ensures writes { Writes (to_output (report_text clearing.now.papers (matching_of clearing.now)) ∷ [])
+    ensures writes { Writes (to_output (report_text clearing.now.standing.papers (matching_of clearing.now.standing)) ∷ [])
         (record { journal = J.contents journal.old; output = W.contents (device_of out.old) })
         (record { journal = J.contents journal.new; output = W.contents (device_of out.new) }) result }
-    ensures full { IsFull 0 result }
     ensures failed { has_failed out.new ≡ (has_failed out.old || is_output_fault result) }
     ensures journal_failed { J.has_failed journal.new ≡ (J.has_failed journal.old || is_journal_fault result) }
 {
@@ -64,10 +64,10 @@ fn run_opened<W: Write, J: Recorder>(
     out: &mut Watched<W>,
     journal: &mut J,
 ) -> Result<(), RunFault>
-    requires certified { IsCertified session.old.clearing }
+    requires certified { IsCertified session.old.clearing.standing }
+    requires unamended { session.old.clearing.stamps ≡ no_stamps session.old.clearing.standing.papers }
     requires records { session.old.records ≡ 0 }
-    requires lines { session.old.lines ≡ 0 }
-    ensures writes { WritesRun (opened_in (Ok session.old.clearing.papers) (script_in script.now))
+    ensures writes { WritesRun (opened_in (Ok session.old.clearing.standing.papers) (script_in script.now))
         (record { journal = J.contents journal.old; output = W.contents (device_of out.old) })
         (record { journal = J.contents journal.new; output = W.contents (device_of out.new) }) result }
     ensures failed { has_failed out.new ≡ (has_failed out.old || is_output_fault result) }
@@ -114,10 +114,12 @@ pub fn run_texts<W: Write, J: Recorder>(
 /// accepted amendment is written to the journal, and then its reply line to the output; last the report of
 /// the papers as they then stand is.
 ///
+/// The journal is never full: from 999,999,999 accepted amendments on, every amendment is refused as `Spent`.
+///
 /// Nothing is written before the inputs are known to be good. An error is the first fault of the inputs,
-/// each of which is read whole before any is looked into; that an input or a writer failed; want of
-/// memory; or that the journal is full. After it the writers hold a prefix of what the run writes, in its
-/// order: so each `ok` that stands whole in the output has its line whole in the journal.
+/// each of which is read whole before any is looked into; that an input or a writer failed; or want of
+/// memory. After it the writers hold a prefix of what the run writes, in its order: so each `ok` that
+/// stands whole in the output has its line whole in the journal.
 pub fn run<R: Read, W: Write, J: Write>(
     alloc: Global,
     seed: &Seed,

@@ -1,21 +1,21 @@
 //! A script's records answered, one after the other.
 
-ghost use Rattle.std.specs.Prelude.{◌≡◌, ◌≢◌, ◌||◌, ℕ, ◌+◌, ◌≤◌, ◌<◌, List, ◌∷◌, [], length, Option, Ok, false, IfOk, OnOk};
-ghost use Rattle.sc_papers.specs.Interleaving.{after_verdict};
-ghost use Rattle.sc_papers.specs.Verdict.{unless_refused, verdict};
-ghost use Rattle.sc_papers.specs.declared.amendment.Refusal.TheVariants.{OutOfMemory as refused_for_memory};
+ghost use Rattle.std.specs.Prelude.{◌≡◌, ◌||◌, ℕ, ◌+◌, ◌<◌, List, ◌∷◌, [], ◌++◌, Option, None, Ok, false, IfOk, OnOk};
+ghost use Rattle.sc_papers.specs.declared.stamp.TheConstants.Stamp.{GREATEST};
+ghost use Rattle.sc_stamps.specs.Verdict.{stamped_verdict};
+ghost use Rattle.sc_repair.specs.Stamped.{stamped_papers};
 ghost use Rattle.sc_repair.specs.Standing.{IsOptimal};
 ghost use Rattle.sc_report.specs.Reply.{reply_text};
 ghost use Rattle.sc_report.specs.Watched.{device_of, has_failed};
 ghost use Rattle.sc_runs.specs.Opening.{is_output_fault};
 ghost use Rattle.sc_runs.specs.TwoWriters.{to_journal, to_output};
-ghost use Rattle.sc_runs.specs.Run.{accepted, accepted_in, answer_with_line, after_record, after_script, answer_to, answers, is_journal_fault, unless_verdict, IsFull, Writes};
+ghost use Rattle.sc_runs.specs.Run.{after_record, after_script, answer_to, answers, is_journal_fault, next_line, Writes};
 
 use crate::fault::RunFault;
 use crate::recorder::Recorder;
 use crate::writing::write_line;
-use sc_journal::{JournalCause, JournalFault, LineNo, line};
-use sc_papers::{Amendment, Refusal};
+use sc_journal::{LineNo, line};
+use sc_papers::{Amendment, Refusal, Stamped};
 use sc_repair::Clearing;
 use sc_report::{Watched, reply_line};
 use std::alloc::{AllocError, Global};
@@ -27,29 +27,20 @@ pub struct Session {
     pub clearing: Clearing,
     /// How many records were answered.
     pub records: u64,
-    /// How many lines the journal has.
-    pub lines: u32,
 }
 
-/// The refusal, unless it is for want of memory, which is an error of its own.
-fn unless_out_of_memory(refusal: Refusal) -> Result<Refusal, AllocError>
-    ensures { IfOk result (λ same. (same ≡ refusal) × (same ≢ refused_for_memory)) }
+/// The journal's line of an amendment that is accepted next. The only error is want of memory.
+fn next_line(
+    alloc: Global,
+    clearing: &Clearing,
+    amendment: &Amendment,
+) -> Result<Vec<u8>, AllocError>
+    requires room { clearing.now.stamps.accepted < GREATEST }
+    ensures { IfOk result (λ text. text.items ≡ next_line (stamped_papers clearing.now) amendment.now) }
 {
-    match refusal {
-        Refusal::OutOfMemory => Err(AllocError),
-        _ => Ok(refusal),
-    }
-}
-
-/// Makes an amendment or refuses it, and gives the reply to it. The only error is want of memory.
-fn amend(clearing: &mut Clearing, amendment: Amendment) -> Result<Result<(), Refusal>, AllocError>
-    ensures reply { IfOk result (λ reply. reply ≡ unless_refused (verdict clearing.old.papers amendment)) }
-    ensures papers { OnOk result (clearing.new.papers ≡ after_verdict clearing.old.papers amendment (verdict clearing.old.papers amendment)) }
-    ensures optimal { OnOk result (IsOptimal clearing.old → IsOptimal clearing.new) }
-{
-    match clearing.amend(amendment) {
-        Ok(()) => Ok(Ok(())),
-        Err(refusal) => Ok(Err(unless_out_of_memory(refusal)?)),
+    match LineNo::new(clearing.accepted().get() + 1) {
+        Some(number) => line(alloc, number, amendment),
+        None => unreachable!(),
     }
 }
 
@@ -63,7 +54,6 @@ fn write_reply<W: Write>(
     ensures writes { (kept : Option (List ℕ)) → Writes (to_output (reply_text number reply.now) ∷ [])
         (record { journal = kept; output = W.contents (device_of out.old) })
         (record { journal = kept; output = W.contents (device_of out.new) }) result }
-    ensures full { IsFull 0 result }
     ensures failed { has_failed out.new ≡ (has_failed out.old || is_output_fault result) }
     ensures kept { is_journal_fault result ≡ false }
 {
@@ -84,7 +74,6 @@ fn write_accepted<W: Write, J: Recorder>(
     ensures writes { Writes (to_journal line.now ∷ to_output (reply_text number (Ok tt)) ∷ [])
         (record { journal = J.contents journal.old; output = W.contents (device_of out.old) })
         (record { journal = J.contents journal.new; output = W.contents (device_of out.new) }) result }
-    ensures full { IsFull 0 result }
     ensures failed { has_failed out.new ≡ (has_failed out.old || is_output_fault result) }
     ensures journal_failed { J.has_failed journal.new ≡ (J.has_failed journal.old || is_journal_fault result) }
 {
@@ -99,80 +88,61 @@ impl Session {
     pub fn new(clearing: Clearing) -> Session
         ensures clearing { result.clearing ≡ clearing }
         ensures records { result.records ≡ 0 }
-        ensures lines { result.lines ≡ 0 }
     {
         Session {
             clearing,
             records: 0,
-            lines: 0,
         }
     }
 
-    /// Makes an amendment whose line would be this, or refuses it, and writes the line, where it is
-    /// accepted, and the reply line.
-    fn amend_with_line<W: Write, J: Recorder>(
+    /// Makes an amendment that nothing is said against, and writes its line and the reply line.
+    fn accept<W: Write, J: Recorder>(
         &mut self,
         alloc: Global,
-        amendment: Amendment,
-        line: &[u8],
+        stamped: Stamped,
         out: &mut Watched<W>,
         journal: &mut J,
     ) -> Result<(), RunFault>
-        requires room { self.old.lines < 999999999 }
+        requires allowed { stamped_verdict (stamped_papers self.old.clearing) stamped ≡ None }
         ensures records { OnOk result (self.new.records ≡ self.old.records) }
-        ensures lines { OnOk result (self.new.lines ≡ self.old.lines + length (unless_verdict amendment (verdict self.old.clearing.papers amendment))) }
-        ensures papers { OnOk result (self.new.clearing.papers ≡ after_verdict self.old.clearing.papers amendment (verdict self.old.clearing.papers amendment)) }
-        ensures optimal { OnOk result (IsOptimal self.old.clearing → IsOptimal self.new.clearing) }
-        ensures writes { Writes (answer_with_line line.now self.old.records self.old.clearing.papers amendment)
+        ensures papers { OnOk result (stamped_papers self.new.clearing ≡ after_record (stamped_papers self.old.clearing) (Ok stamped)) }
+        ensures optimal { OnOk result (IsOptimal self.old.clearing.standing → IsOptimal self.new.clearing.standing) }
+        ensures writes { Writes (answer_to self.old.records (stamped_papers self.old.clearing) (Ok stamped))
             (record { journal = J.contents journal.old; output = W.contents (device_of out.old) })
             (record { journal = J.contents journal.new; output = W.contents (device_of out.new) }) result }
-        ensures full { IsFull 0 result }
         ensures failed { has_failed out.new ≡ (has_failed out.old || is_output_fault result) }
         ensures journal_failed { J.has_failed journal.new ≡ (J.has_failed journal.old || is_journal_fault result) }
     {
-        let reply = match amend(&mut self.clearing, amendment) {
-            Ok(reply) => reply,
+        let line = match next_line(alloc, &self.clearing, &stamped.amendment) {
+            Ok(line) => line,
             Err(_) => return Err(RunFault::OutOfMemory),
         };
-        match reply {
-            Ok(()) => {
-                self.lines += 1;
-                write_accepted(alloc, self.records, line, out, journal)
-            }
-            Err(refusal) => write_reply(alloc, self.records, &Err(refusal), out),
+        match self.clearing.amend(stamped) {
+            Ok(()) => write_accepted(alloc, self.records, line.as_slice(), out, journal),
+            Err(_) => Err(RunFault::OutOfMemory),
         }
     }
 
-    /// Answers an amendment.
+    /// Answers a stamped amendment.
     fn answer_amendment<W: Write, J: Recorder>(
         &mut self,
         alloc: Global,
-        amendment: Amendment,
+        stamped: Stamped,
         out: &mut Watched<W>,
         journal: &mut J,
     ) -> Result<(), RunFault>
-        requires room { self.old.lines ≤ 999999999 }
         ensures records { OnOk result (self.new.records ≡ self.old.records) }
-        ensures lines { OnOk result (self.new.lines ≡ self.old.lines + length (unless_verdict amendment (verdict self.old.clearing.papers amendment))) }
-        ensures room { OnOk result (self.new.lines ≤ 999999999) }
-        ensures papers { OnOk result (self.new.clearing.papers ≡ after_verdict self.old.clearing.papers amendment (verdict self.old.clearing.papers amendment)) }
-        ensures optimal { OnOk result (IsOptimal self.old.clearing → IsOptimal self.new.clearing) }
-        ensures writes { Writes (answer_to self.old.records self.old.lines self.old.clearing.papers (Ok amendment))
+        ensures papers { OnOk result (stamped_papers self.new.clearing ≡ after_record (stamped_papers self.old.clearing) (Ok stamped)) }
+        ensures optimal { OnOk result (IsOptimal self.old.clearing.standing → IsOptimal self.new.clearing.standing) }
+        ensures writes { Writes (answer_to self.old.records (stamped_papers self.old.clearing) (Ok stamped))
             (record { journal = J.contents journal.old; output = W.contents (device_of out.old) })
             (record { journal = J.contents journal.new; output = W.contents (device_of out.new) }) result }
-        ensures full { IsFull self.old.lines result }
         ensures failed { has_failed out.new ≡ (has_failed out.old || is_output_fault result) }
         ensures journal_failed { J.has_failed journal.new ≡ (J.has_failed journal.old || is_journal_fault result) }
     {
-        match LineNo::new(self.lines + 1) {
-            Some(next) => match line(alloc, next, &amendment) {
-                Ok(line) => self.amend_with_line(alloc, amendment, line.as_slice(), out, journal),
-                Err(_) => Err(RunFault::OutOfMemory),
-            },
-            None => Err(RunFault::Journal(JournalFault {
-                line: u64::from(self.lines) + 1,
-                cause: JournalCause::JournalFull,
-            })),
+        match self.clearing.check(&stamped) {
+            Ok(()) => self.accept(alloc, stamped, out, journal),
+            Err(refusal) => write_reply(alloc, self.records, &Err(refusal), out),
         }
     }
 
@@ -181,25 +151,21 @@ impl Session {
     fn answer<W: Write, J: Recorder>(
         &mut self,
         alloc: Global,
-        entry: Result<Amendment, Refusal>,
+        entry: Result<Stamped, Refusal>,
         out: &mut Watched<W>,
         journal: &mut J,
     ) -> Result<(), RunFault>
-        requires room { self.old.lines ≤ 999999999 }
         ensures records { OnOk result (self.new.records ≡ self.old.records) }
-        ensures lines { OnOk result (self.new.lines ≡ self.old.lines + length (accepted_in self.old.clearing.papers entry)) }
-        ensures room { OnOk result (self.new.lines ≤ 999999999) }
-        ensures papers { OnOk result (self.new.clearing.papers ≡ after_record self.old.clearing.papers entry) }
-        ensures optimal { OnOk result (IsOptimal self.old.clearing → IsOptimal self.new.clearing) }
-        ensures writes { Writes (answer_to self.old.records self.old.lines self.old.clearing.papers entry)
+        ensures papers { OnOk result (stamped_papers self.new.clearing ≡ after_record (stamped_papers self.old.clearing) entry) }
+        ensures optimal { OnOk result (IsOptimal self.old.clearing.standing → IsOptimal self.new.clearing.standing) }
+        ensures writes { Writes (answer_to self.old.records (stamped_papers self.old.clearing) entry)
             (record { journal = J.contents journal.old; output = W.contents (device_of out.old) })
             (record { journal = J.contents journal.new; output = W.contents (device_of out.new) }) result }
-        ensures full { IsFull self.old.lines result }
         ensures failed { has_failed out.new ≡ (has_failed out.old || is_output_fault result) }
         ensures journal_failed { J.has_failed journal.new ≡ (J.has_failed journal.old || is_journal_fault result) }
     {
         match entry {
-            Ok(amendment) => self.answer_amendment(alloc, amendment, out, journal),
+            Ok(stamped) => self.answer_amendment(alloc, stamped, out, journal),
             Err(refusal) => write_reply(alloc, self.records, &Err(refusal), out),
         }
     }
@@ -209,20 +175,17 @@ impl Session {
     pub fn answer_all<W: Write, J: Recorder>(
         &mut self,
         alloc: Global,
-        script: Vec<Result<Amendment, Refusal>>,
+        script: Vec<Result<Stamped, Refusal>>,
         out: &mut Watched<W>,
         journal: &mut J,
     ) -> Result<(), RunFault>
         requires records { self.old.records ≡ 0 }
-        requires lines { self.old.lines ≡ 0 }
-        requires optimal { IsOptimal self.old.clearing }
-        ensures optimal { OnOk result (IsOptimal self.new.clearing) }
-        ensures papers { OnOk result (self.new.clearing.papers ≡ after_script self.old.clearing.papers script.items) }
-        ensures room { OnOk result (length (accepted self.old.clearing.papers script.items) ≤ 999999999) }
-        ensures writes { Writes (answers 1 0 self.old.clearing.papers script.items)
+        requires optimal { IsOptimal self.old.clearing.standing }
+        ensures optimal { OnOk result (IsOptimal self.new.clearing.standing) }
+        ensures papers { OnOk result (stamped_papers self.new.clearing ≡ after_script (stamped_papers self.old.clearing) script.items) }
+        ensures writes { Writes (answers 1 (stamped_papers self.old.clearing) script.items)
             (record { journal = J.contents journal.old; output = W.contents (device_of out.old) })
             (record { journal = J.contents journal.new; output = W.contents (device_of out.new) }) result }
-        ensures full { IsFull (length script.items) result }
         ensures failed { has_failed out.new ≡ (has_failed out.old || is_output_fault result) }
         ensures journal_failed { J.has_failed journal.new ≡ (J.has_failed journal.old || is_journal_fault result) }
     {

@@ -54,7 +54,7 @@ pub fn write_report_text<W: Write>(
     clearing: &Clearing,
     out: &mut Watched<W>,
 ) -> Result<(), RunFault>
-    ensures bytes { WritesText (IsReportText clearing.now.papers (matching_of clearing.now))
+    ensures bytes { WritesText (IsReportText clearing.now.standing.papers (matching_of clearing.now.standing))
         (W.contents (device_of out.old)) (W.contents (device_of out.new)) result }
     ensures failed { has_failed out.new ≡ (has_failed out.old || is_output_fault result) }
 {
@@ -71,7 +71,7 @@ pub fn write_flushed_report<W: Write>(
     clearing: &Clearing,
     out: &mut Watched<W>,
 ) -> Result<(), RunFault>
-    ensures bytes { WritesText (IsReportText clearing.now.papers (matching_of clearing.now))
+    ensures bytes { WritesText (IsReportText clearing.now.standing.papers (matching_of clearing.now.standing))
         (W.contents (device_of out.old)) (W.contents (device_of out.new)) result }
     ensures failed { has_failed out.new ≡ (has_failed out.old || is_output_fault result) }
 {
@@ -87,8 +87,8 @@ pub fn write_log<W: Write>(
     clearing: &Clearing,
     out: &mut Watched<W>,
 ) -> Result<(), RunFault>
-    requires certified { IsCertified clearing.now }
-    ensures bytes { WritesText (IsCertificate clearing.now.papers)
+    requires certified { IsCertified clearing.now.standing }
+    ensures bytes { WritesText (IsCertificate clearing.now.standing.papers)
         (W.contents (device_of out.old)) (W.contents (device_of out.new)) result }
     ensures failed { has_failed out.new ≡ (has_failed out.old || is_output_fault result) }
 {
