@@ -4,7 +4,7 @@ use sc_intake::{
     Cause, IntakeFault, Source, papers_of_rows, read_lists, read_log, read_roster, read_schools,
     read_script,
 };
-use sc_papers::{Amendment, Assignment, Papers, Refusal, Rejection, Seed, Stamped};
+use sc_papers::{Amendment, Assignment, Papers, Refusal, Rejection, Seed, Stamp, Stamped};
 use sc_repair::Clearing;
 use sc_stamps::{Record, record_of};
 use std::alloc::{AllocError, Global};
@@ -88,12 +88,17 @@ pub fn amendment(alloc: Global, record: &str) -> Result<Amendment, Refusal> {
     Ok(stamped.amendment)
 }
 
-/// The amendment with the stamp that its record has.
-pub fn seen(clearing: &Clearing, amendment: Amendment) -> Stamped {
-    let stamp = match record_of(&amendment) {
+/// The stamp of a record.
+pub fn stamp_of(clearing: &Clearing, record: Record) -> Stamp {
+    match record {
         Record::OfStudent(student) => clearing.stamp_of_student(student),
         Record::OfSchool(school) => clearing.stamp_of_school(school),
-    };
+    }
+}
+
+/// The amendment with the stamp that its record has.
+pub fn seen(clearing: &Clearing, amendment: Amendment) -> Stamped {
+    let stamp = stamp_of(clearing, record_of(&amendment));
     Stamped { stamp, amendment }
 }
 
