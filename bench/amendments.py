@@ -38,32 +38,35 @@ def rows(folder, name):
 
 
 def script_of(kind, folder, districts, count):
-    """So many amendments of one kind, each of another student or school."""
+    """So many amendments of one kind, each of another student, or of a random school, and with the stamp that stands by then."""
     source = random.Random(kind)
     lists = dict(rows(folder, "lists"))
     roster = rows(folder, "roster")
     schools = [row[0] for row in rows(folder, "schools")]
     near = [schools[first::districts] for first in range(districts)]
     some = source.sample(roster, count)
+    stamps = {}
     for turn in range(count):
         student, zone, siblings = some[turn]
         if kind == "newcomer":
             district = near[turn % districts]
             choices = source.sample(district, min(CHOICES, len(district)))
-            yield f"enter,{20_000_000 + turn},{zone},,{' '.join(choices)}"
+            yield f"0,enter,{20_000_000 + turn},{zone},,{' '.join(choices)}"
         elif kind == "withdrawal of the last":
-            yield f"withdraw,{roster[-1 - turn][0]}"
+            yield f"0,withdraw,{roster[-1 - turn][0]}"
         elif kind == "withdrawal of a random one":
-            yield f"withdraw,{student}"
+            yield f"0,withdraw,{student}"
         elif kind == "rerank":
             choices = lists[student].split(" ")
             source.shuffle(choices)
-            yield f"rerank,{student},{' '.join(choices)}"
+            yield f"0,rerank,{student},{' '.join(choices)}"
         elif kind == "correction":
-            yield f"correct,{student},{(int(zone) + 1) % 20},{siblings}"
+            yield f"0,correct,{student},{(int(zone) + 1) % 20},{siblings}"
         else:
             word = "add" if kind == "a seat more" else "close"
-            yield f"{word},{source.choice(schools)},1"
+            school = source.choice(schools)
+            yield f"{stamps.get(school, 0)},{word},{school},1"
+            stamps[school] = turn + 1
 
 
 def processor(words):

@@ -127,6 +127,32 @@ def amendments(rng, rows, roster, count):
                           ["enter", rng.randint(1, 60), zone, some(2), some(5), *continuing]])
 
 
+def stamped(rng, texts, rows):
+    """Records of amendments with stamps in front: mostly the one that stands by then, some stale, left out or out of form."""
+    try:
+        papers = reference.papers_of(b"0" * 32, *(texts[name] for name in INPUTS["match"]))
+    except reference.Stop:
+        papers = reference.Papers(b"0" * 32)
+    for row in rows:
+        fields = [(field if isinstance(field, str) else spell(rng, field, False)).encode() for field in row]
+        stands = papers.stamps.get(reference.record_of(reference.amendment_of(fields)), 0)
+        kind = rng.random()
+        if kind < 0.8:
+            stamp = [str(stands)]
+        elif kind < 0.92:
+            stamp = [str(rng.choice([0, stands + 1, max(stands - 1, 0), papers.accepted, rng.randint(0, 9), 999_999_999]))]
+        elif kind < 0.96:
+            stamp = []
+        else:
+            stamp = [rng.choice(["", "x", "-1", "+1", "1 1", "1000000000"])]
+        if stamp and rng.random() < 0.2:
+            stamp = [rng.choice(["0", "00", "0000000"]) + stamp[0]]
+        read = reference.stamped_of([*(text.encode() for text in stamp), *fields])
+        if read and papers.stamped_refusal(*read) is None:
+            papers.make_stamped(read[1])
+        yield [*stamp, *row]
+
+
 def roster_header(rng, roster):
     """The header of a roster whose rows have three fields or four."""
     longer = len(roster[0]) == 4 if roster else rng.random() < 0.5
@@ -150,7 +176,7 @@ def make_case(seed, at):
              "roster": rendered(rng, roster_header(rng, roster), roster, untidy),
              "lists": rendered(rng, ["student", "choices"], [list(row) for row in lists], untidy)}
     kind = rng.choice(["bundle", "bundle", "match", "run", "run", "audit", "replay", "words"])
-    script = rendered(rng, None, list(amendments(rng, rows, roster, rng.randint(0, 8))), untidy)
+    script = rendered(rng, None, list(stamped(rng, texts, amendments(rng, rows, roster, rng.randint(0, 12)))), untidy)
     key = b"0" * 32
     if kind == "run" or (kind == "bundle" and rng.random() < 0.6):
         texts["script"] = script

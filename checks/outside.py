@@ -27,7 +27,7 @@ SEED = "0" * 64
 SCHOOLS = "school,zone,seats\n10,1,1\n20,0,1\n"
 ROSTER = "student,zone,siblings\n1,0,20\n2,0,10\n6,0,\n"
 LISTS = "student,choices\n1,10 20\n2,20 10\n6,20 10\n"
-SCRIPT = "enter,3,1,10,10\nnonsense\nwithdraw,99\nadd,77,1\nwithdraw,3\nadd,20,1\nenter,5,0,,10 20\n"
+SCRIPT = "0,enter,3,1,10,10\nnonsense\n0,withdraw,99\n0,add,77,1\n1,withdraw,3\n0,add,20,1\n0,enter,5,0,,10 20\n"
 
 
 class Trials:
@@ -178,6 +178,22 @@ def words(trials):
     print("words that are not UTF-8: tried")
 
 
+def long_script(rng, students, schools):
+    """Many records, each with the stamp that stands by then; those of students who are gone are refused."""
+    stamps, gone, accepted = {}, set(), 0
+    for _ in range(2_000):
+        word = rng.choice(["rerank", "add", "close", "withdraw"])
+        of_school = word in ("add", "close")
+        number = rng.choice(schools if of_school else students)
+        rest = {"rerank": f",{' '.join(map(str, rng.sample(schools, 5)))}", "withdraw": ""}.get(word, ",1")
+        yield f"{stamps.get((of_school, number), 0)},{word},{number}{rest}"
+        if of_school or number not in gone:
+            accepted += 1
+            stamps[of_school, number] = accepted
+        if word == "withdraw":
+            gone.add(number)
+
+
 def kills(trials, count):
     """A long run, killed at random moments."""
     rng = random.Random(1)
@@ -189,9 +205,7 @@ def kills(trials, count):
     (folder / "roster").write_text("student,zone,siblings\n" + "".join(f"{i},0,\n" for i in students))
     lists = "".join(f"{i},{' '.join(map(str, rng.sample(schools, 6)))}\n" for i in students)
     (folder / "lists").write_text("student,choices\n" + lists)
-    script = [rng.choice([f"rerank,{rng.choice(students)},{' '.join(map(str, rng.sample(schools, 5)))}", f"add,{rng.choice(schools)},1",
-                          f"close,{rng.choice(schools)},1", f"withdraw,{rng.choice(students)}"]) for _ in range(2_000)]
-    (folder / "script").write_text("\n".join(script) + "\n")
+    (folder / "script").write_text("".join(f"{record}\n" for record in long_script(rng, students, schools)))
     words = [trials.program, *trials.calls["run"]]
     began = time.monotonic()
     whole = subprocess.run(words, cwd=folder, capture_output=True, check=True).stdout

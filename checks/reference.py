@@ -21,6 +21,7 @@ MOST_STUDENTS = 200_000
 MOST_LISTED = 20
 MOST_SEATS = 10_000
 LAST_LINE = 999_999_999
+LAST_STAMP = 999_999_999
 MARK = b"\xef\xbb\xbf"
 STUDENT, SCHOOL, ZONE, SEATS, COUNT = (1, 999_999_999), (1, 99_999), (0, 9_999), (0, MOST_SEATS), (1, MOST_SEATS)
 
@@ -202,14 +203,17 @@ def lists_row(fields):
 # ---- papers and amendments ---------------------------------------------------------------------------------------
 
 NAMES = {1: "Shape", 2: "UnknownStudent", 3: "StudentExists", 4: "EmptyList", 5: "ListTooLong", 6: "UnknownSchool",
-         7: "SchoolTwice", 8: "RosterFull", 9: "TooManySeats", 10: "TooFewSeats"}
+         7: "SchoolTwice", 8: "RosterFull", 9: "TooManySeats", 10: "TooFewSeats", 12: "Stale", 13: "Spent"}
 
 
 class Papers:
-    """The seed, the schools by number as [zone, seats], and the students in order of entry as [zone, siblings, choices, continuing]."""
+    """The seed, the schools by number as [zone, seats], and the students in order of entry as [zone, siblings, choices, continuing].
+
+    Beside them stand how many amendments were accepted, and the stamps that are not 0, by ("student", number) or ("school", number)."""
 
     def __init__(self, key):
         self.key, self.schools, self.students = key, {}, {}
+        self.accepted, self.stamps = 0, {}
 
     def key_of(self, student, school):
         zone, siblings, _, continuing = self.students[student]
@@ -222,7 +226,7 @@ class Papers:
         return kind, draw(self.key, student), student
 
     def refusal(self, amendment):
-        """The first refusal that applies, as (code,) or (code, school), or None."""
+        """The first refusal of the papers that applies, as (code,) or (code, school), or None."""
         word, *rest = amendment
         if word in ("withdraw", "rerank", "correct") and rest[0] not in self.students:
             return (2,)
@@ -252,6 +256,23 @@ class Papers:
             return (10,)
         return None
 
+    def stamped_refusal(self, stamp, amendment):
+        """The first refusal that applies to an amendment with its record's stamp, as (code,), (code, school) or (code, stamp), or None."""
+        refusal = self.refusal(amendment)
+        if refusal is None and self.stamps.get(record_of(amendment), 0) != stamp:
+            return 12, self.stamps.get(record_of(amendment), 0)
+        if refusal is None and self.accepted >= LAST_STAMP:
+            return (13,)
+        return refusal
+
+    def make_stamped(self, amendment):
+        """Makes an amendment and counts it: its count is its record's stamp, which goes with a student who leaves."""
+        self.make(amendment)
+        self.accepted += 1
+        self.stamps[record_of(amendment)] = self.accepted
+        if amendment[0] == "withdraw":
+            del self.stamps[record_of(amendment)]
+
     def make(self, amendment):
         word, *rest = amendment
         if word == "enter":
@@ -267,6 +288,11 @@ class Papers:
         else:
             self.students[rest[0]][0:2] = rest[1:3]
             self.students[rest[0]][3] = rest[3]
+
+
+def record_of(amendment):
+    """The record that an amendment is of: a student and a school of the same number are two."""
+    return "school" if amendment[0] in ("add", "close") else "student", amendment[1]
 
 
 def papers_of(key, schools, roster, lists):
@@ -293,7 +319,7 @@ def papers_of(key, schools, roster, lists):
 
 
 def amendment_of(fields):
-    """The amendment that a script's record is, or None where it is none. The school at which a student continues may be left out."""
+    """The amendment that a record without its stamp is, or None where it is none. The school at which a student continues may be left out."""
     forms = {b"enter": (STUDENT, ZONE, list, list, None), b"withdraw": (STUDENT,), b"rerank": (STUDENT, list),
              b"add": (SCHOOL, COUNT), b"close": (SCHOOL, COUNT), b"correct": (STUDENT, ZONE, list, None)}
     form = forms.get(fields[0])
@@ -318,6 +344,16 @@ def amendment_of(fields):
     except Bad:
         return None
     return (fields[0].decode(), *found)
+
+
+def stamped_of(fields):
+    """The stamp and the amendment that a script's record is, or None where it is none."""
+    try:
+        stamp = number(fields[0])
+    except Bad:
+        return None
+    amendment = amendment_of(fields[1:]) if len(fields) > 1 else None
+    return None if amendment is None else (stamp, amendment)
 
 
 def line_of(at, amendment):
@@ -433,14 +469,13 @@ def call_match(key, schools, roster, lists, print_log=False):
 def call_run(key, schools, roster, lists, script):
     too_long(*files(schools, roster, lists), ("script", script))
     papers = papers_of(key, schools, roster, lists)
-    output, journal, lines = [], [], 0
+    output, journal = [], []
     for at, fields in enumerate(records_of("script", script), start=1):
-        amendment = amendment_of(fields)
-        refusal = (1,) if amendment is None else papers.refusal(amendment)
+        stamped = stamped_of(fields)
+        refusal = (1,) if stamped is None else papers.stamped_refusal(*stamped)
         if refusal is None:
-            papers.make(amendment)
-            lines += 1
-            journal.append(line_of(lines, amendment) + b"\n")
+            papers.make_stamped(stamped[1])
+            journal.append(line_of(papers.accepted, stamped[1]) + b"\n")
             output.append(f"{at},ok\n".encode())
         else:
             words = [at, "refused", refusal[0], NAMES[refusal[0]], *refusal[1:]]

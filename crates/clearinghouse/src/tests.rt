@@ -169,7 +169,7 @@ fn journaled(rt: &HostRuntime, script: &str) -> io::Result<String> {
 #[test]
 fn a_run_and_its_replay(rt: HostRuntime) -> io::Result<()> {
     write_files(&rt)?;
-    let told = journaled(&rt, "enter,3,1,10,10\nnonsense\nwithdraw,3\n");
+    let told = journaled(&rt, "0,enter,3,1,10,10\nnonsense\n1,withdraw,3\n");
     let want =
         "1,ok\n2,refused,1,Shape\n3,ok\nstudent,school\n1,10\n2,20\nschool,seats,held,class,draw,student\n10,1,1,4,e56a5d4028bd8653,1\n20,1,1,4,b819d2bd1aed8da0,2\nstudent,school,reason\n0|1,enter,3,1,10,10\n2,withdraw,3\n";
     expect(&rt, told, "", want);
@@ -186,7 +186,7 @@ fn a_run_and_its_replay(rt: HostRuntime) -> io::Result<()> {
 }
 
 /// Three amendments that are alike, so that one made twice would show.
-const THREE_SEATS: &str = "add,10,1\nadd,10,1\nadd,10,1\n";
+const THREE_SEATS: &str = "0,add,10,1\n1,add,10,1\n2,add,10,1\n";
 
 /// What a whole run of them gives, and its journal.
 const SEATS_ADDED: &str =

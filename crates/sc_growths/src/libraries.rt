@@ -5,8 +5,8 @@ use crate::twice::{Call, expect, given};
 use sc_audit::{audit, check_stable};
 use sc_intake::{papers_of, read_lists, read_log, read_roster, read_schools, read_script};
 use sc_journal::{JournalCause, replay};
-use sc_markets::{amendment, market_b, standing};
-use sc_papers::{Amendment, Papers, Refusal};
+use sc_markets::{market_b, stamped, standing};
+use sc_papers::{Papers, Refusal, Stamped};
 use sc_repair::Clearing;
 use sc_report::report_text;
 use std::alloc::{AllocError, Global};
@@ -51,10 +51,10 @@ fn open(rt: HostRuntime) {
 }
 
 /// The amendment that enters the newcomer, made again where memory was refused.
-fn entry(rt: &impl Abort, alloc: Global) -> Amendment {
-    match amendment(alloc, "enter,3,1,10,10") {
+fn entry(rt: &impl Abort, alloc: Global) -> Stamped {
+    match stamped(alloc, "0,enter,3,1,10,10") {
         Ok(entry) => entry,
-        Err(_) => amendment(alloc, "enter,3,1,10,10").expect(rt, "an amendment"),
+        Err(_) => stamped(alloc, "0,enter,3,1,10,10").expect(rt, "an amendment"),
     }
 }
 

@@ -9,7 +9,7 @@ pub const ROSTER: &[u8] = b"student,zone,siblings\n1,0,20\n2,0,10\n";
 
 pub const LISTS: &[u8] = b"student,choices\n1,10 20\n2,20 10\n";
 
-pub const SCRIPT: &[u8] = b"enter,3,1,10,10\nnonsense\nwithdraw,99\nadd,77,1\nwithdraw,3\n";
+pub const SCRIPT: &[u8] = b"0,enter,3,1,10,10\nnonsense\n0,withdraw,99\n0,add,77,1\n1,withdraw,3\n";
 
 /// What the script's amendments leave in the journal.
 pub const JOURNAL: &str = "1,enter,3,1,10,10\n2,withdraw,3\n";
@@ -27,7 +27,7 @@ pub const WHOLE_RUN: &str =
 
 /// Market B and the script in one bundle.
 pub const BUNDLE: &[u8] =
-    b"%seed\n0000000000000000000000000000000000000000000000000000000000000000\n%schools\nschool,zone,seats\n10,1,1\n20,0,1\n%roster\nstudent,zone,siblings\n1,0,20\n2,0,10\n%lists\nstudent,choices\n1,10 20\n2,20 10\n%script\nenter,3,1,10,10\nnonsense\nwithdraw,99\nadd,77,1\nwithdraw,3\n";
+    b"%seed\n0000000000000000000000000000000000000000000000000000000000000000\n%schools\nschool,zone,seats\n10,1,1\n20,0,1\n%roster\nstudent,zone,siblings\n1,0,20\n2,0,10\n%lists\nstudent,choices\n1,10 20\n2,20 10\n%script\n0,enter,3,1,10,10\nnonsense\n0,withdraw,99\n0,add,77,1\n1,withdraw,3\n";
 
 /// The seed of 64 zeros.
 pub fn seed(rt: &impl Abort) -> Seed {

@@ -4,8 +4,9 @@ use sc_intake::{
     Cause, IntakeFault, Source, papers_of_rows, read_lists, read_log, read_roster, read_schools,
     read_script,
 };
-use sc_papers::{Amendment, Assignment, Papers, Refusal, Rejection, Seed};
+use sc_papers::{Amendment, Assignment, Papers, Refusal, Rejection, Seed, Stamp, Stamped};
 use sc_repair::Clearing;
+use sc_stamps::{Record, record_of};
 use std::alloc::{AllocError, Global};
 
 /// A file of these rows under its header.
@@ -64,19 +65,41 @@ fn zero_seed() -> Seed {
     }
 }
 
-/// The amendment that a script of this one record makes, as `enter,3,1,10,10`; `Shape` where it makes none,
-/// and `OutOfMemory`.
-pub fn amendment(alloc: Global, record: &str) -> Result<Amendment, Refusal> {
+/// The stamped amendment that a script of this one record makes, as `0,enter,3,1,10,10`; `Shape` where it makes
+/// none, and `OutOfMemory`.
+pub fn stamped(alloc: Global, record: &str) -> Result<Stamped, Refusal> {
     match read_script(alloc, record.as_bytes()) {
         Ok(script) => first(script),
         Err(_) => Err(Refusal::OutOfMemory),
     }
 }
 
-/// The amendment of a script that has no other.
-fn first(script: Vec<Result<Amendment, Refusal>>) -> Result<Amendment, Refusal> {
+/// The stamped amendment of a script that has no other.
+fn first(script: Vec<Result<Stamped, Refusal>>) -> Result<Stamped, Refusal> {
     let mut script = script;
     script.pop().unwrap_or(Err(Refusal::Shape))
+}
+
+/// The amendment of this record without its stamp, as `enter,3,1,10,10`; `Shape` where it is none, and
+/// `OutOfMemory`.
+pub fn amendment(alloc: Global, record: &str) -> Result<Amendment, Refusal> {
+    let record = format!(in alloc; "0,{record}")?;
+    let stamped = stamped(alloc, record.as_str())?;
+    Ok(stamped.amendment)
+}
+
+/// The stamp of a record.
+pub fn stamp_of(clearing: &Clearing, record: Record) -> Stamp {
+    match record {
+        Record::OfStudent(student) => clearing.stamp_of_student(student),
+        Record::OfSchool(school) => clearing.stamp_of_school(school),
+    }
+}
+
+/// The amendment with the stamp that its record has.
+pub fn seen(clearing: &Clearing, amendment: Amendment) -> Stamped {
+    let stamp = stamp_of(clearing, record_of(&amendment));
+    Stamped { stamp, amendment }
 }
 
 /// The assignment in which each of these students has that school (`STUDENT,SCHOOL` in each row), or `None`

@@ -6,6 +6,7 @@ use crate::markets::{
 };
 use crate::plain::School;
 use sc_engine::{Settled, settle};
+use sc_markets::seen;
 use sc_papers::{Amendment, Count, SchoolList, SchoolNo, StudentNo};
 use sc_repair::Clearing;
 use std::alloc::{AllocError, Global};
@@ -13,7 +14,7 @@ use std::process::Abort;
 use std::test::Fail;
 
 /// An amendment names a student numbered from 1 up to this, in the papers or not.
-const STUDENTS: u32 = 8;
+pub const STUDENTS: u32 = 8;
 
 /// A student in the papers or not.
 fn random_student(rt: &impl Abort, dice: &mut Dice) -> StudentNo {
@@ -109,7 +110,7 @@ fn random_correction(
 
 /// An amendment of any kind, which the papers may allow or not, where schools are numbered from 1 up to
 /// `schools`.
-fn random_amendment(
+pub fn random_amendment(
     rt: &impl Abort,
     alloc: Global,
     dice: &mut Dice,
@@ -160,7 +161,8 @@ fn amend(
     amendment: Amendment,
 ) -> Result<(), Fail> {
     let before = clearing.proposals_last();
-    let is_accepted = clearing.amend(amendment).is_ok();
+    let stamped = seen(clearing, amendment);
+    let is_accepted = clearing.amend(stamped).is_ok();
     assert!(rt; is_accepted || clearing.proposals_last() == before);
     stands_as_settled(rt, alloc, clearing)
 }

@@ -6,3 +6,4 @@ pub mod Locality
 pub mod Course
 pub mod Newcomer
 pub mod Changed
+pub mod Stamped

@@ -1,4 +1,4 @@
--- How the type `Clearing` keeps its standing. Contracts see the `Standing` alone.
+-- How the type `Settlement` keeps its standing. Contracts see the `Standing` alone.
 use Rattle.std.specs.Prelude.{◌≡◌, false, List, IfSome}
 use Rattle.sc_papers.specs.Market.{Market, students_of}
 use Rattle.sc_checkpoint.specs.Chains.{logs_in, students_in, Chain}
@@ -7,7 +7,7 @@ use Rattle.sc_engine.specs.declared.round.Round.{Round}
 use Rattle.sc_seats.specs.Roll.{RollView}
 use Rattle.sc_repair.specs.Newcomer.{StandsAfter}
 use Rattle.sc_repair.specs.Standing.{Standing, IsCertified}
-use Rattle.sc_repair.specs.declared.clearing.Clearing.TheInside.{Inside}
+use Rattle.sc_repair.specs.declared.settlement.Settlement.TheInside.{Inside}
 
 -- the standing that the fields hold
 abbrev pub standing_of : Inside → Standing

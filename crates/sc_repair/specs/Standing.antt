@@ -1,4 +1,4 @@
--- What a contract sees of a `Clearing`.
+-- What a contract sees of settled papers.
 use Rattle.std.specs.Prelude.{◌≡◌, ℕ, ◌+◌, Bool, true, List, length, take, drop, Option, None, Some, Result, Ok, Err, if◌then◌else◌}
 use Rattle.sc_papers.specs.Assignment.{assigned}
 use Rattle.sc_papers.specs.Log.{matching_of as gives, next_choice, IsSettled}
@@ -38,7 +38,7 @@ matching_of standing = assigned standing.places
 abbrev pub IsOptimal : Standing → Type 0
 IsOptimal standing = IsStudentOptimal standing.papers (matching_of standing)
 
--- what every clearing keeps: the papers are well-formed, the segments are a segmented log for them, so
+-- what is kept of settled papers: the papers are well-formed, the segments are a segmented log for them, so
 -- that the log is settled, and certifies its matching, which is the standing assignment
 pub record IsCertified (standing : Standing) : Type 0 where
   pub well_formed : WellFormed standing.papers

@@ -1,207 +1,228 @@
-ghost use Rattle.std.specs.Prelude.{◌≡◌, ◌<◌, length, slice_index};
-ghost use Rattle.sc_papers.specs.Assignment.{assigned};
-ghost use Rattle.sc_papers.specs.Market.{students_of};
-ghost use Rattle.sc_papers.specs.Matching.{has, held};
+ghost use Rattle.std.specs.Prelude.{◌≡◌};
 
-mod amend;
-mod change;
-mod newcomer;
-mod resettle;
-
-use crate::settling::settle_on;
-use sc_checkpoint::Segments;
-use sc_engine::Round;
-use sc_papers::{Assignment, Papers, Rejection, SchoolNo, StudentNo};
-use sc_seats::HeapRoll;
+use crate::open_refused::OpenRefused;
+use crate::settlement::Settlement;
+use sc_papers::{Assignment, Papers, Refusal, Rejection, SchoolNo, Stamp, Stamped, StudentNo};
+use sc_stamps::{Stamps, marking_of};
 use std::alloc::{AllocError, Global};
-use std::fmt;
 use std::marker::Model;
-use thiserror::Error;
 
-/// The papers and the standing assignment under them, with the log of rejections that certifies it, in
-/// segments, one for each student in order of entry: of every clearing, the standing assignment is the
-/// student-optimal stable matching of its papers.
+/// The papers and the standing assignment under them, and the stamps of their records: of every clearing, the
+/// standing assignment is the student-optimal stable matching of its papers, and a log of rejections certifies
+/// it.
 #[derive(Drop)]
 pub struct Clearing {
-    alloc: Global,
-    papers: Papers,
-    places: Assignment,
-    segments: Segments,
-    proposals: u64,
-    // Where there is one, the round in which everybody stands: it is kept from newcomer to newcomer, and made
-    // again when it is wanted.
-    round: Option<Round<HeapRoll>>,
+    settlement: Settlement,
+    stamps: Stamps,
 }
 
 impl Model for Clearing {
-    ghost use Rattle.sc_repair.specs.Standing.{Standing};
+    ghost use Rattle.sc_repair.specs.Stamped.{StampedStanding};
 
-    ghost Value = { Standing };
+    ghost Value = { StampedStanding };
 
-    ghost use Rattle.sc_repair.specs.Representation.{standing_of, IsSound};
-
-    ghost view = { standing_of };
-
-    ghost invariant = { IsSound };
-}
-
-/// The papers of a clearing that could not be opened for want of memory, as they were.
-#[derive(Drop, Error)]
-#[error("out of memory")]
-pub struct OpenRefused {
-    pub papers: Papers,
-}
-
-impl fmt::Debug for OpenRefused {
-    /// Names the refusal; the papers are not shown.
-    fn fmt<W: fmt::Write>(&self, f: &mut fmt::Formatter<W>) -> fmt::Result {
-        f.write_str("OpenRefused")
-    }
-}
-
-/// How many of the students have the school.
-fn count_held(papers: &Papers, places: &Assignment, school: SchoolNo) -> u32
-    ensures { result ≡ held papers.now (assigned places.now) school }
-{
-    let mut held = 0;
-    for position in 0..papers.students_len() {
-        if has(papers, places, school, position) {
-            held += 1;
-        }
-    }
-    held
-}
-
-/// Whether the student at the position has the school.
-fn has(papers: &Papers, places: &Assignment, school: SchoolNo, position: usize) -> bool
-    requires { position < length papers.now.students }
-    ensures { result ≡ has (assigned places.now) school (slice_index (students_of papers.now) position) }
-{
-    match papers.student_at(position) {
-        Some(student) => places.get(student) == Some(school),
-        None => unreachable!(),
-    }
+    ghost view = { λ c. record { standing = c.settlement; stamps = c.stamps } };
 }
 
 impl Clearing {
-    ghost use Rattle.std.specs.Prelude.{◌≡◌, ℕ, List, length, take, IfOk, IfErr};
-    ghost use Rattle.sc_papers.specs.Market.{students_of};
+    ghost use Rattle.std.specs.Prelude.{◌≡◌, None, take, IfOk, IfErr, OnErr, OnOk};
     ghost use Rattle.sc_papers.specs.Matching.{IsStudentOptimal};
-    ghost use Rattle.sc_papers.specs.Restriction.{cut, IsSegmented};
-    ghost use Rattle.sc_papers.specs.WellFormed.{WellFormed};
-    ghost use Rattle.sc_checkpoint.specs.Chains.{logs_in, students_in};
-    ghost use Rattle.sc_repair.specs.Standing.{Standing, CountsFrom, IsCertified, IsOptimal, log_of, matching_of, place_of, held_at, proposals_from_scratch};
+    ghost use Rattle.sc_papers.specs.Verdict.{unless_refused, IsRefusal};
+    ghost use Rattle.sc_stamps.specs.Record.{record_of};
+    ghost use Rattle.sc_stamps.specs.Stamps.{no_stamps, stamp_of};
+    ghost use Rattle.sc_stamps.specs.Verdict.{stamped_after, stamped_verdict};
+    ghost use Rattle.sc_stamps.specs.declared.record.Record.TheVariants.{OfSchool, OfStudent};
+    ghost use Rattle.sc_repair.specs.Rewinding.{rewind_point};
+    ghost use Rattle.sc_repair.specs.Stamped.{stamped_papers};
+    ghost use Rattle.sc_repair.specs.Standing.{CountsRegion, IsCertified, IsOptimal, KeepsOthers, held_at, log_of, matching_of, papers_after, place_of, proposals_from_scratch};
 
-    /// The papers settled on from the segments of their first students. The only error is want of
-    /// memory, which gives the papers back unchanged.
-    fn settled(alloc: Global, papers: Papers, segments: Segments) -> Result<Self, OpenRefused>
-        requires well_formed { WellFormed papers }
-        requires theirs { students_in segments ≡ take (length segments) (students_of papers) }
-        requires segmented { IsSegmented (cut papers (length segments)) (logs_in segments) }
-        ensures papers { IfOk result (λ clearing. clearing.papers ≡ papers) }
-        ensures certified { IfOk result IsCertified }
-        ensures stays { IfOk result (λ clearing. take (length segments) clearing.segments ≡ logs_in segments) }
-        ensures proposals { IfOk result (CountsFrom (length segments)) }
+    /// Settles papers that were amended before, whose records have these stamps: the standing assignment is
+    /// their student-optimal stable matching, and the log certifies it. The only error is want of memory, which
+    /// gives the papers back unchanged.
+    ///
+    /// The cost is an offer for each proposal, and memory is taken in proportion to the students, the
+    /// schools and the rejections.
+    pub fn resume(alloc: Global, papers: Papers, stamps: Stamps) -> Result<Self, OpenRefused>
+        ensures papers { IfOk result (λ clearing. clearing.standing.papers ≡ papers) }
+        ensures stamps { IfOk result (λ clearing. clearing.stamps ≡ stamps) }
+        ensures optimal { IfOk result (λ clearing. IsStudentOptimal papers (matching_of clearing.standing)) }
+        ensures certified { IfOk result (λ clearing. IsCertified clearing.standing) }
+        ensures proposals { IfOk result (λ clearing. clearing.standing.proposals ≡ proposals_from_scratch clearing.standing) }
         ensures refused { IfErr result (λ refused. refused.papers ≡ papers) }
     {
-        let mut segments = segments;
-        match settle_on::<HeapRoll>(alloc, &papers, &mut segments) {
-            Ok(settled) => Ok(Clearing {
-                alloc,
-                papers,
-                places: settled.assignment,
-                segments,
-                proposals: settled.proposals,
-                round: None,
-            }),
-            Err(_) => Err(OpenRefused { papers }),
+        match Settlement::open(alloc, papers) {
+            Ok(settlement) => Ok(Clearing { settlement, stamps }),
+            Err(refused) => Err(refused),
         }
     }
 
     /// Settles the papers: the standing assignment is their student-optimal stable matching, and the
-    /// log certifies it. The only error is want of memory, which gives the papers back unchanged.
+    /// log certifies it. No amendment was accepted yet, so every stamp is 0. The only error is want of memory,
+    /// which gives the papers back unchanged.
     ///
     /// The cost is an offer for each proposal, and memory is taken in proportion to the students, the
     /// schools and the rejections.
     pub fn open(alloc: Global, papers: Papers) -> Result<Self, OpenRefused>
-        ensures papers { IfOk result (λ clearing. clearing.papers ≡ papers) }
-        ensures optimal { IfOk result (λ clearing. IsStudentOptimal papers (matching_of clearing)) }
-        ensures certified { IfOk result IsCertified }
-        ensures proposals { IfOk result (λ clearing. clearing.proposals ≡ proposals_from_scratch clearing) }
+        ensures papers { IfOk result (λ clearing. clearing.standing.papers ≡ papers) }
+        ensures stamps { IfOk result (λ clearing. clearing.stamps ≡ no_stamps papers) }
+        ensures optimal { IfOk result (λ clearing. IsStudentOptimal papers (matching_of clearing.standing)) }
+        ensures certified { IfOk result (λ clearing. IsCertified clearing.standing) }
+        ensures proposals { IfOk result (λ clearing. clearing.standing.proposals ≡ proposals_from_scratch clearing.standing) }
         ensures refused { IfErr result (λ refused. refused.papers ≡ papers) }
     {
-        Clearing::settled(alloc, papers, Segments::new(alloc))
+        match Stamps::new(alloc, &papers) {
+            Ok(stamps) => Clearing::resume(alloc, papers, stamps),
+            Err(_) => Err(OpenRefused { papers }),
+        }
     }
 
     /// The papers as they stand. Whichever clearing this is, the standing assignment is their
     /// student-optimal stable matching and the log is settled for them, and this call tells its
     /// callers so.
     pub fn papers(&self) -> &Papers
-        ensures papers { result.now ≡ self.now.papers }
-        ensures optimal { IsOptimal self.now }
-        ensures certified { IsCertified self.now }
+        ensures papers { result.now ≡ self.now.standing.papers }
+        ensures optimal { IsOptimal self.now.standing }
+        ensures certified { IsCertified self.now.standing }
     {
-        &self.papers
+        self.settlement.papers()
     }
 
     /// What the student has: `None` for one who is not in the papers, `Some(None)` for one who is
     /// unplaced. In constant time.
     pub fn place_of(&self, student: StudentNo) -> Option<Option<SchoolNo>>
-        ensures { result ≡ place_of self.now student }
+        ensures { result ≡ place_of self.now.standing student }
     {
-        if self.papers.student(student).is_none() {
-            return None;
-        }
-        Some(self.places.get(student))
+        self.settlement.place_of(student)
     }
 
     /// How many students have the school, or `None` for one that is not in the papers. The cost is a
     /// look-up for each student.
     pub fn held(&self, school: SchoolNo) -> Option<u32>
-        ensures { result ≡ held_at self.now school }
+        ensures { result ≡ held_at self.now.standing school }
     {
-        if self.papers.school(school).is_none() {
-            return None;
-        }
-        Some(count_held(&self.papers, &self.places, school))
+        self.settlement.held(school)
     }
 
     /// The standing assignment, lent.
     pub fn places(&self) -> &Assignment
-        ensures { result.now ≡ self.now.places }
+        ensures { result.now ≡ self.now.standing.places }
     {
-        &self.places
+        self.settlement.places()
     }
 
     /// The standing assignment as a value of its own: each placed student with their school. The only
     /// error is want of memory.
     pub fn assignment(&self) -> Result<Assignment, AllocError>
-        ensures { IfOk result (λ assignment. assignment ≡ self.now.places) }
+        ensures { IfOk result (λ assignment. assignment ≡ self.now.standing.places) }
     {
-        self.places.copy()
+        self.settlement.assignment()
     }
 
     /// The rejections that led to the standing assignment, in the order in which they happened, lent.
     pub fn rejections(&self) -> &[Rejection]
-        ensures { result.now ≡ log_of self.now }
+        ensures { result.now ≡ log_of self.now.standing }
     {
-        self.segments.rejections()
+        self.settlement.rejections()
     }
 
     /// The rejections that led to the standing assignment, as a value of its own. They are settled for
     /// the papers as they stand, so whoever doubts the assignment can check them. The only error is
     /// want of memory; the cost is their number.
     pub fn log(&self) -> Result<Vec<Rejection>, AllocError>
-        ensures { IfOk result (λ log. log.items ≡ log_of self.now) }
+        ensures { IfOk result (λ log. log.items ≡ log_of self.now.standing) }
     {
-        self.segments.flat()
+        self.settlement.log()
     }
 
     /// How many proposals the last settling made: that of the last accepted amendment, or of the
     /// opening.
     pub fn proposals_last(&self) -> u64
-        ensures { result ≡ self.now.proposals }
+        ensures { result ≡ self.now.standing.proposals }
     {
-        self.proposals
+        self.settlement.proposals_last()
+    }
+
+    /// How many amendments were accepted since the opening: the stamp that the last of them gave its record.
+    pub fn accepted(&self) -> Stamp
+        ensures { result ≡ self.now.stamps.accepted }
+    {
+        self.stamps.accepted()
+    }
+
+    /// The stamp of a student: the number of the last accepted amendment of theirs, 0 where there was none, and
+    /// 0 for one who is not in the papers. In constant time.
+    pub fn stamp_of_student(&self, student: StudentNo) -> Stamp
+        ensures { result ≡ stamp_of self.now.standing.papers self.now.stamps (OfStudent student) }
+    {
+        self.stamps.of_student(self.settlement.papers(), student)
+    }
+
+    /// The stamp of a school: the number of the last accepted amendment of its seats, 0 where there was none,
+    /// and 0 for one that is not in the papers. In constant time.
+    pub fn stamp_of_school(&self, school: SchoolNo) -> Stamp
+        ensures { result ≡ stamp_of self.now.standing.papers self.now.stamps (OfSchool school) }
+    {
+        self.stamps.of_school(self.settlement.papers(), school)
+    }
+
+    /// The first refusal that applies to a stamped amendment, but for want of memory: that of the papers first,
+    /// as `Papers::check` answers it, then `Stale` with the record's stamp where the amendment carries another
+    /// one, then `Spent` where 999,999,999 amendments were accepted. It takes no memory. Whichever clearing this
+    /// is, its standing is as `papers` tells.
+    pub fn check(&self, stamped: &Stamped) -> Result<(), Refusal>
+        ensures answer { result ≡ unless_refused (stamped_verdict (stamped_papers self.now) stamped.now) }
+        ensures optimal { IsOptimal self.now.standing }
+        ensures certified { IsCertified self.now.standing }
+    {
+        self.stamps.check(self.settlement.papers(), stamped)
+    }
+
+    /// Makes the amendment, gives its record the next stamp, and settles its region anew from its rewind point
+    /// on, or answers the first refusal that applies, as `check` does, or else want of memory. After a refusal
+    /// the papers, the stamps, the standing assignment, the log and the count of proposals are as before; the
+    /// amendment is given up. Whatever the answer, the standing assignment is the student-optimal
+    /// stable matching of the papers as they then stand.
+    ///
+    /// An accepted amendment carried the stamp that its record had: nobody amends what they have not seen.
+    /// Whoever is not in the region (`sc_region::region`) keeps their place and their segment, and the
+    /// segments of the students before the rewind point stay.
+    ///
+    /// An `Enter` costs its `check` and an offer for each proposal of the newcomer's chain, however many students
+    /// there are, but for a table that grows now and then. It changes what stands in place, and takes that
+    /// back where a growth is refused. The first `Enter` after the opening, after another amendment or after a
+    /// refused growth also costs an offer for each student and a look at each entry of the log, by which
+    /// everybody is put back where they stand.
+    ///
+    /// Any other amendment costs that of finding the region and of a copy of the places and the log, and an
+    /// offer for each proposal of the region's students from the rewind point on; a withdrawal copies the
+    /// papers too. The new places and segments are made whole beside the old ones before they take their
+    /// place, and papers that have changed by then go back where a growth is refused, so nothing is left half
+    /// done. A refused amendment costs its `check` alone. The stamps take a look-up.
+    pub fn amend(&mut self, stamped: Stamped) -> Result<(), Refusal>
+        ensures optimal { IsStudentOptimal (papers_after self.old.standing.papers stamped.amendment result) (matching_of self.new.standing) }
+        ensures certified { IsCertified self.new.standing }
+        ensures stays { OnOk result (take (rewind_point self.old.standing.papers stamped.amendment) self.new.standing.segments ≡ take (rewind_point self.old.standing.papers stamped.amendment) self.old.standing.segments) }
+        ensures others { OnOk result (KeepsOthers self.old.standing stamped.amendment self.new.standing) }
+        ensures proposals { OnOk result (CountsRegion self.old.standing.papers stamped.amendment self.new.standing) }
+        ensures allowed { OnOk result (stamped_verdict (stamped_papers self.old) stamped ≡ None) }
+        ensures accepted { OnOk result (stamped_papers self.new ≡ stamped_after (stamped_papers self.old) stamped.amendment) }
+        ensures honoured { OnOk result (stamp_of self.old.standing.papers self.old.stamps (record_of stamped.amendment) ≡ stamped.stamp) }
+        ensures refused { IfErr result (IsRefusal (stamped_verdict (stamped_papers self.old) stamped)) }
+        ensures unchanged { OnErr result (self.new ≡ self.old) }
+    {
+        self.check(&stamped)?;
+        let amendment = stamped.amendment;
+        let marking = marking_of(self.settlement.papers(), &amendment);
+        self.stamps.begin(marking)?;
+        match self.settlement.amend(amendment) {
+            Ok(()) => {
+                self.stamps.finish(marking);
+                Ok(())
+            }
+            Err(refusal) => {
+                self.stamps.give_up(marking);
+                Err(refusal)
+            }
+        }
     }
 }

@@ -4,9 +4,12 @@
 
 mod clearing;
 mod entering;
+mod open_refused;
 mod resettling;
 mod rewind;
+mod settlement;
 mod settling;
 
-pub use clearing::{Clearing, OpenRefused};
+pub use clearing::Clearing;
+pub use open_refused::OpenRefused;
 pub use rewind::rewind_point;

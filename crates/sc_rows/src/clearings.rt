@@ -6,7 +6,7 @@
 use crate::given::{papers_of, school, student};
 use sc_markets::{
     FIVE_STUDENTS, Files, MARKET_A, MARKET_B, MARKET_B_CONTINUING, TWO_STUDENTS, amendment,
-    standing,
+    seen, standing,
 };
 use sc_papers::Refusal;
 use sc_repair::Clearing;
@@ -25,9 +25,10 @@ fn expect_standing(rt: &impl Abort, alloc: Global, clearing: &Clearing, want: &s
     assert_eq!(rt; text.as_str(), want);
 }
 
-/// What the clearing answers to an amendment, its refusal or `ok`.
+/// What the clearing answers to an amendment with the stamp that its record has: its refusal or `ok`.
 fn answer(alloc: Global, clearing: &mut Clearing, record: &str) -> Result<String, Refusal> {
-    match clearing.amend(amendment(alloc, record)?) {
+    let stamped = seen(clearing, amendment(alloc, record)?);
+    match clearing.amend(stamped) {
         Ok(()) => Ok(String::from_str(alloc, "ok")?),
         Err(refusal) => Ok(refusal.to_string(alloc)?),
     }

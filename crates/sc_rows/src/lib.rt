@@ -7,6 +7,8 @@ mod audits;
 #[cfg(test)]
 mod clearings;
 #[cfg(test)]
+mod desks;
+#[cfg(test)]
 mod given;
 #[cfg(test)]
 mod lottery;

@@ -1,6 +1,6 @@
 //! Number types and refusals, each with its text.
 use crate::given::school;
-use sc_papers::{Count, Refusal, SchoolNo, Seats, Zone};
+use sc_papers::{Count, Refusal, SchoolNo, Seats, Stamp, Zone};
 use std::alloc::{AllocError, Global};
 
 /// Which types have the number, and what each gives back.
@@ -38,6 +38,14 @@ fn number_types_have_their_ranges(rt: HostRuntime) {
 }
 
 #[test]
+fn last_stamp_has_no_next(rt: HostRuntime) {
+    let last = Stamp::new(999_999_999).expect(&rt, "a stamp");
+    assert!(rt; last.next().is_none());
+    assert!(rt; Stamp::new(1_000_000_000).is_none());
+    assert!(rt; Stamp::ZERO.next() == Stamp::new(1));
+}
+
+#[test]
 fn refusals_have_codes_and_names(rt: HostRuntime) {
     let school = school(&rt, 99);
     for (refusal, code, name) in &[
@@ -52,6 +60,8 @@ fn refusals_have_codes_and_names(rt: HostRuntime) {
         (Refusal::TooManySeats, 9, "TooManySeats"),
         (Refusal::TooFewSeats, 10, "TooFewSeats"),
         (Refusal::OutOfMemory, 11, "OutOfMemory"),
+        (Refusal::Stale { stamp: Stamp::ZERO }, 12, "Stale 0"),
+        (Refusal::Spent, 13, "Spent"),
     ] {
         assert!(rt; refusal.code() == *code, "{name}");
         let text = refusal.to_string(rt.alloc()).expect(&rt, "memory");

@@ -4,6 +4,7 @@
 //! A contract sees papers and their stamps as `StampedPapers`; the definitions stand in `specs/`.
 #![tactic(auto)]
 
+pub mod laws;
 mod marking;
 mod record;
 mod stamps;

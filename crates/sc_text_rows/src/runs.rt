@@ -222,37 +222,37 @@ const SCRIPTS: &[(&str, Rows, &str, &str)] = &[
     (
         "continuing against a newcomer: no more",
         MARKET_B_CONTINUING,
-        "enter,3,1,10,10\ncorrect,2,0,10\n",
+        "0,enter,3,1,10,10\n0,correct,2,0,10\n",
         "1,ok\n2,ok\nstudent,school\n1,20\n2,-\n3,10\n0",
     ),
     (
         "the first script",
         MARKET_B,
-        "enter,3,1,10,10\nenter,3,0,,10\n",
+        "0,enter,3,1,10,10\n0,enter,3,0,,10\n",
         "1,ok\n2,refused,3,StudentExists\nstudent,school\n1,20\n2,-\n3,10\n0",
     ),
     (
         "the whole run",
         MARKET_B,
-        "enter,3,1,10,10\nnonsense\nwithdraw,99\nadd,77,1\nwithdraw,3\n",
+        "0,enter,3,1,10,10\nnonsense\n0,withdraw,99\n0,add,77,1\n1,withdraw,3\n",
         "1,ok\n2,refused,1,Shape\n3,refused,2,UnknownStudent\n4,refused,6,UnknownSchool,77\n5,ok\nstudent,school\n1,10\n2,20\n0",
     ),
     (
         "a script cut short",
         MARKET_B,
-        "enter,3,1,10,1",
+        "0,enter,3,1,10,1",
         "1,refused,6,UnknownSchool,1\nstudent,school\n1,10\n2,20\n0",
     ),
     (
         "either order",
         MARKET_B,
-        "add,20,1\nenter,3,1,10,10\n",
+        "0,add,20,1\n0,enter,3,1,10,10\n",
         "1,ok\n2,ok\nstudent,school\n1,20\n2,20\n3,10\n0",
     ),
     (
         "two byte order marks",
         MARKET_B,
-        "\u{feff}\u{feff}withdraw,1\n",
+        "\u{feff}\u{feff}0,withdraw,1\n",
         "clearinghouse: script row 1: Header\n3",
     ),
 ];
@@ -284,37 +284,37 @@ const WHOLE_REPORTS: &[(&str, Rows, &str, &str)] = &[
     (
         "Market A, and a seat closed",
         MARKET_A,
-        "close,10,1\n",
+        "0,close,10,1\n",
         "1,ok\nstudent,school\n1,20\n2,-\nschool,seats,held,class,draw,student\n10,0,0,closed,-,-\n20,1,1,2,e56a5d4028bd8653,1\nstudent,school,reason\n1,10,seats\n2,20,class\n2,10,seats\n",
     ),
     (
         "Market B, and a newcomer",
         MARKET_B,
-        "enter,3,1,10,10\n",
+        "0,enter,3,1,10,10\n",
         "1,ok\nstudent,school\n1,20\n2,-\n3,10\nschool,seats,held,class,draw,student\n10,1,1,1,ccef36a8c70d778b,3\n20,1,1,2,e56a5d4028bd8653,1\nstudent,school,reason\n1,10,class\n2,20,class\n2,10,class\n",
     ),
     (
         "continuing against a newcomer",
         MARKET_B_CONTINUING,
-        "enter,3,1,10,10\n",
+        "0,enter,3,1,10,10\n",
         "1,ok\nstudent,school\n1,20\n2,10\n3,-\nschool,seats,held,class,draw,student\n10,1,1,0,b819d2bd1aed8da0,2\n20,1,1,2,e56a5d4028bd8653,1\nstudent,school,reason\n1,10,class\n2,20,class\n3,10,class\n",
     ),
     (
         "the newcomer withdraws",
         MARKET_B,
-        "enter,3,1,10,10\nwithdraw,3\n",
+        "0,enter,3,1,10,10\n1,withdraw,3\n",
         "1,ok\n2,ok\nstudent,school\n1,10\n2,20\nschool,seats,held,class,draw,student\n10,1,1,4,e56a5d4028bd8653,1\n20,1,1,4,b819d2bd1aed8da0,2\nstudent,school,reason\n",
     ),
     (
         "a seat added",
         MARKET_B,
-        "enter,3,1,10,10\nadd,10,1\n",
+        "0,enter,3,1,10,10\n0,add,10,1\n",
         "1,ok\n2,ok\nstudent,school\n1,10\n2,20\n3,10\nschool,seats,held,class,draw,student\n10,2,2,4,e56a5d4028bd8653,1\n20,1,1,4,b819d2bd1aed8da0,2\nstudent,school,reason\n",
     ),
     (
         "rerank to the same",
         MARKET_B,
-        "enter,3,1,10,10\nrerank,1,10 20\nrerank,1,10 10\n",
+        "0,enter,3,1,10,10\n0,rerank,1,10 20\n2,rerank,1,10 10\n",
         "1,ok\n2,ok\n3,refused,7,SchoolTwice,10\nstudent,school\n1,20\n2,-\n3,10\nschool,seats,held,class,draw,student\n10,1,1,1,ccef36a8c70d778b,3\n20,1,1,2,e56a5d4028bd8653,1\nstudent,school,reason\n1,10,class\n2,20,class\n2,10,class\n",
     ),
     (
@@ -326,49 +326,49 @@ const WHOLE_REPORTS: &[(&str, Rows, &str, &str)] = &[
     (
         "free seats and seat limits: closed",
         FREE_SEATS,
-        "close,10,2\nclose,10,1\n",
+        "0,close,10,2\n1,close,10,1\n",
         "1,ok\n2,refused,10,TooFewSeats\nstudent,school\n1,-\nschool,seats,held,class,draw,student\n10,0,0,closed,-,-\nstudent,school,reason\n1,10,seats\n",
     ),
     (
         "free seats and seat limits: added",
         FREE_SEATS,
-        "close,10,2\nadd,10,10000\nadd,10,1\n",
+        "0,close,10,2\n1,add,10,10000\n2,add,10,1\n",
         "1,ok\n2,ok\n3,refused,9,TooManySeats\nstudent,school\n1,10\nschool,seats,held,class,draw,student\n10,10000,1,free,-,-\nstudent,school,reason\n",
     ),
     (
         "a correction rewinds to the start",
         FIVE_STUDENTS,
-        "correct,1,0,\n",
+        "0,correct,1,0,\n",
         "1,ok\nstudent,school\n1,-\n2,10\n3,-\n4,20\n5,20\nschool,seats,held,class,draw,student\n10,1,1,4,b819d2bd1aed8da0,2\n20,2,2,4,7c5941da8d485751,4\nstudent,school,reason\n1,10,lottery\n1,20,lottery\n3,20,lottery\n",
     ),
     (
         "withdraw and return: the one who holds",
         TWO_STUDENTS,
-        "withdraw,2\nenter,2,0,,1\n",
+        "0,withdraw,2\n0,enter,2,0,,1\n",
         "1,ok\n2,ok\nstudent,school\n1,-\n2,1\nschool,seats,held,class,draw,student\n1,1,1,4,b819d2bd1aed8da0,2\nstudent,school,reason\n1,1,lottery\n",
     ),
     (
         "withdraw and return: the other one",
         TWO_STUDENTS,
-        "withdraw,1\nenter,1,0,,1\n",
+        "0,withdraw,1\n0,enter,1,0,,1\n",
         "1,ok\n2,ok\nstudent,school\n1,-\n2,1\nschool,seats,held,class,draw,student\n1,1,1,4,b819d2bd1aed8da0,2\nstudent,school,reason\n1,1,lottery\n",
     ),
     (
         "either order: a newcomer first",
         MARKET_B,
-        "enter,3,1,10,10\nadd,20,1\n",
+        "0,enter,3,1,10,10\n0,add,20,1\n",
         "1,ok\n2,ok\nstudent,school\n1,20\n2,20\n3,10\nschool,seats,held,class,draw,student\n10,1,1,1,ccef36a8c70d778b,3\n20,2,2,4,b819d2bd1aed8da0,2\nstudent,school,reason\n1,10,class\n",
     ),
     (
         "either order: a seat first",
         MARKET_B,
-        "add,20,1\nenter,3,1,10,10\n",
+        "0,add,20,1\n0,enter,3,1,10,10\n",
         "1,ok\n2,ok\nstudent,school\n1,20\n2,20\n3,10\nschool,seats,held,class,draw,student\n10,1,1,1,ccef36a8c70d778b,3\n20,2,2,4,b819d2bd1aed8da0,2\nstudent,school,reason\n1,10,class\n",
     ),
     (
         "the whole run",
         MARKET_B,
-        "enter,3,1,10,10\nnonsense\nwithdraw,99\nadd,77,1\nwithdraw,3\n",
+        "0,enter,3,1,10,10\nnonsense\n0,withdraw,99\n0,add,77,1\n1,withdraw,3\n",
         "1,ok\n2,refused,1,Shape\n3,refused,2,UnknownStudent\n4,refused,6,UnknownSchool,77\n5,ok\nstudent,school\n1,10\n2,20\nschool,seats,held,class,draw,student\n10,1,1,4,e56a5d4028bd8653,1\n20,1,1,4,b819d2bd1aed8da0,2\nstudent,school,reason\n",
     ),
 ];
@@ -485,7 +485,7 @@ fn the_whole_run(rt: HostRuntime) -> Result<(), AllocError> {
         MARKET_B_FILES,
         &[(
             999,
-            "enter,3,1,10,10\nnonsense\nwithdraw,99\nadd,77,1\nwithdraw,3\n",
+            "0,enter,3,1,10,10\nnonsense\n0,withdraw,99\n0,add,77,1\n1,withdraw,3\n",
             "1,ok\n2,refused,1,Shape\n3,refused,2,UnknownStudent\n4,refused,6,UnknownSchool,77\n5,ok\nstudent,school\n1,10\n2,20\nschool,seats,held,class,draw,student\n10,1,1,4,e56a5d4028bd8653,1\n20,1,1,4,b819d2bd1aed8da0,2\nstudent,school,reason\n|1,enter,3,1,10,10\n2,withdraw,3\n|Ok(())",
         )],
     )
@@ -499,7 +499,7 @@ fn continuing_against_a_newcomer(rt: HostRuntime) -> Result<(), AllocError> {
         MARKET_B_CONTINUING_FILES,
         &[(
             999,
-            "enter,3,1,10,10\ncorrect,2,0,10\ncorrect,2,0,10,77\nenter,4,0,77,10,78\ncorrect,2,0,10,10\n",
+            "0,enter,3,1,10,10\n0,correct,2,0,10\n2,correct,2,0,10,77\n0,enter,4,0,77,10,78\n2,correct,2,0,10,10\n",
             "1,ok\n2,ok\n3,refused,6,UnknownSchool,77\n4,refused,6,UnknownSchool,77\n5,ok\nstudent,school\n1,20\n2,10\n3,-\nschool,seats,held,class,draw,student\n10,1,1,0,b819d2bd1aed8da0,2\n20,1,1,2,e56a5d4028bd8653,1\nstudent,school,reason\n1,10,class\n2,20,class\n3,10,class\n|1,enter,3,1,10,10\n2,correct,2,0,10\n3,correct,2,0,10,10\n|Ok(())",
         )],
     )
@@ -507,7 +507,7 @@ fn continuing_against_a_newcomer(rt: HostRuntime) -> Result<(), AllocError> {
 
 #[test]
 fn failing_writers(rt: HostRuntime) -> Result<(), AllocError> {
-    let script = "enter,3,1,10,10\nwithdraw,3\n";
+    let script = "0,enter,3,1,10,10\n1,withdraw,3\n";
     expect_runs(
         &rt,
         rt.alloc(),

@@ -30,14 +30,17 @@ pub(crate) const RUN: &str =
 
 pub(crate) const RUN_AFTER: &str = "\
 A script has no header. Its records:
-  enter,STUDENT,ZONE,SIBLINGS,CHOICES   the student enters
-  withdraw,STUDENT                      the student leaves
-  rerank,STUDENT,CHOICES                the choices are replaced
-  add,SCHOOL,COUNT                      the school has so many seats more
-  close,SCHOOL,COUNT                    the school has so many seats fewer
-  correct,STUDENT,ZONE,SIBLINGS         the zone and the siblings' schools are replaced
+  STAMP,enter,STUDENT,ZONE,SIBLINGS,CHOICES   the student enters
+  STAMP,withdraw,STUDENT                      the student leaves
+  STAMP,rerank,STUDENT,CHOICES                the choices are replaced
+  STAMP,add,SCHOOL,COUNT                      the school has so many seats more
+  STAMP,close,SCHOOL,COUNT                    the school has so many seats fewer
+  STAMP,correct,STUDENT,ZONE,SIBLINGS         the zone and the siblings' schools are replaced
 One more field at the end of enter and correct, CONTINUING, names the school at which the student continues;
 without it, or where it is empty, the student continues nowhere.
+STAMP tells which change of the student, or for add and close of the school, was seen last: the k-th ok gives
+stamp k, and before the first the stamp is 0. With another stamp than the one that stands the record is refused
+as Stale, and the reply tells the stamp that stands.
 Each has a reply before the report: its number and ok, or refused and why. A refused one changes nothing.
 
 Exit status: 0 done, 2 wrong words or a bad seed, 3 a fault in an input, 4 a file or stream that cannot be

@@ -9,7 +9,7 @@ use std::io::ErrorKind;
 use std::process::Abort;
 
 /// The script of the whole run over Market B.
-const SCRIPT: &[u8] = b"enter,3,1,10,10\nnonsense\nwithdraw,99\nadd,77,1\nwithdraw,3\n";
+const SCRIPT: &[u8] = b"0,enter,3,1,10,10\nnonsense\n0,withdraw,99\n0,add,77,1\n1,withdraw,3\n";
 
 /// What the whole run writes to its output.
 const OUTPUT: &str =
@@ -103,7 +103,7 @@ fn expect_run(
 
 #[test]
 fn a_script_cut_short(rt: HostRuntime) {
-    let cut = b"enter,3,1,10,1";
+    let cut = b"0,enter,3,1,10,1";
     let script = FailingReader::new(cut, 99, 99, ErrorKind::Other);
     let report =
         "1,refused,6,UnknownSchool,1\nstudent,school\n1,10\n2,20\nschool,seats,held,class,draw,student\n10,1,1,4,e56a5d4028bd8653,1\n20,1,1,4,b819d2bd1aed8da0,2\nstudent,school,reason\n";
@@ -219,6 +219,6 @@ fn the_stored_bundle_cut_at_each_byte(rt: HostRuntime) {
 #[test]
 fn the_second_bundle_cut_at_each_byte(rt: HostRuntime) {
     let bundle =
-        b"%seed\n0000000000000000000000000000000000000000000000000000000000000000\n%schools\nschool,zone,seats\n10,1,1\n20,0,1\n%roster\nstudent,zone,siblings\n1,0,20\n2,0,10\n%lists\nstudent,choices\n1,10 20\n2,20 10\n%script\nenter,3,1,10,10\nnonsense\nwithdraw,99\nadd,77,1\nwithdraw,3\n";
+        b"%seed\n0000000000000000000000000000000000000000000000000000000000000000\n%schools\nschool,zone,seats\n10,1,1\n20,0,1\n%roster\nstudent,zone,siblings\n1,0,20\n2,0,10\n%lists\nstudent,choices\n1,10 20\n2,20 10\n%script\n0,enter,3,1,10,10\nnonsense\n0,withdraw,99\n0,add,77,1\n1,withdraw,3\n";
     expect_cuts(&rt, rt.alloc(), bundle);
 }

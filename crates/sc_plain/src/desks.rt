@@ -1,0 +1,185 @@
+//! Random lists of stamped amendments of three desks, woven in many ways: each amendment is answered by the
+//! stamp that stands, and weavings that leave the same papers leave the same report.
+use crate::amendments::{STUDENTS, random_amendment};
+use crate::markets::{Dice, papers_of, random_families, random_schools, student_no};
+use crate::plain::School;
+use sc_markets::stamp_of;
+use sc_papers::{Papers, Refusal, Stamp, Stamped};
+use sc_repair::Clearing;
+use sc_report::report_text;
+use sc_stamps::record_of;
+use std::alloc::{AllocError, Global};
+use std::process::Abort;
+use std::test::Fail;
+
+/// Which of the desks a, b and c hands in its next amendment, one after the other.
+const WEAVINGS: [&str; 12] = [
+    "bcaccbcaabab",
+    "bbabcccbaaac",
+    "cabbcbbcaaca",
+    "ababcaccbbac",
+    "ccabbbabacca",
+    "caaacbabbccb",
+    "cacbcbcbbaaa",
+    "cbcabacbabca",
+    "aaabbabccbcc",
+    "ccbaacbcaabb",
+    "bacacbacbabc",
+    "ccbaacbcbaab",
+];
+
+/// What a weaving leaves.
+#[derive(Drop)]
+struct Left {
+    papers: String,
+    report: Vec<u8>,
+}
+
+/// The dice of each desk, which make the same list in each weaving.
+#[derive(Drop)]
+struct Desks {
+    a: Dice,
+    b: Dice,
+    c: Dice,
+}
+
+impl Desks {
+    fn dice(&mut self, desk: u8) -> &mut Dice {
+        match desk {
+            b'a' => &mut self.a,
+            b'b' => &mut self.b,
+            _ => &mut self.c,
+        }
+    }
+}
+
+/// A desk's next amendment, with a stamp that may be old.
+fn random_stamped(
+    rt: &impl Abort,
+    alloc: Global,
+    dice: &mut Dice,
+    schools: u32,
+) -> Result<Stamped, AllocError> {
+    let amendment = random_amendment(rt, alloc, dice, schools)?;
+    let number = dice.roll(4).saturating_sub(1);
+    let stamp = Stamp::new(number).expect(rt, "a stamp");
+    Ok(Stamped { stamp, amendment })
+}
+
+/// Hands an amendment in: it is accepted only with the stamp that stands, and an accepted one is counted.
+fn hand_in(rt: &impl Abort, clearing: &mut Clearing, stamped: Stamped) {
+    let carried = stamped.stamp;
+    let stood = stamp_of(clearing, record_of(&stamped.amendment));
+    let before = clearing.accepted();
+    match clearing.amend(stamped) {
+        Ok(()) => {
+            assert!(rt; carried == stood);
+            assert!(rt; Some(clearing.accepted()) == before.next());
+        }
+        Err(Refusal::Stale { stamp }) => {
+            assert!(rt; stamp == stood && carried != stood);
+            assert!(rt; clearing.accepted() == before);
+        }
+        Err(_) => assert!(rt; clearing.accepted() == before),
+    }
+}
+
+/// The papers as a text that does not tell the order of entry.
+fn papers_text(rt: &impl Abort, alloc: Global, papers: &Papers) -> Result<String, AllocError> {
+    let mut text = String::new(alloc);
+    for below in 0..STUDENTS {
+        let number = below.saturating_add(1);
+        if let Some(student) = papers.student(student_no(rt, number)) {
+            write!(text, "{number} {student:?} ")?;
+        }
+    }
+    for position in 0..papers.schools_len() {
+        if let Some(school) = papers.school_at(position) {
+            write!(text, "{:?} ", papers.school(school))?;
+        }
+    }
+    Ok(text)
+}
+
+/// Lets the desks amend the clearing in turn, as they are woven.
+fn weave(
+    rt: &impl Abort,
+    alloc: Global,
+    clearing: &mut Clearing,
+    seed: u32,
+    schools: u32,
+    weaving: &str,
+) -> Result<Left, AllocError> {
+    let mut desks = Desks {
+        a: Dice { state: u64::from(seed) },
+        b: Dice { state: u64::from(seed).wrapping_add(1962) },
+        c: Dice { state: u64::from(seed).wrapping_add(1971) },
+    };
+    for desk in weaving.bytes() {
+        let stamped = random_stamped(rt, alloc, desks.dice(desk), schools)?;
+        hand_in(rt, clearing, stamped);
+    }
+    Ok(Left {
+        papers: papers_text(rt, alloc, clearing.papers())?,
+        report: report_text(alloc, clearing)?,
+    })
+}
+
+/// Opens the clearing of a market, and lets the desks amend it.
+fn weave_market(
+    rt: &impl Abort,
+    alloc: Global,
+    seed: u32,
+    schools: &[School],
+    weaving: &str,
+) -> Result<Left, Fail> {
+    let mut dice = Dice { state: u64::from(seed) };
+    let count = (schools.len() % 1_000) as u32;
+    let families = random_families(&mut dice, alloc, count)?;
+    let papers = papers_of(rt, alloc, schools, families.as_slice())?;
+    let mut clearing = Clearing::open(alloc, papers).ok().expect(rt, "memory");
+    let left = weave(rt, alloc, &mut clearing, seed, count, weaving);
+    drop(clearing);
+    Ok(left?)
+}
+
+/// Whether two weavings leave the same papers.
+fn same_papers(one: &Left, other: &Left) -> bool {
+    one.papers.as_str() == other.papers.as_str()
+}
+
+/// How many of the earlier weavings left the same papers; each of them left the same report.
+fn count_same(rt: &impl Abort, earlier: &[Left], left: &Left) -> u32 {
+    let mut same: u32 = 0;
+    for other in earlier {
+        if same_papers(other, left) {
+            assert!(rt; other.report.as_slice() == left.report.as_slice());
+            same = same.saturating_add(1);
+        }
+    }
+    same
+}
+
+/// Weaves the lists that the seed gives in each way, and counts the pairs that leave the same papers.
+fn weave_all(rt: &impl Abort, alloc: Global, seed: u32) -> Result<u32, Fail> {
+    let mut dice = Dice { state: u64::from(seed) };
+    let schools = random_schools(&mut dice, alloc)?;
+    let mut earlier = Vec::new(alloc);
+    let mut same: u32 = 0;
+    for weaving in &WEAVINGS {
+        let left = weave_market(rt, alloc, seed, schools.as_slice(), weaving)?;
+        same = same.saturating_add(count_same(rt, earlier.as_slice(), &left));
+        earlier.push(left)?;
+    }
+    Ok(same)
+}
+
+#[test]
+fn weavings_of_three_desks(rt: HostRuntime) -> Result<(), Fail> {
+    let mut same: u32 = 0;
+    for seed in 0..60 {
+        same = same.saturating_add(weave_all(&rt, rt.alloc(), seed)?);
+    }
+    assert!(rt; same > 0);
+    Ok(())
+}

@@ -1,0 +1,194 @@
+//! The papers settled: the standing assignment under them, and what it takes to keep it so.
+
+ghost use Rattle.std.specs.Prelude.{◌≡◌, ◌<◌, length, slice_index};
+ghost use Rattle.sc_papers.specs.Assignment.{assigned};
+ghost use Rattle.sc_papers.specs.Market.{students_of};
+ghost use Rattle.sc_papers.specs.Matching.{has, held};
+
+mod amend;
+mod change;
+mod newcomer;
+mod resettle;
+
+use crate::open_refused::OpenRefused;
+use crate::settling::settle_on;
+use sc_checkpoint::Segments;
+use sc_engine::Round;
+use sc_papers::{Assignment, Papers, Rejection, SchoolNo, StudentNo};
+use sc_seats::HeapRoll;
+use std::alloc::{AllocError, Global};
+use std::marker::Model;
+
+/// The papers and the standing assignment under them, with the log of rejections that certifies it, in
+/// segments, one for each student in order of entry: of every settlement, the standing assignment is the
+/// student-optimal stable matching of its papers. It knows no stamps: a `Clearing` keeps them beside it.
+#[derive(Drop)]
+pub(crate) struct Settlement {
+    alloc: Global,
+    papers: Papers,
+    places: Assignment,
+    segments: Segments,
+    proposals: u64,
+    // Where there is one, the round in which everybody stands: it is kept from newcomer to newcomer, and made
+    // again when it is wanted.
+    round: Option<Round<HeapRoll>>,
+}
+
+impl Model for Settlement {
+    ghost use Rattle.sc_repair.specs.Standing.{Standing};
+
+    ghost Value = { Standing };
+
+    ghost use Rattle.sc_repair.specs.Representation.{standing_of, IsSound};
+
+    ghost view = { standing_of };
+
+    ghost invariant = { IsSound };
+}
+
+/// How many of the students have the school.
+fn count_held(papers: &Papers, places: &Assignment, school: SchoolNo) -> u32
+    ensures { result ≡ held papers.now (assigned places.now) school }
+{
+    let mut held = 0;
+    for position in 0..papers.students_len() {
+        if has(papers, places, school, position) {
+            held += 1;
+        }
+    }
+    held
+}
+
+/// Whether the student at the position has the school.
+fn has(papers: &Papers, places: &Assignment, school: SchoolNo, position: usize) -> bool
+    requires { position < length papers.now.students }
+    ensures { result ≡ has (assigned places.now) school (slice_index (students_of papers.now) position) }
+{
+    match papers.student_at(position) {
+        Some(student) => places.get(student) == Some(school),
+        None => unreachable!(),
+    }
+}
+
+impl Settlement {
+    ghost use Rattle.std.specs.Prelude.{◌≡◌, ℕ, List, length, take, IfOk, IfErr};
+    ghost use Rattle.sc_papers.specs.Market.{students_of};
+    ghost use Rattle.sc_papers.specs.Matching.{IsStudentOptimal};
+    ghost use Rattle.sc_papers.specs.Restriction.{cut, IsSegmented};
+    ghost use Rattle.sc_papers.specs.WellFormed.{WellFormed};
+    ghost use Rattle.sc_checkpoint.specs.Chains.{logs_in, students_in};
+    ghost use Rattle.sc_repair.specs.Standing.{Standing, CountsFrom, IsCertified, IsOptimal, log_of, matching_of, place_of, held_at, proposals_from_scratch};
+
+    /// The papers settled on from the segments of their first students. The only error is want of
+    /// memory, which gives the papers back unchanged.
+    fn settled(alloc: Global, papers: Papers, segments: Segments) -> Result<Self, OpenRefused>
+        requires well_formed { WellFormed papers }
+        requires theirs { students_in segments ≡ take (length segments) (students_of papers) }
+        requires segmented { IsSegmented (cut papers (length segments)) (logs_in segments) }
+        ensures papers { IfOk result (λ clearing. clearing.papers ≡ papers) }
+        ensures certified { IfOk result IsCertified }
+        ensures stays { IfOk result (λ clearing. take (length segments) clearing.segments ≡ logs_in segments) }
+        ensures proposals { IfOk result (CountsFrom (length segments)) }
+        ensures refused { IfErr result (λ refused. refused.papers ≡ papers) }
+    {
+        let mut segments = segments;
+        match settle_on::<HeapRoll>(alloc, &papers, &mut segments) {
+            Ok(settled) => Ok(Settlement {
+                alloc,
+                papers,
+                places: settled.assignment,
+                segments,
+                proposals: settled.proposals,
+                round: None,
+            }),
+            Err(_) => Err(OpenRefused { papers }),
+        }
+    }
+
+    /// Settles the papers: the standing assignment is their student-optimal stable matching, and the
+    /// log certifies it. The only error is want of memory, which gives the papers back unchanged.
+    ///
+    /// The cost is an offer for each proposal, and memory is taken in proportion to the students, the
+    /// schools and the rejections.
+    pub(crate) fn open(alloc: Global, papers: Papers) -> Result<Self, OpenRefused>
+        ensures papers { IfOk result (λ clearing. clearing.papers ≡ papers) }
+        ensures optimal { IfOk result (λ clearing. IsStudentOptimal papers (matching_of clearing)) }
+        ensures certified { IfOk result IsCertified }
+        ensures proposals { IfOk result (λ clearing. clearing.proposals ≡ proposals_from_scratch clearing) }
+        ensures refused { IfErr result (λ refused. refused.papers ≡ papers) }
+    {
+        Settlement::settled(alloc, papers, Segments::new(alloc))
+    }
+
+    /// The papers as they stand. Whichever settlement this is, the standing assignment is their
+    /// student-optimal stable matching and the log is settled for them, and this call tells its
+    /// callers so.
+    pub(crate) fn papers(&self) -> &Papers
+        ensures papers { result.now ≡ self.now.papers }
+        ensures optimal { IsOptimal self.now }
+        ensures certified { IsCertified self.now }
+    {
+        &self.papers
+    }
+
+    /// What the student has: `None` for one who is not in the papers, `Some(None)` for one who is
+    /// unplaced. In constant time.
+    pub(crate) fn place_of(&self, student: StudentNo) -> Option<Option<SchoolNo>>
+        ensures { result ≡ place_of self.now student }
+    {
+        if self.papers.student(student).is_none() {
+            return None;
+        }
+        Some(self.places.get(student))
+    }
+
+    /// How many students have the school, or `None` for one that is not in the papers. The cost is a
+    /// look-up for each student.
+    pub(crate) fn held(&self, school: SchoolNo) -> Option<u32>
+        ensures { result ≡ held_at self.now school }
+    {
+        if self.papers.school(school).is_none() {
+            return None;
+        }
+        Some(count_held(&self.papers, &self.places, school))
+    }
+
+    /// The standing assignment, lent.
+    pub(crate) fn places(&self) -> &Assignment
+        ensures { result.now ≡ self.now.places }
+    {
+        &self.places
+    }
+
+    /// The standing assignment as a value of its own: each placed student with their school. The only
+    /// error is want of memory.
+    pub(crate) fn assignment(&self) -> Result<Assignment, AllocError>
+        ensures { IfOk result (λ assignment. assignment ≡ self.now.places) }
+    {
+        self.places.copy()
+    }
+
+    /// The rejections that led to the standing assignment, in the order in which they happened, lent.
+    pub(crate) fn rejections(&self) -> &[Rejection]
+        ensures { result.now ≡ log_of self.now }
+    {
+        self.segments.rejections()
+    }
+
+    /// The rejections that led to the standing assignment, as a value of its own. They are settled for
+    /// the papers as they stand, so whoever doubts the assignment can check them. The only error is
+    /// want of memory; the cost is their number.
+    pub(crate) fn log(&self) -> Result<Vec<Rejection>, AllocError>
+        ensures { IfOk result (λ log. log.items ≡ log_of self.now) }
+    {
+        self.segments.flat()
+    }
+
+    /// How many proposals the last settling made: that of the last accepted amendment, or of the
+    /// opening.
+    pub(crate) fn proposals_last(&self) -> u64
+        ensures { result ≡ self.now.proposals }
+    {
+        self.proposals
+    }
+}

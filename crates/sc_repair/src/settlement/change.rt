@@ -1,0 +1,62 @@
+//! Amendments that change who stands in the papers, or a school there, in place.
+
+ghost use Rattle.std.specs.Prelude.{◌≡◌, None, false, take, IfErr, OnErr, OnOk};
+ghost use Rattle.sc_papers.specs.TakingBack.{is_withdrawal};
+ghost use Rattle.sc_papers.specs.Verdict.{after, verdict, IsRefusal};
+ghost use Rattle.sc_repair.specs.Newcomer.{newcomer};
+ghost use Rattle.sc_repair.specs.Rewinding.{rewind_point};
+ghost use Rattle.sc_repair.specs.Standing.{CountsRegion, IsCertified, KeepsOthers};
+
+use super::Settlement;
+use crate::resettling::resettle;
+use crate::rewind::rewind_point;
+use sc_papers::{Amendment, Refusal};
+use sc_region::region;
+use sc_seats::HeapRoll;
+
+impl Settlement {
+    /// Makes an amendment by which nobody enters or withdraws, in place, and settles its region anew from its
+    /// rewind point on, beside the places and the segments that stand. A refused amendment changes nothing.
+    /// Where a growth is refused after the papers have changed, the amendment is taken back.
+    pub(super) fn change(&mut self, amendment: Amendment) -> Result<(), Refusal>
+        requires no_entry { newcomer amendment ≡ None }
+        requires no_withdrawal { is_withdrawal amendment ≡ false }
+        ensures allowed { OnOk result (verdict self.old.papers amendment ≡ None) }
+        ensures accepted { OnOk result (self.new.papers ≡ after self.old.papers amendment) }
+        ensures certified { IsCertified self.new }
+        ensures stays { OnOk result (take (rewind_point self.old.papers amendment) self.new.segments ≡ take (rewind_point self.old.papers amendment) self.old.segments) }
+        ensures others { OnOk result (KeepsOthers self.old amendment self.new) }
+        ensures proposals { OnOk result (CountsRegion self.old.papers amendment self.new) }
+        ensures refused { IfErr result (IsRefusal (verdict self.old.papers amendment)) }
+        ensures unchanged { OnErr result (self.new ≡ self.old) }
+    {
+        let point = rewind_point(&self.papers, &amendment)?;
+        let region = region(self.alloc, &self.papers, &amendment)?;
+        let back = self.papers.exchange(amendment)?;
+        // Nobody enters or withdraws, so everybody's segment stands where it did.
+        let gap = 0;
+        let settled = resettle::<HeapRoll>(
+            self.alloc,
+            &self.papers,
+            &region,
+            point,
+            gap,
+            &self.places,
+            &self.segments,
+        );
+        match settled {
+            Ok(settled) => {
+                drop(back);
+                self.places = settled.places;
+                self.segments = settled.segments;
+                self.proposals = settled.proposals;
+                self.round = None;
+                Ok(())
+            }
+            Err(_) => {
+                self.papers.take_back(back);
+                Err(Refusal::OutOfMemory)
+            }
+        }
+    }
+}

@@ -1,0 +1,5 @@
+pub mod Places
+pub mod Step
+pub mod Stamping
+pub mod Turns
+pub mod Rising
