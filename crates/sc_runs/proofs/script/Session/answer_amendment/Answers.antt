@@ -6,7 +6,7 @@ use Rattle.sc_report.specs.Watched.{device_of}
 use Rattle.sc_runs.specs.TwoWriters.{to_output}
 use Rattle.sc_runs.specs.Run.{answer_to}
 use Rattle.sc_runs.proofs.TwoWriters.{Writes-same}
-use Rattle.sc_runs.proofs.Replies.{after_record-refused, answer_to-refused, verdict-accepted}
+use Rattle.sc_runs.proofs.Replies.{after_record-refused, answer_to-refused}
 use Rattle.sc_runs.proofs.script.Session.answer_amendment.Goals as goal
 
 -- what is true is true where there is a value
@@ -16,7 +16,7 @@ on_ok-known (Err e) known = tt
 
 pub returns-in-Err-clause-papers : goal.returns-in-Err-clause-papers
 returns-in-Err-clause-papers g c =
-    on_ok-known c.write_reply.result (after_record-refused (stamped_papers c.args.self.now.clearing) c.args.stamped c.in-Err.refusal (sym c.in-Err.is ∙ c.check.ensures))
+    on_ok-known c.write_reply.result (after_record-refused (stamped_papers c.args.self.now.clearing) c.args.stamped c.in-Err.refusal (sym c.in-Err.is ∙ c.check.ensures.answer))
 
 pub returns-in-Err-clause-writes : goal.returns-in-Err-clause-writes
 returns-in-Err-clause-writes g c =
@@ -24,5 +24,5 @@ returns-in-Err-clause-writes g c =
     (record { journal = g.J.Recorder.contents c.args.journal.now; output = g.W.Write.contents (device_of c.args.out.now) })
     (record { journal = g.J.Recorder.contents c.args.journal.now; output = g.W.Write.contents (device_of c.write_reply.new.out) })
     c.write_reply.result
-    (answer_to-refused c.args.self.now.records (stamped_papers c.args.self.now.clearing) c.args.stamped c.in-Err.refusal (sym c.in-Err.is ∙ c.check.ensures))
+    (answer_to-refused c.args.self.now.records (stamped_papers c.args.self.now.clearing) c.args.stamped c.in-Err.refusal (sym c.in-Err.is ∙ c.check.ensures.answer))
     (c.write_reply.ensures.writes (g.J.Recorder.contents c.args.journal.now))
