@@ -15,16 +15,20 @@ pub(crate) struct Amended {
 }
 
 impl Model for Amended {
+    ghost use Rattle.sc_stamps.specs.Stamps.{IsInStep};
     ghost use Rattle.sc_stamps.specs.Verdict.{StampedPapers};
 
     ghost Value = { StampedPapers };
 
     ghost view = { λ a. record { papers = a.papers; stamps = a.stamps } };
+
+    ghost invariant = { λ a. IsInStep a.papers a.stamps };
 }
 
 impl Amended {
-    ghost use Rattle.std.specs.Prelude.{◌≡◌, ◌<◌, None, IfErr, IfOk, OnOk};
-    ghost use Rattle.sc_papers.specs.Verdict.{verdict, IsRefusal};
+    ghost use Rattle.std.specs.Prelude.{◌≡◌, ◌<◌, ◌⊎◌, None, Some, IfErr, IfOk, OnErr, OnOk};
+    ghost use Rattle.sc_papers.specs.Verdict.{verdict};
+    ghost use Rattle.sc_papers.specs.declared.amendment.Refusal.TheVariants.{OutOfMemory};
     ghost use Rattle.sc_papers.specs.declared.stamp.TheConstants.Stamp.{GREATEST};
     ghost use Rattle.sc_stamps.specs.Verdict.{stamped_after, unamended};
     ghost use Rattle.sc_repair.specs.Stamped.{stamped_papers};
@@ -39,19 +43,27 @@ impl Amended {
     }
 
     /// Makes an amendment, and gives its record the next stamp, or answers the first refusal of the
-    /// papers, as `Papers::check` does, or else want of memory. It has no stamp of its own, and so it is
-    /// not stale. After a refusal the papers and the stamps are to be given up.
+    /// papers, as `Papers::check` does, or in its place want of memory. It has no stamp of its own, and so it is
+    /// not stale. After a refusal the papers and the stamps are as before.
     pub(crate) fn apply(&mut self, amendment: Amendment) -> Result<(), Refusal>
         requires room { self.old.stamps.accepted < GREATEST }
         ensures allowed { OnOk result (verdict self.old.papers amendment ≡ None) }
         ensures accepted { OnOk result (self.new ≡ stamped_after self.old amendment) }
-        ensures refused { IfErr result (IsRefusal (verdict self.old.papers amendment)) }
+        ensures refused { IfErr result (λ refusal. (refusal ≡ OutOfMemory) ⊎ (verdict self.old.papers amendment ≡ Some refusal)) }
+        ensures unchanged { OnErr result (self.new ≡ self.old) }
     {
         let marking = marking_of(&self.papers, &amendment);
-        self.papers.apply(amendment)?;
         self.stamps.begin(marking)?;
-        self.stamps.finish(marking);
-        Ok(())
+        match self.papers.apply(amendment) {
+            Ok(()) => {
+                self.stamps.finish(marking);
+                Ok(())
+            }
+            Err(refusal) => {
+                self.stamps.give_up(marking);
+                Err(refusal)
+            }
+        }
     }
 
     /// A clearing of the papers, with their stamps. The only error is want of memory.

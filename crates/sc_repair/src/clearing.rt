@@ -17,11 +17,14 @@ pub struct Clearing {
 }
 
 impl Model for Clearing {
+    ghost use Rattle.sc_stamps.specs.Stamps.{IsInStep};
     ghost use Rattle.sc_repair.specs.Stamped.{StampedStanding};
 
     ghost Value = { StampedStanding };
 
     ghost view = { λ c. record { standing = c.settlement; stamps = c.stamps } };
+
+    ghost invariant = { λ c. IsInStep c.settlement.papers c.stamps };
 }
 
 impl Clearing {
@@ -29,20 +32,21 @@ impl Clearing {
     ghost use Rattle.sc_papers.specs.Matching.{IsStudentOptimal};
     ghost use Rattle.sc_papers.specs.Verdict.{unless_refused, IsRefusal};
     ghost use Rattle.sc_stamps.specs.Record.{record_of};
-    ghost use Rattle.sc_stamps.specs.Stamps.{no_stamps, stamp_of};
-    ghost use Rattle.sc_stamps.specs.Verdict.{stamped_after, stamped_verdict};
+    ghost use Rattle.sc_stamps.specs.Stamps.{no_stamps, stamp_of, IsInStep};
+    ghost use Rattle.sc_stamps.specs.Verdict.{stamped_after, stamped_verdict, GivesStamp};
     ghost use Rattle.sc_stamps.specs.declared.record.Record.TheVariants.{OfSchool, OfStudent};
     ghost use Rattle.sc_repair.specs.Rewinding.{rewind_point};
     ghost use Rattle.sc_repair.specs.Stamped.{stamped_papers};
     ghost use Rattle.sc_repair.specs.Standing.{CountsRegion, IsCertified, IsOptimal, KeepsOthers, held_at, log_of, matching_of, papers_after, place_of, proposals_from_scratch};
 
-    /// Settles papers that were amended before, whose records have these stamps: the standing assignment is
+    /// Settles papers that were amended before, whose records have these stamps, one for each: the standing assignment is
     /// their student-optimal stable matching, and the log certifies it. The only error is want of memory, which
     /// gives the papers back unchanged.
     ///
     /// The cost is an offer for each proposal, and memory is taken in proportion to the students, the
     /// schools and the rejections.
     pub fn resume(alloc: Global, papers: Papers, stamps: Stamps) -> Result<Self, OpenRefused>
+        requires in_step { IsInStep papers stamps }
         ensures papers { IfOk result (λ clearing. clearing.standing.papers ≡ papers) }
         ensures stamps { IfOk result (λ clearing. clearing.stamps ≡ stamps) }
         ensures optimal { IfOk result (λ clearing. IsStudentOptimal papers (matching_of clearing.standing)) }
@@ -206,6 +210,7 @@ impl Clearing {
         ensures proposals { OnOk result (CountsRegion self.old.standing.papers stamped.amendment self.new.standing) }
         ensures allowed { OnOk result (stamped_verdict (stamped_papers self.old) stamped ≡ None) }
         ensures accepted { OnOk result (stamped_papers self.new ≡ stamped_after (stamped_papers self.old) stamped.amendment) }
+        ensures stamped { OnOk result (GivesStamp (stamped_papers self.old) stamped.amendment (stamped_papers self.new)) }
         ensures honoured { OnOk result (stamp_of self.old.standing.papers self.old.stamps (record_of stamped.amendment) ≡ stamped.stamp) }
         ensures refused { IfErr result (IsRefusal (stamped_verdict (stamped_papers self.old) stamped)) }
         ensures unchanged { OnErr result (self.new ≡ self.old) }

@@ -5,8 +5,8 @@
 //! last settling then made, and the standing that is left.
 use crate::given::{papers_of, school, student};
 use sc_markets::{
-    FIVE_STUDENTS, Files, MARKET_A, MARKET_B, MARKET_B_CONTINUING, TWO_STUDENTS, amendment,
-    seen, standing,
+    FIVE_STUDENTS, Files, MARKET_A, MARKET_B, MARKET_B_CONTINUING, TWO_STUDENTS, amendment, seen,
+    standing,
 };
 use sc_papers::Refusal;
 use sc_repair::Clearing;

@@ -28,23 +28,31 @@ fn stamps_text(alloc: Global, clearing: &Clearing) -> Result<String, AllocError>
     Ok(text)
 }
 
-/// What the clearing answers to a record, its refusal or `ok`.
-fn answer(alloc: Global, clearing: &mut Clearing, record: &str) -> Result<String, Refusal> {
+/// What the clearing answers to a record, its refusal or `ok`, which is what `check` says beforehand.
+fn answer(
+    rt: &impl Abort,
+    alloc: Global,
+    clearing: &mut Clearing,
+    record: &str,
+) -> Result<String, Refusal> {
     let stamped = stamped(alloc, record)?;
     let checked = clearing.check(&stamped);
     let answered = clearing.amend(stamped);
-    // `check` answers what `amend` does, where there is memory.
-    match (checked, answered) {
-        (Ok(()), Ok(())) => Ok(String::from_str(alloc, "ok")?),
-        (Err(first), Err(refusal)) if first == refusal => Ok(refusal.to_string(alloc)?),
-        (_, Err(Refusal::OutOfMemory)) => Err(Refusal::OutOfMemory),
-        _ => Ok(String::from_str(alloc, "answered twice")?),
+    assert!(rt; checked == answered);
+    match answered {
+        Ok(()) => Ok(String::from_str(alloc, "ok")?),
+        Err(refusal) => Ok(refusal.to_string(alloc)?),
     }
 }
 
 /// What a record leaves, with the answer to it. A record that is no amendment is answered `Shape`.
-fn left_by(alloc: Global, clearing: &mut Clearing, record: &str) -> Result<String, Refusal> {
-    let answer = match answer(alloc, clearing, record) {
+fn left_by(
+    rt: &impl Abort,
+    alloc: Global,
+    clearing: &mut Clearing,
+    record: &str,
+) -> Result<String, Refusal> {
+    let answer = match answer(rt, alloc, clearing, record) {
         Err(Refusal::Shape) => String::from_str(alloc, "Shape")?,
         answer => answer?,
     };
@@ -60,7 +68,7 @@ fn walk(rt: &impl Abort, alloc: Global, script: &str) {
     let mut clearing = Clearing::open(alloc, papers).ok().expect(rt, "memory");
     for line in script.lines() {
         let (record, want) = line.split_once(" => ").expect(rt, "a record and an answer");
-        let left = left_by(alloc, &mut clearing, record).expect(rt, "memory");
+        let left = left_by(rt, alloc, &mut clearing, record).expect(rt, "memory");
         assert_eq!(rt; left.as_str(), want, "{record}");
     }
     drop(clearing);

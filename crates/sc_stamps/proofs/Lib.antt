@@ -3,3 +3,4 @@ pub mod Step
 pub mod Stamping
 pub mod Turns
 pub mod Rising
+pub mod Accepted

@@ -12,10 +12,10 @@ ghost use Rattle.sc_stamps.specs.Stamps.{Stamps, no_stamps, stamp_of, stamps_aft
 ghost use Rattle.sc_stamps.specs.Verdict.{StampedPapers, stamped_after, stamped_verdict, unamended};
 ghost use Rattle.sc_stamps.specs.declared.record.Record.{Record};
 
-/// There is a stamp for each student and each school, at the opening and after each accepted amendment.
+/// There is a stamp for each student and each school, at the opening and after each amendment.
 pub fn stamps_stay_in_step()
     ensures opening { (m : Market) → IsInStep m (no_stamps m) }
-    ensures after { (m : Market) (stamps : Stamps) (a : Amendment) → WellFormed m → verdict m a ≡ None → IsInStep m stamps → IsInStep (after m a) (stamps_after m a stamps) }
+    ensures after { (m : Market) (stamps : Stamps) (a : Amendment) → IsInStep m stamps → IsInStep (after m a) (stamps_after m a stamps) }
 {}
 
 /// An accepted amendment makes the number of them one greater, gives its record, where that is now in the

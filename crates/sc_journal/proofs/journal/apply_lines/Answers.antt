@@ -1,4 +1,3 @@
-use Rattle.std.proofs.Common.{sym, ap, ◌+◌, ◌∙◌}
 use Rattle.sc_journal.proofs.Replays.{first-fault, going-more, going-start}
 use Rattle.sc_journal.proofs.journal.apply_lines.Goals as goal
 
