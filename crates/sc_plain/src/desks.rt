@@ -66,22 +66,27 @@ fn random_stamped(
     Ok(Stamped { stamp, amendment })
 }
 
-/// Hands an amendment in: it is accepted only with the stamp that stands, and an accepted one is counted.
-fn hand_in(rt: &impl Abort, clearing: &mut Clearing, stamped: Stamped) {
-    let carried = stamped.stamp;
-    let stood = stamp_of(clearing, record_of(&stamped.amendment));
-    let before = clearing.accepted();
-    match clearing.amend(stamped) {
-        Ok(()) => {
-            assert!(rt; carried == stood);
-            assert!(rt; Some(clearing.accepted()) == before.next());
+/// An amendment is accepted only with the stamp that stands, which a stale one is told.
+fn expect_answer(rt: &impl Abort, answer: Result<(), Refusal>, carried: u32, stood: u32) {
+    match answer {
+        Ok(()) => assert!(rt; carried == stood),
+        Err(refusal) => {
+            let is_stale = refusal.code() == 12;
+            assert!(rt; !is_stale || carried != stood);
+            assert!(rt; !is_stale || refusal.number() == Some(stood));
         }
-        Err(Refusal::Stale { stamp }) => {
-            assert!(rt; stamp == stood && carried != stood);
-            assert!(rt; clearing.accepted() == before);
-        }
-        Err(_) => assert!(rt; clearing.accepted() == before),
     }
+}
+
+/// Hands an amendment in. It is counted where it is accepted, and only there.
+fn hand_in(rt: &impl Abort, clearing: &mut Clearing, stamped: Stamped) {
+    let carried = stamped.stamp.get();
+    let stood = stamp_of(clearing, record_of(&stamped.amendment)).get();
+    let before = clearing.accepted().get();
+    let answer = clearing.amend(stamped);
+    let counted = clearing.accepted().get().saturating_sub(before);
+    assert!(rt; counted == u32::from(answer.is_ok()));
+    expect_answer(rt, answer, carried, stood);
 }
 
 /// The papers as a text that does not tell the order of entry.
@@ -111,9 +116,15 @@ fn weave(
     weaving: &str,
 ) -> Result<Left, AllocError> {
     let mut desks = Desks {
-        a: Dice { state: u64::from(seed) },
-        b: Dice { state: u64::from(seed).wrapping_add(1962) },
-        c: Dice { state: u64::from(seed).wrapping_add(1971) },
+        a: Dice {
+            state: u64::from(seed),
+        },
+        b: Dice {
+            state: u64::from(seed).wrapping_add(1962),
+        },
+        c: Dice {
+            state: u64::from(seed).wrapping_add(1971),
+        },
     };
     for desk in weaving.bytes() {
         let stamped = random_stamped(rt, alloc, desks.dice(desk), schools)?;
@@ -133,7 +144,9 @@ fn weave_market(
     schools: &[School],
     weaving: &str,
 ) -> Result<Left, Fail> {
-    let mut dice = Dice { state: u64::from(seed) };
+    let mut dice = Dice {
+        state: u64::from(seed),
+    };
     let count = (schools.len() % 1_000) as u32;
     let families = random_families(&mut dice, alloc, count)?;
     let papers = papers_of(rt, alloc, schools, families.as_slice())?;
@@ -162,7 +175,9 @@ fn count_same(rt: &impl Abort, earlier: &[Left], left: &Left) -> u32 {
 
 /// Weaves the lists that the seed gives in each way, and counts the pairs that leave the same papers.
 fn weave_all(rt: &impl Abort, alloc: Global, seed: u32) -> Result<u32, Fail> {
-    let mut dice = Dice { state: u64::from(seed) };
+    let mut dice = Dice {
+        state: u64::from(seed),
+    };
     let schools = random_schools(&mut dice, alloc)?;
     let mut earlier = Vec::new(alloc);
     let mut same: u32 = 0;

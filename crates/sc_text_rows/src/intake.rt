@@ -5,7 +5,7 @@ mod rows;
 mod script;
 
 use sc_intake::{IntakeFault, read_lists, read_log, read_roster, read_schools, read_script};
-use sc_papers::{Amendment, Refusal};
+use sc_papers::{Refusal, Stamped};
 use std::alloc::{AllocError, Global};
 use std::process::Abort;
 
@@ -37,7 +37,7 @@ fn counted(alloc: Global, count: Result<usize, IntakeFault>) -> Result<String, A
 /// The signs of a script, or the line of its fault.
 fn signs(
     alloc: Global,
-    script: Result<Vec<Result<Amendment, Refusal>>, IntakeFault>,
+    script: Result<Vec<Result<Stamped, Refusal>>, IntakeFault>,
 ) -> Result<String, AllocError> {
     match script {
         Ok(script) => signs_of(alloc, script.as_slice()),
@@ -45,7 +45,7 @@ fn signs(
     }
 }
 
-fn signs_of(alloc: Global, script: &[Result<Amendment, Refusal>]) -> Result<String, AllocError> {
+fn signs_of(alloc: Global, script: &[Result<Stamped, Refusal>]) -> Result<String, AllocError> {
     let mut signs = String::new(alloc);
     for found in script {
         signs.push(if found.is_ok() { '+' } else { '-' })?;
@@ -56,7 +56,7 @@ fn signs_of(alloc: Global, script: &[Result<Amendment, Refusal>]) -> Result<Stri
 /// The first record of a script, or the line of its fault.
 fn first(
     alloc: Global,
-    script: Result<Vec<Result<Amendment, Refusal>>, IntakeFault>,
+    script: Result<Vec<Result<Stamped, Refusal>>, IntakeFault>,
 ) -> Result<String, AllocError> {
     match script {
         Ok(script) => format!(in alloc; "{:?}", script.first()),

@@ -109,8 +109,14 @@ fn stamps_of_a_script(rt: HostRuntime) -> Result<(), AllocError> {
         &[
             ("withdraw,3\n,withdraw,3\nx,withdraw,3\n", "---"),
             ("-1,withdraw,3\n0 0,withdraw,3\n0;withdraw,3\n", "---"),
-            ("0,withdraw,3\n 1\t,withdraw,3\n000000002,withdraw,3\n", "+++"),
-            ("999999999,withdraw,3\n1000000000,withdraw,3\n0000000001,withdraw,3\n", "+--"),
+            (
+                "0,withdraw,3\n 1\t,withdraw,3\n000000002,withdraw,3\n",
+                "+++",
+            ),
+            (
+                "999999999,withdraw,3\n1000000000,withdraw,3\n0000000001,withdraw,3\n",
+                "+--",
+            ),
             ("0,0,withdraw,3\nwithdraw,0,3\n0\n", "---"),
         ],
     )
@@ -133,7 +139,10 @@ fn records_that_are_no_amendment(rt: HostRuntime) -> Result<(), AllocError> {
                 "-----",
             ),
             ("0,withdraw,999999999\n0,withdraw,1000000000\n", "+-"),
-            ("0,enter,1,0,,\n0,enter,1,9999,1,99999\n0,enter,1,0,10\n", "++-"),
+            (
+                "0,enter,1,0,,\n0,enter,1,9999,1,99999\n0,enter,1,0,10\n",
+                "++-",
+            ),
             (
                 "0,enter,1,0,0,10\n0,enter,1,10000,,\n0,enter,1,0,10\t20,\n",
                 "---",
