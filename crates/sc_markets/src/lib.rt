@@ -6,7 +6,9 @@ mod readings;
 mod texts;
 mod worked;
 
-pub use readings::{amendment, assignment, clearing, papers, roster_header, seen, stamp_of, stamped};
+pub use readings::{
+    amendment, assignment, clearing, papers, roster_header, seen, stamp_of, stamped,
+};
 pub use texts::{log_text, places_text, standing};
 pub use worked::{
     FIVE_STUDENTS, Files, MARKET_A, MARKET_B, MARKET_B_AND_NEWCOMER, MARKET_B_CONTINUING,
