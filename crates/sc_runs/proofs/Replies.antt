@@ -57,11 +57,6 @@ answer_to-refused number p stamped refusal is =
 pub after_record-refused : (p : StampedPapers) (stamped : Stamped) (refusal : Refusal) → Err refusal ≡ unless_refused (stamped_verdict p stamped) → p ≡ after_record p (Ok stamped)
 after_record-refused p stamped refusal is = sym (ap (after_stamped_verdict p stamped.amendment) (verdict-refused (stamped_verdict p stamped) refusal is))
 
--- where there is a verdict, it is accepted
-pub verdict-accepted : (found : Option Refusal) → Ok tt ≡ unless_refused found → found ≡ None
-verdict-accepted None is = refl
-verdict-accepted (Some first) is = absurd (true≢false (ap is_err (sym is)))
-
 -- what was written so far, and the answers to the records that are left, are the answers to all
 pub record Answered (old now : Contents) (opening : StampedPapers) (all : List (Result Stamped Refusal)) (number : ℕ) (p : StampedPapers) (left : List (Result Stamped Refusal)) : Type 0 where
   pub written : List Piece
