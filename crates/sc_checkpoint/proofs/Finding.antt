@@ -1,12 +1,12 @@
 -- The first choice whose rank is not in a set, and where students stand.
-use Rattle.std.proofs.Common.{◌≡◌, ap, sym, ◌∙◌, ℕ, ◌<◌, ◌≤◌, Bool, true, false, not, List, [], ◌∷◌, ◌++◌, ◌+◌, length, take, Some, None, find, slice_get, arith}
+use Rattle.std.proofs.Common.{◌≡◌, ap, sym, ◌∙◌, ℕ, ◌<◌, ◌≤◌, Bool, true, false, not, List, [], ◌∷◌, ◌++◌, ◌+◌, length, take, Option, Some, None, find, slice_get, arith}
 use Rattle.std.proofs.lemmas.List.{take_more, map_push}
 use Rattle.std.proofs.lemmas.Option.{slice_get_within, get_or_from_slice_get}
-use Rattle.sc_papers.specs.Log.{next_choice}
-use Rattle.sc_papers.specs.Market.{Market}
+use Rattle.sc_papers.specs.Log.{is_rejected, next_choice}
+use Rattle.sc_papers.specs.Market.{choices_of, Market}
 use Rattle.sc_papers.specs.declared.rejection.Rejection.{Rejection}
 use Rattle.sc_papers.proofs.Choices.{found-is, found-none}
-use Rattle.sc_checkpoint.specs.Ranks.{has_rank}
+use Rattle.sc_checkpoint.specs.Ranks.{has_rank, AreRejectedRanks}
 use Rattle.sc_checkpoint.specs.NextChoices.{next_choices_after}
 use Rattle.sc_checkpoint.specs.declared.next_choice.NextChoice.{NextChoice}
 use Rattle.sc_checkpoint.specs.declared.rank_set.RankSet.{RankSet}
@@ -34,3 +34,17 @@ standings-more m log students at i choice here stands =
     ap (λ last. next_choices_after m log (take at students) ++ last ∷ []) stands
     ∙ sym (map_push (λ (j : ℕ). let s : NextChoice = record { student = j; next = next_choice m log j } in s) (take at students) i)
     ∙ ap (next_choices_after m log) (sym more)
+
+-- the first of a student's choices that is not among those that rejected them is their next choice
+pub next-found : (m : Market) (log : List Rejection) (i : ℕ) (ranks : RankSet) (choices : List ℕ) (next : Option ℕ) → choices ≡ choices_of m i → AreRejectedRanks m log i ranks
+    → ((test : ℕ → Bool) → ((rank s : ℕ) → slice_get choices rank ≡ Some s → has_rank ranks rank ≡ test s) → next ≡ find (λ s. not (test s)) choices) → next ≡ next_choice m log i
+unfolding next_choice
+next-found m log i ranks choices next theirs agree found =
+    found (is_rejected log i) (λ rank s here. agree rank s (ap (λ list. slice_get list rank) (sym theirs) ∙ here)) ∙ ap (find (λ s. not (is_rejected log i s))) theirs
+
+-- one more who stands at their next choice
+pub stands-more : (m : Market) (log : List Rejection) (students : List ℕ) (i : ℕ) (next : Option ℕ) → next ≡ next_choice m log i
+    → next_choices_after m log students ++ record { student = i; next = next } ∷ [] ≡ next_choices_after m log (students ++ i ∷ [])
+stands-more m log students i next is =
+    ap (λ choice. next_choices_after m log students ++ record { student = i; next = choice } ∷ []) is
+    ∙ sym (map_push (λ (j : ℕ). let s : NextChoice = record { student = j; next = next_choice m log j } in s) students i)

@@ -2,3 +2,4 @@ mod Cutting
 mod Bits
 mod Marking
 mod Finding
+mod Passing

@@ -3,3 +3,4 @@ pub mod Chains
 pub mod Cutting
 pub mod Representation
 pub mod Ranks
+pub mod Marks

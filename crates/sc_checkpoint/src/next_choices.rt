@@ -1,14 +1,18 @@
 //! The next choices of the first students of the papers after any log.
 
-ghost use Rattle.std.specs.Prelude.{◌≡◌, ℕ, ◌<◌, ◌≤◌, ◌==◌, ◌++◌, ◌∷◌, [], List, Bool, length, take, find, not, position, slice_get, Some, IfOk, IfSome};
+ghost use Rattle.std.specs.Prelude.{◌≡◌, ℕ, ◌<◌, ◌≤◌, ◌==◌, ◌++◌, ◌∷◌, [], List, Bool, filter, length, take, find, not, position, slice_get, Some, IfOk, IfSome};
 ghost use Rattle.sc_papers.specs.Log.{next_choice};
 ghost use Rattle.sc_papers.specs.Market.{students_of, choices_of};
 ghost use Rattle.sc_papers.specs.declared.rejection.Rejection.{Rejection};
+ghost use Rattle.sc_checkpoint.specs.Chains.{students_in};
+ghost use Rattle.sc_checkpoint.specs.Marks.{log_of, Tells};
 ghost use Rattle.sc_checkpoint.specs.Ranks.{has_rank, AreRejectedRanks, AreTabled};
 ghost use Rattle.sc_checkpoint.specs.NextChoices.{next_choices_after};
 
+use crate::marked::{is_marked, rejected_ranks_of_marked};
 use crate::next_choice::NextChoice;
 use crate::rank_set::RankSet;
+use crate::segments::Segments;
 use sc_papers::{LONGEST_LIST, Papers, Rejection, SchoolNo, StudentNo};
 use std::alloc::{AllocError, Global};
 
@@ -37,6 +41,33 @@ pub(crate) fn next_choices_of_first(
     Ok(next_choices)
 }
 
+/// Where those of the first `k` students of the papers stand who are marked, after the log of their segments.
+/// The only error is a refused growth.
+pub(crate) fn next_choices_of_marked(
+    alloc: Global,
+    papers: &Papers,
+    segments: &Segments,
+    marks: &[bool],
+    k: usize,
+) -> Result<Vec<NextChoice>, AllocError>
+    requires within { k ≤ length segments.now }
+    requires students { take k (students_in segments.now) ≡ take k (students_of papers.now) }
+    ensures { IfOk result (λ next_choices. (test : ℕ → Bool) → Tells marks.now (students_in segments.now) test → next_choices.items ≡ next_choices_after papers.now (log_of test (take k segments.now)) (filter test (take k (students_of papers.now)))) }
+{
+    let rejected = rejected_ranks_of_marked(alloc, papers, segments, marks, k)?;
+    let mut next_choices = Vec::with_capacity(alloc, k)?;
+    for position in 0..k {
+        if is_marked(marks, position) {
+            let Some(student) = papers.student_at(position) else {
+                unreachable!()
+            };
+            let next = first_outside(papers.choices_at(position), rejected[position]);
+            next_choices.push_reserved(NextChoice { student, next });
+        }
+    }
+    Ok(next_choices)
+}
+
 /// For each of the first `k` students, the ranks of the choices that rejected it.
 fn rejected_ranks(
     alloc: Global,
@@ -56,7 +87,7 @@ fn rejected_ranks(
 
 /// Puts the entry's school among the ranks of the entry's student, where the student is in the table
 /// and lists the school.
-fn mark(papers: &Papers, table: &mut [RankSet], entry: Rejection)
+pub(crate) fn mark(papers: &Papers, table: &mut [RankSet], entry: Rejection)
     ensures { (log : List Rejection) → AreTabled papers.now log table.old → AreTabled papers.now (log ++ entry ∷ []) table.new }
 {
     let Some(position) = papers.student_position(entry.student) else {

@@ -1,5 +1,5 @@
 use crate::next_choice::NextChoice;
-use crate::next_choices::next_choices_of_first;
+use crate::next_choices::{next_choices_of_first, next_choices_of_marked};
 use crate::segment::{Segment, end_of_first};
 use sc_papers::{Papers, Rejection, StudentNo};
 use std::alloc::{AllocError, Global};
@@ -29,9 +29,10 @@ impl Model for Segments {
 }
 
 impl Segments {
-    ghost use Rattle.std.specs.Prelude.{◌≡◌, ◌<◌, ◌≤◌, [], length, take, slice_get, Some, IfOk, OnOk, OnErr};
+    ghost use Rattle.std.specs.Prelude.{◌≡◌, ℕ, ◌<◌, ◌≤◌, Bool, [], filter, length, take, slice_get, Some, IfOk, OnOk, OnErr};
     ghost use Rattle.sc_papers.specs.Restriction.{joined};
     ghost use Rattle.sc_checkpoint.specs.Chains.{students_in, logs_in, with_chain};
+    ghost use Rattle.sc_checkpoint.specs.Marks.{log_of, Tells};
     ghost use Rattle.sc_checkpoint.specs.NextChoices.{next_choices_after};
     ghost use Rattle.sc_papers.specs.Market.{students_of};
 
@@ -144,5 +145,25 @@ impl Segments {
         ensures { IfOk result (λ next_choices. next_choices.items ≡ next_choices_after papers.now (joined (take k (logs_in self.now))) (take k (students_of papers.now))) }
     {
         next_choices_of_first(self.alloc, papers, self.first(k), k)
+    }
+
+    /// Where those of the first `k` students of the papers stand who are marked, after the log of their own
+    /// segments alone: each mark is that of the student at its position, and whoever has none is not marked. The
+    /// only error is a refused growth.
+    ///
+    /// The cost is a look at each of the `k` marks, and for those who are marked a look-up and a pass over one list
+    /// of choices for each entry of their segments, and such a pass for each of them. Memory is taken for the `k`
+    /// students.
+    pub fn next_choices_of(
+        &self,
+        papers: &Papers,
+        marks: &[bool],
+        k: usize,
+    ) -> Result<Vec<NextChoice>, AllocError>
+        requires within { k ≤ length self.now }
+        requires students { take k (students_in self.now) ≡ take k (students_of papers.now) }
+        ensures { IfOk result (λ next_choices. (test : ℕ → Bool) → Tells marks.now (students_in self.now) test → next_choices.items ≡ next_choices_after papers.now (log_of test (take k self.now)) (filter test (take k (students_of papers.now)))) }
+    {
+        next_choices_of_marked(self.alloc, papers, self, marks, k)
     }
 }

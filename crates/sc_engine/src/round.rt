@@ -129,6 +129,23 @@ fn next_in(ranks: &[Option<u8>], papers: &Papers, student: StudentNo) -> Option<
     choice_at(ranks, papers, papers.student_position(student)?)
 }
 
+/// The choice at which the student stands, who often is at the guessed position: then no number is looked up.
+fn next_near(
+    ranks: &[Option<u8>],
+    papers: &Papers,
+    student: StudentNo,
+    guess: usize,
+) -> Option<SchoolNo>
+    ensures { result ≡ next_of papers.now ranks.now student }
+{
+    // This call tells that the papers are well-formed: no number stands twice.
+    prove!(papers.students_len() <= MOST_STUDENTS);
+    match papers.student_at(guess) {
+        Some(number) if number == student => choice_at(ranks, papers, guess),
+        _ => next_in(ranks, papers, student),
+    }
+}
+
 /// The position of a student of the papers.
 fn position_of(papers: &Papers, student: StudentNo) -> usize
     requires { is_student papers.now student ≡ true }
@@ -314,6 +331,23 @@ impl<R: Roll> Round<R> {
             return None;
         }
         next_in(self.ranks.as_slice(), papers, student)
+    }
+
+    /// What `next_choice` says. A student who stands at the guessed position of the order of entry is not looked up
+    /// by number. In constant time. Of a spent round nothing is said.
+    pub fn next_choice_near(
+        &self,
+        papers: &Papers,
+        student: StudentNo,
+        guess: usize,
+    ) -> Option<SchoolNo>
+        requires { is_spent self.now ≡ false → Fits papers.now (view_of R.keys R.seats self.now) }
+        ensures { is_spent self.now ≡ false → result ≡ next_of papers.now (view_of R.keys R.seats self.now).ranks student }
+    {
+        if self.spent {
+            return None;
+        }
+        next_near(self.ranks.as_slice(), papers, student, guess)
     }
 
     /// The rejections, in the order in which they happened.

@@ -1,4 +1,4 @@
-ghost use Rattle.std.specs.Prelude.{◌≡◌, ℕ, ◌==◌, ◌&&◌, List, [], ◌∷◌, ◌++◌, None, Some, length, is_some, slice_get, nat_eq, if◌then◌else◌, IfOk, OnOk, OnErr};
+ghost use Rattle.std.specs.Prelude.{◌≡◌, ℕ, ◌==◌, ◌&&◌, List, [], ◌∷◌, ◌++◌, None, Some, length, take, is_some, slice_get, nat_eq, if◌then◌else◌, IfOk, OnOk, OnErr};
 ghost use Rattle.std.specs.List.{IsDistinct};
 ghost use Rattle.std.specs.Map.{keys_of};
 ghost use Rattle.sc_papers.specs.Assignment.{assigned, with_place};
@@ -104,6 +104,14 @@ impl Assignment {
         ensures { (pairs : List (ℕ × ℕ)) (student school : ℕ) → self.old ≡ pairs ++ (student, school) ∷ [] → self.new ≡ pairs }
     {
         let _ = self.places.pop();
+    }
+
+    /// Keeps the first pairs of the order, so many of them, and takes the others away: so a growth that is refused
+    /// later can leave what was there before. It takes no memory.
+    pub fn truncate(&mut self, count: usize)
+        ensures { self.new ≡ take count self.old }
+    {
+        self.places.truncate(count);
     }
 
     /// The school that the student has, if any. In constant time.

@@ -6,3 +6,4 @@ pub mod Changes
 pub mod Filtering
 pub mod Reaching
 pub mod ChoicePlaces
+pub mod Marked

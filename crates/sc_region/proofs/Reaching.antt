@@ -1,5 +1,5 @@
 -- The groups that the old lists and the new choices join tell the region.
-use Rattle.std.proofs.Common.{◌≡◌, ◌⊎◌, ◌↔◌, inl, inr, refl, sym, ap, subst, ◌∙◌, ℕ, ◌==◌, nat_eq, Bool, true, Some, None, Contains, filter}
+use Rattle.std.proofs.Common.{◌≡◌, ◌⊎◌, ◌↔◌, inl, inr, refl, sym, ap, subst, ◌∙◌, ℕ, ◌==◌, nat_eq, Bool, true, Some, None, Contains, IsTrue, filter}
 use Rattle.std.specs.List.{IsDistinct}
 use Rattle.std.proofs.lemmas.Bool.{eqb-true, eq-eqb}
 use Rattle.std.proofs.lemmas.List.Elements.{Contains-append_cases, Contains-append_left, Contains-append_right}
@@ -107,7 +107,7 @@ module _ (m : Market) (a : Amendment) (well : WellFormed m) (allowed : verdict m
     | inr (is, new) ↦ amended-known m a allowed i is
   ]
 
-  in-known : (i : ℕ) → InRegion m a i → (is_student m i ≡ true) ⊎ Contains (entrants a) i
+  pub in-known : (i : ℕ) → InRegion m a i → (is_student m i ≡ true) ⊎ Contains (entrants a) i
   in-known _ (amended i is) = amended-known m a allowed i is
   in-known _ (concerned i s is listed) = lister-known i s listed
   in-known _ (next i j s within first second) = lister-known i s second
@@ -144,6 +144,14 @@ module _ (m : Market) (a : Amendment) (well : WellFormed m) (allowed : verdict m
             (filter-kept test (students_of m) i (student-among m i known) (eq-eqb _ _ (in-member i within known)))
         | inr enters ↦ Contains-append_right (filter test (students_of m)) (entrants a) i enters
       ]
+
+  -- and of the students of the papers, those are in it whose first choice is in the group
+  pub region-marked : (i : ℕ) → Contains (students_of m) i → (IsTrue (is_member m (region_groups m a) (group_of m (region_groups m a) (start_of m a)) i) ↔ InRegion m a i)
+  unfolding is_member
+  region-marked i among = (
+    λ passes. member-in i among (eqb-true _ _ passes),
+    λ within. eq-eqb _ _ (in-member i within (among-student m i among)),
+  )
 
   -- and they differ
   pub region-differs : IsDistinct nat_eq (region_members m a)

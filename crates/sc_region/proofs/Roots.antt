@@ -1,5 +1,5 @@
 -- Trees of parents: roots, a shorter way to a root, and two trees made one.
-use Rattle.std.proofs.Common.{◌≡◌, inl, inr, refl, sym, ap, subst, ◌∙◌, ℕ, zero, suc, ◌+◌, ◌<◌, ◌≤◌, ◌==◌, false, List, [], ◌∷◌, length, map, min, max, cond, set, length-set, arith}
+use Rattle.std.proofs.Common.{◌≡◌, inl, inr, refl, sym, ap, subst, ◌∙◌, ℕ, zero, suc, ◌+◌, ◌<◌, ◌≤◌, ◌==◌, Bool, true, false, List, [], ◌∷◌, length, map, min, max, cond, set, length-set, arith}
 use Rattle.std.specs.Prelude.{slice_index}
 use Rattle.std.specs.List.{range_with_len}
 use Rattle.std.proofs.lemmas.Bool.{cases_Bool, cases_lt, cond-true, cond-false, eqb-true, eq-eqb, false≢true}
@@ -384,3 +384,24 @@ climbed-joined old now a b kept lost keeps a_within b_within kept_is lost_is =
     list = λ t. set now
         ((lost_is ∙ (λ s. max (sym (keeps.roots a) s) (sym (keeps.roots b) s))) t)
         ((kept_is ∙ (λ s. min (sym (keeps.roots a) s) (sym (keeps.roots b) s))) t)
+
+-- positions with one parent have one root
+pub root-shared : (parents : List ℕ) → AreParents parents → (a b : ℕ) → slice_index parents a ≡ slice_index parents b → root_of parents a ≡ root_of parents b
+root-shared parents low a b same = root-parent parents low a ∙ ap (root_of parents) same ∙ sym (root-parent parents low b)
+
+-- and to join a group to itself changes nothing
+moved-nowhere : (k : ℕ) (groups : List ℕ) → map (moved k k) groups ≡ groups
+moved-nowhere k [] = refl
+moved-nowhere k (g ∷ groups) = λ t. own (g == k) (λ same. eqb-true g k same) t ∷ moved-nowhere k groups t
+  where
+    own : (b : Bool) → (b ≡ true → g ≡ k) → cond b k g ≡ g
+    own true same = sym (same refl)
+    own false same = refl
+
+pub joined-one : (parents : List ℕ) (a b : ℕ) → a < length parents → b < length parents → root_of parents a ≡ root_of parents b → joined (roots_of parents) a b ≡ roots_of parents
+unfolding joined
+joined-one parents a b first second same =
+    let one : slice_index (roots_of parents) a ≡ slice_index (roots_of parents) b = roots-at parents a first ∙ same ∙ sym (roots-at parents b second) in
+    let least : min (slice_index (roots_of parents) a) (slice_index (roots_of parents) b) ≡ slice_index (roots_of parents) b = omega (arith, one) in
+    let most : max (slice_index (roots_of parents) a) (slice_index (roots_of parents) b) ≡ slice_index (roots_of parents) b = omega (arith, one) in
+    (λ t. map (moved (least t) (most t)) (roots_of parents)) ∙ moved-nowhere (slice_index (roots_of parents) b) (roots_of parents)

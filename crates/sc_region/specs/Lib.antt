@@ -1,3 +1,4 @@
 pub mod Region
 pub mod Groups
+pub mod Marks
 pub mod Roots

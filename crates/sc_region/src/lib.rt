@@ -2,6 +2,7 @@
 #![tactic(auto)]
 
 mod grouping;
+mod marks;
 mod members;
 mod reach;
 mod region_list;
@@ -9,5 +10,6 @@ mod school_groups;
 #[cfg(test)]
 mod worked;
 
-pub use reach::region;
+pub use marks::RegionMarks;
+pub use reach::{region, region_marks};
 pub use region_list::RegionList;

@@ -1,6 +1,6 @@
 //! The students whose lists a group of schools has.
 
-ghost use Rattle.std.specs.Prelude.{◌≡◌, ◌<◌, length, IfOk};
+ghost use Rattle.std.specs.Prelude.{◌≡◌, ◌<◌, length, map, IfOk};
 ghost use Rattle.sc_papers.specs.Market.{schools_of, student_at, students_of};
 ghost use Rattle.sc_region.specs.Groups.{is_member, members_of};
 
@@ -38,4 +38,21 @@ pub(crate) fn members_of(
         }
     }
     Ok(members)
+}
+
+/// A mark for each student of the papers, in order of entry: whether their first choice is in a group.
+pub(crate) fn marks_of(
+    alloc: Global,
+    papers: &Papers,
+    groups: &[usize],
+    group: usize,
+) -> Result<Vec<bool>, AllocError>
+    requires { length groups.now ≡ length (schools_of papers.now) }
+    ensures { IfOk result (λ marks. marks.items ≡ map (is_member papers.now groups.now group) (students_of papers.now)) }
+{
+    let mut marks = Vec::with_capacity(alloc, papers.students_len())?;
+    for position in 0..papers.students_len() {
+        marks.push(is_member(papers, groups, group, position))?;
+    }
+    Ok(marks)
 }

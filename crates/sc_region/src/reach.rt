@@ -1,14 +1,15 @@
 //! How far an amendment reaches.
 
-ghost use Rattle.std.specs.Prelude.{◌≡◌, ◌↔◌, ℕ, None, true, length, Contains, OnOk, IfOk, IfErr};
+ghost use Rattle.std.specs.Prelude.{◌≡◌, ◌↔◌, ℕ, None, Some, true, false, length, map, slice_get, slice_index_or, Contains, IsTrue, OnOk, IfOk, IfErr};
 ghost use Rattle.std.specs.List.Sorted.{IsStrictlyIncreasing};
-ghost use Rattle.sc_papers.specs.Market.{is_school, is_student, schools_of};
+ghost use Rattle.sc_papers.specs.Market.{is_school, is_student, schools_of, students_of};
 ghost use Rattle.sc_papers.specs.Verdict.{verdict, IsRefusal};
-ghost use Rattle.sc_region.specs.Groups.{first_choice, new_choices, region_groups, region_members, start_of};
+ghost use Rattle.sc_region.specs.Groups.{first_choice, group_of, is_member, new_choices, region_groups, region_members, start_of};
 ghost use Rattle.sc_region.specs.Region.{InRegion};
 
 use crate::grouping::{first_choice_at, groups_of, join_list, place_of};
-use crate::members::members_of;
+use crate::marks::RegionMarks;
+use crate::members::{marks_of, members_of};
 use crate::region_list::RegionList;
 use sc_papers::{Amendment, MOST_STUDENTS, Papers, Refusal, SchoolNo, StudentNo};
 use std::alloc::{AllocError, Global};
@@ -110,4 +111,45 @@ pub fn region(alloc: Global, papers: &Papers, amendment: &Amendment) -> Result<R
     // And this one that its numbers rise.
     prove!(region.len() <= usize::MAX);
     Ok(region)
+}
+
+/// A mark for each student of the papers: whether the lists lead from the amendment to them.
+fn marks_of_region(
+    alloc: Global,
+    papers: &Papers,
+    amendment: &Amendment,
+) -> Result<Vec<bool>, AllocError>
+    requires { verdict papers.now amendment.now ≡ None }
+    ensures { IfOk result (λ marks. marks.items ≡ map (is_member papers.now (region_groups papers.now amendment.now) (group_of papers.now (region_groups papers.now amendment.now) (start_of papers.now amendment.now))) (students_of papers.now)) }
+{
+    let start = start_of(papers, amendment);
+    let groups = region_groups(alloc, papers, amendment, start)?;
+    let group = groups[place_of(papers, start)];
+    let marks = marks_of(alloc, papers, groups.as_slice(), group)?;
+    Ok(marks)
+}
+
+/// What `region` gives, as a mark for each student of the papers in order of entry: so whoever goes through
+/// them all asks nobody's number. One who enters has no mark.
+///
+/// Answers the first refusal of the amendment that applies, as `Papers::check` does, or else want of
+/// memory. The papers are not changed.
+///
+/// The cost is one pass over all choices, by their positions, with steps to the root of each one's group.
+/// Memory is taken for each school and each student.
+pub fn region_marks(
+    alloc: Global,
+    papers: &Papers,
+    amendment: &Amendment,
+) -> Result<RegionMarks, Refusal>
+    ensures allowed { OnOk result (verdict papers.now amendment.now ≡ None) }
+    ensures one_each { IfOk result (λ marks. length marks ≡ length papers.now.students) }
+    ensures region { IfOk result (λ marks. (position i : ℕ) → slice_get (students_of papers.now) position ≡ Some i → (IsTrue (slice_index_or marks position false) ↔ InRegion papers.now amendment.now i)) }
+    ensures refused { IfErr result (IsRefusal (verdict papers.now amendment.now)) }
+{
+    papers.check(amendment)?;
+    let marks = marks_of_region(alloc, papers, amendment)?;
+    // This call tells that the papers are well-formed.
+    prove!(papers.students_len() <= MOST_STUDENTS);
+    Ok(RegionMarks::from_vec(marks))
 }

@@ -1,6 +1,6 @@
 //! Groups of schools that are joined step by step.
 
-ghost use Rattle.std.specs.Prelude.{◌≡◌, ◌<◌, length, slice_index, IfOk};
+ghost use Rattle.std.specs.Prelude.{◌≡◌, ◌<◌, true, length, slice_index, IfOk};
 ghost use Rattle.std.specs.List.{range_with_len};
 ghost use Rattle.sc_region.specs.Groups.{joined};
 ghost use Rattle.sc_region.specs.Roots.{root_of, roots_of, AreParents, KeepsRoots};
@@ -54,6 +54,16 @@ fn find_root(parents: &mut Vec<usize>, position: usize) -> usize
     at
 }
 
+/// Whether two positions have one parent, and so one root.
+fn have_one_parent(parents: &Vec<usize>, a: usize, b: usize) -> bool
+    requires first { a < length parents.now.items }
+    requires second { b < length parents.now.items }
+    requires low { AreParents parents.now.items }
+    ensures { result ≡ true → root_of parents.now.items a ≡ root_of parents.now.items b }
+{
+    parents[a] == parents[b]
+}
+
 /// Makes each position's root its parent.
 fn flatten(parents: &mut Vec<usize>)
     requires { AreParents parents.old.items }
@@ -86,6 +96,10 @@ impl SchoolGroups {
         ensures joined { self.new ≡ joined self.old a b }
         ensures one_each { length self.new ≡ length self.old }
     {
+        // Most often they are in one group by now, and nothing is to be climbed.
+        if have_one_parent(&self.parents, a, b) {
+            return;
+        }
         let first = find_root(&mut self.parents, a);
         let second = find_root(&mut self.parents, b);
         self.parents[first.max(second)] = first.min(second);

@@ -3,19 +3,18 @@ use Rattle.std.proofs.Common.{◌≡◌, inl, inr, refl, ap, sym, subst, ◌∙�
 use Rattle.std.specs.List.{IsDistinct}
 use Rattle.std.proofs.Math.Bool.{and_comm}
 use Rattle.std.proofs.lemmas.Bool.{cases_Bool, eqb-true, and_left}
-use Rattle.std.proofs.lemmas.List.{drop_all, length-map, take-map, take-take, take_all}
+use Rattle.std.proofs.lemmas.List.{drop_all, take-map, take-take}
 use Rattle.std.proofs.lemmas.List.Elements.{All-cons, All-contains_itself, All-nil, All-filter, All-map, All-take, All-weaker}
 use Rattle.std.proofs.lemmas.Map.Views.{any-filter_same}
 use Rattle.sc_papers.specs.Log.{next_choice, IsSettled}
 use Rattle.sc_papers.specs.Market.{Market, is_student, students_of}
 use Rattle.sc_papers.specs.WellFormed.{WellFormed}
-use Rattle.sc_papers.specs.Restriction.{cut, joined, restricted, entries_of, outside, AreApart, IsSegmented}
+use Rattle.sc_papers.specs.Restriction.{cut, joined, restricted, outside, AreApart, IsSegmented}
 use Rattle.sc_papers.specs.declared.records.Student.{Student}
 use Rattle.sc_papers.specs.declared.rejection.Rejection.{Rejection}
-use Rattle.sc_papers.proofs.Apart.{next-part}
 use Rattle.sc_papers.proofs.Cutting.{segments-settled}
 use Rattle.sc_papers.proofs.Positions.{among-student}
-use Rattle.sc_papers.proofs.Restriction.{next-dropped, next-kept, restricted-restricts}
+use Rattle.sc_papers.proofs.Restriction.{next-dropped, restricted-restricts}
 use Rattle.sc_papers.proofs.Students.{how_many-agree}
 use Rattle.sc_papers.proofs.Subsets.{well-cut, well-restricted}
 use Rattle.sc_checkpoint.specs.Chains.{logs_in, students_in, Chain}
@@ -27,7 +26,7 @@ use Rattle.sc_weave.proofs.Counts.{apart-cut, students-restricted}
 use Rattle.sc_repair.specs.Course.{log_of, placed_before, GoesOnInside}
 use Rattle.sc_repair.specs.Locality.{chains_of, is_among}
 use Rattle.sc_repair.proofs.Course.{entered-inside}
-use Rattle.sc_repair.proofs.Parts.{entries-chains, next-inside, part-inside}
+use Rattle.sc_repair.proofs.Parts.{next-inside, part-inside}
 use Rattle.sc_repair.proofs.Resumption.{any-turned, stands-among, students-next}
 
 -- the first students are those of the papers cut there
@@ -43,10 +42,6 @@ stands-inside m log test students i =
     ∙ any-filter_same (nat_eq i) test (test i) (λ j same. ap test (sym (eqb-true i j same))) students
     ∙ and_comm (test i) (is_among students i)
 
--- they stand where the log of those who pass leaves them
-next-alone : (m : Market) (test : ℕ → Bool) (log : List Rejection) (i : ℕ) → test i ≡ true → next_choice m log i ≡ next_choice m (entries_of test log) i
-next-alone m test log i passes = sym (next-part (restricted-restricts m test) log i passes) ∙ next-kept (restricted-restricts m test) (entries_of test log) i passes
-
 each-passes : (test : ℕ → Bool) (xs : List ℕ) → All (λ i. test i ≡ true) (filter test xs)
 each-passes test [] = All-nil (λ i. test i ≡ true)
 each-passes test (x ∷ xs) = go (test x) refl (each-passes test xs)
@@ -56,7 +51,7 @@ each-passes test (x ∷ xs) = go (test x) refl (each-passes test xs)
     go false fails rest = rest
 
 pub stand-inside : (m : Market) (test : ℕ → Bool) (chains : List Chain) (k : ℕ) → WellFormed m → AreApart m test → students_in chains ≡ take k (students_of m) → IsSegmented (cut m k) (logs_in chains)
-    → AreNextChoices m (log_of test chains) (next_choices_after m (joined (logs_in chains)) (filter test (take k (students_of m))))
+    → AreNextChoices m (log_of test chains) (next_choices_after m (log_of test chains) (filter test (take k (students_of m))))
 stand-inside m test chains k well apart theirs segmented =
     let students = filter test (take k (students_of m)) in
     let first = theirs ∙ students-first m k in
@@ -66,18 +61,16 @@ stand-inside m test chains k well apart theirs segmented =
       known = All-map (λ (s : NextChoice). is_student m s.student ≡ true) stand students
           (All-filter test (λ i. is_student m i ≡ true) (take k (students_of m))
           (All-take (λ i. is_student m i ≡ true) k (students_of m) (All-weaker (Contains (students_of m)) (λ i. is_student m i ≡ true) (among-student m) (students_of m) (All-contains_itself (students_of m)))));
-      different = subst (IsDistinct nat_eq) (sym (students-next m (joined (logs_in chains)) students)) differ;
+      different = subst (IsDistinct nat_eq) (sym (students-next m (log_of test chains) students)) differ;
       next = All-map (λ (s : NextChoice). s.next ≡ next_choice m (log_of test chains) s.student) stand students
-          (All-weaker (λ i. test i ≡ true) (λ i. next_choice m (joined (logs_in chains)) i ≡ next_choice m (log_of test chains) i)
-          (λ i passes. next-alone m test (joined (logs_in chains)) i passes ∙ ap (λ l. next_choice m l i) (entries-chains (cut m k) test chains (well-cut m k well) apart_first first segmented))
-          students (each-passes test (take k (students_of m))));
+          (All-weaker (λ i. test i ≡ true) (λ i. next_choice m (log_of test chains) i ≡ next_choice m (log_of test chains) i) (λ i passes. refl) students (each-passes test (take k (students_of m))));
       settled = subst (λ n. IsSettled n (log_of test chains))
-          (sym (entered-inside m test (stands (next_choices_after m (joined (logs_in chains)) students)) k well (λ i. stands-inside m (joined (logs_in chains)) test (take k (students_of m)) i)))
+          (sym (entered-inside m test (stands (next_choices_after m (log_of test chains) students)) k well (λ i. stands-inside m (log_of test chains) test (take k (students_of m)) i)))
           (segments-settled (restricted (cut m k) test) (logs_in (chains_of test chains)) part);
     }
   where
     stand : ℕ → NextChoice
-    stand i = record { student = i; next = next_choice m (joined (logs_in chains)) i }
+    stand i = record { student = i; next = next_choice m (log_of test chains) i }
 
     differ : IsDistinct nat_eq (filter test (take k (students_of m)))
     differ = subst (IsDistinct nat_eq) (students-restricted (cut m k) test ∙ ap (filter test) (sym (students-first m k))) (well-restricted (cut m k) test (well-cut m k well)).students_differ
@@ -101,23 +94,23 @@ standing-inside m test chains r k well apart theirs segmented entered continues 
     ]
 
 -- the next choices after the first chains, as the code finds them
-pub next-choices-kept : (m : Market) (test : ℕ → Bool) (chains : List Chain) (k : ℕ) → k ≡ length chains
-    → next_choices_after m (joined (take k (logs_in chains))) (filter test (take k (students_of m))) ≡ next_choices_after m (joined (logs_in chains)) (filter test (take (length chains) (students_of m)))
-next-choices-kept m test chains k count =
-    ap (λ j. next_choices_after m (joined (take j (logs_in chains))) (filter test (take j (students_of m)))) count
-    ∙ ap (λ l. next_choices_after m (joined l) (filter test (take (length chains) (students_of m)))) (take_all (length chains) (logs_in chains) (omega (arith, length-map chains (λ (c : Chain). c.rejections))))
+pub next-choices-kept : (m : Market) (test : ℕ → Bool) (old chains : List Chain) (k : ℕ) → k ≡ length chains → chains ≡ take (length chains) old
+    → next_choices_after m (log_of test (take k old)) (filter test (take k (students_of m))) ≡ next_choices_after m (log_of test chains) (filter test (take (length chains) (students_of m)))
+next-choices-kept m test old chains k count first =
+    ap (λ j. next_choices_after m (log_of test (take j old)) (filter test (take j (students_of m)))) count
+    ∙ ap (λ cs. next_choices_after m (log_of test cs) (filter test (take (length chains) (students_of m)))) (sym first)
 
 -- it begins
 pub inside-begins : (m : Market) (test : ℕ → Bool) (old chains : List Chain) (gap : ℕ) (r : RoundView) (k : ℕ) → AreApart m test
     → length chains ≡ k → chains ≡ take k old → students_in chains ≡ take k (students_of m) → IsSegmented (cut m k) (logs_in chains)
     → chains_of (outside test) (take k old) ++ chains_of (outside test) (drop (k + gap) old) ≡ chains_of (outside test) old
-    → Fits m r → ((i : ℕ) → has_entered m r.ranks i ≡ stands (next_choices_after m (joined (logs_in chains)) (filter test (take k (students_of m)))) i)
+    → Fits m r → ((i : ℕ) → has_entered m r.ranks i ≡ stands (next_choices_after m (log_of test chains) (filter test (take k (students_of m)))) i)
     → Continues m (log_of test chains) r → r.log ≡ [] → r.proposals ≡ 0
     → GoesOnInside m test old k gap r chains k
 unfolding standing_but
 inside-begins m test old chains gap r k apart count first theirs segmented others fits entered continues no_log none =
     let inside : (i : ℕ) → has_entered m r.ranks i ≡ (is_among (take k (students_of m)) i && test i) =
-    λ i. entered i ∙ stands-inside m (joined (logs_in chains)) test (take k (students_of m)) i in
+    λ i. entered i ∙ stands-inside m (log_of test chains) test (take k (students_of m)) i in
     let standing : standing_but m r.ranks nobody ≡ placed_before m test old k =
     how_many-agree m (λ i. is_some (next_of m r.ranks i) && not false) (λ i. test i && is_some (next_choice (cut m k) (joined (take k (logs_in old))) i))
     (λ i. standing-inside m test chains r k fits.well_formed apart theirs segmented inside continues no_log i

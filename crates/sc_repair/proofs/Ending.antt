@@ -1,9 +1,9 @@
 -- All have had their turn: the segments are those of the new papers, and every place and proposal is told.
-use Rattle.std.proofs.Common.{◌≡◌, inl, inr, refl, ap, sym, subst, subst₂, ◌∙◌, ℕ, ◌+◌, ◌≤◌, Bool, false, not, ◌&&◌, List, ◌++◌, length, take, drop, Option, Some, None, is_some, append-nil, arith}
-use Rattle.std.proofs.lemmas.Bool.{cases_Bool, cond-true, cond-false, and_left, true≢false}
+use Rattle.std.proofs.Common.{◌≡◌, inl, inr, ap, sym, subst, subst₂, ◌∙◌, ℕ, ◌+◌, ◌≤◌, Bool, false, not, ◌&&◌, List, ◌++◌, length, take, drop, is_some, append-nil, arith}
+use Rattle.std.proofs.lemmas.Bool.{cases_Bool, cond-true, cond-false, and_left}
 use Rattle.std.proofs.lemmas.List.{drop_all, drop-map, length-map, take_all, take-map}
 use Rattle.sc_papers.specs.Log.{matching_of, next_choice}
-use Rattle.sc_papers.specs.Market.{Market, is_student, students_of}
+use Rattle.sc_papers.specs.Market.{Market, students_of}
 use Rattle.sc_papers.specs.Matching.{how_many, Matching, IsStudentOptimal}
 use Rattle.sc_papers.specs.Restriction.{cut, joined, restricted, outside, AreApart, IsSegmented}
 use Rattle.sc_papers.specs.WellFormed.{WellFormed}
@@ -11,10 +11,8 @@ use Rattle.sc_papers.specs.declared.rejection.Rejection.{Rejection}
 use Rattle.sc_papers.proofs.Cutting.{segments-settled}
 use Rattle.sc_papers.proofs.Locality.{optimal-outside}
 use Rattle.sc_papers.proofs.Optimality.{settled-optimal}
-use Rattle.sc_papers.proofs.Positions.{among-student}
 use Rattle.sc_papers.proofs.Restriction.{next-dropped, restricted-restricts}
-use Rattle.sc_papers.proofs.Students.{how_many-agree, lister-among}
-use Rattle.sc_papers.proofs.Validity.{next-listed}
+use Rattle.sc_papers.proofs.Students.{how_many-agree}
 use Rattle.sc_checkpoint.specs.Chains.{logs_in, students_in, Chain}
 use Rattle.sc_engine.specs.RoundView.{RoundView, has_entered, next_of, standing_but}
 use Rattle.sc_engine.proofs.Proposals.{stays}
@@ -24,7 +22,7 @@ use Rattle.sc_weave.proofs.Part.{part-segmented}
 use Rattle.sc_weave.proofs.Region.{rest-segmented}
 use Rattle.sc_weave.proofs.Undoing.{woven-parts}
 use Rattle.sc_weave.proofs.Woven.{woven-segmented}
-use Rattle.sc_repair.specs.Course.{among_students, either_by, log_of, placed_before, placed_of, GoesOnInside}
+use Rattle.sc_repair.specs.Course.{either_by, log_of, placed_before, placed_of, GoesOnInside}
 use Rattle.sc_repair.specs.Locality.{chains_of, ChangesInside}
 use Rattle.sc_repair.proofs.Chains.{log-parts, part-chains}
 use Rattle.sc_repair.proofs.Course.{entered-inside}
@@ -71,30 +69,19 @@ next-end n test old point gap r chains on i =
     ∙ ap (λ p. next_choice p (log_of test (take point old) ++ r.log) i) (entered-inside n test (has_entered n r.ranks) (length n.students) on.fits.well_formed on.entered ∙ ap (λ p. restricted p test) (whole-cut n))
     ∙ ap (λ l. next_choice (restricted n test) l i) (sym (log-parts test point chains ∙ (λ t. log_of test (on.stays t) ++ on.log t)))
 
--- who is not in the papers has no next choice
-nobody-there : (n : Market) (log : List Rejection) (i : ℕ) → is_student n i ≡ false → next_choice n log i ≡ None
-nobody-there n log i unknown = go (next_choice n log i) refl
-  where
-    go : (o : Option ℕ) → next_choice n log i ≡ o → o ≡ None
-    go None is = refl
-    go (Some s) is = absurd (true≢false (sym (among-student n i (lister-among n i s (next-listed n log i s is))) ∙ unknown))
-
 -- so everybody has what the whole log gives
 pub matching-end : (m n : Market) (test : ℕ → Bool) (old : List Chain) (point gap : ℕ) (r : RoundView) (chains : List Chain) (places : Matching)
     → WellFormed m → ChangesInside m n test point gap → IsStudentOptimal m places → IsSegmented n (logs_in chains) → GoesOnInside n test old point gap r chains (length n.students)
-    → (i : ℕ) → among_students n (either_by test (next_of n r.ranks) places) i ≡ next_choice n (joined (logs_in chains)) i
+    → (i : ℕ) → either_by test (next_of n r.ranks) places i ≡ next_choice n (joined (logs_in chains)) i
 matching-end m n test old point gap r chains places well changes optimal segmented on i =
-    elim (cases_Bool (is_student n i)) [
-      | inl there ↦ cond-true (is_student n i) (either_by test (next_of n r.ranks) places i) None there ∙ elim (cases_Bool (test i)) [
-        | inl passes ↦
-            cond-true (test i) (next_of n r.ranks i) (places i) passes ∙ next-end n test old point gap r chains on i
-            ∙ next-inside n test chains i changes.well_formed changes.apart (theirs-end n test old point gap r chains on) segmented passes
-        | inr fails ↦
-            cond-false (test i) (next_of n r.ranks i) (places i) fails
-            ∙ optimal-outside m n test places (matching_of n (joined (logs_in chains))) well changes.well_formed changes.apart_before changes.apart changes.outside optimal
-            (settled-optimal n changes.well_formed (joined (logs_in chains)) (segments-settled n (logs_in chains) segmented)) i fails
-      ]
-      | inr unknown ↦ cond-false (is_student n i) (either_by test (next_of n r.ranks) places i) None unknown ∙ sym (nobody-there n (joined (logs_in chains)) i unknown)
+    elim (cases_Bool (test i)) [
+      | inl passes ↦
+          cond-true (test i) (next_of n r.ranks i) (places i) passes ∙ next-end n test old point gap r chains on i
+          ∙ next-inside n test chains i changes.well_formed changes.apart (theirs-end n test old point gap r chains on) segmented passes
+      | inr fails ↦
+          cond-false (test i) (next_of n r.ranks i) (places i) fails
+          ∙ optimal-outside m n test places (matching_of n (joined (logs_in chains))) well changes.well_formed changes.apart_before changes.apart changes.outside optimal
+          (settled-optimal n changes.well_formed (joined (logs_in chains)) (segments-settled n (logs_in chains) segmented)) i fails
     ]
 
 -- of those who stand in the round, each passes and has a place

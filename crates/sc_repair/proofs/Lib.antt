@@ -3,12 +3,11 @@ pub mod Rewinding
 pub mod Resumption
 pub mod Kept
 pub mod Region
-pub mod Among
 pub mod Chains
 pub mod Course
 pub mod Parts
 pub mod Beginning
-pub mod Places
+pub mod GivenPlaces
 pub mod InStep
 pub mod Ending
 pub mod Resettled

@@ -1,15 +1,26 @@
 -- A clearing after an amendment, told by the amendment's region.
-use Rattle.std.proofs.Common.{◌≡◌, ◌↔◌, refl, ap, sym, subst, ◌∙◌, ℕ, nat_eq, Bool, true, false, not, List, None, Contains, IsTrue, is_some}
+use Rattle.std.proofs.Common.{◌≡◌, ◌↔◌, inl, inr, refl, ap, sym, subst, ◌∙◌, ℕ, nat_eq, Bool, true, false, not, List, Some, None, Contains, IsTrue, is_some, slice_get, arith}
+use Rattle.std.specs.Prelude.{slice_index_or}
 use Rattle.std.specs.Map.{lookup}
 use Rattle.std.proofs.lemmas.Bool.{cond-true, eqb-true, false_from_ne_true}
 use Rattle.std.proofs.lemmas.Cmp.{nat_eq_equiv}
 use Rattle.std.proofs.lemmas.Map.Views.{list_any-from_Contains, Contains-from_any}
-use Rattle.sc_papers.specs.Market.{Market, is_student, student_of}
+use Rattle.sc_papers.specs.Market.{Market, is_student, student_of, students_of}
 use Rattle.sc_papers.specs.Restriction.{restricted, outside, AlikeOutside}
-use Rattle.sc_papers.specs.Verdict.{after}
+use Rattle.std.proofs.lemmas.Option.{none-some}
+use Rattle.sc_papers.specs.Verdict.{after, verdict}
+use Rattle.sc_papers.specs.WellFormed.{WellFormed}
+use Rattle.sc_papers.specs.declared.amendment.Amendment.TheVariants.{Enter, Withdraw, Rerank, Add, Close, Correct}
+use Rattle.sc_papers.proofs.Choices.{place-of}
+use Rattle.sc_papers.proofs.Positions.{student-among}
 use Rattle.sc_papers.specs.declared.amendment.Amendment.{Amendment}
 use Rattle.sc_papers.proofs.Restriction.{student-restricted}
+use Rattle.sc_region.specs.Groups.{entrants}
+use Rattle.sc_region.specs.Marks.{marked}
 use Rattle.sc_region.specs.Region.{InRegion}
+use Rattle.sc_region.proofs.Marked.{marked-from, marked-there}
+use Rattle.sc_region.proofs.Reaching.{in-known}
+use Rattle.sc_repair.specs.Newcomer.{newcomer}
 use Rattle.sc_repair.specs.Locality.{is_among, TellsRegion}
 use Rattle.sc_repair.specs.Rewinding.{rewind_point}
 use Rattle.sc_repair.specs.Standing.{matching_of, Standing, CountsInside, CountsRegion, KeepsOthers}
@@ -21,6 +32,26 @@ list-tells m a region tells i = (
   λ among. (tells i).0 (Contains-from_any eqb-true i region among),
   λ inside. list_any-from_Contains nat_eq_equiv i region ((tells i).1 inside),
 )
+
+-- the marks of a region where nobody enters
+nobody-enters : (a : Amendment) (i : ℕ) → newcomer a ≡ None → Contains (entrants a) i → ⊥
+nobody-enters (Enter j zone siblings choices continuing) i none (k, low, at) = none-some j (sym none)
+nobody-enters (Withdraw j) i none (k, low, at) = omega (arith, low)
+nobody-enters (Rerank j choices) i none (k, low, at) = omega (arith, low)
+nobody-enters (Add s count) i none (k, low, at) = omega (arith, low)
+nobody-enters (Close s count) i none (k, low, at) = omega (arith, low)
+nobody-enters (Correct j zone siblings continuing) i none (k, low, at) = omega (arith, low)
+
+pub marks-tell : (m : Market) (a : Amendment) (marks : List Bool) → WellFormed m → verdict m a ≡ None → newcomer a ≡ None
+    → ((position i : ℕ) → slice_get (students_of m) position ≡ Some i → (IsTrue (slice_index_or marks position false) ↔ InRegion m a i)) → TellsRegion m a (is_among (marked marks (students_of m)))
+marks-tell m a marks well allowed no_entry told =
+    list-tells m a (marked marks (students_of m)) (λ i. (
+      λ among. let (at, here, passes) = marked-from marks (students_of m) i among in (told at i here).0 passes,
+      λ within. elim (in-known m a well allowed i within) [
+        | inl known ↦ let (at, here) = place-of (students_of m) i (student-among m i known) in marked-there marks (students_of m) at i here ((told at i here).1 within)
+        | inr enters ↦ absurd (nobody-enters a i no_entry enters)
+      ],
+    ))
 
 -- a student outside stays in the papers
 student-outside : (m n : Market) (test : ℕ → Bool) (i : ℕ) → AlikeOutside test m n → test i ≡ false → student_of n i ≡ student_of m i

@@ -1,6 +1,8 @@
 -- A clearing whose papers change inside a region: what its settling needs, and what it comes to.
-use Rattle.std.proofs.Common.{◌≡◌, ◌⊎◌, inl, refl, ap, sym, subst, ◌∙◌, ℕ, zero, suc, ◌+◌, ◌≤◌, ◌<◌, Bool, true, false, List, ◌++◌, length, take, drop, Option, Some, None, slice_get, arith}
-use Rattle.std.proofs.lemmas.List.{take-append-drop, take-map}
+use Rattle.std.proofs.Common.{◌≡◌, ◌⊎◌, inl, inr, refl, ap, sym, subst, ◌∙◌, ℕ, zero, suc, ◌+◌, ◌≤◌, ◌<◌, nat_eq, Bool, true, false, List, ◌++◌, length, take, drop, Option, Some, None, slice_get, arith}
+use Rattle.std.specs.List.{IsDistinct}
+use Rattle.std.proofs.lemmas.List.{length-map, take-append-drop, take-map}
+use Rattle.std.proofs.lemmas.Option.{slice_get_within}
 use Rattle.std.proofs.lemmas.List.Elements.{filter-append}
 use Rattle.sc_papers.specs.Assignment.{assigned}
 use Rattle.sc_papers.specs.Log.{next_choice}
@@ -8,17 +10,19 @@ use Rattle.sc_papers.specs.Market.{Market, students_of}
 use Rattle.sc_papers.specs.Matching.{IsStudentOptimal}
 use Rattle.sc_papers.specs.Restriction.{cut, joined, outside, IsSegmented}
 use Rattle.sc_papers.specs.WellFormed.{WellFormed}
+use Rattle.sc_papers.proofs.Choices.{places-end}
 use Rattle.sc_papers.proofs.Locality.{optimal-outside}
 use Rattle.sc_checkpoint.specs.Chains.{logs_in, students_in, Chain}
 use Rattle.sc_engine.specs.RoundView.{RoundView, next_of}
 use Rattle.sc_repair.specs.Changed.{HaveChanged}
-use Rattle.sc_repair.specs.Course.{among_students, either_by, GoesOnInside, InStep}
+use Rattle.sc_repair.specs.Course.{either_by, GoesOnInside, InStep}
 use Rattle.sc_repair.specs.Locality.{chains_of, ChangesInside}
 use Rattle.sc_repair.specs.Standing.{Standing, CountsInside, IsCertified}
 use Rattle.sc_repair.proofs.Chains.{drop-past}
 use Rattle.sc_repair.proofs.Course.{others-past}
 use Rattle.sc_repair.proofs.Ending.{matching-end, proposals-end, segments-end, theirs-end}
 use Rattle.sc_repair.proofs.Kept.{certified-of, count-kept, logs-kept, theirs-kept}
+use Rattle.sc_repair.proofs.Resumption.{length-students}
 use Rattle.sc_repair.proofs.Rewinding.{segments-rewound}
 
 -- the old chains are in step
@@ -75,7 +79,7 @@ pub record Comes (m n : Market) (test : ℕ → Bool) (point : ℕ) (old : List 
 
 pub comes : (m n : Market) (test : ℕ → Bool) (old : List Chain) (point gap k : ℕ) (r : RoundView) (chains : List Chain) (before after : List (ℕ × ℕ)) (proposals : ℕ)
     → WellFormed m → ChangesInside m n test point gap → students_in old ≡ students_of m → IsSegmented m (logs_in old) → IsStudentOptimal m (assigned before) → k ≡ point
-    → GoesOnInside n test old k gap r chains (length n.students) → ((i : ℕ) → assigned after i ≡ among_students n (either_by test (next_of n r.ranks) (assigned before)) i) → proposals ≡ r.proposals
+    → GoesOnInside n test old k gap r chains (length n.students) → ((i : ℕ) → assigned after i ≡ either_by test (next_of n r.ranks) (assigned before) i) → proposals ≡ r.proposals
     → Comes m n test point before (record { papers = n; places = after; segments = logs_in chains; proposals = proposals })
 comes m n test old point gap k r chains before after proposals well changes theirs segmented optimal count on given made =
     let going = subst (λ j. GoesOnInside n test old j gap r chains (length n.students)) count on in
@@ -96,8 +100,27 @@ module _ (n : Market) (places : List (ℕ × ℕ)) (old kept : List Chain) (test
   count : length kept ≡ point
   count = count-kept changed.before point old kept changed.stood.theirs changed.changes.within_old is
 
-  pub changed-step : (position i : ℕ) → length kept ≤ position → slice_get (students_of n) position ≡ Some i → InStep test old (position + gap) i
-  changed-step = chains-step changed.before n test old point gap (length kept) changed.changes changed.stood.theirs count
+  pub changed-step : (position i : ℕ) → length kept ≤ position → slice_get (students_of n) position ≡ Some i → slice_get (students_in old) (position + gap) ≡ Some i
+  changed-step position i from here =
+      elim (chains-step changed.before n test old point gap (length kept) changed.changes changed.stood.theirs count position i from here) [
+        | inl there ↦ there
+        | inr (none, passes) ↦
+            absurd (omega (
+              arith,
+              places-end (students_in old) (position + gap) none,
+              length-map old (λ (c : Chain). c.student),
+              changed.nobody_new,
+              slice_get_within (students_of n) position i here,
+              length-students n,
+            ))
+      ]
+
+  pub changed-differ : IsDistinct nat_eq (students_in old)
+  changed-differ = subst (IsDistinct nat_eq) (sym changed.stood.theirs) changed.stood.well_formed.students_differ
+
+  pub changed-within : length kept ≤ length old
+  changed-within =
+      omega (arith, count, changed.changes.within_old, length-map old (λ (c : Chain). c.student), ap (λ (xs : List ℕ). length xs) changed.stood.theirs, length-students changed.before)
 
   pub changed-outside : chains_of (outside test) (take (length kept) old) ++ chains_of (outside test) (drop (length kept + gap) old) ≡ chains_of (outside test) old
   changed-outside = chains-others changed.before n test old point gap (length kept) changed.changes changed.stood.theirs count
@@ -120,7 +143,7 @@ module _ (n : Market) (places : List (ℕ × ℕ)) (old kept : List Chain) (test
     pub proposals : CountsInside test point (record { papers = n; places = after; segments = logs_in chains; proposals = made })
 
   pub changed-leaves : (r : RoundView) (chains : List Chain) (after : List (ℕ × ℕ)) (proposals : ℕ) → GoesOnInside n test old (length kept) gap r chains (length n.students)
-      → ((i : ℕ) → assigned after i ≡ among_students n (either_by test (next_of n r.ranks) (assigned places)) i) → proposals ≡ r.proposals → Leaves after chains proposals
+      → ((i : ℕ) → assigned after i ≡ either_by test (next_of n r.ranks) (assigned places) i) → proposals ≡ r.proposals → Leaves after chains proposals
   changed-leaves r chains after proposals on given made =
       let come = comes changed.before n test old point gap (length kept) r chains places after proposals
       changed.stood.well_formed changed.changes changed.stood.theirs changed.stood.segmented changed.stood.optimal count on given made in

@@ -1,7 +1,7 @@
 -- A settling of some students alone, from a point in the order of entry on.
 use Rattle.std.specs.Prelude.{◌≡◌, ◌⊎◌, ℕ, ◌+◌, ◌≤◌, Bool, ◌&&◌, List, ◌++◌, length, take, drop, Some, None, is_some, slice_get, true, if◌then◌else◌}
 use Rattle.sc_papers.specs.Log.{matching_of}
-use Rattle.sc_papers.specs.Market.{Market, is_student, students_of}
+use Rattle.sc_papers.specs.Market.{Market, students_of}
 use Rattle.sc_papers.specs.Matching.{how_many, Matching}
 use Rattle.sc_papers.specs.Restriction.{cut, restricted, joined, outside, IsSegmented}
 use Rattle.sc_papers.specs.declared.rejection.Rejection.{Rejection}
@@ -16,10 +16,6 @@ placed_of m test a = how_many m (λ i. test i && is_some (a i))
 -- the students who pass have what the one matching gives them, and the others what the other does
 abbrev pub either_by : (ℕ → Bool) → Matching → Matching → Matching
 either_by test inside rest = λ i. if test i then inside i else rest i
-
--- a matching of the students of the papers alone
-abbrev pub among_students : Market → Matching → Matching
-among_students m a = λ i. if is_student m i then a i else None
 
 -- the log that the chains of the students who pass make
 abbrev pub log_of : (ℕ → Bool) → List Chain → List Rejection

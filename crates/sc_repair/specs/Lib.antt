@@ -7,3 +7,4 @@ pub mod Course
 pub mod Newcomer
 pub mod Changed
 pub mod Stamped
+pub mod Placing

@@ -5,7 +5,8 @@ use Rattle.sc_papers.specs.Market.{Market, students_of}
 use Rattle.sc_papers.specs.Restriction.{AreApart, AlikeOutside, AlikeUpTo}
 use Rattle.sc_papers.specs.WellFormed.{WellFormed}
 use Rattle.sc_papers.specs.declared.amendment.Amendment.{Amendment}
-use Rattle.sc_checkpoint.specs.Chains.{Chain}
+use Rattle.sc_checkpoint.specs.Chains.{students_in, Chain}
+use Rattle.sc_region.specs.Marks.{marked}
 use Rattle.sc_region.specs.Region.{InRegion}
 
 -- a test passes exactly those who are in the region of an amendment
@@ -19,6 +20,10 @@ is_among students i = list_any (nat_eq i) students
 -- the chains of the students who pass
 abbrev pub chains_of : (ℕ → Bool) → List Chain → List Chain
 chains_of test chains = filter (λ chain. test chain.student) chains
+
+-- the students of the chains who are marked
+abbrev pub marked_in : List Bool → List Chain → List ℕ
+marked_in marks chains = marked marks (students_in chains)
 
 -- the students of new papers stand in step with the old ones from a point on, so many places further
 -- forward: the old ones between pass, and so does one who is there only now

@@ -197,11 +197,11 @@ impl Clearing {
     /// refused growth also costs an offer for each student and a look at each entry of the log, by which
     /// everybody is put back where they stand.
     ///
-    /// Any other amendment costs that of finding the region and of a copy of the places and the log, and an
-    /// offer for each proposal of the region's students from the rewind point on; a withdrawal copies the
-    /// papers too. The new places and segments are made whole beside the old ones before they take their
-    /// place, and papers that have changed by then go back where a growth is refused, so nothing is left half
-    /// done. A refused amendment costs its `check` alone. The stamps take a look-up.
+    /// Any other amendment costs that of finding the region and of a copy of the log, and an offer for each
+    /// proposal of the region's students from the rewind point on; a withdrawal copies the papers too. The new
+    /// segments are made whole beside the old ones before they take their place, and papers that have changed by
+    /// then go back where a growth is refused, so nothing is left half done. A refused amendment costs its
+    /// `check` alone. The stamps take a look-up.
     pub fn amend(&mut self, stamped: Stamped) -> Result<(), Refusal>
         ensures optimal { IsStudentOptimal (papers_after self.old.standing.papers stamped.amendment result) (matching_of self.new.standing) }
         ensures certified { IsCertified self.new.standing }

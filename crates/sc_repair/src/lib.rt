@@ -5,11 +5,14 @@
 mod clearing;
 mod entering;
 mod open_refused;
+mod placing;
 mod resettling;
 mod rewind;
 mod settlement;
 mod settling;
+mod unsettled;
 
 pub use clearing::Clearing;
 pub use open_refused::OpenRefused;
 pub use rewind::rewind_point;
+pub use unsettled::Unsettled;

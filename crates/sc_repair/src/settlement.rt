@@ -8,7 +8,7 @@ ghost use Rattle.sc_papers.specs.Matching.{has, held};
 mod amend;
 mod change;
 mod newcomer;
-mod resettle;
+mod withdraw;
 
 use crate::open_refused::OpenRefused;
 use crate::settling::settle_on;

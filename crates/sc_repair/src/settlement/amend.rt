@@ -1,6 +1,6 @@
 //! Amendments taking effect on the standing assignment.
 
-ghost use Rattle.std.specs.Prelude.{◌≡◌, None, take, IfErr, IfOk, OnErr, OnOk};
+ghost use Rattle.std.specs.Prelude.{◌≡◌, None, take, IfErr, OnErr, OnOk};
 ghost use Rattle.sc_papers.specs.Matching.{IsStudentOptimal};
 ghost use Rattle.sc_papers.specs.TakingBack.{is_withdrawal};
 ghost use Rattle.sc_papers.specs.Verdict.{after, verdict, IsRefusal};
@@ -9,20 +9,7 @@ ghost use Rattle.sc_repair.specs.Standing.{matching_of, papers_after, CountsRegi
 
 use super::Settlement;
 use crate::entering::newcomer;
-use crate::rewind::rewind_point;
-use sc_papers::{Amendment, Papers, Refusal};
-use sc_region::region;
-
-/// The papers after an amendment that they allow, beside the ones that stand.
-fn amended_papers(papers: &Papers, amendment: Amendment) -> Result<Papers, Refusal>
-    requires allowed { verdict papers.now amendment ≡ None }
-    ensures accepted { IfOk result (λ amended. amended ≡ after papers.now amendment) }
-    ensures refused { IfErr result (IsRefusal (verdict papers.now amendment)) }
-{
-    let mut amended = papers.copy()?;
-    amended.apply(amendment)?;
-    Ok(amended)
-}
+use sc_papers::{Amendment, Refusal};
 
 /// Whether a student withdraws by the amendment.
 fn is_withdrawal(amendment: &Amendment) -> bool
@@ -39,31 +26,6 @@ fn is_withdrawal(amendment: &Amendment) -> bool
 }
 
 impl Settlement {
-    /// The clearing after the amendment, settled anew in its region from its rewind point on, beside this
-    /// one. An amendment that is refused copies nothing.
-    fn amended(&self, amendment: Amendment) -> Result<Settlement, Refusal>
-        ensures allowed { OnOk result (verdict self.now.papers amendment ≡ None) }
-        ensures accepted { IfOk result (λ amended. amended.papers ≡ after self.now.papers amendment) }
-        ensures certified { IfOk result IsCertified }
-        ensures stays { IfOk result (λ amended. take (rewind_point self.now.papers amendment) amended.segments ≡ take (rewind_point self.now.papers amendment) self.now.segments) }
-        ensures others { IfOk result (KeepsOthers self.now amendment) }
-        ensures proposals { IfOk result (CountsRegion self.now.papers amendment) }
-        ensures refused { IfErr result (IsRefusal (verdict self.now.papers amendment)) }
-        // This one stands so too, and goes on to where the amendment is refused.
-        ensures certified_before { IsCertified self.now }
-    {
-        let point = rewind_point(&self.papers, &amendment)?;
-        let region = region(self.alloc, &self.papers, &amendment)?;
-        let papers = amended_papers(&self.papers, amendment)?;
-        // One who withdraws leaves a gap.
-        let gap = self
-            .papers
-            .students_len()
-            .saturating_sub(papers.students_len());
-        let clearing = self.resettled(papers, &region, point, gap)?;
-        Ok(clearing)
-    }
-
     /// Makes the amendment and settles its region anew from its rewind point on, or answers the first
     /// refusal that applies, as `Papers::check` does, or else want of memory. After a refusal the
     /// papers, the standing assignment, the log and the count of proposals are as before; the
@@ -79,11 +41,11 @@ impl Settlement {
     /// refused growth also costs an offer for each student and a look at each entry of the log, by which
     /// everybody is put back where they stand.
     ///
-    /// Any other amendment costs that of finding the region and of a copy of the places and the log, and an
-    /// offer for each proposal of the region's students from the rewind point on; a withdrawal copies the
-    /// papers too. The new places and segments are made whole beside the old ones before they take their
-    /// place, and papers that have changed by then go back where a growth is refused, so nothing is left half
-    /// done. A refused amendment costs its `check` alone.
+    /// Any other amendment costs that of finding the region and of a copy of the log, and an offer for each
+    /// proposal of the region's students from the rewind point on; a withdrawal copies the papers too. The new
+    /// segments are made whole beside the old ones before they take their place, and papers that have changed by
+    /// then go back where a growth is refused, so nothing is left half done. A refused amendment costs its
+    /// `check` alone.
     pub(crate) fn amend(&mut self, amendment: Amendment) -> Result<(), Refusal>
         ensures optimal { IsStudentOptimal (papers_after self.old.papers amendment result) (matching_of self.new) }
         ensures certified { IsCertified self.new }
@@ -100,7 +62,7 @@ impl Settlement {
             return Ok(());
         }
         if is_withdrawal(&amendment) {
-            *self = self.amended(amendment)?;
+            self.withdraw(amendment)?;
             return Ok(());
         }
         self.change(amendment)?;

@@ -11,13 +11,13 @@ use super::Settlement;
 use crate::resettling::resettle;
 use crate::rewind::rewind_point;
 use sc_papers::{Amendment, Refusal};
-use sc_region::region;
+use sc_region::region_marks;
 use sc_seats::HeapRoll;
 
 impl Settlement {
     /// Makes an amendment by which nobody enters or withdraws, in place, and settles its region anew from its
-    /// rewind point on, beside the places and the segments that stand. A refused amendment changes nothing.
-    /// Where a growth is refused after the papers have changed, the amendment is taken back.
+    /// rewind point on. A refused amendment changes nothing. Where a growth is refused after the papers have
+    /// changed, the amendment is taken back.
     pub(super) fn change(&mut self, amendment: Amendment) -> Result<(), Refusal>
         requires no_entry { newcomer amendment ≡ None }
         requires no_withdrawal { is_withdrawal amendment ≡ false }
@@ -31,7 +31,7 @@ impl Settlement {
         ensures unchanged { OnErr result (self.new ≡ self.old) }
     {
         let point = rewind_point(&self.papers, &amendment)?;
-        let region = region(self.alloc, &self.papers, &amendment)?;
+        let region = region_marks(self.alloc, &self.papers, &amendment)?;
         let back = self.papers.exchange(amendment)?;
         // Nobody enters or withdraws, so everybody's segment stands where it did.
         let gap = 0;
@@ -41,15 +41,13 @@ impl Settlement {
             &region,
             point,
             gap,
-            &self.places,
-            &self.segments,
+            &mut self.places,
+            &mut self.segments,
         );
         match settled {
-            Ok(settled) => {
+            Ok(proposals) => {
                 drop(back);
-                self.places = settled.places;
-                self.segments = settled.segments;
-                self.proposals = settled.proposals;
+                self.proposals = proposals;
                 self.round = None;
                 Ok(())
             }

@@ -1,7 +1,7 @@
 use Rattle.std.proofs.Common.{◌≡◌, ◌<◌, ap, sym, ◌∙◌, length, length-set, set, min, max, arith}
 use Rattle.sc_region.specs.Groups.{joined}
 use Rattle.sc_region.specs.Roots.{root_of, roots_of}
-use Rattle.sc_region.proofs.Roots.{climbed-joined, length-roots, root-low, KeepsRoots-trans}
+use Rattle.sc_region.proofs.Roots.{climbed-joined, joined-one, length-roots, root-low, KeepsRoots-trans}
 use Rattle.sc_region.proofs.school_groups.SchoolGroups.join.Goals as goal
 
 pub find_root-first-requires-clause-within : goal.find_root-first-requires-clause-within
@@ -59,3 +59,23 @@ returns-clause-one_each c =
     let r = c.find_root-second.new.parents.items in
     let long : length (roots_of p) ≡ length c.args.self.now = ap length c.self.view_is in
     length-roots (set r c.max.result c.min.result) ∙ length-set r c.max.result c.min.result ∙ c.find_root-second.ensures.keeps.size ∙ c.find_root-first.ensures.keeps.size ∙ sym (length-roots p) ∙ long
+
+pub have_one_parent-requires-clause-first : goal.have_one_parent-requires-clause-first
+have_one_parent-requires-clause-first c =
+    let p = c.self.inside.parents.items in
+    let long : length (roots_of p) ≡ length c.args.self.now = ap length c.self.view_is in
+    omega (arith, c.requires.first, long, length-roots p)
+
+pub have_one_parent-requires-clause-second : goal.have_one_parent-requires-clause-second
+have_one_parent-requires-clause-second c =
+    let p = c.self.inside.parents.items in
+    let long : length (roots_of p) ≡ length c.args.self.now = ap length c.self.view_is in
+    omega (arith, c.requires.second, long, length-roots p)
+
+pub returns-then-have_one_parent-clause-joined : goal.returns-then-have_one_parent-clause-joined
+returns-then-have_one_parent-clause-joined c =
+    let p = c.self.inside.parents.items in
+    let long : length (roots_of p) ≡ length c.args.self.now = ap length c.self.view_is in
+    let a_within : c.args.a < length p = omega (arith, c.requires.first, long, length-roots p) in
+    let b_within : c.args.b < length p = omega (arith, c.requires.second, long, length-roots p) in
+    sym c.self.view_is ∙ sym (joined-one p c.args.a c.args.b a_within b_within (c.have_one_parent.ensures c.if-have_one_parent.true)) ∙ ap (λ xs. joined xs c.args.a c.args.b) c.self.view_is

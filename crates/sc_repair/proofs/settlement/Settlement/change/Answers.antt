@@ -1,21 +1,24 @@
-use Rattle.std.proofs.Common.{◌≡◌, ap, sym, subst, ◌∙◌, IfSome, take, refl}
+use Rattle.std.proofs.Common.{◌≡◌, ℕ, List, ap, sym, subst, subst₂, ◌∙◌, IfSome, take}
 use Rattle.sc_papers.specs.Market.{Market, students_of}
 use Rattle.sc_papers.specs.Verdict.{after}
-use Rattle.sc_checkpoint.specs.Chains.{logs_in}
-use Rattle.sc_repair.specs.Locality.{is_among, ChangesInside, TellsRegion}
+use Rattle.sc_checkpoint.specs.Chains.{logs_in, students_in, Chain}
+use Rattle.sc_region.specs.Marks.{marked}
+use Rattle.sc_repair.specs.Locality.{is_among, marked_in, ChangesInside, TellsRegion}
 use Rattle.sc_repair.specs.Representation.{IsKept}
 use Rattle.sc_repair.specs.Rewinding.{rewind_point}
 use Rattle.sc_repair.specs.Standing.{Standing, CountsInside, CountsRegion, KeepsOthers}
 use Rattle.sc_repair.proofs.Admitted.{still-certified}
-use Rattle.sc_repair.proofs.InStep.{changes-in-place}
-use Rattle.sc_repair.proofs.Regional.{counts-region, keeps-others, list-tells}
+use Rattle.sc_repair.proofs.InStep.{changes-in-place, none-new}
+use Rattle.sc_repair.proofs.Regional.{counts-region, keeps-others, marks-tell}
 use Rattle.sc_repair.proofs.settlement.Settlement.change.Goals as goal
 
 pub resettle-settled-requires : goal.resettle-settled-requires
 resettle-settled-requires c =
     let m = c.self.inside.papers in
-    let test = is_among c.in_ok-region.region in
-    let tells : TellsRegion m c.args.amendment test = list-tells m c.args.amendment c.in_ok-region.region c.in_ok-region.ensures.region in
+    let test = is_among (marked_in c.in_ok-region.region c.self.inside.segments) in
+    let tells : TellsRegion m c.args.amendment test =
+    subst (λ is. TellsRegion m c.args.amendment (is_among (marked c.in_ok-region.region is))) (sym c.self.invariant.theirs)
+    (marks-tell m c.args.amendment c.in_ok-region.region c.self.invariant.certified.well_formed c.in_ok-point.ensures.allowed c.requires.no_entry c.in_ok-region.ensures.region) in
     record {
       changed = record {
         before = m;
@@ -28,6 +31,7 @@ resettle-settled-requires c =
         changes = subst (λ n. ChangesInside m n test c.in_ok-point.point 0) (sym c.in_ok-back.ensures.accepted)
             (subst (λ k. ChangesInside m (after m c.args.amendment) test k 0) (sym c.in_ok-point.ensures.point)
             (changes-in-place m c.args.amendment test c.requires.no_entry c.requires.no_withdrawal c.self.invariant.certified.well_formed c.in_ok-point.ensures.allowed tells));
+        nobody_new = none-new m c.exchange.new.self c.args.amendment c.self.inside.segments c.requires.no_entry c.requires.no_withdrawal c.in_ok-back.ensures.accepted c.self.invariant.theirs;
       };
     }
 
@@ -42,45 +46,50 @@ pub invariant_of-self-in-Err : goal.invariant_of-self-in-Err
 invariant_of-self-in-Err c =
     let papers = c.take_back.ensures c.self.inside.papers c.in_ok-back.ensures.back in
     record {
-      certified = still-certified c.self.inside.papers c.take_back.new.self c.self.inside.segments c.self.inside.segments c.self.inside.places c.self.inside.places c.self.inside.proposals papers refl refl c.self.invariant.certified;
-      theirs = c.self.invariant.theirs ∙ ap students_of (sym papers);
-      round = subst (λ m. IfSome c.self.inside.round (IsKept m c.self.inside.segments)) (sym papers) c.self.invariant.round;
+      certified = still-certified c.self.inside.papers c.take_back.new.self c.self.inside.segments c.resettle-settled.new.segments c.self.inside.places c.resettle-settled.new.places c.self.inside.proposals
+          papers c.in-Err.ensures.places_unchanged c.in-Err.ensures.segments_unchanged c.self.invariant.certified;
+      theirs = ap students_in c.in-Err.ensures.segments_unchanged ∙ c.self.invariant.theirs ∙ ap students_of (sym papers);
+      round = subst₂ (λ m chains. IfSome c.self.inside.round (IsKept m chains)) (sym papers) (sym c.in-Err.ensures.segments_unchanged) c.self.invariant.round;
     }
 
 pub returns-clause-certified : goal.returns-clause-certified
 returns-clause-certified c =
-    still-certified c.self.inside.papers c.take_back.new.self c.self.inside.segments c.self.inside.segments c.self.inside.places c.self.inside.places c.self.inside.proposals
-    (c.take_back.ensures c.self.inside.papers c.in_ok-back.ensures.back) refl refl c.self.invariant.certified
+    still-certified c.self.inside.papers c.take_back.new.self c.self.inside.segments c.resettle-settled.new.segments c.self.inside.places c.resettle-settled.new.places c.self.inside.proposals
+    (c.take_back.ensures c.self.inside.papers c.in_ok-back.ensures.back) c.in-Err.ensures.places_unchanged c.in-Err.ensures.segments_unchanged c.self.invariant.certified
 
 pub returns-in-Ok-clause-certified : goal.returns-in-Ok-clause-certified
 returns-in-Ok-clause-certified c = c.in-Ok.ensures.certified
 
 pub returns-in-Ok-clause-stays : goal.returns-in-Ok-clause-stays
 returns-in-Ok-clause-stays c =
-    subst (λ (s : Standing). take (rewind_point s.papers c.args.amendment) (logs_in c.in-Ok.settled.segments) ≡ take (rewind_point s.papers c.args.amendment) s.segments) c.self.view_is
-    (subst (λ k. take k (logs_in c.in-Ok.settled.segments) ≡ take k (logs_in c.self.inside.segments)) c.in_ok-point.ensures.point c.in-Ok.ensures.stays)
+    subst (λ (s : Standing). take (rewind_point s.papers c.args.amendment) (logs_in c.resettle-settled.new.segments) ≡ take (rewind_point s.papers c.args.amendment) s.segments) c.self.view_is
+    (subst (λ k. take k (logs_in c.resettle-settled.new.segments) ≡ take k (logs_in c.self.inside.segments)) c.in_ok-point.ensures.point c.in-Ok.ensures.stays)
 
 pub returns-in-Ok-clause-others : goal.returns-in-Ok-clause-others
 returns-in-Ok-clause-others c =
     let m = c.self.inside.papers in
-    let test = is_among c.in_ok-region.region in
-    let tells : TellsRegion m c.args.amendment test = list-tells m c.args.amendment c.in_ok-region.region c.in_ok-region.ensures.region in
+    let test = is_among (marked_in c.in_ok-region.region c.self.inside.segments) in
+    let tells : TellsRegion m c.args.amendment test =
+    subst (λ is. TellsRegion m c.args.amendment (is_among (marked c.in_ok-region.region is))) (sym c.self.invariant.theirs)
+    (marks-tell m c.args.amendment c.in_ok-region.region c.self.invariant.certified.well_formed c.in_ok-point.ensures.allowed c.requires.no_entry c.in_ok-region.ensures.region) in
     let old : Standing = record { papers = m; places = c.self.inside.places; segments = logs_in c.self.inside.segments; proposals = c.self.inside.proposals } in
-    let new : Standing = record { papers = c.exchange.new.self; places = c.in-Ok.settled.places; segments = logs_in c.in-Ok.settled.segments; proposals = c.in-Ok.settled.proposals } in
+    let new : Standing = record { papers = c.exchange.new.self; places = c.resettle-settled.new.places; segments = logs_in c.resettle-settled.new.segments; proposals = c.in-Ok.proposals } in
     subst (λ (s : Standing). KeepsOthers s c.args.amendment new) c.self.view_is
-    (keeps-others old new c.args.amendment c.in_ok-region.region tells c.in_ok-back.ensures.accepted c.in-Ok.ensures.others)
+    (keeps-others old new c.args.amendment (marked_in c.in_ok-region.region c.self.inside.segments) tells c.in_ok-back.ensures.accepted c.in-Ok.ensures.others)
 
 pub returns-in-Ok-clause-proposals : goal.returns-in-Ok-clause-proposals
 returns-in-Ok-clause-proposals c =
     let m = c.self.inside.papers in
-    let test = is_among c.in_ok-region.region in
-    let tells : TellsRegion m c.args.amendment test = list-tells m c.args.amendment c.in_ok-region.region c.in_ok-region.ensures.region in
-    let new : Standing = record { papers = c.exchange.new.self; places = c.in-Ok.settled.places; segments = logs_in c.in-Ok.settled.segments; proposals = c.in-Ok.settled.proposals } in
+    let test = is_among (marked_in c.in_ok-region.region c.self.inside.segments) in
+    let tells : TellsRegion m c.args.amendment test =
+    subst (λ is. TellsRegion m c.args.amendment (is_among (marked c.in_ok-region.region is))) (sym c.self.invariant.theirs)
+    (marks-tell m c.args.amendment c.in_ok-region.region c.self.invariant.certified.well_formed c.in_ok-point.ensures.allowed c.requires.no_entry c.in_ok-region.ensures.region) in
+    let new : Standing = record { papers = c.exchange.new.self; places = c.resettle-settled.new.places; segments = logs_in c.resettle-settled.new.segments; proposals = c.in-Ok.proposals } in
     subst (λ (s : Standing). CountsRegion s.papers c.args.amendment new) c.self.view_is
-    (counts-region m c.args.amendment c.in_ok-region.region new tells
+    (counts-region m c.args.amendment (marked_in c.in_ok-region.region c.self.inside.segments) new tells
     (subst (λ k. CountsInside test k new) c.in_ok-point.ensures.point c.in-Ok.ensures.proposals))
 
 pub returns-clause-unchanged : goal.returns-clause-unchanged
 returns-clause-unchanged c =
-    let standing : Market → Standing = λ m. record { papers = m; places = c.self.inside.places; segments = logs_in c.self.inside.segments; proposals = c.self.inside.proposals } in
-    ap standing (c.take_back.ensures c.self.inside.papers c.in_ok-back.ensures.back) ∙ c.self.view_is
+    let standing : Market → List (ℕ × ℕ) → List Chain → Standing = λ m places chains. record { papers = m; places = places; segments = logs_in chains; proposals = c.self.inside.proposals } in
+    (λ t. standing (c.take_back.ensures c.self.inside.papers c.in_ok-back.ensures.back t) (c.in-Err.ensures.places_unchanged t) (c.in-Err.ensures.segments_unchanged t)) ∙ c.self.view_is

@@ -1,0 +1,133 @@
+ghost use Rattle.std.specs.Prelude.{◌≡◌};
+
+use crate::clearing::Clearing;
+use crate::open_refused::OpenRefused;
+use sc_papers::{Amendment, Papers, Refusal, Stamp, Stamped};
+use sc_stamps::{Stamps, marking_of};
+use std::alloc::{AllocError, Global};
+use std::marker::Model;
+
+/// Papers that are amended and not settled, and the stamps of their records: for those who make many
+/// amendments, and look at no standing assignment before the last of them.
+#[derive(Drop)]
+pub struct Unsettled {
+    papers: Papers,
+    stamps: Stamps,
+}
+
+impl Model for Unsettled {
+    ghost use Rattle.sc_stamps.specs.Stamps.{IsInStep};
+    ghost use Rattle.sc_stamps.specs.Verdict.{StampedPapers};
+
+    ghost Value = { StampedPapers };
+
+    ghost view = { λ u. record { papers = u.papers; stamps = u.stamps } };
+
+    ghost invariant = { λ u. IsInStep u.papers u.stamps };
+}
+
+impl Unsettled {
+    ghost use Rattle.std.specs.Prelude.{◌≡◌, ◌<◌, ◌⊎◌, None, Some, IfErr, IfOk, OnErr, OnOk};
+    ghost use Rattle.sc_papers.specs.Matching.{IsStudentOptimal};
+    ghost use Rattle.sc_papers.specs.Verdict.{unless_refused, verdict, IsRefusal};
+    ghost use Rattle.sc_papers.specs.WellFormed.{WellFormed};
+    ghost use Rattle.sc_papers.specs.declared.amendment.Refusal.TheVariants.{OutOfMemory};
+    ghost use Rattle.sc_papers.specs.declared.stamp.TheConstants.Stamp.{GREATEST};
+    ghost use Rattle.sc_stamps.specs.Record.{record_of};
+    ghost use Rattle.sc_stamps.specs.Stamps.{stamp_of};
+    ghost use Rattle.sc_stamps.specs.Verdict.{stamped_after, stamped_verdict, unamended};
+    ghost use Rattle.sc_repair.specs.Stamped.{stamped_papers};
+    ghost use Rattle.sc_repair.specs.Standing.{matching_of, proposals_from_scratch, IsCertified};
+
+    /// Papers that no amendment was accepted for: each stamp is 0. Papers are always well-formed, and this
+    /// call tells its callers so. The only error is want of memory.
+    pub fn new(alloc: Global, papers: Papers) -> Result<Self, AllocError>
+        ensures unamended { IfOk result (λ unsettled. unsettled ≡ unamended papers) }
+        ensures well_formed { WellFormed papers }
+    {
+        // Papers tell that they are well-formed where they tell how many students there are.
+        let _students = papers.students_len();
+        let stamps = Stamps::new(alloc, &papers)?;
+        Ok(Unsettled { papers, stamps })
+    }
+
+    /// The papers as they stand. Papers are always well-formed.
+    pub fn papers(&self) -> &Papers
+        ensures { result.now ≡ self.now.papers }
+    {
+        &self.papers
+    }
+
+    /// How many amendments were accepted: the stamp that the last of them gave its record.
+    pub fn accepted(&self) -> Stamp
+        ensures { result ≡ self.now.stamps.accepted }
+    {
+        self.stamps.accepted()
+    }
+
+    /// The first refusal that applies to a stamped amendment, but for want of memory: that of the papers first,
+    /// as `Papers::check` answers it, then `Stale` with the record's stamp where the amendment carries another
+    /// one, then `Spent` where 999,999,999 amendments were accepted. It takes no memory.
+    pub fn check(&self, stamped: &Stamped) -> Result<(), Refusal>
+        ensures { result ≡ unless_refused (stamped_verdict self.now stamped.now) }
+    {
+        self.stamps.check(&self.papers, stamped)
+    }
+
+    /// Makes the amendment, and gives its record the next stamp, or answers the first refusal that applies, as
+    /// `check` does, or else want of memory. After a refusal the papers and the stamps are as before; the
+    /// amendment is given up. An accepted amendment carried the stamp that its record had.
+    ///
+    /// The cost is that of `check`, of `Papers::apply`, and a look-up.
+    pub fn amend(&mut self, stamped: Stamped) -> Result<(), Refusal>
+        ensures allowed { OnOk result (stamped_verdict self.old stamped ≡ None) }
+        ensures accepted { OnOk result (self.new ≡ stamped_after self.old stamped.amendment) }
+        ensures honoured { OnOk result (stamp_of self.old.papers self.old.stamps (record_of stamped.amendment) ≡ stamped.stamp) }
+        ensures refused { IfErr result (IsRefusal (stamped_verdict self.old stamped)) }
+        ensures unchanged { OnErr result (self.new ≡ self.old) }
+    {
+        self.check(&stamped)?;
+        self.apply(stamped.amendment)
+    }
+
+    /// Makes an amendment that has no stamp of its own, so that it is never stale, and gives its record the next
+    /// stamp, or answers the first refusal of the papers, as `Papers::check` does, or in its place want of
+    /// memory. After a refusal the papers and the stamps are as before; the amendment is given up.
+    ///
+    /// The cost is that of `Papers::apply`, and a look-up.
+    pub fn apply(&mut self, amendment: Amendment) -> Result<(), Refusal>
+        requires room { self.old.stamps.accepted < GREATEST }
+        ensures allowed { OnOk result (verdict self.old.papers amendment ≡ None) }
+        ensures accepted { OnOk result (self.new ≡ stamped_after self.old amendment) }
+        ensures refused { IfErr result (λ refusal. (refusal ≡ OutOfMemory) ⊎ (verdict self.old.papers amendment ≡ Some refusal)) }
+        ensures unchanged { OnErr result (self.new ≡ self.old) }
+    {
+        let marking = marking_of(&self.papers, &amendment);
+        self.stamps.begin(marking)?;
+        match self.papers.apply(amendment) {
+            Ok(()) => {
+                self.stamps.finish(marking);
+                Ok(())
+            }
+            Err(refusal) => {
+                self.stamps.give_up(marking);
+                Err(refusal)
+            }
+        }
+    }
+
+    /// Settles the papers as they stand: a clearing of them, with their stamps. The standing assignment is their
+    /// student-optimal stable matching, however they came to be as they are. The only error is want of memory,
+    /// which gives the papers back.
+    ///
+    /// The cost is that of `Clearing::resume`.
+    pub fn settle(self, alloc: Global) -> Result<Clearing, OpenRefused>
+        ensures papers { IfOk result (λ clearing. stamped_papers clearing ≡ self) }
+        ensures optimal { IfOk result (λ clearing. IsStudentOptimal self.papers (matching_of clearing.standing)) }
+        ensures certified { IfOk result (λ clearing. IsCertified clearing.standing) }
+        ensures proposals { IfOk result (λ clearing. clearing.standing.proposals ≡ proposals_from_scratch clearing.standing) }
+        ensures refused { IfErr result (λ refused. refused.papers ≡ self.papers) }
+    {
+        Clearing::resume(alloc, self.papers, self.stamps)
+    }
+}
