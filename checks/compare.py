@@ -14,6 +14,7 @@ import multiprocessing
 import os
 import pathlib
 import random
+import shutil
 import subprocess
 import sys
 import tempfile
@@ -24,7 +25,10 @@ import reference  # noqa: E402
 HERE = pathlib.Path(__file__).resolve().parent.parent
 BUILT = HERE / "crates/clearinghouse/out/clearinghouse"
 INPUTS = {"match": ["schools", "roster", "lists"], "run": ["schools", "roster", "lists", "script"],
-          "audit": ["schools", "roster", "lists", "log"], "replay": ["schools", "roster", "lists", "journal"]}
+          "audit": ["schools", "roster", "lists", "log"], "replay": ["schools", "roster", "lists", "journal"],
+          "summary": ["schools", "roster", "lists", "journal"], "export": ["schools", "roster", "lists", "journal"]}
+# The inputs that a subcommand may go without.
+OPTIONAL = {"summary": ["journal"], "export": ["journal"]}
 Case = collections.namedtuple("Case", "kind seed texts words")
 
 
@@ -175,7 +179,7 @@ def make_case(seed, at):
     texts = {"schools": rendered(rng, ["school", "zone", "seats"], [list(row) for row in rows], untidy),
              "roster": rendered(rng, roster_header(rng, roster), roster, untidy),
              "lists": rendered(rng, ["student", "choices"], [list(row) for row in lists], untidy)}
-    kind = rng.choice(["bundle", "bundle", "match", "run", "run", "audit", "replay", "words"])
+    kind = rng.choice(["bundle", "bundle", "match", "run", "run", "audit", "replay", "summary", "export", "words"])
     script = rendered(rng, None, list(stamped(rng, texts, amendments(rng, rows, roster, rng.randint(0, 12)))), untidy)
     key = b"0" * 32
     if kind == "run" or (kind == "bundle" and rng.random() < 0.6):
@@ -186,7 +190,7 @@ def make_case(seed, at):
         except reference.Stop:
             log = b"1,1\n"
         texts["log"] = log if rng.random() < 0.4 else changed(rng, log)
-    elif kind == "replay":
+    elif kind == "replay" or (kind in OPTIONAL and rng.random() < 0.7):
         try:
             journal = reference.call_run(key, *(texts[name] for name in INPUTS["match"]), script)[1]
         except reference.Stop:
@@ -203,15 +207,18 @@ def make_case(seed, at):
         return Case("bundle", b"", {"bundle": changed(rng, whole) if rng.random() < 0.1 else whole}, None)
     if kind == "words":
         return Case("words", seed_given, texts, wrong_words(rng))
-    return Case(kind, seed_given, texts, rng.choice([["--print-log"], []]) if kind == "match" else [])
+    flag = {"match": "--print-log", "run": "--settle-at-end"}.get(kind)
+    return Case(kind, seed_given, texts, rng.choice([[flag], []]) if flag else [])
 
 
 def wrong_words(rng):
-    """A command line that is not one of the four."""
+    """A command line that is none of the subcommands' own."""
     name = rng.choice(sorted(INPUTS))
-    words = [[f"--{each}", each] for each in ["seed", *INPUTS[name]]]
+    words = [[f"--{each}", each] for each in ["seed", *INPUTS[name]] if each not in OPTIONAL.get(name, [])]
     if name == "run":
         words.append(["--journal", "journal"])
+    elif name == "export":
+        words.append(["--to", "next"])
     kind = rng.randrange(6)
     if kind == 0:
         del words[rng.randrange(len(words))]
@@ -234,11 +241,12 @@ def wrong_words(rng):
 def expected(case):
     if case.kind == "bundle":
         return reference.told(reference.call_bundle, case.texts["bundle"])
-    call = {"match": reference.call_match, "run": reference.call_run, "audit": reference.call_audit, "replay": reference.call_replay}[case.kind]
+    call = {"match": reference.call_match, "run": reference.call_run, "audit": reference.call_audit, "replay": reference.call_replay,
+            "summary": reference.call_summary, "export": reference.call_export}[case.kind]
 
     def made():
         key = reference.seed_of(case.seed)
-        given = [case.texts[name] for name in INPUTS[case.kind]]
+        given = [case.texts[name] for name in INPUTS[case.kind] if name in case.texts]
         return call(key, *given, print_log=True) if "--print-log" in case.words else call(key, *given)
 
     return reference.told(made)
@@ -255,11 +263,19 @@ def actual(case, program, folder):
         return done.stdout, b"", b"", done.returncode
     words = [case.kind, "--seed", case.seed.decode()]
     for name in INPUTS[case.kind]:
-        words += [f"--{name}", name]
+        if name in case.texts:
+            words += [f"--{name}", name]
     if case.kind == "run":
         (folder / "written").unlink(missing_ok=True)
         words += ["--journal", "written"]
+    following = folder / "next"
+    if case.kind == "export":
+        shutil.rmtree(following, ignore_errors=True)
+        following.mkdir()
+        words += ["--to", "next"]
     done = subprocess.run([program, *words, *case.words], stdin=subprocess.DEVNULL, capture_output=True, cwd=folder)
+    if case.kind == "export":
+        return done.stdout, {file.name: file.read_bytes() for file in following.iterdir()} or b"", done.stderr, done.returncode
     written = folder / "written"
     journal = written.read_bytes() if case.kind == "run" and written.exists() else b""
     return done.stdout, journal, done.stderr, done.returncode

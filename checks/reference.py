@@ -8,8 +8,11 @@ It is slow and simple on purpose: `compare.py` runs it beside the built program 
     reference.py run .. --script .. --journal ..
     reference.py audit .. --log ..
     reference.py replay .. --journal ..
+    reference.py summary .. [--journal ..]
+    reference.py export .. [--journal ..] --to FOLDER
 
-Each call is also a function here: it takes the bytes of the inputs and gives (output, journal, fault line, status).
+Each call is also a function here: it takes the bytes of the inputs and gives (output, journal, fault line, status); that of
+`export` gives the files by their names in place of the journal.
 """
 import re
 import struct
@@ -423,6 +426,35 @@ def report(papers):
     return ("\n".join(lines) + "\n").encode()
 
 
+def summary(papers):
+    """How many students have each rank, how many have no school, and how sought after the schools are."""
+    places, _ = settled(papers)
+    ranks = [papers.students[student][2].index(school) + 1 for student, school in places.items() if school is not None]
+    lines = ["rank,students", *(f"{rank},{ranks.count(rank)}" for rank in sorted(set(ranks))), f"-,{len(places) - len(ranks)}"]
+    lines.append("school,seats,held,free,listed")
+    for school in sorted(papers.schools):
+        seats, held = papers.schools[school][1], list(places.values()).count(school)
+        listed = sum(school in choices for _, _, choices, _ in papers.students.values())
+        lines.append(f"{school},{seats},{held},{seats - held},{listed}")
+    return ("\n".join(lines) + "\n").encode()
+
+
+def exported(papers):
+    """The files of the papers, by their names."""
+    def listed(numbers):
+        return " ".join(map(str, numbers))
+
+    longer = any(continuing is not None for _, _, _, continuing in papers.students.values())
+    schools = ["school,zone,seats", *(f"{school},{zone},{seats}" for school, (zone, seats) in papers.schools.items())]
+    roster = ["student,zone,siblings" + (",continuing" if longer else "")]
+    for student, (zone, siblings, _, continuing) in papers.students.items():
+        last = f",{'' if continuing is None else continuing}" if longer else ""
+        roster.append(f"{student},{zone},{listed(siblings)}{last}")
+    lists = ["student,choices", *(f"{student},{listed(choices)}" for student, (_, _, choices, _) in papers.students.items())]
+    return {name: "".join(f"{row}\n" for row in rows).encode()
+            for name, rows in (("schools.csv", schools), ("roster.csv", roster), ("lists.csv", lists))}
+
+
 def verdict(papers, log):
     """What an audit says of a log: each entry by the rule, and then the seats."""
     rejected = {student: set() for student in papers.students}
@@ -513,9 +545,8 @@ def spelled(line):
     return int(fields[0]), amendment
 
 
-def call_replay(key, schools, roster, lists, journal):
-    too_long(*files(schools, roster, lists), ("journal", journal))
-    papers = papers_of(key, schools, roster, lists)
+def replayed(papers, journal):
+    """Makes the amendments of a journal, and says whether its last line is torn."""
     *whole, torn = journal.split(b"\n")
     for at, line in enumerate(whole, start=1):
         found = spelled(line)
@@ -528,7 +559,30 @@ def call_replay(key, schools, roster, lists, journal):
             words = " ".join(map(str, ("Refused", refusal[0], NAMES[refusal[0]], *refusal[1:])))
             raise Stop(f"journal line {at}: {words}", 3)
         papers.make(found[1])
-    return report(papers), b"", "torn" if torn else 0
+    return "torn" if torn else 0
+
+
+def call_replay(key, schools, roster, lists, journal):
+    too_long(*files(schools, roster, lists), ("journal", journal))
+    papers = papers_of(key, schools, roster, lists)
+    status = replayed(papers, journal)
+    return report(papers), b"", status
+
+
+def call_summary(key, schools, roster, lists, journal=None):
+    """Without a journal the papers of the opening stand."""
+    too_long(*files(schools, roster, lists), ("journal", journal or b""))
+    papers = papers_of(key, schools, roster, lists)
+    status = replayed(papers, journal or b"")
+    return summary(papers), b"", status
+
+
+def call_export(key, schools, roster, lists, journal=None):
+    """Without a journal the papers of the opening are exported."""
+    too_long(*files(schools, roster, lists), ("journal", journal or b""))
+    papers = papers_of(key, schools, roster, lists)
+    status = replayed(papers, journal or b"")
+    return b"", exported(papers), status
 
 
 def sections(text):
@@ -583,7 +637,8 @@ def main(words):
         if options is None:
             rest = [word for word in words[1:] if word != "--print-log"]
             options = dict(zip(rest[::2], rest[1::2]))
-        last = {"match": None, "run": "--script", "audit": "--log", "replay": "--journal"}[words[0]]
+        last = {"match": None, "run": "--script", "audit": "--log", "replay": "--journal",
+                "summary": "--journal" if "--journal" in options else None, "export": "--journal" if "--journal" in options else None}[words[0]]
         names = ["--schools", "--roster", "--lists"] + ([last] if last else [])
 
         def call():
@@ -591,11 +646,14 @@ def main(words):
             texts = [open(options[name], "rb").read() for name in names]
             if words[0] == "match":
                 return call_match(key, *texts, print_log="--print-log" in words)
-            return {"run": call_run, "audit": call_audit, "replay": call_replay}[words[0]](key, *texts)
+            return {"run": call_run, "audit": call_audit, "replay": call_replay, "summary": call_summary, "export": call_export}[words[0]](key, *texts)
 
         output, journal, line, status = told(call)
         if words[0] == "run":
             open(options["--journal"], "wb").write(journal)
+        elif words[0] == "export" and journal:
+            for name, text in journal.items():
+                open(f"{options['--to']}/{name}", "xb").write(text)
     sys.stdout.buffer.write(output)
     sys.stderr.buffer.write(line)
     return status

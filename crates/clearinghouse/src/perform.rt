@@ -6,12 +6,13 @@ use sc_intake::Source;
 use sc_papers::Seed;
 use sc_report::{Watched, write_whole};
 use sc_runs::{
-    Ending, Inputs, Opening, RunFault, Tail, Verdict, audit_files, fault_line, match_standing,
-    replay_files, run, run_bundle, status_of,
+    Ending, Inputs, Opening, PapersFile, PapersFiles, RunFault, Settling, Tail, Verdict,
+    audit_files, export_files, fault_line, match_standing, replay_files, run, run_bundle,
+    status_of, summary_files,
 };
 use sc_words::{OpeningWords, Order, Subcommand, Word, order_of};
 use std::alloc::Global;
-use std::fs::File;
+use std::fs::{File, OpenOptions};
 use std::io;
 use std::io::{Read, Write};
 use std::mem::forget;
@@ -60,6 +61,15 @@ fn match_opening<R: Files + AllocGlobal, W: Write>(
     Ok(Ending::Done)
 }
 
+/// When a run settles its papers.
+fn settling_of(settle_at_end: bool) -> Settling {
+    if settle_at_end {
+        Settling::AtTheEnd
+    } else {
+        Settling::EachTime
+    }
+}
+
 /// Runs a script after an opening.
 fn run_script<R: Files + AllocGlobal, W: Write>(
     rt: &R,
@@ -67,6 +77,7 @@ fn run_script<R: Files + AllocGlobal, W: Write>(
     words: &OpeningWords<'_>,
     script: &str,
     journal: &str,
+    settling: Settling,
     out: &mut Watched<W>,
 ) -> Result<Ending, RunFault> {
     let mut inputs = Inputs {
@@ -74,7 +85,7 @@ fn run_script<R: Files + AllocGlobal, W: Write>(
         script: open_input(rt, script, Source::Script)?,
     };
     let mut journal = create_journal(rt, journal)?;
-    run(rt.alloc(), seed, &mut inputs, out, &mut journal)?;
+    run(rt.alloc(), seed, &mut inputs, settling, out, &mut journal)?;
     Ok(Ending::Done)
 }
 
@@ -104,10 +115,100 @@ fn replay_journal<R: Files + AllocGlobal, W: Write>(
 ) -> Result<Ending, RunFault> {
     let mut opening = open_opening(rt, words)?;
     let mut journal = open_input(rt, journal, Source::Journal)?;
-    match replay_files(rt.alloc(), seed, &mut opening, &mut journal, out)? {
-        Tail::Whole => Ok(Ending::Done),
-        Tail::Torn => Ok(Ending::Torn),
+    let tail = replay_files(rt.alloc(), seed, &mut opening, &mut journal, out)?;
+    Ok(ending_after(tail))
+}
+
+/// Makes a file of exported papers in a folder, and writes it whole. A file of this name that is there
+/// already is left as it is.
+fn write_new<R: Files + AllocGlobal>(
+    rt: &R,
+    folder: &str,
+    file: PapersFile,
+    text: &[u8],
+) -> Result<(), Ending> {
+    let name = file.name();
+    let path = match format!(in rt.alloc(); "{folder}/{name}") {
+        Ok(path) => path,
+        Err(_) => return Err(Ending::Fault(RunFault::OutOfMemory)),
+    };
+    let mut made = match OpenOptions::new()
+        .write(true)
+        .create_new(true)
+        .open(rt, path.as_str())
+    {
+        Ok(made) => Watched::new(made),
+        Err(_) => return Err(Ending::Unwritten { file }),
+    };
+    match write_whole(&mut made, text) {
+        Ok(()) => {}
+        Err(_) => return Err(Ending::Unwritten { file }),
     }
+    match made.flush() {
+        Ok(()) => Ok(()),
+        Err(_) => Err(Ending::Unwritten { file }),
+    }
+}
+
+/// Writes the files of papers into a folder, in the order schools, roster, lists.
+fn write_papers<R: Files + AllocGlobal>(
+    rt: &R,
+    folder: &str,
+    files: &PapersFiles,
+) -> Result<(), Ending> {
+    write_new(rt, folder, PapersFile::Schools, files.schools.as_slice())?;
+    write_new(rt, folder, PapersFile::Roster, files.roster.as_slice())?;
+    write_new(rt, folder, PapersFile::Lists, files.lists.as_slice())
+}
+
+/// A journal, if there is one.
+fn open_journal<R: Files>(
+    rt: &R,
+    path: Option<&str>,
+) -> Result<Option<Watched<R::File>>, RunFault> {
+    match path {
+        Some(path) => Ok(Some(open_input(rt, path, Source::Journal)?)),
+        None => Ok(None),
+    }
+}
+
+/// How a call ends that reads a journal, which ends so.
+fn ending_after(tail: Tail) -> Ending {
+    match tail {
+        Tail::Whole => Ending::Done,
+        Tail::Torn => Ending::Torn,
+    }
+}
+
+/// Exports the papers of an opening into a folder, as they stand after a journal if there is one.
+fn export_papers<R: Files + AllocGlobal>(
+    rt: &R,
+    seed: &Seed,
+    words: &OpeningWords<'_>,
+    to: &str,
+    journal: Option<&str>,
+) -> Result<Ending, RunFault> {
+    let mut opening = open_opening(rt, words)?;
+    let mut journal = open_journal(rt, journal)?;
+    let exported = export_files(rt.alloc(), seed, &mut opening, &mut journal)?;
+    match write_papers(rt, to, &exported.files) {
+        Ok(()) => Ok(ending_after(exported.tail)),
+        Err(ending) => Ok(ending),
+    }
+}
+
+/// Sums up the papers of an opening, as they stand after a journal if there is one.
+fn summarize<R: Files + AllocGlobal, W: Write>(
+    rt: &R,
+    seed: &Seed,
+    words: &OpeningWords<'_>,
+    journal: Option<&str>,
+    out: &mut Watched<W>,
+) -> Result<Ending, RunFault> {
+    let mut opening = open_opening(rt, words)?;
+    let mut journal = open_journal(rt, journal)?;
+    let tail = summary_files(rt.alloc(), seed, &mut opening, &mut journal, out)?;
+    Ok(ending_after(tail))
 }
 
 /// Makes the call that a subcommand asks for, under this seed.
@@ -120,9 +221,18 @@ fn dispatch<R: Files + AllocGlobal, W: Write>(
 ) -> Result<Ending, RunFault> {
     match subcommand {
         Subcommand::Match { show_log } => match_opening(rt, seed, opening, *show_log, out),
-        Subcommand::Run { script, journal } => run_script(rt, seed, opening, script, journal, out),
+        Subcommand::Run {
+            script,
+            journal,
+            settle_at_end,
+        } => {
+            let settling = settling_of(*settle_at_end);
+            run_script(rt, seed, opening, script, journal, settling, out)
+        }
         Subcommand::Audit { log } => audit_log(rt, seed, opening, log, out),
         Subcommand::Replay { journal } => replay_journal(rt, seed, opening, journal, out),
+        Subcommand::Summary { journal } => summarize(rt, seed, opening, *journal, out),
+        Subcommand::Export { to, journal } => export_papers(rt, seed, opening, to, *journal),
     }
 }
 
@@ -221,12 +331,12 @@ fn write_message<W: Write>(message: &[u8], to: &mut Watched<W>) {
     let _ = to.flush();
 }
 
-/// The exit status of words that order nothing: 0 where help was asked for, 5 for want of memory, and
+/// The exit status of words that order nothing: 0 where help or the version was asked for, 5 for want of memory, and
 /// else 2.
 fn status_of_words(error: &Error) -> u8 {
     match error.kind() {
         ErrorKind::OutOfMemory => 5,
-        ErrorKind::DisplayHelp => 0,
+        ErrorKind::DisplayHelp | ErrorKind::DisplayVersion => 0,
         _ => 2,
     }
 }

@@ -158,9 +158,17 @@ const REPLAYS: &[(&str, &str, &str)] = &[
 
 const RUN: &[&str] = &["--script", "script", "--journal", "journal"];
 
+const RUN_SETTLED_AT_END: &[&str] = &[
+    "--settle-at-end",
+    "--script",
+    "script",
+    "--journal",
+    "journal",
+];
+
 /// What a run of a script gives, and then the journal.
-fn journaled(rt: &HostRuntime, script: &str) -> io::Result<String> {
-    let told = ordered_after(rt, ("script", script), "run", RUN)?;
+fn journaled(rt: &HostRuntime, script: &str, options: &[&str]) -> io::Result<String> {
+    let told = ordered_after(rt, ("script", script), "run", options)?;
     let journal = fs::read(rt, "journal")?;
     let journal = String::from_utf8_lossy(rt.alloc(), journal.as_slice())?;
     Ok(format!(in rt.alloc(); "{told}|{journal}")?)
@@ -169,10 +177,12 @@ fn journaled(rt: &HostRuntime, script: &str) -> io::Result<String> {
 #[test]
 fn a_run_and_its_replay(rt: HostRuntime) -> io::Result<()> {
     write_files(&rt)?;
-    let told = journaled(&rt, "0,enter,3,1,10,10\nnonsense\n1,withdraw,3\n");
+    let script = "0,enter,3,1,10,10\nnonsense\n1,withdraw,3\n";
     let want =
         "1,ok\n2,refused,1,Shape\n3,ok\nstudent,school\n1,10\n2,20\nschool,seats,held,class,draw,student\n10,1,1,4,e56a5d4028bd8653,1\n20,1,1,4,b819d2bd1aed8da0,2\nstudent,school,reason\n0|1,enter,3,1,10,10\n2,withdraw,3\n";
-    expect(&rt, told, "", want);
+    for options in &[RUN, RUN_SETTLED_AT_END] {
+        expect(&rt, journaled(&rt, script, options), "", want);
+    }
     for (journal, report, end) in REPLAYS {
         let told = ordered_after(
             &rt,
@@ -219,7 +229,7 @@ fn a_stopped_run_is_run_again(rt: HostRuntime) -> io::Result<()> {
     write_files(&rt)?;
     for (room, left) in STOPS {
         expect(&rt, stopped(&rt, *room), "", left);
-        expect(&rt, journaled(&rt, THREE_SEATS), "", SEATS_ADDED);
+        expect(&rt, journaled(&rt, THREE_SEATS, RUN), "", SEATS_ADDED);
     }
     Ok(())
 }
@@ -251,5 +261,119 @@ fn a_bundle(rt: HostRuntime) -> Result<(), AllocError> {
     let told = performed(&rt, &[], input)?;
     let want = "student,school\nschool,seats,held,class,draw,student\nstudent,school,reason\n0";
     assert!(rt; told.as_str() == want, "{told}");
+    Ok(())
+}
+
+/// The summary of Market B.
+const SUMMARY: &str =
+    "rank,students\n1,2\n-,0\nschool,seats,held,free,listed\n10,1,1,0,2\n20,1,1,0,2\n";
+
+/// Journals over Market B, and the summary and the end of the call after each.
+const SUMMARIES: &[(&str, &str, &str)] = &[
+    ("", SUMMARY, "0"),
+    (
+        "1,enter,3,1,10,10\n2,withdraw,3",
+        "rank,students\n1,1\n2,1\n-,1\nschool,seats,held,free,listed\n10,1,1,0,3\n20,1,1,0,2\n",
+        "clearinghouse: journal torn\n0",
+    ),
+    (
+        "1,enter,3,1,10,10\n2,withdraw,9\n",
+        "",
+        "clearinghouse: journal line 2: Refused 2 UnknownStudent\n3",
+    ),
+];
+
+#[test]
+fn a_summary(rt: HostRuntime) -> io::Result<()> {
+    write_files(&rt)?;
+    expect(&rt, ordered(&rt, "summary", &[]), SUMMARY, "0");
+    let kept = &["--journal", "kept"];
+    let absent = "clearinghouse: cannot read journal\n4";
+    expect(&rt, ordered(&rt, "summary", kept), "", absent);
+    for (journal, summary, end) in SUMMARIES {
+        let told = ordered_after(&rt, ("kept", journal), "summary", kept);
+        expect(&rt, told, summary, end);
+    }
+    Ok(())
+}
+
+/// The three files of a folder, one after the other.
+fn files_in(rt: &HostRuntime, names: &[&str]) -> io::Result<String> {
+    let mut all = String::new(rt.alloc());
+    for name in names {
+        let text = fs::read(rt, *name)?;
+        let text = String::from_utf8_lossy(rt.alloc(), text.as_slice())?;
+        all = format!(in rt.alloc(); "{all}{text}|")?;
+    }
+    Ok(all)
+}
+
+const EXPORTED: &[&str] = &["next/schools.csv", "next/roster.csv", "next/lists.csv"];
+
+/// Takes the folder `next` away, with what an earlier test left in it.
+fn without_next(rt: &HostRuntime) -> io::Result<()> {
+    if fs::exists(rt, "next")? {
+        fs::remove_dir_all(rt, "next")?;
+    }
+    Ok(())
+}
+
+/// Journals over Market B, and the files of the papers after each.
+const EXPORTS: &[(&str, &str)] = &[
+    (
+        "",
+        "school,zone,seats\n10,1,1\n20,0,1\n|student,zone,siblings\n1,0,20\n2,0,10\n|student,choices\n1,10 20\n2,20 10\n|",
+    ),
+    (
+        "1,enter,3,1,10,10\n2,add,20,4\n3,withdraw,1\n4,enter,1,0,,20\n",
+        "school,zone,seats\n10,1,1\n20,0,5\n|student,zone,siblings\n2,0,10\n3,1,10\n1,0,\n|student,choices\n2,20 10\n3,10\n1,20\n|",
+    ),
+    (
+        "1,correct,2,0,10,20\n",
+        "school,zone,seats\n10,1,1\n20,0,1\n|student,zone,siblings,continuing\n1,0,20,\n2,0,10,20\n|student,choices\n1,10 20\n2,20 10\n|",
+    ),
+];
+
+/// What an export after this journal tells, and then the three files, which are taken away again.
+fn exported(rt: &HostRuntime, journal: &str) -> io::Result<String> {
+    let options = &["--journal", "journal", "--to", "next"];
+    let told = ordered_after(rt, ("journal", journal), "export", options)?;
+    let files = files_in(rt, EXPORTED)?;
+    for name in EXPORTED {
+        fs::remove_file(rt, *name)?;
+    }
+    Ok(format!(in rt.alloc(); "{told}{files}")?)
+}
+
+#[test]
+fn an_export(rt: HostRuntime) -> io::Result<()> {
+    write_files(&rt)?;
+    without_next(&rt)?;
+    fs::create_dir(&rt, "next")?;
+    for (journal, files) in EXPORTS {
+        expect(&rt, exported(&rt, journal), "0", files);
+    }
+    expect(&rt, ordered(&rt, "export", &["--to", "next"]), "", "0");
+    Ok(())
+}
+
+/// What an export into the folder `next` tells.
+fn exporting(rt: &HostRuntime) -> io::Result<String> {
+    ordered(rt, "export", &["--to", "next"])
+}
+
+#[test]
+fn an_export_says_what_stands(rt: HostRuntime) -> io::Result<()> {
+    write_files(&rt)?;
+    without_next(&rt)?;
+    let none = "clearinghouse: cannot write schools.csv: no file is whole\n4";
+    expect(&rt, exporting(&rt), "", none);
+    fs::create_dir(&rt, "next")?;
+    fs::write(&rt, "next/lists.csv", "old")?;
+    let two = "clearinghouse: cannot write lists.csv: schools.csv and roster.csv are whole\n4";
+    expect(&rt, exporting(&rt), "", two);
+    fs::remove_file(&rt, "next/schools.csv")?;
+    let one = "clearinghouse: cannot write roster.csv: schools.csv is whole\n4";
+    expect(&rt, exporting(&rt), "", one);
     Ok(())
 }

@@ -2,12 +2,14 @@
 //! refused would be a failed write.
 
 use crate::market::{
-    BUNDLE, JOURNAL, LISTS, LOG, REPORT, ROSTER, SCHOOLS, SCRIPT, WHOLE_RUN, seed,
+    BUNDLE, EXPORTED, JOURNAL, LISTS, LOG, REPORT, ROSTER, SCHOOLS, SCRIPT, SUMMARY, WHOLE_RUN,
+    seed,
 };
 use crate::twice::{Call, expect};
 use sc_report::Watched;
 use sc_runs::{
-    Ending, Inputs, Opening, RunFault, audit_files, match_files, replay_files, run, run_bundle,
+    Ending, Inputs, Opening, PapersFiles, RunFault, Settling, audit_files, export_files,
+    match_files, replay_files, run, run_bundle, summary_files,
 };
 use std::alloc::{AllocError, Global};
 use std::process::Abort;
@@ -83,20 +85,28 @@ fn run_left(
     Err(AllocError)
 }
 
-pub fn ran(rt: &impl Abort, alloc: Global) -> Result<String, AllocError> {
+pub fn ran(rt: &impl Abort, alloc: Global, settling: Settling) -> Result<String, AllocError> {
     let mut inputs = Inputs {
         opening: opening(),
         script: Watched::new(SCRIPT),
     };
     let mut out = writer(alloc)?;
     let mut journal = writer(alloc)?;
-    let answer = run(alloc, &seed(rt), &mut inputs, &mut out, &mut journal);
+    let answer = run(
+        alloc,
+        &seed(rt),
+        &mut inputs,
+        settling,
+        &mut out,
+        &mut journal,
+    );
     run_left(rt, alloc, answer, &out, &journal)
 }
 
 #[test]
 fn run_of_a_script(rt: HostRuntime) {
     expect(&rt, rt.alloc(), Call::Run, WHOLE_RUN);
+    expect(&rt, rt.alloc(), Call::RunSettledAtTheEnd, WHOLE_RUN);
 }
 
 pub fn audited(rt: &impl Abort, alloc: Global) -> Result<String, AllocError> {
@@ -121,6 +131,42 @@ pub fn replayed(rt: &impl Abort, alloc: Global) -> Result<String, AllocError> {
 #[test]
 fn replay_of_files(rt: HostRuntime) {
     expect(&rt, rt.alloc(), Call::ReplayFiles, REPORT);
+}
+
+/// The texts of the files of papers, one after the other.
+fn files_text(alloc: Global, files: &PapersFiles) -> Result<String, AllocError> {
+    let schools = String::from_utf8_lossy(alloc, files.schools.as_slice())?;
+    let roster = String::from_utf8_lossy(alloc, files.roster.as_slice())?;
+    let lists = String::from_utf8_lossy(alloc, files.lists.as_slice())?;
+    format!(in alloc; "{schools}{roster}{lists}")
+}
+
+pub fn exported(rt: &impl Abort, alloc: Global) -> Result<String, AllocError> {
+    let mut journal = Some(Watched::new(JOURNAL.as_bytes()));
+    match export_files(alloc, &seed(rt), &mut opening(), &mut journal) {
+        Ok(exported) => files_text(alloc, &exported.files),
+        Err(fault) => {
+            assert_eq!(rt; fault, RunFault::OutOfMemory);
+            Err(AllocError)
+        }
+    }
+}
+
+#[test]
+fn export_of_files(rt: HostRuntime) {
+    expect(&rt, rt.alloc(), Call::ExportFiles, EXPORTED);
+}
+
+pub fn summed(rt: &impl Abort, alloc: Global) -> Result<String, AllocError> {
+    let mut out = writer(alloc)?;
+    let mut journal = Some(Watched::new(JOURNAL.as_bytes()));
+    let answer = summary_files(alloc, &seed(rt), &mut opening(), &mut journal, &mut out);
+    one_text(rt, alloc, answer.err(), &out)
+}
+
+#[test]
+fn summary_of_files(rt: HostRuntime) {
+    expect(&rt, rt.alloc(), Call::SummaryFiles, SUMMARY);
 }
 
 pub fn ran_bundle(rt: &impl Abort, alloc: Global) -> Result<String, AllocError> {

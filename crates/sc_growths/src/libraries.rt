@@ -7,7 +7,7 @@ use sc_intake::{papers_of, read_lists, read_log, read_roster, read_schools, read
 use sc_journal::{JournalCause, replay};
 use sc_markets::{market_b, stamped, standing};
 use sc_papers::{Papers, Refusal, Stamped};
-use sc_repair::Clearing;
+use sc_repair::{Clearing, Unsettled};
 use sc_report::report_text;
 use std::alloc::{AllocError, Global};
 use std::process::Abort;
@@ -96,6 +96,39 @@ pub fn amended(rt: &impl Abort, alloc: Global) -> Result<String, AllocError> {
 fn amend(rt: HostRuntime) {
     let want = "1:20 2:0 3:10 |(1,10)(2,20)(2,10)";
     expect(&rt, rt.alloc(), Call::Amend, want);
+}
+
+/// Enters the newcomer into papers that are not settled, a second time where memory is refused, after which
+/// no amendment was accepted yet.
+fn enter_unsettled(rt: &impl Abort, alloc: Global, unsettled: &mut Unsettled) {
+    if let Err(refusal) = unsettled.amend(entry(rt, alloc)) {
+        assert_eq!(rt; refusal, Refusal::OutOfMemory);
+        assert_eq!(rt; unsettled.accepted().get(), 0);
+        assert!(rt; unsettled.amend(entry(rt, alloc)) == Ok(()));
+    }
+}
+
+/// Settles papers into which the newcomer has come. A refusal gives them back.
+fn settle(rt: &impl Abort, alloc: Global, unsettled: Unsettled) -> Result<String, AllocError> {
+    match unsettled.settle(alloc) {
+        Ok(clearing) => last_standing(alloc, clearing),
+        Err(refused) => {
+            assert_eq!(rt; refused.papers.students_len(), 3);
+            Err(AllocError)
+        }
+    }
+}
+
+pub fn amended_unsettled(rt: &impl Abort, alloc: Global) -> Result<String, AllocError> {
+    let mut unsettled = Unsettled::new(alloc, papers_of_b(rt, alloc))?;
+    enter_unsettled(rt, alloc, &mut unsettled);
+    settle(rt, alloc, unsettled)
+}
+
+#[test]
+fn amend_unsettled(rt: HostRuntime) {
+    let want = "1:20 2:0 3:10 |(1,10)(2,20)(2,10)";
+    expect(&rt, rt.alloc(), Call::AmendUnsettled, want);
 }
 
 pub fn papers_read(rt: &impl Abort, alloc: Global) -> Result<String, AllocError> {

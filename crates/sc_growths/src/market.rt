@@ -17,9 +17,17 @@ pub const JOURNAL: &str = "1,enter,3,1,10,10\n2,withdraw,3\n";
 /// A log of three entries, of which the first is not valid under Market B.
 pub const LOG: &[u8] = b"1,10\n2,20\n2,10\n";
 
+/// The files of the papers after the newcomer has withdrawn, one after the other.
+pub const EXPORTED: &str =
+    "school,zone,seats\n10,1,1\n20,0,1\nstudent,zone,siblings\n1,0,20\n2,0,10\nstudent,choices\n1,10 20\n2,20 10\n";
+
 /// The report of the opening, and again after the newcomer has withdrawn.
 pub const REPORT: &str =
     "student,school\n1,10\n2,20\nschool,seats,held,class,draw,student\n10,1,1,4,e56a5d4028bd8653,1\n20,1,1,4,b819d2bd1aed8da0,2\nstudent,school,reason\n";
+
+/// The summary of the opening, and again after the newcomer has withdrawn.
+pub const SUMMARY: &str =
+    "rank,students\n1,2\n-,0\nschool,seats,held,free,listed\n10,1,1,0,2\n20,1,1,0,2\n";
 
 /// What a run of the script writes.
 pub const WHOLE_RUN: &str =

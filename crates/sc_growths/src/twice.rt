@@ -2,6 +2,7 @@
 
 use crate::{calls, libraries};
 use sc_intake::{Cause, IntakeFault};
+use sc_runs::Settling;
 use std::alloc::{AllocError, Global};
 use std::process::Abort;
 
@@ -10,6 +11,7 @@ use std::process::Abort;
 pub enum Call {
     Open,
     Amend,
+    AmendUnsettled,
     PapersOf,
     ReadScript,
     ReadLog,
@@ -20,8 +22,11 @@ pub enum Call {
     MatchFiles,
     MatchLog,
     Run,
+    RunSettledAtTheEnd,
     AuditFiles,
     ReplayFiles,
+    ExportFiles,
+    SummaryFiles,
     RunBundle,
 }
 
@@ -31,6 +36,7 @@ fn attempt(rt: &impl Abort, alloc: Global, call: Call) -> Result<String, AllocEr
     match call {
         Call::Open => libraries::opened(rt, alloc),
         Call::Amend => libraries::amended(rt, alloc),
+        Call::AmendUnsettled => libraries::amended_unsettled(rt, alloc),
         Call::PapersOf => libraries::papers_read(rt, alloc),
         Call::ReadScript => libraries::script_read(rt, alloc),
         Call::ReadLog => libraries::log_read(rt, alloc),
@@ -40,9 +46,12 @@ fn attempt(rt: &impl Abort, alloc: Global, call: Call) -> Result<String, AllocEr
         Call::Replay => libraries::replayed(rt, alloc),
         Call::MatchFiles => calls::matched(rt, alloc, false),
         Call::MatchLog => calls::matched(rt, alloc, true),
-        Call::Run => calls::ran(rt, alloc),
+        Call::Run => calls::ran(rt, alloc, Settling::EachTime),
+        Call::RunSettledAtTheEnd => calls::ran(rt, alloc, Settling::AtTheEnd),
         Call::AuditFiles => calls::audited(rt, alloc),
         Call::ReplayFiles => calls::replayed(rt, alloc),
+        Call::ExportFiles => calls::exported(rt, alloc),
+        Call::SummaryFiles => calls::summed(rt, alloc),
         Call::RunBundle => calls::ran_bundle(rt, alloc),
     }
 }

@@ -7,4 +7,4 @@ pub mod Listing
 pub mod RowLemmas
 pub mod SeenLemmas
 pub mod PaperLemmas
-mod InStep
+pub mod InStep

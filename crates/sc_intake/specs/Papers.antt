@@ -18,6 +18,9 @@ use Rattle.sc_intake.specs.declared.fault.Source.TheVariants.{Roster, Lists}
 use Rattle.sc_intake.specs.declared.lists.ListRow.{ListRow}
 use Rattle.sc_intake.specs.declared.roster.RosterRow.{RosterRow}
 use Rattle.sc_intake.specs.declared.schools.SchoolRow.{SchoolRow}
+use Rattle.sc_intake.specs.Lists.{lists_in}
+use Rattle.sc_intake.specs.Roster.{roster_in}
+use Rattle.sc_intake.specs.Schools.{schools_in}
 
 -- the papers with these schools, in the order of their rows, before any student
 abbrev pub opening : List ℕ → List SchoolRow → Market
@@ -89,6 +92,15 @@ filled m roster lists = all_entered lists m roster >>= λ n. unless_not_in_roste
 -- the papers that the rows make
 abbrev pub papers_of : List ℕ → List SchoolRow → List RosterRow → List ListRow → Result Market IntakeFault
 papers_of seed schools roster lists = filled (opening seed schools) roster lists
+
+-- the papers that three texts make under a seed, or the first fault: of the schools, the roster, the
+-- lists, and then of what they say together
+abbrev pub papers_in : List ℕ → List ℕ → List ℕ → List ℕ → Result Market IntakeFault
+papers_in seed schools roster lists = do
+  school_rows ← schools_in schools
+  roster_rows ← roster_in roster
+  list_rows ← lists_in lists
+  papers_of seed school_rows roster_rows list_rows
 
 -- the map gives the position of each student's row of the lists
 abbrev pub ArePositions : BTreeMap ℕ ℕ → List ListRow → List ListRow → Type 0

@@ -7,12 +7,11 @@ ghost use Rattle.sc_stamps.specs.Verdict.{unamended};
 ghost use Rattle.sc_repair.specs.Stamped.{stamped_papers};
 ghost use Rattle.sc_repair.specs.Standing.{proposals_from_scratch, IsCertified};
 
-use crate::amended::Amended;
 use crate::fault::{JournalCause, JournalFault};
 use crate::line_no::LineNo;
 use crate::reading::read_line;
 use sc_papers::{Amendment, Papers, Refusal};
-use sc_repair::Clearing;
+use sc_repair::{Clearing, Unsettled};
 use std::alloc::Global;
 
 /// How a journal ends.
@@ -59,7 +58,7 @@ fn numbered(alloc: Global, number: u64, text: &[u8]) -> Result<Amendment, Journa
 /// Makes the amendment of the line of this number, which is the next.
 fn apply_line(
     alloc: Global,
-    amended: &mut Amended,
+    amended: &mut Unsettled,
     number: u64,
     text: &[u8],
 ) -> Result<(), JournalCause>
@@ -78,7 +77,7 @@ fn apply_line(
 }
 
 /// Makes the amendments of the whole lines in turn, and says where the last of them ends.
-fn apply_lines(alloc: Global, amended: &mut Amended, bytes: &[u8]) -> Result<usize, JournalFault>
+fn apply_lines(alloc: Global, amended: &mut Unsettled, bytes: &[u8]) -> Result<usize, JournalFault>
     requires unamended { amended.old.stamps.accepted ≡ 0 }
     ensures { MatchResult result (IsEnd amended.old amended.new bytes.now) (IsReplayFault amended.old bytes.now) }
 {
@@ -105,9 +104,9 @@ fn tail_after(bytes: &[u8], end: usize) -> Tail
     }
 }
 
-/// Makes the amendments of a journal in turn, and opens a clearing of the papers as they then stand:
-/// that of the run whose journal it is, order of entry and stamps included. Bytes after the last newline
-/// are left unread, and the tail says whether there are any.
+/// Makes the amendments of a journal in turn, and gives the papers as they then stand, not settled: those of
+/// the run whose journal it is, order of entry and stamps included. Bytes after the last newline are left
+/// unread, and the tail says whether there are any.
 ///
 /// The papers are those of an opening, whose stamps are 0. A line has no stamp, so no line is ever stale:
 /// the amendment of the line of number k gives its record the stamp k.
@@ -115,19 +114,31 @@ fn tail_after(bytes: &[u8], end: usize) -> Tail
 /// The fault names the first line that is not taken, with the first cause that applies. After a fault
 /// the papers are given up; who needs them keeps a copy.
 ///
-/// The cost is one pass over the bytes, the cost of each amendment's `apply` and a look-up, and one
-/// settling.
-pub fn replay(alloc: Global, papers: Papers, bytes: &[u8]) -> Result<(Clearing, Tail), JournalFault>
-    ensures replay { MatchResult result (λ done. IsReplay (unamended papers) (stamped_papers done.0) bytes.now done.1) (IsReplayFault (unamended papers) bytes.now) }
-    ensures certified { IfOk result (λ done. IsCertified done.0.standing) }
-    ensures proposals { IfOk result (λ done. done.0.standing.proposals ≡ proposals_from_scratch done.0.standing) }
+/// The cost is one pass over the bytes, and the cost of each amendment's `apply` and a look-up.
+pub fn replay_papers(
+    alloc: Global,
+    papers: Papers,
+    bytes: &[u8],
+) -> Result<(Unsettled, Tail), JournalFault>
+    ensures { MatchResult result (λ done. IsReplay (unamended papers) done.0 bytes.now done.1) (IsReplayFault (unamended papers) bytes.now) }
 {
-    let mut amended = match Amended::of(alloc, papers) {
+    let mut amended = match Unsettled::new(alloc, papers) {
         Ok(amended) => amended,
         Err(_) => return Err(JournalFault::no_memory()),
     };
     let end = apply_lines(alloc, &mut amended, bytes)?;
     let tail = tail_after(bytes, end);
+    Ok((amended, tail))
+}
+
+/// Does what `replay_papers` does, and opens a clearing of the papers as they then stand, with their stamps.
+/// The cost is one settling more.
+pub fn replay(alloc: Global, papers: Papers, bytes: &[u8]) -> Result<(Clearing, Tail), JournalFault>
+    ensures replay { MatchResult result (λ done. IsReplay (unamended papers) (stamped_papers done.0) bytes.now done.1) (IsReplayFault (unamended papers) bytes.now) }
+    ensures certified { IfOk result (λ done. IsCertified done.0.standing) }
+    ensures proposals { IfOk result (λ done. done.0.standing.proposals ≡ proposals_from_scratch done.0.standing) }
+{
+    let (amended, tail) = replay_papers(alloc, papers, bytes)?;
     // One settling at the end is enough: the standing assignment of the papers is the same however they
     // came to be as they are.
     match amended.settle(alloc) {

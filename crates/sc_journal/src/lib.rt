@@ -4,7 +4,6 @@
 //! `specs/`.
 #![tactic(auto)]
 
-mod amended;
 mod fault;
 mod fields;
 mod journal;
@@ -16,7 +15,7 @@ mod reading;
 mod unread;
 
 pub use fault::{JournalCause, JournalFault};
-pub use journal::{Tail, replay};
+pub use journal::{Tail, replay, replay_papers};
 pub use line_no::LineNo;
-pub use lines::line;
+pub use lines::{line, push_list};
 pub use reading::{JournalLine, read_line};

@@ -19,8 +19,9 @@ fn push_further(text: &mut Vec<u8>, schools: &[SchoolNo]) -> Result<(), AllocErr
     Ok(())
 }
 
-/// Adds a list of schools.
-fn push_list(text: &mut Vec<u8>, schools: &[SchoolNo]) -> Result<(), AllocError>
+/// Adds a list of schools to a text: their numbers, with one space between each two. The only error is
+/// want of memory, after which a part of it may have been added.
+pub fn push_list(text: &mut Vec<u8>, schools: &[SchoolNo]) -> Result<(), AllocError>
     ensures { OnOk result (text.new.items ≡ text.old.items ++ list_text schools.now) }
 {
     match schools {

@@ -44,8 +44,9 @@ pub(crate) fn cutoff_by(seats: u32, held: u32, last: Option<Key>) -> Cutoff
     }
 }
 
-/// The rows of all schools, in order of entry.
-pub(crate) fn rows_in_order(
+/// The rows of all schools, in order of entry. The only error is want of memory. The cost is one pass over the students.
+/// Papers are always well-formed, and this call tells its callers so.
+pub fn rows_in_order(
     alloc: Global,
     papers: &Papers,
     places: &Assignment,

@@ -27,8 +27,8 @@ fn push_key(text: &mut Vec<u8>, key: Key) -> Result<(), AllocError>
     push_number(text, u64::from(key.student.get()))
 }
 
-/// Adds a cutoff: its key, or what it is, and dashes.
-fn push_cutoff(text: &mut Vec<u8>, cutoff: Cutoff) -> Result<(), AllocError>
+/// Adds a cutoff as the cutoff text has it: its key, or what it is, and dashes. The only error is want of memory.
+pub fn push_cutoff(text: &mut Vec<u8>, cutoff: Cutoff) -> Result<(), AllocError>
     ensures { OnOk result (text.new.items ≡ text.old.items ++ cutoff_field cutoff) }
 {
     match cutoff {

@@ -17,11 +17,13 @@ mod text;
 mod watched;
 mod whole;
 
-pub use cutoff::{Cutoff, CutoffRow, cutoffs};
-pub use cutoff_lines::cutoff_text;
+pub use cutoff::{Cutoff, CutoffRow, cutoffs, rows_in_order};
+pub use cutoff_lines::{cutoff_text, push_cutoff};
+pub use entrants::{Entrant, rising_entrants};
+pub use lines::push_draw;
 pub use log::log_text;
-pub use reason::{Reason, ReasonRow, reasons};
-pub use reason_lines::reason_text;
+pub use reason::{Reason, ReasonRow, reason_by, reasons};
+pub use reason_lines::{push_reason, reason_text};
 pub use reply::reply_line;
 pub use report::{ReportFault, write_report};
 pub use text::{assignment_text, report_text};

@@ -36,7 +36,7 @@ pub struct ReasonRow {
 }
 
 /// Why a key does not get past a cutoff.
-fn reason_by(cutoff: Cutoff, key: Key) -> Reason
+pub fn reason_by(cutoff: Cutoff, key: Key) -> Reason
     ensures { result ≡ reason_by cutoff key }
 {
     match cutoff {

@@ -25,8 +25,8 @@ const LONGEST_LINE: usize = 24;
 /// The most bytes of a student's number and a comma.
 const LONGEST_NUMBER: usize = 10;
 
-/// Adds a comma, a reason's word and a newline.
-fn push_word(text: &mut Vec<u8>, reason: Reason) -> Result<(), AllocError>
+/// Adds a comma, a reason's word and a newline, as a line of the reason text ends. The only error is want of memory.
+pub fn push_reason(text: &mut Vec<u8>, reason: Reason) -> Result<(), AllocError>
     ensures { OnOk result (text.new.items ≡ text.old.items ++ codes "," ++ reason_word reason ++ codes "\n") }
 {
     match reason {
@@ -43,7 +43,7 @@ fn push_line(text: &mut Vec<u8>, number: &[u8], row: &ReasonRow) -> Result<(), A
 {
     text.extend_from_slice(number)?;
     push_number(text, u64::from(row.school.get()))?;
-    push_word(text, row.reason)
+    push_reason(text, row.reason)
 }
 
 /// Adds the line of each row of one student, whose number and the comma after it are given as text.

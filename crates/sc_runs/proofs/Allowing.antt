@@ -1,5 +1,5 @@
 -- What is known of a stamped amendment that is accepted.
-use Rattle.std.proofs.Common.{◌≡◌, ℕ, ◌+◌, ◌<◌, ◌≤◌, arith, Bool, true, false, not, List, [], ◌∷◌, Option, None, Some, refl}
+use Rattle.std.proofs.Common.{◌≡◌, ◌<◌, arith, Bool, true, false, not, [], ◌∷◌, Option, None, Some, refl}
 use Rattle.std.specs.Prelude.{nat_le, ◌==◌}
 use Rattle.std.proofs.lemmas.Bool.Decides.{nat_tests}
 use Rattle.sc_papers.specs.Verdict.{first_of, refuse_if, verdict}

@@ -20,7 +20,7 @@ pub record AreTexts (texts : Texts) (schools roster lists : List ℕ) : Type 0 w
   pub roster_same : roster ≡ texts.roster
   pub lists_same : lists ≡ texts.lists
 
-papers_in-texts : (seed : List ℕ) (texts : Texts) (schools roster lists : List ℕ) → AreTexts texts schools roster lists → papers_in seed schools roster lists ≡ opening_in seed texts
+pub papers_in-texts : (seed : List ℕ) (texts : Texts) (schools roster lists : List ℕ) → AreTexts texts schools roster lists → papers_in seed schools roster lists ≡ opening_in seed texts
 papers_in-texts seed texts schools roster lists same =
     ap (λ s. papers_in seed s roster lists) same.schools_same
     ∙ ap (λ r. papers_in seed texts.schools r lists) same.roster_same

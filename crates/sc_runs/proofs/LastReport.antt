@@ -1,15 +1,15 @@
--- The papers after a script are well-formed, and so they have a report.
+-- The papers after a script are well-formed, and well-formed papers have a report.
 use Rattle.std.proofs.Common.{◌≡◌, ℕ, List, [], ◌∷◌, Option, None, Some, Result, Ok, Err, refl}
 use Rattle.sc_papers.specs.Market.{Market}
 use Rattle.sc_papers.specs.WellFormed.{WellFormed}
 use Rattle.sc_papers.specs.declared.amendment.Refusal.{Refusal}
 use Rattle.sc_papers.specs.declared.amendment.Stamped.{Stamped}
-use Rattle.sc_stamps.specs.Verdict.{StampedPapers, after_stamped_verdict, stamped_verdict, unamended}
+use Rattle.sc_stamps.specs.Verdict.{StampedPapers, after_stamped_verdict, stamped_verdict}
 use Rattle.sc_papers.proofs.Amending.{WellFormed-after}
 use Rattle.sc_papers.proofs.Existence.{optimal-exists}
 use Rattle.sc_report.specs.Text.{report_text}
 use Rattle.sc_runs.specs.Opening.{IsReport}
-use Rattle.sc_runs.specs.Run.{after_record, after_script, Opened, IsLastReport}
+use Rattle.sc_runs.specs.Run.{after_record, after_script}
 use Rattle.sc_runs.proofs.Allowing.{allowed-papers}
 
 -- an amendment of any verdict leaves the papers well-formed
@@ -24,17 +24,12 @@ WellFormed-after_record p (Ok stamped) well = WellFormed-after_verdict p stamped
 WellFormed-after_record p (Err refusal) well = well
 
 -- and so does a script
-WellFormed-after_script : (p : StampedPapers) (script : List (Result Stamped Refusal)) → WellFormed p.papers → WellFormed (after_script p script).papers
+pub WellFormed-after_script : (p : StampedPapers) (script : List (Result Stamped Refusal)) → WellFormed p.papers → WellFormed (after_script p script).papers
 WellFormed-after_script p [] well = well
 WellFormed-after_script p (entry ∷ rest) well = WellFormed-after_script (after_record p entry) rest (WellFormed-after_record p entry well)
 
 -- well-formed papers have a report
-IsReport-some : (m : Market) → WellFormed m → (report : List ℕ) × IsReport m report
+pub IsReport-some : (m : Market) → WellFormed m → (report : List ℕ) × IsReport m report
 IsReport-some m well =
     let (a, optimal) = optimal-exists m well in
     (report_text m a, (a, optimal, refl))
-
--- a run that opened well-formed papers has a report to write last
-pub IsLastReport-some : (opened : Opened) → WellFormed opened.papers → (report : List ℕ) × IsLastReport opened report
-IsLastReport-some opened well =
-    IsReport-some (after_script (unamended opened.papers) opened.script).papers (WellFormed-after_script (unamended opened.papers) opened.script well)

@@ -4,25 +4,23 @@ use Rattle.std.specs.Io.KnownBytes.{Appends}
 use Rattle.std.proofs.lemmas.Bool.{true≢false}
 use Rattle.std.specs.Result.{is_err, result_err}
 use Rattle.sc_papers.specs.Market.{Market}
-use Rattle.sc_papers.specs.Matching.{Matching, IsStudentOptimal}
 use Rattle.sc_papers.specs.Verdict.{unless_refused}
 use Rattle.sc_papers.specs.WellFormed.{WellFormed}
 use Rattle.sc_papers.specs.declared.amendment.Amendment.{Amendment}
 use Rattle.sc_papers.specs.declared.amendment.Refusal.{Refusal}
 use Rattle.sc_papers.specs.declared.amendment.Stamped.{Stamped}
-use Rattle.sc_stamps.specs.Stamps.{Stamps, no_stamps}
 use Rattle.sc_stamps.specs.Verdict.{StampedPapers, after_stamped_verdict, stamped_after, stamped_verdict, unamended}
 use Rattle.sc_intake.specs.declared.fault.IntakeFault.{IntakeFault}
 use Rattle.sc_journal.specs.Journal.{journal_text}
 use Rattle.sc_journal.proofs.Stamping.{accepted-after}
 use Rattle.sc_report.specs.Reply.{reply_text}
-use Rattle.sc_report.specs.Text.{report_text}
-use Rattle.sc_runs.specs.Opening.{IsOpeningFault}
+use Rattle.sc_runs.specs.Opening.{IsOpeningFault, IsReport}
 use Rattle.sc_runs.specs.TwoWriters.{Contents, Piece, journal_of, output_of, to_journal, to_output, GrowsByAll, GrowsByPrefix}
-use Rattle.sc_runs.specs.Run.{accepted, accepted_in, after_record, after_script, answer_to, answers, answer_by_verdict, next_line, opened_in, replies, reply_to, unless_verdict, KeepsBoth, Writes, WritesPrefix, WritesRun}
+use Rattle.sc_runs.specs.Run.{accepted, accepted_in, after_record, after_script, answer_to, answers, answer_by_verdict, next_line, opened_in, replies, reply_to, unless_verdict, KeepsBoth, Writes, WritesRun}
+use Rattle.sc_runs.specs.Session.{WritesReport, WritesSession}
 use Rattle.sc_runs.specs.declared.fault.RunFault.{RunFault}
 use Rattle.sc_runs.specs.declared.fault.RunFault.TheVariants.{Read, Intake, Journal, WriteOut, WriteJournal, OutOfMemory}
-use Rattle.sc_runs.proofs.LastReport.{IsLastReport-some}
+use Rattle.sc_runs.proofs.LastReport.{IsReport-some, WellFormed-after_script}
 use Rattle.sc_runs.proofs.Openings.{Keeps-refl}
 use Rattle.sc_runs.proofs.TwoWriters.{GrowsByAll-none, GrowsByAll-trans, GrowsByPrefix-after, GrowsByPrefix-longer, journal_of-append, output_of-append}
 
@@ -175,94 +173,71 @@ WritesRun-unscripted scripted m old WriteOut is = absurd is
 WritesRun-unscripted scripted m old WriteJournal is = absurd is
 WritesRun-unscripted scripted m old OutOfMemory is = inl (KeepsBoth-refl old)
 
--- the answers were written in part
-WritesPrefix-answered : (m : Market) (script : List (Result Stamped Refusal)) (old new : Contents)
-    → WellFormed m → GrowsByPrefix (answers 1 (unamended m) script) old new → WritesPrefix (record { papers = m; script = script }) old new
-WritesPrefix-answered m script old new well wrote =
-    let (report, is) = IsLastReport-some (record { papers = m; script = script }) well in
-    (report, is, GrowsByPrefix-longer (answers 1 (unamended m) script) (to_output report ∷ []) old new wrote)
+-- all of some writes, and then others, whole or in part
+pub Writes-then : (xs ys : List Piece) (a b c : Contents) (result : Result (Unit {0}) RunFault) → GrowsByAll xs a b → Writes ys b c result → Writes (xs ++ ys) a c result
+Writes-then xs ys a b c (Ok done) first wrote = GrowsByAll-trans xs ys a b c first wrote
+Writes-then xs ys a b c (Err WriteOut) first wrote = GrowsByPrefix-after xs ys a b c first wrote
+Writes-then xs ys a b c (Err WriteJournal) first wrote = GrowsByPrefix-after xs ys a b c first wrote
+Writes-then xs ys a b c (Err OutOfMemory) first wrote = GrowsByPrefix-after xs ys a b c first wrote
+Writes-then xs ys a b c (Err (Journal fault)) first wrote = absurd wrote
+Writes-then xs ys a b c (Err (Read source)) first wrote = absurd wrote
+Writes-then xs ys a b c (Err (Intake fault)) first wrote = absurd wrote
 
--- the run ended amid the answers
-WritesRun-answered : (scripted : Result (List (Result Stamped Refusal)) IntakeFault) (m : Market) (script : List (Result Stamped Refusal)) (old new : Contents) (fault : RunFault)
-    → WellFormed m → scripted ≡ Ok script → Writes {A = Unit {0}} (answers 1 (unamended m) script) old new (Err fault) → WritesRun (opened_in (Ok m) scripted) old new (Err fault)
-WritesRun-answered scripted m script old new (Read source) well read wrote = absurd wrote
-WritesRun-answered scripted m script old new (Intake fault) well read wrote = absurd wrote
-WritesRun-answered scripted m script old new (Journal fault) well read wrote = absurd wrote
-WritesRun-answered scripted m script old new WriteJournal well read wrote =
-    (record { papers = m; script = script }, ap (opened_in (Ok m)) read, WritesPrefix-answered m script old new well wrote)
-WritesRun-answered scripted m script old new WriteOut well read wrote =
-    (record { papers = m; script = script }, ap (opened_in (Ok m)) read, WritesPrefix-answered m script old new well wrote)
-WritesRun-answered scripted m script old new OutOfMemory well read wrote =
-    inr (record { papers = m; script = script }, ap (opened_in (Ok m)) read, WritesPrefix-answered m script old new well wrote)
+-- some writes that ended early, which others were to follow
+Writes-cut : (xs ys : List Piece) (a b : Contents) (fault : RunFault) → Writes {A = Unit {0}} xs a b (Err fault) → Writes {A = Unit {0}} (xs ++ ys) a b (Err fault)
+Writes-cut xs ys a b WriteOut wrote = GrowsByPrefix-longer xs ys a b wrote
+Writes-cut xs ys a b WriteJournal wrote = GrowsByPrefix-longer xs ys a b wrote
+Writes-cut xs ys a b OutOfMemory wrote = GrowsByPrefix-longer xs ys a b wrote
+Writes-cut xs ys a b (Journal fault) wrote = absurd wrote
+Writes-cut xs ys a b (Read source) wrote = absurd wrote
+Writes-cut xs ys a b (Intake fault) wrote = absurd wrote
 
--- all answers were written, and then the report in part
-WritesPrefix-finished : (m : Market) (script : List (Result Stamped Refusal)) (a : Matching) (old mid new : Contents)
-    → IsStudentOptimal (after_script (unamended m) script).papers a → GrowsByAll (answers 1 (unamended m) script) old mid
-    → GrowsByPrefix (to_output (report_text (after_script (unamended m) script).papers a) ∷ []) mid new
-    → WritesPrefix (record { papers = m; script = script }) old new
-WritesPrefix-finished m script a old mid new optimal answered wrote = (
-  report_text (after_script (unamended m) script).papers a,
-  (a, optimal, refl),
-  GrowsByPrefix-after (answers 1 (unamended m) script) (to_output (report_text (after_script (unamended m) script).papers a) ∷ []) old mid new answered wrote,
+-- all answers were written, and then the report of the papers as they stand, whole or in part
+pub WritesSession-answered : (p later : StampedPapers) (script : List (Result Stamped Refusal)) (old mid new : Contents) (result : Result (Unit {0}) RunFault)
+    → later ≡ after_script p script → GrowsByAll (answers 1 p script) old mid → WritesReport later.papers mid new result → WritesSession p script old new result
+WritesSession-answered p later script old mid new result is answered (report, of, wrote) = (
+  report,
+  subst (λ q. IsReport q.papers report) is of,
+  Writes-then (answers 1 p script) (to_output report ∷ []) old mid new result answered wrote,
 )
 
--- all answers were written, and then the report, whole or in part
-WritesRun-written : (scripted : Result (List (Result Stamped Refusal)) IntakeFault) (m : Market) (script : List (Result Stamped Refusal)) (a : Matching) (old mid new : Contents) (result : Result (Unit {0}) RunFault)
-    → scripted ≡ Ok script → IsStudentOptimal (after_script (unamended m) script).papers a → GrowsByAll (answers 1 (unamended m) script) old mid
-    → Writes (to_output (report_text (after_script (unamended m) script).papers a) ∷ []) mid new result
-    → WritesRun (opened_in (Ok m) scripted) old new result
-WritesRun-written scripted m script a old mid new (Ok done) read optimal answered wrote =
-    let report = report_text (after_script (unamended m) script).papers a in
-    let both = GrowsByAll-trans (answers 1 (unamended m) script) (to_output report ∷ []) old mid new answered wrote in (
-      record { papers = m; script = script },
-      ap (opened_in (Ok m)) read,
-      (
-        report,
-        (a, optimal, refl),
-        (
-          subst (Appends old.journal new.journal)
-              (journal_of-append (answers 1 (unamended m) script) (to_output report ∷ []) ∙ append-nil (journal_of (answers 1 (unamended m) script)) ∙ journal_of-answers 1 (unamended m) script)
-              both.0,
-          subst (Appends old.output new.output)
-              (output_of-append (answers 1 (unamended m) script) (to_output report ∷ [])
-              ∙ ap (λ text. output_of (answers 1 (unamended m) script) ++ text) (append-nil report)
-              ∙ ap (λ text. text ++ report) (output_of-answers 1 (unamended m) script))
-              both.1,
-        ),
-      ),
-    )
-WritesRun-written scripted m script a old mid new (Err WriteOut) read optimal answered wrote =
-    (record { papers = m; script = script }, ap (opened_in (Ok m)) read, WritesPrefix-finished m script a old mid new optimal answered wrote)
-WritesRun-written scripted m script a old mid new (Err WriteJournal) read optimal answered wrote =
-    (record { papers = m; script = script }, ap (opened_in (Ok m)) read, WritesPrefix-finished m script a old mid new optimal answered wrote)
-WritesRun-written scripted m script a old mid new (Err OutOfMemory) read optimal answered wrote =
-    inr (record { papers = m; script = script }, ap (opened_in (Ok m)) read, WritesPrefix-finished m script a old mid new optimal answered wrote)
-WritesRun-written scripted m script a old mid new (Err (Journal fault)) read optimal answered wrote = absurd wrote
-WritesRun-written scripted m script a old mid new (Err (Read source)) read optimal answered wrote = absurd wrote
-WritesRun-written scripted m script a old mid new (Err (Intake fault)) read optimal answered wrote = absurd wrote
+-- the answers were written in part
+pub WritesSession-ended : (p : StampedPapers) (script : List (Result Stamped Refusal)) (old new : Contents) (fault : RunFault)
+    → WellFormed p.papers → Writes {A = Unit {0}} (answers 1 p script) old new (Err fault) → WritesSession p script old new (Err fault)
+WritesSession-ended p script old new fault well wrote =
+    let (report, is) = IsReport-some (after_script p script).papers (WellFormed-after_script p script well) in
+    (report, is, Writes-cut (answers 1 p script) (to_output report ∷ []) old new fault wrote)
 
--- papers whose stamps are all 0 are those of an opening
-opened-unamended : (m : Market) (stamps : Stamps) → stamps ≡ no_stamps m → record { papers = m; stamps = stamps } ≡ unamended m
-opened-unamended m stamps none = ap (λ s. record { papers = m; stamps = s }) none
+-- the answers and the report were written to the texts of a run, whole or in part
+WritesRun-written : (scripted : Result (List (Result Stamped Refusal)) IntakeFault) (m : Market) (script : List (Result Stamped Refusal)) (old new : Contents) (result : Result (Unit {0}) RunFault)
+    → scripted ≡ Ok script → WritesSession (unamended m) script old new result → WritesRun (opened_in (Ok m) scripted) old new result
+WritesRun-written scripted m script old new (Ok done) read (report, is, wrote) = (
+  record { papers = m; script = script },
+  ap (opened_in (Ok m)) read,
+  (
+    report,
+    is,
+    (
+      subst (Appends old.journal new.journal)
+          (journal_of-append (answers 1 (unamended m) script) (to_output report ∷ []) ∙ append-nil (journal_of (answers 1 (unamended m) script)) ∙ journal_of-answers 1 (unamended m) script)
+          wrote.0,
+      subst (Appends old.output new.output)
+          (output_of-append (answers 1 (unamended m) script) (to_output report ∷ [])
+          ∙ ap (λ text. output_of (answers 1 (unamended m) script) ++ text) (append-nil report)
+          ∙ ap (λ text. text ++ report) (output_of-answers 1 (unamended m) script))
+          wrote.1,
+    ),
+  ),
+)
+WritesRun-written scripted m script old new (Err WriteOut) read wrote = (record { papers = m; script = script }, ap (opened_in (Ok m)) read, wrote)
+WritesRun-written scripted m script old new (Err WriteJournal) read wrote = (record { papers = m; script = script }, ap (opened_in (Ok m)) read, wrote)
+WritesRun-written scripted m script old new (Err OutOfMemory) read wrote = inr (record { papers = m; script = script }, ap (opened_in (Ok m)) read, wrote)
+WritesRun-written scripted m script old new (Err (Journal fault)) read (report, is, wrote) = absurd wrote
+WritesRun-written scripted m script old new (Err (Read source)) read (report, is, wrote) = absurd wrote
+WritesRun-written scripted m script old new (Err (Intake fault)) read (report, is, wrote) = absurd wrote
 
--- the same by the papers and the stamps that stood before the script and that stand after it
-pub WritesRun-after : (scripted : Result (List (Result Stamped Refusal)) IntakeFault) (m : Market) (stamps : Stamps) (script : List (Result Stamped Refusal)) (later : StampedPapers) (a : Matching) (old mid new : Contents) (result : Result (Unit {0}) RunFault)
-    → scripted ≡ Ok script → stamps ≡ no_stamps m → later ≡ after_script (record { papers = m; stamps = stamps }) script → IsStudentOptimal later.papers a
-    → GrowsByAll (answers 1 (record { papers = m; stamps = stamps }) script) old mid
-    → Writes (to_output (report_text later.papers a) ∷ []) mid new result
-    → WritesRun (opened_in (Ok m) scripted) old new result
-WritesRun-after scripted m stamps script later a old mid new result read none is optimal answered wrote =
-    let same = opened-unamended m stamps none in
-    let now : later ≡ after_script (unamended m) script = is ∙ ap (λ p. after_script p script) same in
-    WritesRun-written scripted m script a old mid new result read
-    (subst (λ p. IsStudentOptimal p.papers a) now optimal)
-    (subst (λ p. GrowsByAll (answers 1 p script) old mid) same answered)
-    (subst (λ p. Writes (to_output (report_text p.papers a) ∷ []) mid new result) now wrote)
-
--- the run ended amid the answers, by the stamps that stood before them
-pub WritesRun-ended : (scripted : Result (List (Result Stamped Refusal)) IntakeFault) (m : Market) (stamps : Stamps) (script : List (Result Stamped Refusal)) (old new : Contents) (fault : RunFault)
-    → WellFormed m → scripted ≡ Ok script → stamps ≡ no_stamps m → Writes {A = Unit {0}} (answers 1 (record { papers = m; stamps = stamps }) script) old new (Err fault)
-    → WritesRun (opened_in (Ok m) scripted) old new (Err fault)
-WritesRun-ended scripted m stamps script old new fault well read none wrote =
-    WritesRun-answered scripted m script old new fault well read
-    (subst (λ p. Writes {A = Unit {0}} (answers 1 p script) old new (Err fault)) (opened-unamended m stamps none) wrote)
+-- the same by papers that are those of an opening
+pub WritesRun-session : (scripted : Result (List (Result Stamped Refusal)) IntakeFault) (m : Market) (p : StampedPapers) (script : List (Result Stamped Refusal)) (old new : Contents) (result : Result (Unit {0}) RunFault)
+    → scripted ≡ Ok script → p ≡ unamended m → WritesSession p script old new result → WritesRun (opened_in (Ok m) scripted) old new result
+WritesRun-session scripted m p script old new result read is wrote =
+    WritesRun-written scripted m script old new result read (subst (λ q. WritesSession q script old new result) is wrote)

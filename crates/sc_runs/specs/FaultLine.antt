@@ -4,7 +4,9 @@ use Rattle.sc_lottery.specs.Seed.{refusal_text}
 use Rattle.sc_intake.specs.FaultText.{fault_text, source_text}
 use Rattle.sc_journal.specs.FaultText as journal
 use Rattle.sc_runs.specs.declared.ending.Ending.{Ending}
-use Rattle.sc_runs.specs.declared.ending.Ending.TheVariants.{Done, NotCertified, Torn, BadSeed, BadBundle, Fault}
+use Rattle.sc_runs.specs.declared.ending.Ending.TheVariants.{Done, NotCertified, Torn, BadSeed, BadBundle, Unwritten, Fault}
+use Rattle.sc_runs.specs.declared.ending.PapersFile.{PapersFile}
+use Rattle.sc_runs.specs.declared.ending.PapersFile.TheVariants.{Schools, Roster, Lists}
 use Rattle.sc_runs.specs.declared.fault.RunFault.{RunFault}
 use Rattle.sc_runs.specs.declared.fault.RunFault.TheVariants.{Read, Intake, Journal, WriteOut, WriteJournal, OutOfMemory}
 
@@ -17,6 +19,18 @@ fault_words WriteOut = codes "cannot write output"
 fault_words WriteJournal = codes "cannot write journal"
 fault_words OutOfMemory = codes "out of memory"
 
+-- the name of a file that papers are exported to
+abbrev pub file_name : PapersFile → List ℕ
+file_name Schools = codes "schools.csv"
+file_name Roster = codes "roster.csv"
+file_name Lists = codes "lists.csv"
+
+-- which file of papers could not be made or written, and which ones are whole
+abbrev pub unwritten_words : PapersFile → List ℕ
+unwritten_words Schools = codes "cannot write schools.csv: no file is whole"
+unwritten_words Roster = codes "cannot write roster.csv: schools.csv is whole"
+unwritten_words Lists = codes "cannot write lists.csv: schools.csv and roster.csv are whole"
+
 -- an ending in words; done and not certified have none
 abbrev pub ending_words : Ending → List ℕ
 ending_words Done = []
@@ -24,6 +38,7 @@ ending_words NotCertified = []
 ending_words Torn = codes "journal torn"
 ending_words (BadSeed error) = codes "seed: " ++ refusal_text error
 ending_words BadBundle = codes "bundle"
+ending_words (Unwritten file) = unwritten_words file
 ending_words (Fault fault) = fault_words fault
 
 -- a line: the program's name, a colon, the words, and a line end
@@ -37,4 +52,5 @@ fault_line NotCertified = []
 fault_line Torn = line_with (ending_words Torn)
 fault_line (BadSeed error) = line_with (ending_words (BadSeed error))
 fault_line BadBundle = line_with (ending_words BadBundle)
+fault_line (Unwritten file) = line_with (ending_words (Unwritten file))
 fault_line (Fault fault) = line_with (ending_words (Fault fault))

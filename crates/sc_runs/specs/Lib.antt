@@ -6,6 +6,9 @@ pub mod Opening
 pub mod BundleRun
 pub mod TwoWriters
 pub mod Run
+pub mod Session
 pub mod Auditing
 pub mod Replaying
+pub mod Standing
 pub mod FaultLine
+pub mod Exporting

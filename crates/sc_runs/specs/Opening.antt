@@ -5,11 +5,7 @@ use Rattle.sc_papers.specs.Log.{IsSettled}
 use Rattle.sc_papers.specs.Market.{Market}
 use Rattle.sc_papers.specs.Matching.{Matching, IsStudentOptimal}
 use Rattle.sc_papers.specs.declared.rejection.Rejection.{Rejection}
-use Rattle.sc_intake.specs.Fault.{◌>>=◌}
-use Rattle.sc_intake.specs.Lists.{lists_in}
-use Rattle.sc_intake.specs.Papers.{papers_of}
-use Rattle.sc_intake.specs.Roster.{roster_in}
-use Rattle.sc_intake.specs.Schools.{schools_in}
+pub use Rattle.sc_intake.specs.Papers.{papers_in}
 use Rattle.sc_intake.specs.declared.fault.Cause.{Cause}
 use Rattle.sc_intake.specs.declared.fault.Cause.TheVariants as cause
 use Rattle.sc_intake.specs.declared.fault.IntakeFault.{IntakeFault}
@@ -19,15 +15,6 @@ use Rattle.sc_report.specs.Whole.{AppendsPrefix}
 use Rattle.sc_runs.specs.Inputs.{in_order, Texts, Turn, AreRead, EndsAmong}
 use Rattle.sc_runs.specs.declared.fault.RunFault.{RunFault}
 use Rattle.sc_runs.specs.declared.fault.RunFault.TheVariants.{Read, Intake, Journal, WriteOut, WriteJournal, OutOfMemory}
-
--- the papers that three texts make under a seed, or the first fault: of the schools, the roster, the
--- lists, and then of what they say together
-abbrev pub papers_in : List ℕ → List ℕ → List ℕ → List ℕ → Result Market IntakeFault
-papers_in seed schools roster lists = do
-  school_rows ← schools_in schools
-  roster_rows ← roster_in roster
-  list_rows ← lists_in lists
-  papers_of seed school_rows roster_rows list_rows
 
 -- the papers of an opening's texts, or their first fault
 abbrev pub opening_in : List ℕ → Texts → Result Market IntakeFault

@@ -11,6 +11,7 @@ ghost use Rattle.sc_runs.specs.Run.{is_journal_fault};
 ghost use Rattle.sc_runs.specs.declared.ending.Ending.TheVariants.{Fault};
 ghost use Rattle.sc_runs.specs.declared.fault.RunFault.TheVariants.{WriteJournal};
 
+use crate::amendable::Settling;
 use crate::bundle::{Bundle, split_bundle};
 use crate::ending::Ending;
 use crate::fault::RunFault;
@@ -62,7 +63,15 @@ fn run_sections<W: Write>(
         lists: bundle.lists,
     };
     match bundle.script {
-        Some(script) => run_texts(alloc, seed, texts, script, out, &mut Unkept),
+        Some(script) => run_texts(
+            alloc,
+            seed,
+            texts,
+            script,
+            Settling::EachTime,
+            out,
+            &mut Unkept,
+        ),
         None => match_texts(alloc, seed, texts, false, out),
     }
 }

@@ -2,12 +2,39 @@
 
 ghost use Rattle.std.specs.Prelude.{◌≡◌, Some, IfOk};
 ghost use Rattle.sc_runs.specs.Ending.{status_of, status_of_fault};
-ghost use Rattle.sc_runs.specs.FaultLine.{ending_words, fault_line};
+ghost use Rattle.sc_runs.specs.FaultLine.{ending_words, fault_line, unwritten_words};
 
 use crate::fault::RunFault;
 use sc_lottery::SeedError;
 use std::alloc::{AllocError, Global};
 use std::fmt;
+
+/// A file that papers are exported to.
+#[derive(Clone, Copy, Debug, PartialEq, Eq)]
+pub enum PapersFile {
+    /// The file of the schools.
+    Schools,
+    /// The roster.
+    Roster,
+    /// The rank-order lists.
+    Lists,
+}
+
+impl PapersFile {
+    ghost use Rattle.std.specs.Prelude.{◌≡◌};
+    ghost use Rattle.sc_runs.specs.FaultLine.{file_name};
+
+    /// The file's name in the folder that was given.
+    pub fn name(self) -> &'static str
+        ensures { result.now ≡ file_name self }
+    {
+        match self {
+            PapersFile::Schools => "schools.csv",
+            PapersFile::Roster => "roster.csv",
+            PapersFile::Lists => "lists.csv",
+        }
+    }
+}
 
 /// What became of a run.
 #[derive(Clone, Copy, Debug, PartialEq, Eq)]
@@ -22,6 +49,9 @@ pub enum Ending {
     BadSeed(SeedError),
     /// The bundle has not its sections.
     BadBundle,
+    /// A file of exported papers could not be made or written. Those before it, in the order schools, roster,
+    /// lists, were written whole.
+    Unwritten { file: PapersFile },
     /// The run ended early.
     Fault(RunFault),
 }
@@ -35,14 +65,26 @@ impl fmt::Display for Ending {
             Ending::Torn => f.write_str("journal torn"),
             Ending::BadSeed(error) => write!(f, "seed: {error}"),
             Ending::BadBundle => f.write_str("bundle"),
+            Ending::Unwritten { file } => f.write_str(unwritten_words(*file)),
             Ending::Fault(fault) => write!(f, "{fault}"),
         }
     }
 }
 
+/// Which file could not be made or written, and which ones are whole.
+fn unwritten_words(file: PapersFile) -> &'static str
+    ensures { result.now ≡ unwritten_words file }
+{
+    match file {
+        PapersFile::Schools => "cannot write schools.csv: no file is whole",
+        PapersFile::Roster => "cannot write roster.csv: schools.csv is whole",
+        PapersFile::Lists => "cannot write lists.csv: schools.csv and roster.csv are whole",
+    }
+}
+
 /// The exit status: 0 done (a torn journal is no fault), 1 not certified, 2 a bad seed, 3 a fault of
-/// an input, the bundle or the journal, 4 a stream that could not be read or written, 5 want of
-/// memory.
+/// an input, the bundle or the journal, 4 a file or stream that could not be made, read or written, 5
+/// want of memory.
 pub fn status_of(ending: &Ending) -> u8
     ensures { result ≡ status_of ending.now }
 {
@@ -52,6 +94,7 @@ pub fn status_of(ending: &Ending) -> u8
         Ending::NotCertified => 1,
         Ending::BadSeed(_) => 2,
         Ending::BadBundle => 3,
+        Ending::Unwritten { .. } => 4,
         Ending::Fault(fault) => status_of_fault(fault),
     }
 }

@@ -3,10 +3,12 @@
 //! writes, and adds no rule of its own.
 #![tactic(auto)]
 
+mod amendable;
 mod auditing;
 mod bundle;
 mod bundle_run;
 mod ending;
+mod exporting;
 mod fault;
 mod inputs;
 pub mod laws;
@@ -17,16 +19,22 @@ mod recorder;
 mod replaying;
 mod running;
 mod script;
+mod standing;
+mod summing;
 mod writing;
 
+pub use amendable::Settling;
 pub use auditing::audit_files;
 pub use bundle::{Bundle, split_bundle};
 pub use bundle_run::run_bundle;
-pub use ending::{Ending, fault_line, status_of};
+pub use ending::{Ending, PapersFile, fault_line, status_of};
+pub use exporting::{Exported, export_files};
 pub use fault::RunFault;
 pub use inputs::{Inputs, Opening};
 pub use matching::{match_files, match_standing};
 pub use replaying::replay_files;
 pub use running::run;
 pub use sc_audit::Verdict;
+pub use sc_export::PapersFiles;
 pub use sc_journal::{JournalCause, JournalFault, Tail};
+pub use summing::summary_files;

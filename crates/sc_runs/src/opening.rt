@@ -58,7 +58,7 @@ pub fn open_texts(
 }
 
 /// The papers that the texts hold, or their first fault. The texts are given up.
-fn read_owned(alloc: Global, seed: &Seed, texts: OpeningTexts) -> Result<Papers, RunFault>
+pub fn read_owned(alloc: Global, seed: &Seed, texts: OpeningTexts) -> Result<Papers, RunFault>
     ensures { MatchResult result
         (λ papers. opening_in seed.now (texts_of texts) ≡ Ok papers)
         (IsOpeningFault (opening_in seed.now (texts_of texts))) }

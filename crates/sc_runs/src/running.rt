@@ -1,26 +1,28 @@
 //! From four files to replies and an assignment.
 
 ghost use Rattle.std.specs.Prelude.{◌≡◌, ◌||◌, ℕ, List, ◌++◌, ◌∷◌, [], All, Option, false, MatchResult, Ok};
-ghost use Rattle.sc_stamps.specs.Stamps.{no_stamps};
+ghost use Rattle.sc_papers.specs.WellFormed.{WellFormed};
 ghost use Rattle.sc_intake.specs.Script.{script_in};
 ghost use Rattle.sc_intake.specs.declared.fault.Source.TheVariants as input;
-ghost use Rattle.sc_repair.specs.Standing.{matching_of, IsCertified};
+ghost use Rattle.sc_repair.specs.Standing.{matching_of};
 ghost use Rattle.sc_report.specs.Text.{report_text};
 ghost use Rattle.sc_report.specs.Watched.{device_of, has_failed};
 ghost use Rattle.sc_runs.specs.Opening.{is_output_fault, papers_in, IsOpeningFault};
 ghost use Rattle.sc_runs.specs.Inputs.{opening_turns, turn_of, TakesWithin};
 ghost use Rattle.sc_runs.specs.TwoWriters.{to_output};
 ghost use Rattle.sc_runs.specs.Run.{is_journal_fault, opened_in, RunsFiles, Writes, WritesRun};
+ghost use Rattle.sc_runs.specs.Session.{WritesReport, WritesSession};
 
+use crate::amendable::{Amendable, Settling};
 use crate::fault::RunFault;
 use crate::inputs::{Inputs, OpeningSlices, read_inputs};
-use crate::opening::open_texts;
+use crate::opening::read_papers;
 use crate::recorder::Recorder;
 use crate::script::Session;
 use crate::writing::{flush_output, write_report_text};
 use sc_intake::{Source, read_script};
-use sc_papers::{Refusal, Seed, Stamped};
-use sc_repair::Clearing;
+use sc_papers::{Papers, Refusal, Seed, Stamped};
+use sc_repair::{Clearing, Unsettled};
 use sc_report::Watched;
 use std::alloc::Global;
 use std::io::{Read, Write};
@@ -56,29 +58,73 @@ fn finish<W: Write, J: Recorder>(
     flush_output(out)
 }
 
-/// Answers the records of the script in turn, and writes the report of the papers as they then stand.
-fn run_opened<W: Write, J: Recorder>(
+/// Settles papers as they stand, writes their report, and flushes the journal and then the output.
+fn settle_and_finish<A: Amendable, W: Write, J: Recorder>(
     alloc: Global,
-    session: &mut Session,
-    script: &[u8],
+    amended: A,
     out: &mut Watched<W>,
     journal: &mut J,
 ) -> Result<(), RunFault>
-    requires certified { IsCertified session.old.clearing.standing }
-    requires unamended { session.old.clearing.stamps ≡ no_stamps session.old.clearing.standing.papers }
-    requires records { session.old.records ≡ 0 }
-    ensures writes { WritesRun (opened_in (Ok session.old.clearing.standing.papers) (script_in script.now))
+    requires well_formed { WellFormed (A.stands amended).papers }
+    ensures writes { WritesReport (A.stands amended).papers
         (record { journal = J.contents journal.old; output = W.contents (device_of out.old) })
         (record { journal = J.contents journal.new; output = W.contents (device_of out.new) }) result }
     ensures failed { has_failed out.new ≡ (has_failed out.old || is_output_fault result) }
     ensures journal_failed { J.has_failed journal.new ≡ (J.has_failed journal.old || is_journal_fault result) }
 {
-    let records = match read_records(alloc, script) {
-        Ok(records) => records,
-        Err(fault) => return Err(fault),
-    };
+    match amended.settle(alloc) {
+        Ok(clearing) => {
+            let written = finish(alloc, &clearing, out, journal);
+            drop(clearing);
+            written
+        }
+        Err(_) => Err(RunFault::OutOfMemory),
+    }
+}
+
+/// Answers the records of a script in turn, and writes the report of the papers as they then stand.
+fn run_records<A: Amendable + Drop, W: Write, J: Recorder>(
+    alloc: Global,
+    amended: A,
+    records: Vec<Result<Stamped, Refusal>>,
+    out: &mut Watched<W>,
+    journal: &mut J,
+) -> Result<(), RunFault>
+    requires well_formed { WellFormed (A.stands amended).papers }
+    ensures writes { WritesSession (A.stands amended) records.items
+        (record { journal = J.contents journal.old; output = W.contents (device_of out.old) })
+        (record { journal = J.contents journal.new; output = W.contents (device_of out.new) }) result }
+    ensures failed { has_failed out.new ≡ (has_failed out.old || is_output_fault result) }
+    ensures journal_failed { J.has_failed journal.new ≡ (J.has_failed journal.old || is_journal_fault result) }
+{
+    let mut session = Session::new(amended);
     match session.answer_all(alloc, records, out, journal) {
-        Ok(()) => finish(alloc, &session.clearing, out, journal),
+        Ok(()) => settle_and_finish(alloc, session.amended, out, journal),
+        Err(fault) => Err(fault),
+    }
+}
+
+/// Opens papers, answers the records of the script in turn, and writes the report of the papers as they
+/// then stand.
+fn run_papers<A: Amendable + Drop, W: Write, J: Recorder>(
+    alloc: Global,
+    papers: Papers,
+    script: &[u8],
+    out: &mut Watched<W>,
+    journal: &mut J,
+) -> Result<(), RunFault>
+    ensures writes { WritesRun (opened_in (Ok papers) (script_in script.now))
+        (record { journal = J.contents journal.old; output = W.contents (device_of out.old) })
+        (record { journal = J.contents journal.new; output = W.contents (device_of out.new) }) result }
+    ensures failed { has_failed out.new ≡ (has_failed out.old || is_output_fault result) }
+    ensures journal_failed { J.has_failed journal.new ≡ (J.has_failed journal.old || is_journal_fault result) }
+{
+    let amended = match A::open(alloc, papers) {
+        Ok(amended) => amended,
+        Err(_) => return Err(RunFault::OutOfMemory),
+    };
+    match read_records(alloc, script) {
+        Ok(records) => run_records::<A, W, J>(alloc, amended, records, out, journal),
         Err(fault) => Err(fault),
     }
 }
@@ -90,6 +136,7 @@ pub fn run_texts<W: Write, J: Recorder>(
     seed: &Seed,
     texts: OpeningSlices<'_>,
     script: &[u8],
+    settling: Settling,
     out: &mut Watched<W>,
     journal: &mut J,
 ) -> Result<(), RunFault>
@@ -99,20 +146,23 @@ pub fn run_texts<W: Write, J: Recorder>(
     ensures failed { has_failed out.new ≡ (has_failed out.old || is_output_fault result) }
     ensures journal_failed { J.has_failed journal.new ≡ (J.has_failed journal.old || is_journal_fault result) }
 {
-    match open_texts(alloc, seed, texts) {
-        Ok(clearing) => {
-            let mut session = Session::new(clearing);
-            let written = run_opened(alloc, &mut session, script, out, journal);
-            drop(session);
-            written
-        }
-        Err(fault) => Err(fault),
+    let papers = match read_papers(alloc, seed, texts) {
+        Ok(papers) => papers,
+        Err(fault) => return Err(fault),
+    };
+    match settling {
+        Settling::EachTime => run_papers::<Clearing, W, J>(alloc, papers, script, out, journal),
+        Settling::AtTheEnd => run_papers::<Unsettled, W, J>(alloc, papers, script, out, journal),
     }
 }
 
 /// Reads the four inputs, in the order schools, roster, lists, script, and runs them: the line of each
 /// accepted amendment is written to the journal, and then its reply line to the output; last the report of
 /// the papers as they then stand is.
+///
+/// `settling` says when the papers are settled, and changes no byte: after each amendment that is accepted, or
+/// once, after the last record. The second costs one `match`, and for each record the cost of `Papers::apply` and
+/// of its line and its reply. Where a growth is refused, what was written before it may differ.
 ///
 /// The journal is never full: from 999,999,999 accepted amendments on, every amendment is refused as `Spent`.
 ///
@@ -124,6 +174,7 @@ pub fn run<R: Read, W: Write, J: Write>(
     alloc: Global,
     seed: &Seed,
     inputs: &mut Inputs<R>,
+    settling: Settling,
     out: &mut Watched<W>,
     journal: &mut Watched<J>,
 ) -> Result<(), RunFault>
@@ -149,6 +200,7 @@ pub fn run<R: Read, W: Write, J: Write>(
         seed,
         texts.opening.as_slices(),
         texts.last.as_slice(),
+        settling,
         out,
         journal,
     )

@@ -3,42 +3,40 @@
 ghost use Rattle.std.specs.Prelude.{◌≡◌, ◌||◌, ℕ, ◌+◌, ◌<◌, List, ◌∷◌, [], ◌++◌, Option, None, Ok, false, IfOk, OnOk};
 ghost use Rattle.sc_papers.specs.declared.stamp.TheConstants.Stamp.{GREATEST};
 ghost use Rattle.sc_stamps.specs.Verdict.{stamped_verdict};
-ghost use Rattle.sc_repair.specs.Stamped.{stamped_papers};
-ghost use Rattle.sc_repair.specs.Standing.{IsOptimal};
 ghost use Rattle.sc_report.specs.Reply.{reply_text};
 ghost use Rattle.sc_report.specs.Watched.{device_of, has_failed};
 ghost use Rattle.sc_runs.specs.Opening.{is_output_fault};
 ghost use Rattle.sc_runs.specs.TwoWriters.{to_journal, to_output};
 ghost use Rattle.sc_runs.specs.Run.{after_record, after_script, answer_to, answers, is_journal_fault, next_line, Writes};
 
+use crate::amendable::Amendable;
 use crate::fault::RunFault;
 use crate::recorder::Recorder;
 use crate::writing::write_line;
 use sc_journal::{LineNo, line};
 use sc_papers::{Amendment, Refusal, Stamped};
-use sc_repair::Clearing;
 use sc_report::{Watched, reply_line};
 use std::alloc::{AllocError, Global};
 use std::io::Write;
 
-/// A standing assignment while a script is answered.
+/// Papers while a script is answered.
 #[derive(Drop)]
-pub struct Session {
-    pub clearing: Clearing,
+pub struct Session<A> {
+    pub amended: A,
     /// How many records were answered.
     pub records: u64,
 }
 
 /// The journal's line of an amendment that is accepted next. The only error is want of memory.
-fn next_line(
+fn next_line<A: Amendable>(
     alloc: Global,
-    clearing: &Clearing,
+    amended: &A,
     amendment: &Amendment,
 ) -> Result<Vec<u8>, AllocError>
-    requires room { clearing.now.stamps.accepted < GREATEST }
-    ensures { IfOk result (λ text. text.items ≡ next_line (stamped_papers clearing.now) amendment.now) }
+    requires room { (A.stands amended.now).stamps.accepted < GREATEST }
+    ensures { IfOk result (λ text. text.items ≡ next_line (A.stands amended.now) amendment.now) }
 {
-    match LineNo::new(clearing.accepted().get() + 1) {
+    match LineNo::new(amended.accepted().get() + 1) {
         Some(number) => line(alloc, number, amendment),
         None => unreachable!(),
     }
@@ -83,14 +81,14 @@ fn write_accepted<W: Write, J: Recorder>(
     }
 }
 
-impl Session {
+impl<A: Amendable> Session<A> {
     /// A session in which no record was answered yet.
-    pub fn new(clearing: Clearing) -> Session
-        ensures clearing { result.clearing ≡ clearing }
+    pub fn new(amended: A) -> Self
+        ensures amended { result.amended ≡ amended }
         ensures records { result.records ≡ 0 }
     {
         Session {
-            clearing,
+            amended,
             records: 0,
         }
     }
@@ -103,21 +101,20 @@ impl Session {
         out: &mut Watched<W>,
         journal: &mut J,
     ) -> Result<(), RunFault>
-        requires allowed { stamped_verdict (stamped_papers self.old.clearing) stamped ≡ None }
+        requires allowed { stamped_verdict (A.stands self.old.amended) stamped ≡ None }
         ensures records { OnOk result (self.new.records ≡ self.old.records) }
-        ensures papers { OnOk result (stamped_papers self.new.clearing ≡ after_record (stamped_papers self.old.clearing) (Ok stamped)) }
-        ensures optimal { OnOk result (IsOptimal self.old.clearing.standing → IsOptimal self.new.clearing.standing) }
-        ensures writes { Writes (answer_to self.old.records (stamped_papers self.old.clearing) (Ok stamped))
+        ensures papers { OnOk result (A.stands self.new.amended ≡ after_record (A.stands self.old.amended) (Ok stamped)) }
+        ensures writes { Writes (answer_to self.old.records (A.stands self.old.amended) (Ok stamped))
             (record { journal = J.contents journal.old; output = W.contents (device_of out.old) })
             (record { journal = J.contents journal.new; output = W.contents (device_of out.new) }) result }
         ensures failed { has_failed out.new ≡ (has_failed out.old || is_output_fault result) }
         ensures journal_failed { J.has_failed journal.new ≡ (J.has_failed journal.old || is_journal_fault result) }
     {
-        let line = match next_line(alloc, &self.clearing, &stamped.amendment) {
+        let line = match next_line(alloc, &self.amended, &stamped.amendment) {
             Ok(line) => line,
             Err(_) => return Err(RunFault::OutOfMemory),
         };
-        match self.clearing.amend(stamped) {
+        match self.amended.amend(stamped) {
             Ok(()) => write_accepted(alloc, self.records, line.as_slice(), out, journal),
             Err(_) => Err(RunFault::OutOfMemory),
         }
@@ -132,15 +129,14 @@ impl Session {
         journal: &mut J,
     ) -> Result<(), RunFault>
         ensures records { OnOk result (self.new.records ≡ self.old.records) }
-        ensures papers { OnOk result (stamped_papers self.new.clearing ≡ after_record (stamped_papers self.old.clearing) (Ok stamped)) }
-        ensures optimal { OnOk result (IsOptimal self.old.clearing.standing → IsOptimal self.new.clearing.standing) }
-        ensures writes { Writes (answer_to self.old.records (stamped_papers self.old.clearing) (Ok stamped))
+        ensures papers { OnOk result (A.stands self.new.amended ≡ after_record (A.stands self.old.amended) (Ok stamped)) }
+        ensures writes { Writes (answer_to self.old.records (A.stands self.old.amended) (Ok stamped))
             (record { journal = J.contents journal.old; output = W.contents (device_of out.old) })
             (record { journal = J.contents journal.new; output = W.contents (device_of out.new) }) result }
         ensures failed { has_failed out.new ≡ (has_failed out.old || is_output_fault result) }
         ensures journal_failed { J.has_failed journal.new ≡ (J.has_failed journal.old || is_journal_fault result) }
     {
-        match self.clearing.check(&stamped) {
+        match self.amended.check(&stamped) {
             Ok(()) => self.accept(alloc, stamped, out, journal),
             Err(refusal) => write_reply(alloc, self.records, &Err(refusal), out),
         }
@@ -156,9 +152,8 @@ impl Session {
         journal: &mut J,
     ) -> Result<(), RunFault>
         ensures records { OnOk result (self.new.records ≡ self.old.records) }
-        ensures papers { OnOk result (stamped_papers self.new.clearing ≡ after_record (stamped_papers self.old.clearing) entry) }
-        ensures optimal { OnOk result (IsOptimal self.old.clearing.standing → IsOptimal self.new.clearing.standing) }
-        ensures writes { Writes (answer_to self.old.records (stamped_papers self.old.clearing) entry)
+        ensures papers { OnOk result (A.stands self.new.amended ≡ after_record (A.stands self.old.amended) entry) }
+        ensures writes { Writes (answer_to self.old.records (A.stands self.old.amended) entry)
             (record { journal = J.contents journal.old; output = W.contents (device_of out.old) })
             (record { journal = J.contents journal.new; output = W.contents (device_of out.new) }) result }
         ensures failed { has_failed out.new ≡ (has_failed out.old || is_output_fault result) }
@@ -180,10 +175,8 @@ impl Session {
         journal: &mut J,
     ) -> Result<(), RunFault>
         requires records { self.old.records ≡ 0 }
-        requires optimal { IsOptimal self.old.clearing.standing }
-        ensures optimal { OnOk result (IsOptimal self.new.clearing.standing) }
-        ensures papers { OnOk result (stamped_papers self.new.clearing ≡ after_script (stamped_papers self.old.clearing) script.items) }
-        ensures writes { Writes (answers 1 (stamped_papers self.old.clearing) script.items)
+        ensures papers { OnOk result (A.stands self.new.amended ≡ after_script (A.stands self.old.amended) script.items) }
+        ensures writes { Writes (answers 1 (A.stands self.old.amended) script.items)
             (record { journal = J.contents journal.old; output = W.contents (device_of out.old) })
             (record { journal = J.contents journal.new; output = W.contents (device_of out.new) }) result }
         ensures failed { has_failed out.new ≡ (has_failed out.old || is_output_fault result) }

@@ -1,12 +1,13 @@
 //! What runs write, over inputs in memory.
 mod faults;
+mod notices;
 mod sections;
 
 use sc_markets::roster_header;
 use sc_papers::Seed;
 use sc_report::Watched;
 use sc_report::devices::{Ending, FailingWriter};
-use sc_runs::{Inputs, Opening, fault_line, match_files, run, run_bundle, status_of};
+use sc_runs::{Inputs, Opening, Settling, fault_line, match_files, run, run_bundle, status_of};
 use std::alloc::{AllocError, Global};
 use std::process::Abort;
 
@@ -446,8 +447,8 @@ fn ran(
     alloc: Global,
     seed: &Seed,
     files: Files,
-    room: usize,
-    script: &'static str,
+    settling: Settling,
+    (room, script): (usize, &'static str),
 ) -> Result<String, AllocError> {
     let mut inputs = Inputs {
         opening: opening(files),
@@ -456,25 +457,37 @@ fn ran(
     let taken = Vec::with_capacity(alloc, room)?;
     let mut out = Watched::new(Vec::new(alloc));
     let mut journal = Watched::new(FailingWriter::new(taken, room, 99, Ending::Fails));
-    let answer = run(alloc, seed, &mut inputs, &mut out, &mut journal);
+    let answer = run(alloc, seed, &mut inputs, settling, &mut out, &mut journal);
     let output = String::from_utf8_lossy(alloc, out.inner().as_slice())?;
     let journal = String::from_utf8_lossy(alloc, journal.inner().taken())?;
     format!(in alloc; "{output}|{journal}|{answer:?}")
 }
 
 /// Each script over the opening leaves what is wanted, where the journal takes so many bytes.
+fn expect_settled(
+    rt: &impl Abort,
+    alloc: Global,
+    files: Files,
+    settling: Settling,
+    table: &[(usize, &'static str, &str)],
+) -> Result<(), AllocError> {
+    let seed = Seed::from_hex(ZEROS.as_bytes()).expect(rt, "a seed");
+    for (room, script, want) in table {
+        let left = ran(alloc, &seed, files, settling, (*room, script))?;
+        assert!(rt; left.as_str() == *want, "{settling:?}: {left}");
+    }
+    Ok(())
+}
+
+/// The same whenever the papers are settled.
 fn expect_runs(
     rt: &impl Abort,
     alloc: Global,
     files: Files,
     table: &[(usize, &'static str, &str)],
 ) -> Result<(), AllocError> {
-    let seed = Seed::from_hex(ZEROS.as_bytes()).expect(rt, "a seed");
-    for (room, script, want) in table {
-        let left = ran(alloc, &seed, files, *room, script)?;
-        assert!(rt; left.as_str() == *want, "{left}");
-    }
-    Ok(())
+    expect_settled(rt, alloc, files, Settling::EachTime, table)?;
+    expect_settled(rt, alloc, files, Settling::AtTheEnd, table)
 }
 
 #[test]

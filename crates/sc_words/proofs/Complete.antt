@@ -1,5 +1,5 @@
 -- Where clap finds no fault in the words, a subcommand is there with each option that it needs.
-use Rattle.std.proofs.Common.{◌≡◌, ◌∙◌, ◌<◌, ◌||◌, ◌&&◌, ℕ, Bool, cond, not, true, false, List, [], ◌∷◌, length, Option, Some, None, IfSome, IsSome, IsSomeAnd, inl, inr, is_some, option_map, unwrap_or, refl, sym, subst, true≢false, arith, codes}
+use Rattle.std.proofs.Common.{◌≡◌, ◌∙◌, ◌<◌, ◌||◌, ◌&&◌, ◌++◌, ◌⊎◌, ℕ, Bool, cond, not, true, false, List, [], ◌∷◌, length, Option, Some, None, IfSome, IsSome, IsSomeAnd, inl, inr, is_some, option_map, unwrap_or, refl, sym, subst, true≢false, arith, codes}
 use Rattle.std.specs.Prelude.{⊤, fold, slice_get, option_and_then}
 use Rattle.std.specs.List.{find, list_all, list_any}
 use Rattle.std.specs.Option.{option_map_or}
@@ -10,12 +10,12 @@ use Rattle.clap.specs.Walk.{Held, Names, Outcome, Row, Rule, Step, Text, Waiting
 use Rattle.clap.specs.Walk.{done, waits, plain, refused, idle, option, positional, next, trailing, subcommand, value}
 use Rattle.clap.specs.Lexer.{long_of, short_of}
 use Rattle.clap.specs.Takes.{is_given}
-use Rattle.clap.specs.Kinds.{check_kinds, or_else}
+use Rattle.clap.specs.Kinds.{Kinds, check_kinds, or_else}
 use Rattle.clap.specs.Faults.{built_fault, defaults_fault, entered_fault, fault_of, level_fault, other_fault, settle_fault, step_fault, turn_fault, walk_fault, word_fault}
 use Rattle.clap.specs.Simple.{App, Shape, built, entered, label_of, names_of, rows_at, subcommand_of}
 use Rattle.clap.proofs.OnLiterals.{clap_on_literals}
-use Rattle.sc_words.specs.CommandLine.{command_line, opening_names, run_names, audit_names, replay_names}
-use Rattle.sc_words.specs.Complete.{HasOptions, IsComplete}
+use Rattle.sc_words.specs.CommandLine.{command_line, opening_names, run_names, audit_names, replay_names, export_names, summary_names}
+use Rattle.sc_words.specs.Complete.{HasOptions, IsComplete, IsOneOf, needed_options}
 use Rattle.sc_words.proofs.Filled.{IsFilled, cons_some, fills, level_fills, no_first, no_next}
 
 -- ---- no word asks for the subcommand `help`
@@ -170,25 +170,49 @@ has_it : (x y : Bool) → (not x && y) ≡ false → y ≡ true → x ≡ true
 has_it true y e is = refl
 has_it false y e is = absurd (true≢false (sym is ∙ e))
 
-abbrev of_five : Shape → Shape → Shape → Shape → Shape → Shape → App
-of_five top m r a y h = record { top = top; subs = m ∷ r ∷ a ∷ y ∷ h ∷ [] }
+abbrev AllLeaves : List Shape → List (Text × List Text) → Type 0
+AllLeaves [] [] = ⊤
+AllLeaves (s ∷ ss) (n ∷ ns) = IsLeaf s n.0 n.1 × AllLeaves ss ns
+AllLeaves [] (n ∷ ns) = ⊥
+AllLeaves (s ∷ ss) [] = ⊥
 
-module _ (top m r a y h : Shape) (enabled : top.disable_help_subcommand ≡ false) (needs : top.subcommand_required ≡ true) (helps : label_of h ≡ (codes "help", []))
-    (is_match : IsLeaf m (codes "match") opening_names) (is_run : IsLeaf r (codes "run") run_names)
-    (is_audit : IsLeaf a (codes "audit") audit_names) (is_replay : IsLeaf y (codes "replay") replay_names) where
+abbrev fault_at : List Text → Option Shape → Kinds
+fault_at words o = option_map_or (λ s. level_fault s [] nothing_held words false []) o []
+
+abbrev read_at : List Text → Option Shape → Option (Text × List Row)
+read_at words o = option_map (λ s. rows_at s words) o
+
+abbrev AnswersBy : List (Text × List Text) → List Text → Option Shape → Type 0
+AnswersBy ns words o = fault_at words o ≡ [] → is_some (read_at words o) ≡ true → IsSomeAnd (read_at words o) (λ p. IsOneOf ns p.0 p.1)
+
+also_of_more : (n : Text × List Text) (ns : List (Text × List Text)) (words : List Text) (o : Option Shape) → AnswersBy ns words o → AnswersBy (n ∷ ns) words o
+also_of_more n ns words None by none some = absurd (true≢false (sym some))
+also_of_more n ns words (Some s) by none some = inr (by none some)
+
+here_or_after : (n : Text × List Text) (ns : List (Text × List Text)) (words : List Text) (b : Bool) (s : Shape) (o : Option Shape) → IsLeaf s n.0 n.1
+    → AnswersBy ns words o → AnswersBy (n ∷ ns) words (cond b (Some s) o)
+here_or_after n ns words true s o leaf by = λ none some. inl (leaf_given s _ _ words leaf none)
+here_or_after n ns words false s o leaf by = also_of_more n ns words o by
+
+nobody : (words : List Text) (b : Bool) (h : Shape) → (b ≡ true → ⊥) → AnswersBy [] words (cond b (Some h) None)
+nobody words true h no_help none some = absurd (no_help refl)
+nobody words false h no_help none some = absurd (true≢false (sym some))
+
+one_of : (name : Text) (words : List Text) (h : Shape) → (answers_to name (label_of h) ≡ true → ⊥) → (ss : List Shape) (ns : List (Text × List Text)) → AllLeaves ss ns
+    → AnswersBy ns words (find (λ s. answers_to name (label_of s)) (ss ++ h ∷ []))
+one_of name words h no_help [] [] all = nobody words (answers_to name (label_of h)) h no_help
+one_of name words h no_help (s ∷ ss) (n ∷ ns) all =
+    here_or_after n ns words (answers_to name (label_of s)) s (find (λ s. answers_to name (label_of s)) (ss ++ h ∷ [])) all.0 (one_of name words h no_help ss ns all.1)
+one_of name words h no_help [] (n ∷ ns) all = absurd all
+one_of name words h no_help (s ∷ ss) [] all = absurd all
+
+abbrev with_help : Shape → List Shape → Shape → App
+with_help top ss h = record { top = top; subs = ss ++ h ∷ [] }
+
+module _ (top : Shape) (ss : List Shape) (h : Shape) (ns : List (Text × List Text)) (enabled : top.disable_help_subcommand ≡ false) (needs : top.subcommand_required ≡ true)
+    (helps : label_of h ≡ (codes "help", [])) (leaves_are : AllLeaves ss ns) where
   abbrev line : App
-  line = of_five top m r a y h
-
-  one_of_four : (words : List Text) (b c d e f : Bool) → (f ≡ true → ⊥)
-      → option_map_or (λ s. level_fault s [] nothing_held words false []) (cond b (Some m) (cond c (Some r) (cond d (Some a) (cond e (Some y) (cond f (Some h) None))))) [] ≡ []
-      → is_some (option_map (λ s. rows_at s words) (cond b (Some m) (cond c (Some r) (cond d (Some a) (cond e (Some y) (cond f (Some h) None)))))) ≡ true
-      → IsSomeAnd (option_map (λ s. rows_at s words) (cond b (Some m) (cond c (Some r) (cond d (Some a) (cond e (Some y) (cond f (Some h) None)))))) (λ p. IsComplete p.0 p.1)
-  one_of_four words true c d e f no_help none some = inl (leaf_given m _ _ words is_match none)
-  one_of_four words false true d e f no_help none some = inr (inl (leaf_given r _ _ words is_run none))
-  one_of_four words false false true e f no_help none some = inr (inr (inl (leaf_given a _ _ words is_audit none)))
-  one_of_four words false false false true f no_help none some = inr (inr (inr (leaf_given y _ _ words is_replay none)))
-  one_of_four words false false false false true no_help none some = absurd (no_help refl)
-  one_of_four words false false false false false no_help none some = absurd (true≢false (sym some))
+  line = with_help top ss h
 
   asks_help : (name : Text) → IsNoHelp name → answers_to name (label_of h) ≡ true → ⊥
   asks_help name other e = go (bytes_eq (codes "help") name) refl (subst (λ l. answers_to name l ≡ true) helps e)
@@ -198,14 +222,12 @@ module _ (top m r a y h : Shape) (enabled : top.disable_help_subcommand ≡ fals
       go true is e = true≢false (subst (λ n. bytes_eq n (codes "help") ≡ false) (sym ((bytes_eq-Decides (codes "help") name).0 is)) other)
 
   stop_complete : (stop : Option (Text × List Text)) → StopsAtNoHelp stop → entered_fault line stop ≡ [] → is_some (entered line stop) ≡ true
-      → IsSomeAnd (entered line stop) (λ p. IsComplete p.0 p.1)
+      → IsSomeAnd (entered line stop) (λ p. IsOneOf ns p.0 p.1)
   stop_complete None other none some = absurd (true≢false (sym some))
-  stop_complete (Some p) other none some =
-      one_of_four p.1 (answers_to p.0 (label_of m)) (answers_to p.0 (label_of r)) (answers_to p.0 (label_of a)) (answers_to p.0 (label_of y)) (answers_to p.0 (label_of h))
-      (asks_help p.0 other) none some
+  stop_complete (Some p) other none some = one_of p.0 p.1 h (asks_help p.0 other) ss ns leaves_are none some
 
   line_complete : (words : List Text) → built_fault line nothing_held words ≡ []
-      → IsSomeAnd (entered line (stop_after top.rules (names_of line) words)) (λ p. IsComplete p.0 p.1)
+      → IsSomeAnd (entered line (stop_after top.rules (names_of line) words)) (λ p. IsOneOf ns p.0 p.1)
   line_complete words none =
       let stop = stop_after top.rules (names_of line) words in
       let end = (walk top.rules (names_of line) nothing_held words).held in
@@ -221,8 +243,14 @@ top = (built command_line).top
 abbrev leaf : ℕ → Shape
 leaf k = unwrap_or (slice_get (built command_line).subs k) top
 
--- the subcommands, once clap has added its own
-built_is : of_five top (leaf 0) (leaf 1) (leaf 2) (leaf 3) (leaf 4) ≡ built command_line
+abbrev leaves : List Shape
+leaves = leaf 0 ∷ leaf 1 ∷ leaf 2 ∷ leaf 3 ∷ leaf 4 ∷ leaf 5 ∷ []
+
+-- what clap adds of its own
+abbrev helper : Shape
+helper = leaf 6
+
+built_is : with_help top leaves helper ≡ built command_line
 unfolding clap_on_literals
 built_is = refl
 
@@ -242,6 +270,16 @@ replay_leaf : IsLeaf (leaf 3) (codes "replay") replay_names
 unfolding clap_on_literals
 replay_leaf = record { name_is = refl; all = refl; keeps = refl; wants = refl }
 
+export_leaf : IsLeaf (leaf 4) (codes "export") export_names
+unfolding clap_on_literals
+export_leaf = record { name_is = refl; all = refl; keeps = refl; wants = refl }
+
+summary_leaf : IsLeaf (leaf 5) (codes "summary") summary_names
+unfolding clap_on_literals
+summary_leaf = record { name_is = refl; all = refl; keeps = refl; wants = refl }
+
+all_leaves : AllLeaves leaves needed_options
+all_leaves = (match_leaf, (run_leaf, (audit_leaf, (replay_leaf, (export_leaf, (summary_leaf, tt))))))
+
 pub complete : (words : List Text) → fault_of command_line words ≡ [] → IsSomeAnd (subcommand_of command_line words) (λ p. IsComplete p.0 p.1)
-complete words none =
-    line_complete top (leaf 0) (leaf 1) (leaf 2) (leaf 3) (leaf 4) refl refl refl match_leaf run_leaf audit_leaf replay_leaf words none
+complete words none = line_complete top leaves helper needed_options refl refl refl all_leaves words none

@@ -5,7 +5,7 @@ use Rattle.std.specs.Str.Parse.{ParsesBool}
 use Rattle.clap.specs.Words.{Text, ReadsOne, first_of, first_value, one_text, rows_of}
 use Rattle.clap.specs.declared.parser.matches.Found.{Found}
 use Rattle.clap.proofs.WalkLemmas.{first_value-rows, one_text-rows}
-use Rattle.sc_words.specs.Orders.{IsGiven, IsSet}
+use Rattle.sc_words.specs.Orders.{IsGiven, IsGivenOrNot, IsSet}
 
 pub given : (f : Found) (id : Text) (r : Option (Bor Text)) → option_map (λ s. s.now) r ≡ first_value f id → IfSome r (IsGiven (rows_of f) id)
 given f id None e = tt
@@ -14,6 +14,9 @@ given f id (Some t) e = sym (first_value-rows f id) ∙ sym e
 pub found : (f : Found) (id : Text) (r : Option (Bor Text)) → option_map (λ s. s.now) r ≡ first_value f id → IsSome (first_of id (rows_of f)) → IsSome r
 found f id None e some = absurd (true≢false (sym some ∙ sym (ap is_some (e ∙ first_value-rows f id))))
 found f id (Some t) e some = refl
+
+pub exact : (f : Found) (id : Text) (r : Option (Bor Text)) → option_map (λ s. s.now) r ≡ first_value f id → IsGivenOrNot (rows_of f) id r
+exact f id r e = sym (e ∙ first_value-rows f id)
 
 -- the first byte of a text, if there is one
 abbrev head : Option Text → ℕ

@@ -15,6 +15,10 @@ required_option name = record (new_rule name) {
   required = true;
 }
 
+-- `--NAME VALUE`, which may be given
+abbrev pub optional_option : Text → Rule
+optional_option name = record (required_option name) { required = false }
+
 -- `--NAME`, which may be given
 abbrev pub flag : Text → Rule
 flag name = record (new_rule name) { long = Some name; action = Some SetTrue }
@@ -32,6 +36,12 @@ audit_names = opening_names ++ codes "log" ∷ []
 abbrev pub replay_names : List Text
 replay_names = opening_names ++ codes "journal" ∷ []
 
+abbrev pub export_names : List Text
+export_names = opening_names ++ codes "to" ∷ []
+
+abbrev pub summary_names : List Text
+summary_names = opening_names
+
 abbrev pub opening_options : List Rule
 opening_options = map required_option opening_names
 
@@ -39,13 +49,19 @@ abbrev pub match_options : List Rule
 match_options = opening_options ++ flag (codes "print-log") ∷ []
 
 abbrev pub run_options : List Rule
-run_options = map required_option run_names
+run_options = map required_option run_names ++ flag (codes "settle-at-end") ∷ []
 
 abbrev pub audit_options : List Rule
 audit_options = map required_option audit_names
 
 abbrev pub replay_options : List Rule
 replay_options = map required_option replay_names
+
+abbrev pub export_options : List Rule
+export_options = map required_option export_names ++ optional_option (codes "journal") ∷ []
+
+abbrev pub summary_options : List Rule
+summary_options = map required_option summary_names ++ optional_option (codes "journal") ∷ []
 
 -- a subcommand with these options
 abbrev pub subcommand : Text → List Rule → Shape
@@ -54,16 +70,18 @@ subcommand name options = record (new_shape name) { rules = options }
 -- the program without its subcommands; the words that it reads do not begin with its name
 abbrev pub program_alone : Shape
 program_alone = record (new_shape (codes "clearinghouse")) {
+  has_version = true;
   no_binary_name = true;
   subcommand_required = true;
 }
 
--- one of the four subcommands with its options, and nothing else
+-- one of the subcommands with its options, and nothing else
 abbrev pub command_line : App
 command_line = record {
   top = record program_alone { is_leaf = false };
   subs = subcommand (codes "match") match_options ∷ subcommand (codes "run") run_options
-      ∷ subcommand (codes "audit") audit_options ∷ subcommand (codes "replay") replay_options ∷ [];
+      ∷ subcommand (codes "audit") audit_options ∷ subcommand (codes "replay") replay_options
+      ∷ subcommand (codes "export") export_options ∷ subcommand (codes "summary") summary_options ∷ [];
 }
 
 -- `clap` has been told of this command, without subcommands

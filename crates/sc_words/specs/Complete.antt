@@ -1,16 +1,25 @@
 -- The subcommands with all the options that they need.
 use Rattle.std.specs.Prelude.{◌≡◌, ◌⊎◌, ⊤, List, [], ◌∷◌, IsSome, codes}
 use Rattle.clap.specs.Words.{Row, Text, first_of}
-use Rattle.sc_words.specs.CommandLine.{opening_names, run_names, audit_names, replay_names}
+use Rattle.sc_words.specs.CommandLine.{opening_names, run_names, audit_names, replay_names, export_names, summary_names}
 
 -- each option of these names has a text
 abbrev pub HasOptions : List Row → List Text → Type 0
 HasOptions rows [] = ⊤
 HasOptions rows (name ∷ rest) = IsSome (first_of name rows) × HasOptions rows rest
 
--- one of the four subcommands, with each option that must be given
+-- each subcommand, with the names of the options that must be given
+abbrev pub needed_options : List (Text × List Text)
+needed_options = (codes "match", opening_names) ∷ (codes "run", run_names)
+    ∷ (codes "audit", audit_names) ∷ (codes "replay", replay_names)
+    ∷ (codes "export", export_names) ∷ (codes "summary", summary_names) ∷ []
+
+-- one of these subcommands, with each option that must be given
+abbrev pub IsOneOf : List (Text × List Text) → Text → List Row → Type 0
+IsOneOf [] name rows = ⊥
+IsOneOf (one ∷ rest) name rows =
+    ((name ≡ one.0) × HasOptions rows one.1) ⊎ IsOneOf rest name rows
+
+-- a subcommand, with each option that must be given
 abbrev pub IsComplete : Text → List Row → Type 0
-IsComplete name rows = ((name ≡ codes "match") × HasOptions rows opening_names)
-    ⊎ (((name ≡ codes "run") × HasOptions rows run_names)
-    ⊎ (((name ≡ codes "audit") × HasOptions rows audit_names)
-    ⊎ ((name ≡ codes "replay") × HasOptions rows replay_names)))
+IsComplete name rows = IsOneOf needed_options name rows

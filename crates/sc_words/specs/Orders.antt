@@ -1,5 +1,5 @@
 -- The order that words give, by what `clap` reads in them.
-use Rattle.std.specs.Prelude.{◌≡◌, ◌↔◌, true, List, [], ◌∷◌, Some, IsSomeAnd, codes}
+use Rattle.std.specs.Prelude.{◌≡◌, ◌↔◌, true, List, [], ◌∷◌, Option, Some, IsSomeAnd, option_map, codes}
 use Rattle.std.specs.Borrow.{Bor}
 use Rattle.clap.specs.Words.{Row, Text, Kinds, fault_of, first_of, one_of, subcommand_of}
 use Rattle.sc_words.specs.CommandLine.{command_line}
@@ -7,11 +7,15 @@ use Rattle.sc_words.specs.declared.order.OpeningWords.{OpeningWords}
 use Rattle.sc_words.specs.declared.order.Order.{Order}
 use Rattle.sc_words.specs.declared.order.Order.TheVariants.{Bundle, Opening}
 use Rattle.sc_words.specs.declared.order.Subcommand.{Subcommand}
-use Rattle.sc_words.specs.declared.order.Subcommand.TheVariants.{Match, Run, Audit, Replay}
+use Rattle.sc_words.specs.declared.order.Subcommand.TheVariants.{Match, Run, Audit, Replay, Export, Summary}
 
 -- the text given for the option of this name
 abbrev pub IsGiven : List Row → Text → Bor Text → Type 0
 IsGiven rows name text = first_of name rows ≡ Some text.now
+
+-- the text given for the option of this name, if there is one
+abbrev pub IsGivenOrNot : List Row → Text → Option (Bor Text) → Type 0
+IsGivenOrNot rows name text = first_of name rows ≡ option_map (λ t. t.now) text
 
 -- the flag of this name
 abbrev pub IsSet : List Row → Text → Type 0
@@ -25,10 +29,13 @@ IsOpeningIn rows o = IsGiven rows (codes "seed") o.seed × IsGiven rows (codes "
 -- what the subcommand of this name asks for, by what its options are
 abbrev pub IsSubcommandIn : Text → List Row → Subcommand → Type 0
 IsSubcommandIn name rows (Match show_log) = (name ≡ codes "match") × ((show_log ≡ true) ↔ IsSet rows (codes "print-log"))
-IsSubcommandIn name rows (Run script journal) =
-    (name ≡ codes "run") × IsGiven rows (codes "script") script × IsGiven rows (codes "journal") journal
+IsSubcommandIn name rows (Run script journal settle_at_end) = (name ≡ codes "run") × IsGiven rows (codes "script") script
+    × IsGiven rows (codes "journal") journal × ((settle_at_end ≡ true) ↔ IsSet rows (codes "settle-at-end"))
 IsSubcommandIn name rows (Audit log) = (name ≡ codes "audit") × IsGiven rows (codes "log") log
 IsSubcommandIn name rows (Replay journal) = (name ≡ codes "replay") × IsGiven rows (codes "journal") journal
+IsSubcommandIn name rows (Export to journal) =
+    (name ≡ codes "export") × IsGiven rows (codes "to") to × IsGivenOrNot rows (codes "journal") journal
+IsSubcommandIn name rows (Summary journal) = (name ≡ codes "summary") × IsGivenOrNot rows (codes "journal") journal
 
 -- the order of the subcommand of this name: the opening that its options name, and what is to be done with it
 abbrev pub IsOrderIn : Text → List Row → Order → Type 0

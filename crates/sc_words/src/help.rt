@@ -1,5 +1,8 @@
 //! What `--help` says.
 
+/// The version that `--version` tells.
+pub(crate) const VERSION: &str = "0.1.0";
+
 pub(crate) const PROGRAM: &str =
     "Assign school places by the student-optimal stable matching; without a subcommand, reads one bundle from standard input";
 
@@ -43,6 +46,9 @@ stamp k, and before the first the stamp is 0. With another stamp than the one th
 as Stale, and the reply tells the stamp that stands.
 Each has a reply before the report: its number and ok, or refused and why. A refused one changes nothing.
 
+With --settle-at-end the papers are settled once, after the last record, and not after each amendment: what is
+written is the same, and a long script is far quicker.
+
 Exit status: 0 done, 2 wrong words or a bad seed, 3 a fault in an input, 4 a file or stream that cannot be
 opened, read or written, 5 out of memory.
 
@@ -73,6 +79,39 @@ Example:
   clearinghouse replay --seed 0000000000000000000000000000000000000000000000000000000000000000 \\
       --schools schools.csv --roster roster.csv --lists lists.csv --journal journal";
 
+pub(crate) const EXPORT: &str =
+    "Write the papers of an opening, as they stand after a journal if there is one, as the files of a new opening";
+
+pub(crate) const EXPORT_AFTER: &str = "\
+Makes schools.csv, roster.csv and lists.csv in FOLDER, which has to be there. A file of one of these names that
+is there already is left as it is, and the export ends with a fault. Opened again under the same seed, the three
+files give the same papers, order of entry included. Stamps begin at 0 again.
+
+A last line of the journal that was cut short is left out and told on standard error; that is no fault.
+
+Exit status: 0 done, 2 wrong words or a bad seed, 3 a fault in an input, 4 a file or stream that cannot be
+opened, made, read or written, 5 out of memory.
+
+Example:
+  clearinghouse export --seed 0000000000000000000000000000000000000000000000000000000000000000 \\
+      --schools schools.csv --roster roster.csv --lists lists.csv --journal journal --to next";
+
+pub(crate) const SUMMARY: &str =
+    "Write what a district publishes: how many students have each rank, and how sought after each school is";
+
+pub(crate) const SUMMARY_AFTER: &str = "\
+The first table has a line for each rank that some student has, and a last one, -, for the students without a
+school; the second a line for each school: its seats, how many are held, how many are free, and how many
+students list it. With --journal its amendments are made first; a last line of it that was cut short is left out
+and told on standard error, which is no fault.
+
+Exit status: 0 done, 2 wrong words or a bad seed, 3 a fault in an input, 4 a file or stream that cannot be
+opened, read or written, 5 out of memory.
+
+Example:
+  clearinghouse summary --seed 0000000000000000000000000000000000000000000000000000000000000000 \\
+      --schools schools.csv --roster roster.csv --lists lists.csv --journal journal";
+
 pub(crate) const SEED: &str = "The lottery's seed, 64 hexadecimal digits";
 
 pub(crate) const SCHOOLS: &str =
@@ -91,7 +130,14 @@ pub(crate) const SCRIPT: &str = "The amendments, one a record and no header (bel
 pub(crate) const NEW_JOURNAL: &str =
     "The file that keeps the accepted amendments; it is made new, or emptied before the inputs are read, and must not be one of them";
 
+pub(crate) const SETTLE_AT_END: &str =
+    "Settle the papers once, after the last record, and not after each amendment; the bytes are the same, and a long script is quicker";
+
 pub(crate) const LOG: &str = "The log of rejections, a record STUDENT,SCHOOL each and no header";
 
 pub(crate) const OLD_JOURNAL: &str =
     "The journal that a run kept: a line for each accepted amendment, its number and the amendment";
+
+pub(crate) const KEPT_JOURNAL: &str = "The journal that a run kept, if amendments were made";
+
+pub(crate) const TO: &str = "The folder in which schools.csv, roster.csv and lists.csv are made";

@@ -1,8 +1,8 @@
 ghost use Rattle.std.specs.Prelude.{◌≡◌, ◌↔◌, true, [], Ok, IfOk, IfSome, IsSome, IsSomeAnd, codes};
 ghost use Rattle.clap.specs.Words.{FailsBy, first_of, found_of, rows_of, subcommand_rows_of};
-ghost use Rattle.sc_words.specs.CommandLine.{audit_names, opening_names, replay_names, run_names};
+ghost use Rattle.sc_words.specs.CommandLine.{audit_names, export_names, opening_names, replay_names, run_names};
 ghost use Rattle.sc_words.specs.Complete.{HasOptions, IsComplete};
-ghost use Rattle.sc_words.specs.Orders.{IsGiven, IsOpeningIn, IsOrderIn, IsOrderOf, IsSet, IsSubcommandIn, faults_of};
+ghost use Rattle.sc_words.specs.Orders.{IsGiven, IsGivenOrNot, IsOpeningIn, IsOrderIn, IsOrderOf, IsSet, IsSubcommandIn, faults_of};
 
 use crate::program::program;
 use crate::word::Word;
@@ -38,19 +38,40 @@ pub enum Order<'a> {
 #[derive(Clone, Copy, Debug, PartialEq, Eq)]
 pub enum Subcommand<'a> {
     /// Write its report, or its log of rejections.
-    Match { show_log: bool },
-    /// Answer a script after it, write the report and keep a journal.
-    Run { script: &'a str, journal: &'a str },
+    Match {
+        show_log: bool,
+    },
+    /// Answer a script after it, write the report and keep a journal; settle the papers after each amendment, or
+    /// once, at the end.
+    Run {
+        script: &'a str,
+        journal: &'a str,
+        settle_at_end: bool,
+    },
     /// Check a log of rejections against it.
-    Audit { log: &'a str },
+    Audit {
+        log: &'a str,
+    },
     /// Replay a journal over it, and write the report.
-    Replay { journal: &'a str },
+    Replay {
+        journal: &'a str,
+    },
+    /// Write the summary of its papers, as they stand after a journal if there is one.
+    Summary {
+        journal: Option<&'a str>,
+    },
+    /// Write its papers into this folder, as they stand after a journal if there is one.
+    Export {
+        to: &'a str,
+        journal: Option<&'a str>,
+    },
 }
 
 /// The text given for an option.
 fn text_in<'a>(found: &ArgMatches<'a>, name: &str) -> Option<&'a str>
     ensures given { IfSome result (IsGiven (rows_of (found_of found.now)) name.now) }
     ensures found { IsSome (first_of name.now (rows_of (found_of found.now))) → IsSome result }
+    ensures exact { IsGivenOrNot (rows_of (found_of found.now)) name.now result }
 {
     found.get_str(name)
 }
@@ -93,6 +114,7 @@ fn run_in<'a>(found: &ArgMatches<'a>) -> Option<Subcommand<'a>>
     Some(Subcommand::Run {
         script: text_in(found, "script")?,
         journal: text_in(found, "journal")?,
+        settle_at_end: is_set(found, "settle-at-end"),
     })
 }
 
@@ -116,6 +138,26 @@ fn replay_in<'a>(found: &ArgMatches<'a>) -> Option<Subcommand<'a>>
     })
 }
 
+/// What `export` asks for.
+fn export_in<'a>(found: &ArgMatches<'a>) -> Option<Subcommand<'a>>
+    ensures given { IfSome result (IsSubcommandIn (codes "export") (rows_of (found_of found.now))) }
+    ensures found { HasOptions (rows_of (found_of found.now)) export_names → IsSome result }
+{
+    Some(Subcommand::Export {
+        to: text_in(found, "to")?,
+        journal: text_in(found, "journal"),
+    })
+}
+
+/// What `summary` asks for.
+fn summary_in<'a>(found: &ArgMatches<'a>) -> Subcommand<'a>
+    ensures { IsSubcommandIn (codes "summary") (rows_of (found_of found.now)) result }
+{
+    Subcommand::Summary {
+        journal: text_in(found, "journal"),
+    }
+}
+
 /// What the subcommand of this name asks for, or `None` where there is none of this name or it lacks an
 /// option.
 fn subcommand_in<'a>(name: &str, found: &ArgMatches<'a>) -> Option<Subcommand<'a>>
@@ -127,6 +169,8 @@ fn subcommand_in<'a>(name: &str, found: &ArgMatches<'a>) -> Option<Subcommand<'a
         "run" => run_in(found),
         "audit" => audit_in(found),
         "replay" => replay_in(found),
+        "export" => export_in(found),
+        "summary" => Some(summary_in(found)),
         _ => None,
     }
 }

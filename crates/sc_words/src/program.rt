@@ -2,9 +2,9 @@
 
 ghost use Rattle.std.specs.Prelude.{◌≡◌, false, IfOk, codes};
 ghost use Rattle.clap.specs.Words.{app_of, rule_of};
-ghost use Rattle.sc_words.specs.CommandLine.{IsCommand, required_option, subcommand};
+ghost use Rattle.sc_words.specs.CommandLine.{IsCommand, optional_option, required_option, subcommand};
 ghost use Rattle.sc_words.specs.CommandLine.{opening_options, match_options, run_options};
-ghost use Rattle.sc_words.specs.CommandLine.{audit_options, replay_options, command_line};
+ghost use Rattle.sc_words.specs.CommandLine.{audit_options, replay_options, export_options, summary_options, command_line};
 ghost use Rattle.sc_words.specs.CommandLine as line;
 
 use crate::help;
@@ -24,12 +24,35 @@ fn option<'a>(alloc: Global, name: &'a str, value: &'a str, help: &'a str) -> Ar
         .required(true)
 }
 
+/// An option that names a file and may be left out.
+fn optional_file<'a>(alloc: Global, name: &'a str, help: &'a str) -> Arg<'a>
+    ensures rule { rule_of result ≡ optional_option name.entry.now }
+    ensures local { result.global ≡ false }
+{
+    Arg::new(alloc, name)
+        .long(name)
+        .value_name("FILE")
+        .help(help)
+        .action(ArgAction::Set)
+}
+
 /// A required option that names a file.
 fn file<'a>(alloc: Global, name: &'a str, help: &'a str) -> Arg<'a>
     ensures rule { rule_of result ≡ required_option name.entry.now }
     ensures local { result.global ≡ false }
 {
     option(alloc, name, "FILE", help)
+}
+
+/// A flag, which may be given.
+fn flag<'a>(alloc: Global, name: &'a str, help: &'a str) -> Arg<'a>
+    ensures rule { rule_of result ≡ line.flag name.entry.now }
+    ensures local { result.global ≡ false }
+{
+    Arg::new(alloc, name)
+        .long(name)
+        .help(help)
+        .action(ArgAction::SetTrue)
 }
 
 /// A subcommand with the four options of an opening.
@@ -53,11 +76,11 @@ fn with_opening<'a>(
 fn match_command<'a>(alloc: Global) -> Result<Command<'a>, AllocError>
     ensures { IfOk result (λ c. IsCommand c (subcommand (codes "match") match_options)) }
 {
-    let print_log = Arg::new(alloc, "print-log")
-        .long("print-log")
-        .help(help::PRINT_LOG)
-        .action(ArgAction::SetTrue);
-    with_opening(alloc, "match", help::MATCH, help::MATCH_AFTER)?.arg(print_log)
+    with_opening(alloc, "match", help::MATCH, help::MATCH_AFTER)?.arg(flag(
+        alloc,
+        "print-log",
+        help::PRINT_LOG,
+    ))
 }
 
 fn run_command<'a>(alloc: Global) -> Result<Command<'a>, AllocError>
@@ -65,7 +88,8 @@ fn run_command<'a>(alloc: Global) -> Result<Command<'a>, AllocError>
 {
     with_opening(alloc, "run", help::RUN, help::RUN_AFTER)?
         .arg(file(alloc, "script", help::SCRIPT))?
-        .arg(file(alloc, "journal", help::NEW_JOURNAL))
+        .arg(file(alloc, "journal", help::NEW_JOURNAL))?
+        .arg(flag(alloc, "settle-at-end", help::SETTLE_AT_END))
 }
 
 fn audit_command<'a>(alloc: Global) -> Result<Command<'a>, AllocError>
@@ -84,6 +108,24 @@ fn replay_command<'a>(alloc: Global) -> Result<Command<'a>, AllocError>
     ))
 }
 
+fn export_command<'a>(alloc: Global) -> Result<Command<'a>, AllocError>
+    ensures { IfOk result (λ c. IsCommand c (subcommand (codes "export") export_options)) }
+{
+    with_opening(alloc, "export", help::EXPORT, help::EXPORT_AFTER)?
+        .arg(option(alloc, "to", "FOLDER", help::TO))?
+        .arg(optional_file(alloc, "journal", help::KEPT_JOURNAL))
+}
+
+fn summary_command<'a>(alloc: Global) -> Result<Command<'a>, AllocError>
+    ensures { IfOk result (λ c. IsCommand c (subcommand (codes "summary") summary_options)) }
+{
+    with_opening(alloc, "summary", help::SUMMARY, help::SUMMARY_AFTER)?.arg(optional_file(
+        alloc,
+        "journal",
+        help::KEPT_JOURNAL,
+    ))
+}
+
 /// The program without its subcommands. Its name stands in the usage lines, since the words that it
 /// reads do not begin with it.
 fn program_alone<'a>(alloc: Global) -> Result<Command<'a>, AllocError>
@@ -92,6 +134,7 @@ fn program_alone<'a>(alloc: Global) -> Result<Command<'a>, AllocError>
     Ok(
         Command::new(alloc, "clearinghouse")
             .bin_name("clearinghouse")?
+            .version(help::VERSION)
             .about(help::PROGRAM)
             .after_help(help::STATUSES)
             .no_binary_name(true)
@@ -107,5 +150,7 @@ pub(crate) fn program<'a>(alloc: Global) -> Result<Command<'a>, AllocError>
         .subcommand(match_command(alloc)?)?
         .subcommand(run_command(alloc)?)?
         .subcommand(audit_command(alloc)?)?
-        .subcommand(replay_command(alloc)?)
+        .subcommand(replay_command(alloc)?)?
+        .subcommand(export_command(alloc)?)?
+        .subcommand(summary_command(alloc)?)
 }

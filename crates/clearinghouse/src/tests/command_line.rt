@@ -37,6 +37,7 @@ const ORDERS: &[(&str, Subcommand<'static>)] = &[
         Subcommand::Run {
             script: "script",
             journal: "journal",
+            settle_at_end: false,
         },
     ),
     (
@@ -44,6 +45,15 @@ const ORDERS: &[(&str, Subcommand<'static>)] = &[
         Subcommand::Run {
             script: "-",
             journal: "",
+            settle_at_end: false,
+        },
+    ),
+    (
+        "run|--settle-at-end|--seed|00|--schools|schools|--roster|roster|--lists|lists|--script|script|--journal|journal",
+        Subcommand::Run {
+            script: "script",
+            journal: "journal",
+            settle_at_end: true,
         },
     ),
     (
@@ -54,6 +64,30 @@ const ORDERS: &[(&str, Subcommand<'static>)] = &[
         "replay|--seed|00|--schools|schools|--roster|roster|--lists|lists|--journal=--journal",
         Subcommand::Replay {
             journal: "--journal",
+        },
+    ),
+    (
+        "summary|--seed|00|--schools|schools|--roster|roster|--lists|lists",
+        Subcommand::Summary { journal: None },
+    ),
+    (
+        "summary|--journal=kept|--seed|00|--schools|schools|--roster|roster|--lists|lists",
+        Subcommand::Summary {
+            journal: Some("kept"),
+        },
+    ),
+    (
+        "export|--seed|00|--schools|schools|--roster|roster|--lists|lists|--to|next",
+        Subcommand::Export {
+            to: "next",
+            journal: None,
+        },
+    ),
+    (
+        "export|--journal|kept|--seed|00|--schools|schools|--roster|roster|--lists|lists|--to=",
+        Subcommand::Export {
+            to: "",
+            journal: Some("kept"),
         },
     ),
 ];
@@ -133,6 +167,9 @@ const WRONG_LINES: &[(&str, ErrorKind)] = &[
     ("--help", ErrorKind::DisplayHelp),
     ("match|--help", ErrorKind::DisplayHelp),
     ("run|-h", ErrorKind::DisplayHelp),
+    ("--version", ErrorKind::DisplayVersion),
+    ("-V", ErrorKind::DisplayVersion),
+    ("match|--version", ErrorKind::UnknownArgument),
 ];
 
 #[test]
@@ -165,6 +202,10 @@ const HELP_TEXTS: &[(&str, &str)] = &[
     ("audit|--help", "Example:\n  clearinghouse audit"),
     ("replay|--help", "--journal <FILE>"),
     ("replay|--help", "Example:\n  clearinghouse replay"),
+    ("summary|--help", "Example:\n  clearinghouse summary"),
+    ("export|--help", "[OPTIONS]"),
+    ("export|--help", "--to <FOLDER>"),
+    ("export|--help", "Example:\n  clearinghouse export"),
 ];
 
 #[test]

@@ -3,7 +3,9 @@ use super::ZEROS;
 use sc_papers::Seed;
 use sc_report::Watched;
 use sc_report::devices::{Ending, FailingReader, FailingWriter};
-use sc_runs::{Ending as RunEnding, Inputs, Opening, RunFault, replay_files, run, run_bundle};
+use sc_runs::{
+    Ending as RunEnding, Inputs, Opening, RunFault, Settling, replay_files, run, run_bundle,
+};
 use std::alloc::{AllocError, Global};
 use std::io::ErrorKind;
 use std::process::Abort;
@@ -59,8 +61,8 @@ fn left(
     alloc: Global,
     seed: &Seed,
     script: FailingReader<'static>,
-    output: Taking,
-    journal: Taking,
+    settling: Settling,
+    (output, journal): (Taking, Taking),
 ) -> Result<String, AllocError> {
     let mut inputs = Inputs {
         opening: opening(),
@@ -68,7 +70,7 @@ fn left(
     };
     let mut out = writer(alloc, output)?;
     let mut journal = writer(alloc, journal)?;
-    let answer = run(alloc, seed, &mut inputs, &mut out, &mut journal);
+    let answer = run(alloc, seed, &mut inputs, settling, &mut out, &mut journal);
     let output = String::from_utf8_lossy(alloc, out.inner().taken())?;
     let journal = String::from_utf8_lossy(alloc, journal.inner().taken())?;
     format!(in alloc; "{output}|{journal}|{answer:?}")
@@ -79,17 +81,18 @@ fn expect(
     rt: &impl Abort,
     alloc: Global,
     script: FailingReader<'static>,
+    settling: Settling,
     takings: (Taking, Taking),
     want: (&str, &str, &str),
 ) {
     let seed = Seed::from_hex(ZEROS.as_bytes()).ok().expect(rt, "a seed");
-    let left = left(alloc, &seed, script, takings.0, takings.1).expect(rt, "memory");
+    let left = left(alloc, &seed, script, settling, takings).expect(rt, "memory");
     let (output, journal, answer) = want;
     let want = format!(in alloc; "{output}|{journal}|{answer}").expect(rt, "memory");
-    assert!(rt; left.as_str() == want.as_str(), "{left}");
+    assert!(rt; left.as_str() == want.as_str(), "{settling:?}: {left}");
 }
 
-/// The whole run, with these writers.
+/// The whole run, with these writers, whenever the papers are settled.
 fn expect_run(
     rt: &impl Abort,
     alloc: Global,
@@ -97,8 +100,10 @@ fn expect_run(
     journal: Taking,
     want: (&str, &str, &str),
 ) {
-    let script = FailingReader::new(SCRIPT, SCRIPT.len() + 1, 999, ErrorKind::Other);
-    expect(rt, alloc, script, (output, journal), want);
+    for settling in &[Settling::EachTime, Settling::AtTheEnd] {
+        let script = FailingReader::new(SCRIPT, SCRIPT.len() + 1, 999, ErrorKind::Other);
+        expect(rt, alloc, script, *settling, (output, journal), want);
+    }
 }
 
 #[test]
@@ -111,12 +116,20 @@ fn a_script_cut_short(rt: HostRuntime) {
         &rt,
         rt.alloc(),
         script,
+        Settling::EachTime,
         (WHOLE, WHOLE),
         (report, "", "Ok(())"),
     );
     let failing = FailingReader::after_calls(cut, 1, 4, ErrorKind::Interrupted);
     let want = ("", "", "Err(Read { source: Script })");
-    expect(&rt, rt.alloc(), failing, (WHOLE, WHOLE), want);
+    expect(
+        &rt,
+        rt.alloc(),
+        failing,
+        Settling::AtTheEnd,
+        (WHOLE, WHOLE),
+        want,
+    );
 }
 
 #[test]

@@ -7,4 +7,6 @@ returns c =
     let matching = with_command _ _ c.in_ok-subcommand.field-0 _ _ c.in_ok-subcommand.ensures c.in_ok-match_command.ensures c.in_ok-program_alone.ensures.0 in
     let run = with_command _ _ c.in_ok-subcommand-2.field-0 _ _ c.in_ok-subcommand-2.ensures c.in_ok-run_command.ensures matching in
     let audit = with_command _ _ c.in_ok-subcommand-3.field-0 _ _ c.in_ok-subcommand-3.ensures c.in_ok-audit_command.ensures run in
-    IfOk-weaker c.subcommand-4.result _ _ (λ r adds. with_command _ _ r _ _ adds c.in_ok-replay_command.ensures audit) c.subcommand-4.ensures
+    let replay = with_command _ _ c.in_ok-subcommand-4.field-0 _ _ c.in_ok-subcommand-4.ensures c.in_ok-replay_command.ensures audit in
+    let export = with_command _ _ c.in_ok-subcommand-5.field-0 _ _ c.in_ok-subcommand-5.ensures c.in_ok-export_command.ensures replay in
+    IfOk-weaker c.subcommand-6.result _ _ (λ r adds. with_command _ _ r _ _ adds c.in_ok-summary_command.ensures export) c.subcommand-6.ensures

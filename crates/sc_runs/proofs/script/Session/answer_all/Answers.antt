@@ -1,6 +1,5 @@
 use Rattle.std.proofs.Common.{refl, sym, ◌∙◌, ap, arith, rules, ◌≡◌, ◌∷◌, length}
 use Rattle.std.specs.Vec.Iter.{into_iter_items}
-use Rattle.sc_repair.specs.Stamped.{stamped_papers}
 use Rattle.sc_runs.specs.Run.{after_script}
 use Rattle.sc_runs.proofs.Replies.{or-nothing, answered-failed, answered-first, answered-next}
 use Rattle.sc_runs.proofs.script.Session.answer_all.Goals as goal
@@ -12,7 +11,6 @@ loop-entry-init g c =
       answered = answered-first _ _ _ _ c.requires.records;
       left = search rules;
       count = omega arith;
-      optimal = c.requires.optimal;
       failed = refl;
       journal_failed = refl;
     }
@@ -37,11 +35,10 @@ loop-entry-preserved g c =
     let was = at.invariant.left in
     let counted = at.invariant.count in
     let next = c.in_default.ensures.records in record {
-      papers = at.invariant.papers ∙ ap (after_script (stamped_papers at.self.clearing)) steps ∙ ap (λ p. after_script p (into_iter_items c.next.new.self)) (sym c.in_default.ensures.papers);
-      answered = answered-next _ _ _ _ _ at.self.records _ (stamped_papers at.self.clearing) _ c.in-Some.entry _ _ at.invariant.answered steps c.in_default.ensures.records c.in_default.ensures.papers c.in_default.ensures.writes;
+      papers = at.invariant.papers ∙ ap (after_script (g.A.Amendable.stands at.self.amended)) steps ∙ ap (λ p. after_script p (into_iter_items c.next.new.self)) (sym c.in_default.ensures.papers);
+      answered = answered-next _ _ _ _ _ at.self.records _ (g.A.Amendable.stands at.self.amended) _ c.in-Some.entry _ _ at.invariant.answered steps c.in_default.ensures.records c.in_default.ensures.papers c.in_default.ensures.writes;
       left = omega arith;
       count = omega arith;
-      optimal = c.in_default.ensures.optimal at.invariant.optimal;
       failed = c.in_default.ensures.failed ∙ sym (or-nothing _ _ refl) ∙ at.invariant.failed;
       journal_failed = c.in_default.ensures.journal_failed ∙ sym (or-nothing _ _ refl) ∙ at.invariant.journal_failed;
     }
@@ -51,4 +48,4 @@ returns-in-Err-clause-writes g c =
     let at = c.loop-entry in
     let steps : into_iter_items at.entry-iterator ≡ c.in-Some.entry ∷ into_iter_items c.next.new.self = c.in-Some.ensures.steps.0 in
     let all = c.into_iter-entry-iterator.ensures.into_iter_gives.0 in
-    answered-failed _ _ _ _ _ _ at.self.records (stamped_papers at.self.clearing) c.in-Some.entry _ _ c.in-Err.fault at.invariant.answered steps all c.in-Err.ensures.writes
+    answered-failed _ _ _ _ _ _ at.self.records (g.A.Amendable.stands at.self.amended) c.in-Some.entry _ _ c.in-Err.fault at.invariant.answered steps all c.in-Err.ensures.writes

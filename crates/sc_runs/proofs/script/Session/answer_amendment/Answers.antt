@@ -1,6 +1,5 @@
 use Rattle.std.proofs.Common.{sym, ◌∙◌, ◌∷◌, [], Result, Ok, Err}
 use Rattle.std.specs.Result.{OnOk}
-use Rattle.sc_repair.specs.Stamped.{stamped_papers}
 use Rattle.sc_report.specs.Reply.{reply_text}
 use Rattle.sc_report.specs.Watched.{device_of}
 use Rattle.sc_runs.specs.TwoWriters.{to_output}
@@ -16,13 +15,13 @@ on_ok-known (Err e) known = tt
 
 pub returns-in-Err-clause-papers : goal.returns-in-Err-clause-papers
 returns-in-Err-clause-papers g c =
-    on_ok-known c.write_reply.result (after_record-refused (stamped_papers c.args.self.now.clearing) c.args.stamped c.in-Err.refusal (sym c.in-Err.is ∙ c.check.ensures.answer))
+    on_ok-known c.write_reply.result (after_record-refused (g.A.Amendable.stands c.args.self.now.amended) c.args.stamped c.in-Err.refusal (sym c.in-Err.is ∙ c.check.ensures))
 
 pub returns-in-Err-clause-writes : goal.returns-in-Err-clause-writes
 returns-in-Err-clause-writes g c =
-    Writes-same (to_output (reply_text c.args.self.now.records (Err c.in-Err.refusal)) ∷ []) (answer_to c.args.self.now.records (stamped_papers c.args.self.now.clearing) (Ok c.args.stamped))
+    Writes-same (to_output (reply_text c.args.self.now.records (Err c.in-Err.refusal)) ∷ []) (answer_to c.args.self.now.records (g.A.Amendable.stands c.args.self.now.amended) (Ok c.args.stamped))
     (record { journal = g.J.Recorder.contents c.args.journal.now; output = g.W.Write.contents (device_of c.args.out.now) })
     (record { journal = g.J.Recorder.contents c.args.journal.now; output = g.W.Write.contents (device_of c.write_reply.new.out) })
     c.write_reply.result
-    (answer_to-refused c.args.self.now.records (stamped_papers c.args.self.now.clearing) c.args.stamped c.in-Err.refusal (sym c.in-Err.is ∙ c.check.ensures.answer))
+    (answer_to-refused c.args.self.now.records (g.A.Amendable.stands c.args.self.now.amended) c.args.stamped c.in-Err.refusal (sym c.in-Err.is ∙ c.check.ensures))
     (c.write_reply.ensures.writes (g.J.Recorder.contents c.args.journal.now))

@@ -1,0 +1,82 @@
+-- The lines of a student's choices, one after the other.
+use Rattle.std.proofs.Common.{◌≡◌, refl, sym, ◌∙◌, ap, ℕ, ◌+◌, ◌<◌, Bool, true, false, ◌||◌, List, [], ◌∷◌, ◌++◌, length, get_or, take, add-one, append_assoc, arith, Some, slice_get}
+use Rattle.std.specs.Prelude.{codes, decimal, flat_map}
+use Rattle.std.specs.List.{enumerate_from, list_any}
+use Rattle.std.proofs.Math.Seq.{take-suc}
+use Rattle.std.proofs.lemmas.List.FromFn.{get_or-enumerate_from, length-enumerate_from}
+use Rattle.std.proofs.lemmas.List.Folds.{list_any-append}
+use Rattle.std.proofs.lemmas.Option.{get_or_from_slice_get, slice_get_within}
+use Rattle.sc_papers.specs.Market.{Market, choices_of, students_of}
+use Rattle.sc_report.specs.Rising.{rising}
+use Rattle.sc_papers.specs.Matching.{Matching, has}
+use Rattle.sc_papers.specs.declared.key.Key.{Key}
+use Rattle.sc_papers.specs.Key.{key_of}
+use Rattle.sc_report.specs.Cutoff.{cutoff}
+use Rattle.sc_report.specs.Reason.{reason_by}
+use Rattle.sc_report.specs.declared.cutoff.Cutoff.{Cutoff}
+use Rattle.sc_report.proofs.LineLemmas.{lines-more}
+use Rattle.sc_notices.specs.Explanation.{has_before, outcome, outcome_by}
+use Rattle.sc_notices.specs.ExplanationText.{choice_fields, choice_line, explanation_lines, explanation_of, explanation_text}
+use Rattle.sc_notices.specs.declared.outcome.Outcome.{Outcome}
+
+-- the choices of a student, each with its rank
+abbrev pub ranked : Market → ℕ → List (ℕ × ℕ)
+ranked m i = enumerate_from 0 (choices_of m i)
+
+pub ranked-length : (m : Market) (i : ℕ) → length (ranked m i) ≡ length (choices_of m i)
+ranked-length m i = length-enumerate_from 0 (choices_of m i)
+
+-- whether what i has stands before the next rank
+pub before-more : (m : Market) (a : Matching) (i k s : ℕ) → slice_get (choices_of m i) k ≡ Some s → has_before m a i (k + 1) ≡ (has_before m a i k || has a s i)
+before-more m a i k s here =
+    ap (list_any (λ t. has a t i)) front
+    ∙ list_any-append (λ t. has a t i) (take k (choices_of m i)) (s ∷ [])
+    ∙ ap (λ b. has_before m a i k || b) (or-false (has a s i))
+  where
+    front : take (k + 1) (choices_of m i) ≡ take k (choices_of m i) ++ s ∷ []
+    front =
+        rw (add-one, take-suc (choices_of m i) k s (slice_get_within (choices_of m i) k s here))
+        (ap (λ t. take k (choices_of m i) ++ t ∷ []) (get_or_from_slice_get (choices_of m i) k s s here))
+
+    or-false : (b : Bool) → (b || false) ≡ b
+    or-false true = refl
+    or-false false = refl
+
+-- a text that gained the line of the next choice
+pub choices-more : (m : Market) (a : Matching) (i k s : ℕ) (key : Key) (cut : Cutoff) (came : Outcome) (given past : Bool) (number old text numbered new : List ℕ)
+    → slice_get (choices_of m i) k ≡ Some s → number ≡ decimal i ++ codes "," → key ≡ key_of m i s → cut ≡ cutoff m a s
+    → given ≡ has a s i → past ≡ has_before m a i k → came ≡ outcome_by given past (reason_by cut key)
+    → text ≡ old ++ flat_map (λ choice. choice_line m a i choice.0 choice.1) (take k (ranked m i))
+    → numbered ≡ text ++ number → new ≡ numbered ++ choice_fields k s key cut came
+    → new ≡ old ++ flat_map (λ choice. choice_line m a i choice.0 choice.1) (take (k + 1) (ranked m i))
+choices-more m a i k s key cut came given past number old text numbered new here number_is key_is cut_is given_is past_is came_is text_is numbered_is new_is =
+    let low : k < length (choices_of m i) = slice_get_within (choices_of m i) k s here in
+    let stands : (k, s) ≡ get_or (ranked m i) k (k, s) =
+    sym (get_or-enumerate_from 0 (choices_of m i) k (k, s) low ∙ (λ t. (zero-plus k t, get_or_from_slice_get (choices_of m i) k s s here t))) in
+    let line : new ≡ text ++ choice_line m a i k s =
+    new_is
+    ∙ (λ t. (numbered_is ∙ ap (λ n. text ++ n) number_is) t ++ choice_fields k s (key_is t) (cut_is t) (came_is t))
+    ∙ (λ t. (text ++ (decimal i ++ codes ",")) ++ choice_fields k s (key_of m i s) (cutoff m a s) (outcome_by (given_is t) (past_is t) (reason_by (cut_is t) (key_is t))))
+    ∙ append_assoc text (decimal i ++ codes ",") (choice_fields k s (key_of m i s) (cutoff m a s) (outcome m a i k s)) in
+    lines-more (λ (choice : ℕ × ℕ). choice_line m a i choice.0 choice.1) (ranked m i) k (k, s) old text new text_is line (omega (arith, low, ranked-length m i)) stands
+  where
+    zero-plus : (n : ℕ) → 0 + n ≡ n
+    zero-plus n = omega arith
+
+-- a text that gained the lines of the students by rising number is that of all of them
+pub explained : (m : Market) (a b : Matching) (n : Market) (students old text : List ℕ) → n ≡ m → b ≡ a → old ≡ [] → students ≡ rising (students_of n) → text ≡ old ++ explanation_lines n b students
+    → text ≡ explanation_text m a
+unfolding explanation_text
+explained m a b n students old text papers_is places_is old_is students_is text_is =
+    text_is
+    ∙ (λ t. old_is t ++ explanation_lines n b (students_is t))
+    ∙ (λ t. explanation_lines (papers_is t) (places_is t) (rising (students_of (papers_is t))))
+
+-- and one that gained the lines of one student is that of the student
+pub explained-one : (m : Market) (a b : Matching) (n : Market) (i : ℕ) (old text : List ℕ) → n ≡ m → b ≡ a → old ≡ [] → text ≡ old ++ explanation_lines n b (i ∷ [])
+    → text ≡ explanation_of m a i
+unfolding explanation_of
+explained-one m a b n i old text papers_is places_is old_is text_is =
+    text_is
+    ∙ (λ t. old_is t ++ explanation_lines n b (i ∷ []))
+    ∙ (λ t. explanation_lines (papers_is t) (places_is t) (i ∷ []))

@@ -1,0 +1,5 @@
+pub mod RankLemmas
+pub mod ListingLemmas
+pub mod SummaryLemmas
+pub mod ExplanationLemmas
+pub mod OutcomeLaws

@@ -1,0 +1,5 @@
+pub mod Summary
+pub mod SummaryText
+pub mod Counting
+pub mod Explanation
+pub mod ExplanationText

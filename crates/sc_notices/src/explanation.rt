@@ -1,0 +1,207 @@
+//! What came of each choice, as text.
+ghost use Rattle.std.specs.Prelude.{◌≡◌, ◌<◌, ◌++◌, ◌||◌, codes, decimal, flat_map, is_some, length, nat_eq, position, All, IfOk, IfSome, OnOk, Some};
+ghost use Rattle.sc_papers.specs.Assignment.{assigned};
+ghost use Rattle.sc_papers.specs.Market.{Market, is_student, schools_of};
+ghost use Rattle.sc_papers.specs.Matching.{Matching};
+ghost use Rattle.sc_papers.specs.WellFormed.{WithinLimits};
+ghost use Rattle.sc_repair.specs.Standing.{matching_of};
+ghost use Rattle.sc_report.specs.Cutoff.{cutoff, rows_in_order};
+ghost use Rattle.sc_report.specs.Entrants.{numbers_of, StandsAt};
+ghost use Rattle.sc_report.specs.Reason.{reason_by};
+ghost use Rattle.sc_notices.specs.Explanation.{is_given, outcome_by};
+ghost use Rattle.sc_notices.specs.ExplanationText.{choice_fields, explanation_lines, explanation_of, explanation_text, own_fields, student_lines};
+
+use crate::fields::push_field;
+use crate::outcome::{outcome_of, push_outcome};
+use sc_decimal::push_number;
+use sc_papers::{
+    Assignment, Key, LONGEST_LIST, MOST_STUDENTS, Papers, Proposal, SchoolNo, StudentNo,
+};
+use sc_repair::Clearing;
+use sc_report::{
+    Cutoff, CutoffRow, Entrant, push_cutoff, push_draw, rising_entrants, rows_in_order,
+};
+use std::alloc::{AllocError, Global};
+
+/// The line above the choices' lines.
+const HEADER: &[u8; 73] =
+    b"student,rank,school,class,draw,cutoff,cutoff_draw,cutoff_student,outcome\n";
+
+/// The most bytes of a line: two students' numbers, a rank, a school, two classes, two draws, the longest word, the commas
+/// and a newline.
+const LONGEST_LINE: usize = 75;
+
+/// The most bytes of a student's number and a comma.
+const LONGEST_NUMBER: usize = 10;
+
+/// Adds the student's own class and draw.
+fn push_own(text: &mut Vec<u8>, key: Key) -> Result<(), AllocError>
+    ensures { OnOk result (text.new.items ≡ text.old.items ++ own_fields key) }
+{
+    push_field(text, u32::from(key.class))?;
+    push_draw(text, key.draw)?;
+    text.extend_from_slice(b",")
+}
+
+/// Adds what a line says of a choice of this rank, from 0, and answers whether the student has it or one before it. What
+/// the student has is given, and whether it is one before.
+fn push_choice(
+    text: &mut Vec<u8>,
+    rank: usize,
+    choice: &Proposal,
+    cutoff: Cutoff,
+    held: &Option<SchoolNo>,
+    is_past: bool,
+) -> Result<bool, AllocError>
+    requires { rank < LONGEST_LIST }
+    ensures past { IfOk result (λ past. past ≡ (is_past || is_given held.now choice.now.school)) }
+    ensures text { OnOk result (text.new.items ≡ text.old.items ++ choice_fields rank choice.now.school choice.now.key cutoff
+        (outcome_by (is_given held.now choice.now.school) is_past (reason_by cutoff choice.now.key))) }
+{
+    let given = *held == Some(choice.school);
+    push_field(text, rank as u32 + 1)?;
+    push_field(text, choice.school.get())?;
+    push_own(text, choice.key)?;
+    push_cutoff(text, cutoff)?;
+    push_outcome(text, outcome_of(given, is_past, cutoff, choice.key))?;
+    Ok(is_past || given)
+}
+
+/// The cutoff of a choice's school, by the rows of all schools in order of entry.
+fn cutoff_of(rows: &[CutoffRow], choice: &Proposal) -> Cutoff
+    requires { choice.now.position < length rows.now }
+    // By whichever papers and matching the rows were made.
+    ensures { (m : Market) (a : Matching) → rows.now ≡ rows_in_order m a → position (nat_eq choice.now.school) (schools_of m) ≡ Some choice.now.position → result ≡ cutoff m a choice.now.school }
+{
+    rows[choice.position].cutoff
+}
+
+/// Makes a text that of the student's number and a comma, in the place of what it held.
+fn set_number(text: &mut Vec<u8>, student: StudentNo) -> Result<(), AllocError>
+    ensures { OnOk result (text.new.items ≡ decimal student ++ codes ",") }
+{
+    text.clear();
+    push_number(text, u64::from(student.get()))?;
+    text.extend_from_slice(b",")
+}
+
+/// Adds the lines of a student's choices, by the rows of all schools in order of entry; the student's number and the
+/// comma after it are given as text.
+fn push_choices(
+    text: &mut Vec<u8>,
+    number: &[u8],
+    rows: &[CutoffRow],
+    papers: &Papers,
+    places: &Assignment,
+    entrant: Entrant,
+) -> Result<(), AllocError>
+    requires number { number.now ≡ decimal entrant.student ++ codes "," }
+    requires rows { rows.now ≡ rows_in_order papers.now (assigned places.now) }
+    requires stands { StandsAt papers.now entrant }
+    requires within_limits { WithinLimits papers.now }
+    ensures { OnOk result (text.new.items ≡ text.old.items ++ student_lines papers.now (assigned places.now) entrant.student) }
+{
+    let held = places.get_near(entrant.student, entrant.pair);
+    let mut is_past = false;
+    let mut rank = 0;
+    'ranks: while let Some(choice) = papers.proposal(entrant.position, rank) {
+        let cutoff = cutoff_of(rows, &choice);
+        text.extend_from_slice(number)?;
+        is_past = push_choice(text, rank, &choice, cutoff, &held, is_past)?;
+        rank += 1;
+    }
+    Ok(())
+}
+
+/// Adds the header and the lines of the students, in their order, by the rows of all schools in order of entry.
+fn push_explanations(
+    text: &mut Vec<u8>,
+    alloc: Global,
+    entrants: &[Entrant],
+    rows: &[CutoffRow],
+    papers: &Papers,
+    places: &Assignment,
+) -> Result<(), AllocError>
+    requires rows { rows.now ≡ rows_in_order papers.now (assigned places.now) }
+    requires stand { All (StandsAt papers.now) entrants.now }
+    ensures { OnOk result (text.new.items ≡ text.old.items ++ explanation_lines papers.now (assigned places.now) (numbers_of entrants.now)) }
+{
+    // This call tells that the papers are within their limits, and so are their lists.
+    prove!(papers.students_len() <= MOST_STUDENTS);
+    let mut number = Vec::with_capacity(alloc, LONGEST_NUMBER)?;
+    text.extend_from_slice(HEADER)?;
+    for entrant in entrants {
+        set_number(&mut number, entrant.student)?;
+        push_choices(text, number.as_slice(), rows, papers, places, *entrant)?;
+    }
+    Ok(())
+}
+
+/// How many bytes the explanations of all students take at most.
+fn room_for_explanations(papers: &Papers) -> usize {
+    let mut choices: usize = 0;
+    for position in 0..papers.students_len() {
+        choices = choices.saturating_add(papers.choice_positions_at(position).len());
+    }
+    choices
+        .saturating_mul(LONGEST_LINE)
+        .saturating_add(HEADER.len())
+}
+
+/// What came of each choice of each student under the standing assignment: a header, and a line for each choice, the
+/// students by rising number and a student's choices best first. A line has the student, the choice's rank, from 1, the
+/// school, the student's own class and draw there, the school's cutoff as the cutoff text has it, and what came of it:
+/// `given`; the reason of the report; or `later` after the choice that was given. The only error is want of memory, which is taken
+/// for the text. The cost is one pass over the students for the cutoffs, a sort of the students' numbers, and one pass
+/// over their choices.
+pub fn explanation_text(alloc: Global, clearing: &Clearing) -> Result<Vec<u8>, AllocError>
+    ensures { IfOk result (λ text. text.items ≡ explanation_text clearing.now.standing.papers (matching_of clearing.now.standing)) }
+{
+    let papers = clearing.papers();
+    let places = clearing.places();
+    let entrants = rising_entrants(alloc, papers, places)?;
+    let rows = rows_in_order(alloc, papers, places)?;
+    let mut text = Vec::with_capacity(alloc, room_for_explanations(papers))?;
+    push_explanations(
+        &mut text,
+        alloc,
+        entrants.as_slice(),
+        rows.as_slice(),
+        papers,
+        places,
+    )?;
+    Ok(text)
+}
+
+/// The lines of one student as in `explanation_text`, under the same header, or `None` where the student is not in the
+/// papers. The only error is want of memory. The cost is one pass over the students for the cutoffs.
+pub fn explanation_of(
+    alloc: Global,
+    clearing: &Clearing,
+    student: StudentNo,
+) -> Result<Option<Vec<u8>>, AllocError>
+    ensures known { IfOk result (λ found. is_some found ≡ is_student clearing.now.standing.papers student) }
+    ensures text { IfOk result (λ found. IfSome found (λ text. text.items ≡ explanation_of clearing.now.standing.papers (matching_of clearing.now.standing) student)) }
+{
+    let papers = clearing.papers();
+    let places = clearing.places();
+    let Some(position) = papers.student_position(student) else {
+        return Ok(None);
+    };
+    let entrant = Entrant {
+        student,
+        position,
+        pair: position,
+    };
+    let rows = rows_in_order(alloc, papers, places)?;
+    let mut text = Vec::new(alloc);
+    push_explanations(
+        &mut text,
+        alloc,
+        &[entrant],
+        rows.as_slice(),
+        papers,
+        places,
+    )?;
+    Ok(Some(text))
+}

@@ -1,0 +1,66 @@
+//! How many students list each school.
+ghost use Rattle.std.specs.Prelude.{◌≡◌, ℕ, ◌+◌, ◌<◌, ◌≤◌, nat_eq, count_by, length, replicate, slice_index, take, All, IfOk, OnOk};
+ghost use Rattle.sc_papers.specs.Market.{students_of};
+ghost use Rattle.sc_papers.specs.WellFormed.{WellFormed, WithinLimits};
+ghost use Rattle.sc_notices.specs.Counting.{AreListings};
+ghost use Rattle.sc_notices.specs.Summary.{listed};
+
+use sc_papers::{LONGEST_LIST, MOST_STUDENTS, Papers, SchoolNo};
+use std::alloc::{AllocError, Global};
+
+/// Counts one more at each of the positions.
+fn count_positions(counts: &mut [u32], positions: &[u16])
+    requires within { All (λ at. at < length counts.old) positions.now }
+    requires short { length positions.now ≤ LONGEST_LIST }
+    requires few { (at : ℕ) → at < length counts.old → slice_index counts.old at ≤ MOST_STUDENTS }
+    ensures { (at : ℕ) → at < length counts.old → slice_index counts.new at ≡ slice_index counts.old at + count_by (nat_eq at) positions.now }
+{
+    for position in positions {
+        counts[usize::from(*position)] += 1;
+    }
+}
+
+/// Counts the choices of the student at the position of the order of entry.
+fn count_choices(counts: &mut [u32], papers: &Papers, position: usize)
+    requires within { position < length papers.now.students }
+    requires well_formed { WellFormed papers.now }
+    requires within_limits { WithinLimits papers.now }
+    requires before { AreListings papers.now (take position (students_of papers.now)) counts.old }
+    ensures { AreListings papers.now (take (position + 1) (students_of papers.now)) counts.new }
+{
+    count_positions(counts, papers.choice_positions_at(position));
+}
+
+/// A count of nobody for each of so many schools.
+fn no_listings(alloc: Global, count: usize) -> Result<Vec<u32>, AllocError>
+    ensures { IfOk result (λ counts. counts.items ≡ replicate count 0) }
+{
+    let mut counts = Vec::new(alloc);
+    counts.resize(count, 0)?;
+    Ok(counts)
+}
+
+/// How many students list each school, by the school's position in the order of entry. The only error is want of
+/// memory, which is taken for each school. One pass over the students' choices, without a look-up by number.
+pub(crate) fn listings(alloc: Global, papers: &Papers) -> Result<Vec<u32>, AllocError>
+    ensures counts { IfOk result (λ counts. AreListings papers.now (students_of papers.now) counts.items) }
+    ensures well_formed { OnOk result (WellFormed papers.now) }
+{
+    let mut counts = no_listings(alloc, papers.schools_len())?;
+    for position in 0..papers.students_len() {
+        count_choices(counts.as_mut_slice(), papers, position);
+    }
+    Ok(counts)
+}
+
+/// How many students list a school, by the counts of all schools; nobody lists one that is not in the papers.
+pub(crate) fn listed(counts: &[u32], papers: &Papers, school: SchoolNo) -> u32
+    requires counts { AreListings papers.now (students_of papers.now) counts.now }
+    requires well_formed { WellFormed papers.now }
+    ensures { result ≡ listed papers.now school }
+{
+    match papers.school_position(school) {
+        Some(position) => counts[position],
+        None => 0,
+    }
+}

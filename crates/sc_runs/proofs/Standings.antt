@@ -1,0 +1,60 @@
+-- Calls that tell of what stands: reading a journal, if there is one, and what they then did.
+use Rattle.std.proofs.Common.{◌≡◌, refl, ap, subst, ◌∙◌, sym, inl, inr, ℕ, Bool, true, false, ◌||◌, List, [], ◌∷◌, ◌++◌, Option, None, Some, Result, Err}
+use Rattle.std.specs.List.{All}
+use Rattle.std.proofs.lemmas.List.Elements.{All-append, All-nil, All-weaker}
+use Rattle.sc_papers.specs.Market.{Market}
+use Rattle.sc_journal.specs.declared.journal.Tail.{Tail}
+use Rattle.sc_report.specs.declared.watched.Watched.{Watched}
+use Rattle.sc_runs.specs.Inputs.{in_order, Texts, Turn, AreRead, EndsAmong, EndsReading, IsUntouched, TakesWithin}
+use Rattle.sc_runs.specs.Opening.{is_output_fault, papers_in}
+use Rattle.sc_runs.specs.Standing.{journal_turns, IsJournalRead, TellsFiles, WritesOfStanding}
+use Rattle.sc_runs.specs.declared.fault.RunFault.{RunFault}
+use Rattle.sc_runs.specs.declared.fault.RunFault.TheVariants.{Read, Intake, Journal, WriteOut, WriteJournal, OutOfMemory}
+use Rattle.sc_runs.proofs.Calls.{papers_in-texts, AreTexts}
+use Rattle.sc_runs.proofs.Reading.{All-untouched, TakesWithin-untouched}
+
+-- a journal that is not come to is untouched
+pub journal-untouched : {R : Type 0} (remaining : R → Option (List ℕ)) (journal : Option (Watched R)) → All IsUntouched (journal_turns remaining journal journal)
+journal-untouched remaining None = All-nil IsUntouched
+journal-untouched remaining (Some reader) = All-untouched _ (refl, refl)
+
+-- of inputs that are not come to nothing is taken
+pub TakesWithin-later : (first later : List Turn) → All TakesWithin first → All IsUntouched later → All TakesWithin (first ++ later)
+TakesWithin-later first later within untouched = All-append TakesWithin first later within (All-weaker IsUntouched TakesWithin TakesWithin-untouched later untouched)
+
+-- reading that ended early is no fault of the output
+ends-no_output : (A : Type 0) (turn : Turn) (fault : RunFault) → EndsReading turn fault → is_output_fault {A = A} (Err fault) ≡ false
+ends-no_output A turn (Read source) ended = refl
+ends-no_output A turn (Intake fault) ended = refl
+ends-no_output A turn (Journal fault) ended = absurd ended
+ends-no_output A turn WriteOut ended = absurd ended
+ends-no_output A turn WriteJournal ended = absurd ended
+ends-no_output A turn OutOfMemory ended = refl
+
+unread-no_output : (A : Type 0) (turns : List Turn) (fault : RunFault) → EndsAmong turns fault → is_output_fault {A = A} (Err fault) ≡ false
+unread-no_output A [] fault ended = absurd ended
+unread-no_output A (turn ∷ rest) fault (inl (ended, untouched)) = ends-no_output A turn fault ended
+unread-no_output A (turn ∷ rest) fault (inr (text, read, ended)) = unread-no_output A rest fault ended
+
+-- and leaves it as failed as it was
+pub unfailed-unread : (A : Type 0) (before : Bool) (turns : List Turn) (fault : RunFault) → EndsAmong turns fault → before ≡ (before || is_output_fault {A = A} (Err fault))
+unfailed-unread A before turns fault ended =
+    sym (ap (λ b. before || b) (unread-no_output A turns fault ended) ∙ or-false before)
+  where
+    or-false : (b : Bool) → (b || false) ≡ b
+    or-false true = refl
+    or-false false = refl
+
+-- the files and the journal were read, and a text of what stands was written
+pub TellsFiles-read : (Is : Market → List ℕ → Type 0) (seed : List ℕ) (opening journal : List Turn) (texts : Texts) (given schools roster lists bytes : List ℕ)
+    → (old new : Option (List ℕ)) (result : Result Tail RunFault)
+    → AreRead opening (in_order texts) → IsJournalRead journal given → AreTexts texts schools roster lists → bytes ≡ given
+    → WritesOfStanding Is (papers_in seed schools roster lists) bytes old new result → TellsFiles Is seed opening journal old new result
+TellsFiles-read Is seed opening journal texts given schools roster lists bytes old new result read journal_read same is wrote = inr (
+  texts,
+  given,
+  read,
+  journal_read,
+  subst (λ reading. WritesOfStanding Is reading given old new result) (papers_in-texts seed texts schools roster lists same)
+      (subst (λ text. WritesOfStanding Is (papers_in seed schools roster lists) text old new result) is wrote),
+)

@@ -1,0 +1,108 @@
+//! What the records of a script amend: papers that are settled after each amendment, or at the end.
+
+ghost use Rattle.std.specs.Prelude.{◌≡◌, None, IfErr, IfOk, OnErr, OnOk};
+ghost use Rattle.sc_papers.specs.Verdict.{unless_refused, IsRefusal};
+ghost use Rattle.sc_papers.specs.WellFormed.{WellFormed};
+ghost use Rattle.sc_stamps.specs.Verdict.{stamped_after, stamped_verdict, unamended, StampedPapers};
+ghost use Rattle.sc_repair.specs.Stamped.{stamped_papers};
+ghost use Rattle.sc_repair.specs.Standing.{IsCertified};
+
+use sc_papers::{Papers, Refusal, Stamp, Stamped};
+use sc_repair::{Clearing, Unsettled};
+use std::alloc::{AllocError, Global};
+
+/// When a run settles the papers that its script amends. It writes the same either way.
+#[derive(Clone, Copy, Debug, PartialEq, Eq)]
+pub enum Settling {
+    /// After each amendment that is accepted.
+    EachTime,
+    /// Once, after the last record.
+    AtTheEnd,
+}
+
+/// Papers with stamps, amended one record after the other.
+pub trait Amendable {
+    // The papers and the stamps of their records, as they stand.
+    ghost stands: { Self → StampedPapers };
+
+    /// The papers of an opening, whose stamps are 0. The only error is want of memory.
+    fn open(alloc: Global, papers: Papers) -> Result<Self, AllocError>
+        ensures unamended { IfOk result (λ amended. stands amended ≡ unamended papers) }
+        ensures well_formed { OnOk result (WellFormed papers) };
+
+    /// How many amendments were accepted.
+    fn accepted(&self) -> Stamp
+        ensures { result ≡ (stands self.now).stamps.accepted };
+
+    /// The first refusal that applies to a stamped amendment, but for want of memory.
+    fn check(&self, stamped: &Stamped) -> Result<(), Refusal>
+        ensures { result ≡ unless_refused (stamped_verdict (stands self.now) stamped.now) };
+
+    /// Makes the amendment, or answers why not. After a refusal the papers and the stamps are as before.
+    fn amend(&mut self, stamped: Stamped) -> Result<(), Refusal>
+        ensures allowed { OnOk result (stamped_verdict (stands self.old) stamped ≡ None) }
+        ensures accepted { OnOk result (stands self.new ≡ stamped_after (stands self.old) stamped.amendment) }
+        ensures refused { IfErr result (IsRefusal (stamped_verdict (stands self.old) stamped)) }
+        ensures unchanged { OnErr result (stands self.new ≡ stands self.old) };
+
+    /// The papers settled, with their stamps. The only error is want of memory.
+    fn settle(self, alloc: Global) -> Result<Clearing, AllocError>
+        ensures papers { IfOk result (λ clearing. stamped_papers clearing ≡ stands self) }
+        ensures certified { IfOk result (λ clearing. IsCertified clearing.standing) };
+}
+
+impl Amendable for Clearing {
+    ghost stands = { λ clearing. stamped_papers clearing };
+
+    fn open(alloc: Global, papers: Papers) -> Result<Self, AllocError> {
+        match Clearing::open(alloc, papers) {
+            Ok(clearing) => Ok(clearing),
+            Err(_) => Err(AllocError),
+        }
+    }
+
+    fn accepted(&self) -> Stamp {
+        self.accepted()
+    }
+
+    fn check(&self, stamped: &Stamped) -> Result<(), Refusal> {
+        self.check(stamped)
+    }
+
+    fn amend(&mut self, stamped: Stamped) -> Result<(), Refusal> {
+        self.amend(stamped)
+    }
+
+    fn settle(self, _alloc: Global) -> Result<Clearing, AllocError> {
+        // A clearing is settled after each amendment, and tells so where it tells its papers.
+        let _papers = self.papers();
+        Ok(self)
+    }
+}
+
+impl Amendable for Unsettled {
+    ghost stands = { λ unsettled. unsettled };
+
+    fn open(alloc: Global, papers: Papers) -> Result<Self, AllocError> {
+        Unsettled::new(alloc, papers)
+    }
+
+    fn accepted(&self) -> Stamp {
+        self.accepted()
+    }
+
+    fn check(&self, stamped: &Stamped) -> Result<(), Refusal> {
+        self.check(stamped)
+    }
+
+    fn amend(&mut self, stamped: Stamped) -> Result<(), Refusal> {
+        self.amend(stamped)
+    }
+
+    fn settle(self, alloc: Global) -> Result<Clearing, AllocError> {
+        match self.settle(alloc) {
+            Ok(clearing) => Ok(clearing),
+            Err(_) => Err(AllocError),
+        }
+    }
+}

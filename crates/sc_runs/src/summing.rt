@@ -1,0 +1,97 @@
+//! From files to a summary.
+
+ghost use Rattle.std.specs.Prelude.{◌≡◌, ◌||◌, ◌++◌, All, is_some};
+ghost use Rattle.sc_repair.specs.Standing.{matching_of};
+ghost use Rattle.sc_report.specs.Watched.{device_of, has_failed};
+ghost use Rattle.sc_notices.specs.SummaryText.{summary_text};
+ghost use Rattle.sc_runs.specs.Inputs.{opening_turns, TakesWithin};
+ghost use Rattle.sc_runs.specs.Opening.{is_output_fault, papers_in, WritesText};
+ghost use Rattle.sc_runs.specs.Standing.{journal_turns, IsSummary, TellsFiles, WritesOfStanding};
+
+use crate::fault::RunFault;
+use crate::inputs::{Opening, OpeningSlices};
+use crate::standing::{read_with_journal, stand};
+use crate::writing::write_text;
+use sc_journal::Tail;
+use sc_notices::summary_text;
+use sc_papers::Seed;
+use sc_repair::Clearing;
+use sc_report::Watched;
+use std::alloc::Global;
+use std::io::{Read, Write};
+
+/// Writes the summary of the standing assignment, and flushes it.
+fn write_summary<W: Write>(
+    alloc: Global,
+    clearing: &Clearing,
+    out: &mut Watched<W>,
+) -> Result<(), RunFault>
+    ensures bytes { WritesText (λ text. text ≡ summary_text clearing.now.standing.papers (matching_of clearing.now.standing))
+        (W.contents (device_of out.old)) (W.contents (device_of out.new)) result }
+    ensures failed { has_failed out.new ≡ (has_failed out.old || is_output_fault result) }
+{
+    match summary_text(alloc, clearing) {
+        Ok(text) => write_text(text.as_slice(), out),
+        Err(_) => Err(RunFault::OutOfMemory),
+    }
+}
+
+/// Writes the summary of what stands after the amendments of a journal over the papers that the texts hold.
+fn summarize<W: Write>(
+    alloc: Global,
+    seed: &Seed,
+    texts: OpeningSlices<'_>,
+    journal: &[u8],
+    out: &mut Watched<W>,
+) -> Result<Tail, RunFault>
+    ensures summary { WritesOfStanding IsSummary (papers_in seed.now texts.entry.schools.now texts.entry.roster.now texts.entry.lists.now) journal.now
+        (W.contents (device_of out.old)) (W.contents (device_of out.new)) result }
+    ensures failed { has_failed out.new ≡ (has_failed out.old || is_output_fault result) }
+{
+    match stand(alloc, seed, texts, journal) {
+        Ok((clearing, tail)) => {
+            let written = write_summary(alloc, &clearing, out);
+            drop(clearing);
+            match written {
+                Ok(()) => Ok(tail),
+                Err(fault) => Err(fault),
+            }
+        }
+        Err(fault) => Err(fault),
+    }
+}
+
+/// Reads the three files and a journal, if there is one, in the order schools, roster, lists, journal, makes the
+/// amendments of the journal in turn, and writes the summary of the papers as they then stand. It answers whether
+/// bytes follow the journal's last newline, which are left unread; without a journal none do.
+///
+/// Nothing is written before the inputs are known to be good. An error is the first fault of the inputs, each of
+/// which is read whole before any is looked into, or else the first faulty line of the journal with its first cause;
+/// that an input or the output failed; or want of memory, after which nothing was written. After a fault of the
+/// output a prefix of the summary was. Where reading an input ends early, those after it are not touched; of none more
+/// than one byte past 64 MiB is taken.
+pub fn summary_files<R: Read, W: Write>(
+    alloc: Global,
+    seed: &Seed,
+    opening: &mut Opening<R>,
+    journal: &mut Option<Watched<R>>,
+    out: &mut Watched<W>,
+) -> Result<Tail, RunFault>
+    ensures summary { TellsFiles IsSummary seed.now (opening_turns R.remaining opening.old opening.new) (journal_turns R.remaining journal.old journal.new)
+        (W.contents (device_of out.old)) (W.contents (device_of out.new)) result }
+    ensures failed { has_failed out.new ≡ (has_failed out.old || is_output_fault result) }
+    ensures limit { All TakesWithin (opening_turns R.remaining opening.old opening.new ++ journal_turns R.remaining journal.old journal.new) }
+    ensures stays { is_some journal.new ≡ is_some journal.old }
+{
+    let texts = match read_with_journal(alloc, opening, journal) {
+        Ok(texts) => texts,
+        Err(fault) => return Err(fault),
+    };
+    summarize(
+        alloc,
+        seed,
+        texts.opening.as_slices(),
+        texts.last.as_slice(),
+        out,
+    )
+}
