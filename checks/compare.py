@@ -26,9 +26,10 @@ HERE = pathlib.Path(__file__).resolve().parent.parent
 BUILT = HERE / "crates/clearinghouse/out/clearinghouse"
 INPUTS = {"match": ["schools", "roster", "lists"], "run": ["schools", "roster", "lists", "script"],
           "audit": ["schools", "roster", "lists", "log"], "replay": ["schools", "roster", "lists", "journal"],
-          "summary": ["schools", "roster", "lists", "journal"], "export": ["schools", "roster", "lists", "journal"]}
+          "summary": ["schools", "roster", "lists", "journal"], "explain": ["schools", "roster", "lists", "journal"],
+          "export": ["schools", "roster", "lists", "journal"]}
 # The inputs that a subcommand may go without.
-OPTIONAL = {"summary": ["journal"], "export": ["journal"]}
+OPTIONAL = {"summary": ["journal"], "explain": ["journal"], "export": ["journal"]}
 Case = collections.namedtuple("Case", "kind seed texts words")
 
 
@@ -179,7 +180,7 @@ def make_case(seed, at):
     texts = {"schools": rendered(rng, ["school", "zone", "seats"], [list(row) for row in rows], untidy),
              "roster": rendered(rng, roster_header(rng, roster), roster, untidy),
              "lists": rendered(rng, ["student", "choices"], [list(row) for row in lists], untidy)}
-    kind = rng.choice(["bundle", "bundle", "match", "run", "run", "audit", "replay", "summary", "export", "words"])
+    kind = rng.choice(["bundle", "bundle", "match", "run", "run", "audit", "replay", "summary", "explain", "export", "words"])
     script = rendered(rng, None, list(stamped(rng, texts, amendments(rng, rows, roster, rng.randint(0, 12)))), untidy)
     key = b"0" * 32
     if kind == "run" or (kind == "bundle" and rng.random() < 0.6):
@@ -207,8 +208,17 @@ def make_case(seed, at):
         return Case("bundle", b"", {"bundle": changed(rng, whole) if rng.random() < 0.1 else whole}, None)
     if kind == "words":
         return Case("words", seed_given, texts, wrong_words(rng))
+    if kind == "explain":
+        return Case(kind, seed_given, texts, student_words(rng, roster))
     flag = {"match": "--print-log", "run": "--settle-at-end"}.get(kind)
     return Case(kind, seed_given, texts, rng.choice([[flag], []]) if flag else [])
+
+
+def student_words(rng, roster):
+    """Whom alone `explain` is to tell of: nobody, or somebody of the roster or of the script, or what is no number of a student."""
+    known = [row[0] for row in roster] + [rng.randint(1, 60)]
+    student = rng.choice(["0", "", "x", "-1", " 1", "1000000000", "0000000001"]) if rng.random() < 0.2 else "0" * rng.choice([0, 0, 1]) + str(rng.choice(known))
+    return rng.choice([[], ["--student=" + student]])
 
 
 def wrong_words(rng):
@@ -242,11 +252,13 @@ def expected(case):
     if case.kind == "bundle":
         return reference.told(reference.call_bundle, case.texts["bundle"])
     call = {"match": reference.call_match, "run": reference.call_run, "audit": reference.call_audit, "replay": reference.call_replay,
-            "summary": reference.call_summary, "export": reference.call_export}[case.kind]
+            "summary": reference.call_summary, "explain": reference.call_explain, "export": reference.call_export}[case.kind]
 
     def made():
         key = reference.seed_of(case.seed)
         given = [case.texts[name] for name in INPUTS[case.kind] if name in case.texts]
+        if case.kind == "explain" and case.words:
+            return call(key, *given, student=case.words[0].split("=", 1)[1].encode())
         return call(key, *given, print_log=True) if "--print-log" in case.words else call(key, *given)
 
     return reference.told(made)

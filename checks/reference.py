@@ -9,6 +9,7 @@ It is slow and simple on purpose: `compare.py` runs it beside the built program 
     reference.py audit .. --log ..
     reference.py replay .. --journal ..
     reference.py summary .. [--journal ..]
+    reference.py explain .. [--journal ..] [--student N]
     reference.py export .. [--journal ..] --to FOLDER
 
 Each call is also a function here: it takes the bytes of the inputs and gives (output, journal, fault line, status); that of
@@ -439,6 +440,31 @@ def summary(papers):
     return ("\n".join(lines) + "\n").encode()
 
 
+def explanation(papers, only=None):
+    """What came of each choice of every student, or of one."""
+    places, _ = settled(papers)
+    last = {}
+    for school, (_, seats) in papers.schools.items():
+        holders = sorted(papers.key_of(student, school) for student, place in places.items() if place == school)
+        last[school] = "closed,-,-" if seats == 0 else "free,-,-" if len(holders) < seats else "{},{:016x},{}".format(*holders[-1])
+    lines = ["student,rank,school,class,draw,cutoff,cutoff_draw,cutoff_student,outcome"]
+    for student in sorted(places) if only is None else [only]:
+        outcome = None
+        for rank, school in enumerate(papers.students[student][2], start=1):
+            kind, drawn, _ = papers.key_of(student, school)
+            if outcome in ("given", "later"):
+                outcome = "later"
+            elif school == places[student]:
+                outcome = "given"
+            elif last[school] == "closed,-,-":
+                outcome = "seats"
+            else:
+                # A full school: who is not admitted is behind the last who is.
+                outcome = "class" if int(last[school].split(",")[0]) < kind else "lottery"
+            lines.append(f"{student},{rank},{school},{kind},{drawn:016x},{last[school]},{outcome}")
+    return ("\n".join(lines) + "\n").encode()
+
+
 def exported(papers):
     """The files of the papers, by their names."""
     def listed(numbers):
@@ -577,6 +603,24 @@ def call_summary(key, schools, roster, lists, journal=None):
     return summary(papers), b"", status
 
 
+def student_of(word):
+    """The student whom a word of the command line names."""
+    if not re.fullmatch(rb"[0-9]{1,9}", word) or int(word) == 0:
+        raise Stop("student: Number", 2)
+    return int(word)
+
+
+def call_explain(key, schools, roster, lists, journal=None, student=None):
+    """Without a journal the papers of the opening stand; without a student's number all are told of."""
+    only = None if student is None else student_of(student)
+    too_long(*files(schools, roster, lists), ("journal", journal or b""))
+    papers = papers_of(key, schools, roster, lists)
+    status = replayed(papers, journal or b"")
+    if only is not None and only not in papers.students:
+        raise Stop(f"explain: UnknownStudent {only}", 3)
+    return explanation(papers, only), b"", status
+
+
 def call_export(key, schools, roster, lists, journal=None):
     """Without a journal the papers of the opening are exported."""
     too_long(*files(schools, roster, lists), ("journal", journal or b""))
@@ -637,8 +681,8 @@ def main(words):
         if options is None:
             rest = [word for word in words[1:] if word != "--print-log"]
             options = dict(zip(rest[::2], rest[1::2]))
-        last = {"match": None, "run": "--script", "audit": "--log", "replay": "--journal",
-                "summary": "--journal" if "--journal" in options else None, "export": "--journal" if "--journal" in options else None}[words[0]]
+        kept = "--journal" if "--journal" in options else None
+        last = {"match": None, "run": "--script", "audit": "--log", "replay": "--journal", "summary": kept, "explain": kept, "export": kept}[words[0]]
         names = ["--schools", "--roster", "--lists"] + ([last] if last else [])
 
         def call():
@@ -646,6 +690,8 @@ def main(words):
             texts = [open(options[name], "rb").read() for name in names]
             if words[0] == "match":
                 return call_match(key, *texts, print_log="--print-log" in words)
+            if words[0] == "explain":
+                return call_explain(key, *texts, student=options["--student"].encode() if "--student" in options else None)
             return {"run": call_run, "audit": call_audit, "replay": call_replay, "summary": call_summary, "export": call_export}[words[0]](key, *texts)
 
         output, journal, line, status = told(call)

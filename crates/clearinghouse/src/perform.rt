@@ -3,12 +3,12 @@
 use clap::Error;
 use clap::error::ErrorKind;
 use sc_intake::Source;
-use sc_papers::Seed;
+use sc_papers::{Seed, StudentNo};
 use sc_report::{Watched, write_whole};
 use sc_runs::{
-    Ending, Inputs, Opening, PapersFile, PapersFiles, RunFault, Settling, Tail, Verdict,
-    audit_files, export_files, fault_line, match_standing, replay_files, run, run_bundle,
-    status_of, summary_files,
+    Ending, Explained, Inputs, Opening, PapersFile, PapersFiles, RunFault, Settling, Tail, Verdict,
+    audit_files, explain_files, export_files, fault_line, match_standing, read_student,
+    replay_files, run, run_bundle, status_of, summary_files,
 };
 use sc_words::{OpeningWords, Order, Subcommand, Word, order_of};
 use std::alloc::Global;
@@ -211,6 +211,43 @@ fn summarize<R: Files + AllocGlobal, W: Write>(
     Ok(ending_after(tail))
 }
 
+/// Explains the choices of a student of an opening, or of all, in the papers as they stand after a journal if there is
+/// one.
+fn explain<R: Files + AllocGlobal, W: Write>(
+    rt: &R,
+    seed: &Seed,
+    words: &OpeningWords<'_>,
+    student: Option<StudentNo>,
+    journal: Option<&str>,
+    out: &mut Watched<W>,
+) -> Result<Ending, RunFault> {
+    let mut opening = open_opening(rt, words)?;
+    let mut journal = open_journal(rt, journal)?;
+    match explain_files(rt.alloc(), seed, &mut opening, &mut journal, student, out)? {
+        Explained::Written { tail } => Ok(ending_after(tail)),
+        Explained::UnknownStudent { student } => Ok(Ending::UnknownStudent { student }),
+    }
+}
+
+/// Explains the choices of the student whom the words name, or of all where they name none. The student's number is
+/// read before a file is opened.
+fn explain_named<R: Files + AllocGlobal, W: Write>(
+    rt: &R,
+    seed: &Seed,
+    words: &OpeningWords<'_>,
+    student: Option<&str>,
+    journal: Option<&str>,
+    out: &mut Watched<W>,
+) -> Result<Ending, RunFault> {
+    let Some(text) = student else {
+        return explain(rt, seed, words, None, journal, out);
+    };
+    match read_student(text.as_bytes()) {
+        Some(student) => explain(rt, seed, words, Some(student), journal, out),
+        None => Ok(Ending::BadStudent),
+    }
+}
+
 /// Makes the call that a subcommand asks for, under this seed.
 fn dispatch<R: Files + AllocGlobal, W: Write>(
     rt: &R,
@@ -232,6 +269,9 @@ fn dispatch<R: Files + AllocGlobal, W: Write>(
         Subcommand::Audit { log } => audit_log(rt, seed, opening, log, out),
         Subcommand::Replay { journal } => replay_journal(rt, seed, opening, journal, out),
         Subcommand::Summary { journal } => summarize(rt, seed, opening, *journal, out),
+        Subcommand::Explain { student, journal } => {
+            explain_named(rt, seed, opening, *student, *journal, out)
+        }
         Subcommand::Export { to, journal } => export_papers(rt, seed, opening, to, *journal),
     }
 }

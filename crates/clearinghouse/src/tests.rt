@@ -297,6 +297,54 @@ fn a_summary(rt: HostRuntime) -> io::Result<()> {
     Ok(())
 }
 
+/// The line above what came of each choice.
+const EXPLAINED_HEADER: &str =
+    "student,rank,school,class,draw,cutoff,cutoff_draw,cutoff_student,outcome\n";
+
+/// What came of student 1's choices in Market B with its newcomer.
+const EXPLAINED: &str =
+    "student,rank,school,class,draw,cutoff,cutoff_draw,cutoff_student,outcome\n1,1,10,4,e56a5d4028bd8653,1,ccef36a8c70d778b,3,class\n1,2,20,2,e56a5d4028bd8653,2,e56a5d4028bd8653,1,given\n";
+
+/// Options of a call that explains Market B after a journal, what it writes, and its end.
+const EXPLANATIONS: &[(&[&str], &str, &str)] = &[
+    (
+        &["--student", "01"],
+        EXPLAINED,
+        "clearinghouse: journal torn\n0",
+    ),
+    (
+        &["--student=9"],
+        "",
+        "clearinghouse: explain: UnknownStudent 9\n3",
+    ),
+    (&["--student=0"], "", "clearinghouse: student: Number\n2"),
+    (&["--student=me"], "", "clearinghouse: student: Number\n2"),
+    (&["--student="], "", "clearinghouse: student: Number\n2"),
+];
+
+#[test]
+fn an_explanation(rt: HostRuntime) -> io::Result<()> {
+    write_files(&rt)?;
+    let whole =
+        "1,1,10,4,e56a5d4028bd8653,4,e56a5d4028bd8653,1,given\n1,2,20,2,e56a5d4028bd8653,4,b819d2bd1aed8da0,2,later\n2,1,20,4,b819d2bd1aed8da0,4,b819d2bd1aed8da0,2,given\n2,2,10,2,b819d2bd1aed8da0,4,e56a5d4028bd8653,1,later\n0";
+    expect(&rt, ordered(&rt, "explain", &[]), EXPLAINED_HEADER, whole);
+    let absent = ordered(&rt, "explain", &["--journal", "kept", "--student", "x"]);
+    expect(&rt, absent, "", "clearinghouse: student: Number\n2");
+    fs::write(&rt, "kept", "1,enter,3,1,10,10\n2,withdraw,3")?;
+    for (options, text, end) in EXPLANATIONS {
+        let told = after_kept(&rt, options);
+        expect(&rt, told, text, end);
+    }
+    Ok(())
+}
+
+/// What explaining Market B after the journal `kept` does, with other options.
+fn after_kept(rt: &HostRuntime, options: &[&str]) -> io::Result<String> {
+    let mut words = ordering(rt.alloc(), "explain", "schools", options)?;
+    words.push(Word::from_text(String::from_str(rt.alloc(), "--journal=kept")?))?;
+    Ok(performed(rt, words.as_slice(), "")?)
+}
+
 /// The three files of a folder, one after the other.
 fn files_in(rt: &HostRuntime, names: &[&str]) -> io::Result<String> {
     let mut all = String::new(rt.alloc());

@@ -2,14 +2,15 @@
 //! refused would be a failed write.
 
 use crate::market::{
-    BUNDLE, EXPORTED, JOURNAL, LISTS, LOG, REPORT, ROSTER, SCHOOLS, SCRIPT, SUMMARY, WHOLE_RUN,
-    seed,
+    BUNDLE, EXPLANATION, EXPLANATION_OF_2, EXPORTED, JOURNAL, LISTS, LOG, REPORT, ROSTER, SCHOOLS,
+    SCRIPT, SUMMARY, WHOLE_RUN, seed,
 };
 use crate::twice::{Call, expect};
+use sc_papers::StudentNo;
 use sc_report::Watched;
 use sc_runs::{
-    Ending, Inputs, Opening, PapersFiles, RunFault, Settling, audit_files, export_files,
-    match_files, replay_files, run, run_bundle, summary_files,
+    Ending, Inputs, Opening, PapersFiles, RunFault, Settling, audit_files, explain_files,
+    export_files, match_files, replay_files, run, run_bundle, summary_files,
 };
 use std::alloc::{AllocError, Global};
 use std::process::Abort;
@@ -167,6 +168,30 @@ pub fn summed(rt: &impl Abort, alloc: Global) -> Result<String, AllocError> {
 #[test]
 fn summary_of_files(rt: HostRuntime) {
     expect(&rt, rt.alloc(), Call::SummaryFiles, SUMMARY);
+}
+
+pub fn explained(
+    rt: &impl Abort,
+    alloc: Global,
+    student: Option<StudentNo>,
+) -> Result<String, AllocError> {
+    let mut out = writer(alloc)?;
+    let mut journal = Some(Watched::new(JOURNAL.as_bytes()));
+    let answer = explain_files(
+        alloc,
+        &seed(rt),
+        &mut opening(),
+        &mut journal,
+        student,
+        &mut out,
+    );
+    one_text(rt, alloc, answer.err(), &out)
+}
+
+#[test]
+fn explanation_of_files(rt: HostRuntime) {
+    expect(&rt, rt.alloc(), Call::ExplainFiles, EXPLANATION);
+    expect(&rt, rt.alloc(), Call::ExplainStudent, EXPLANATION_OF_2);
 }
 
 pub fn ran_bundle(rt: &impl Abort, alloc: Global) -> Result<String, AllocError> {

@@ -29,6 +29,14 @@ pub const REPORT: &str =
 pub const SUMMARY: &str =
     "rank,students\n1,2\n-,0\nschool,seats,held,free,listed\n10,1,1,0,2\n20,1,1,0,2\n";
 
+/// What came of each choice in the opening, and again after the newcomer has withdrawn.
+pub const EXPLANATION: &str =
+    "student,rank,school,class,draw,cutoff,cutoff_draw,cutoff_student,outcome\n1,1,10,4,e56a5d4028bd8653,4,e56a5d4028bd8653,1,given\n1,2,20,2,e56a5d4028bd8653,4,b819d2bd1aed8da0,2,later\n2,1,20,4,b819d2bd1aed8da0,4,b819d2bd1aed8da0,2,given\n2,2,10,2,b819d2bd1aed8da0,4,e56a5d4028bd8653,1,later\n";
+
+/// The part of it that is of student 2.
+pub const EXPLANATION_OF_2: &str =
+    "student,rank,school,class,draw,cutoff,cutoff_draw,cutoff_student,outcome\n2,1,20,4,b819d2bd1aed8da0,4,b819d2bd1aed8da0,2,given\n2,2,10,2,b819d2bd1aed8da0,4,e56a5d4028bd8653,1,later\n";
+
 /// What a run of the script writes.
 pub const WHOLE_RUN: &str =
     "1,ok\n2,refused,1,Shape\n3,refused,2,UnknownStudent\n4,refused,6,UnknownSchool,77\n5,ok\nstudent,school\n1,10\n2,20\nschool,seats,held,class,draw,student\n10,1,1,4,e56a5d4028bd8653,1\n20,1,1,4,b819d2bd1aed8da0,2\nstudent,school,reason\n";

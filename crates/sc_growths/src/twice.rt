@@ -2,6 +2,7 @@
 
 use crate::{calls, libraries};
 use sc_intake::{Cause, IntakeFault};
+use sc_papers::StudentNo;
 use sc_runs::Settling;
 use std::alloc::{AllocError, Global};
 use std::process::Abort;
@@ -27,6 +28,8 @@ pub enum Call {
     ReplayFiles,
     ExportFiles,
     SummaryFiles,
+    ExplainFiles,
+    ExplainStudent,
     RunBundle,
 }
 
@@ -52,6 +55,8 @@ fn attempt(rt: &impl Abort, alloc: Global, call: Call) -> Result<String, AllocEr
         Call::ReplayFiles => calls::replayed(rt, alloc),
         Call::ExportFiles => calls::exported(rt, alloc),
         Call::SummaryFiles => calls::summed(rt, alloc),
+        Call::ExplainFiles => calls::explained(rt, alloc, None),
+        Call::ExplainStudent => calls::explained(rt, alloc, StudentNo::new(2)),
         Call::RunBundle => calls::ran_bundle(rt, alloc),
     }
 }

@@ -4,6 +4,7 @@ pub mod Openings
 pub mod Reading
 pub mod Calls
 pub mod Standings
+pub mod Explanations
 pub mod Replies
 pub mod TwoWriters
 pub mod Verdicts

@@ -3,11 +3,11 @@ use Rattle.std.proofs.Common.{◌≡◌, refl, ap, subst, ◌∙◌, sym, inl, i
 use Rattle.std.specs.List.{All}
 use Rattle.std.proofs.lemmas.List.Elements.{All-append, All-nil, All-weaker}
 use Rattle.sc_papers.specs.Market.{Market}
-use Rattle.sc_journal.specs.declared.journal.Tail.{Tail}
+use Rattle.sc_intake.specs.declared.fault.IntakeFault.{IntakeFault}
 use Rattle.sc_report.specs.declared.watched.Watched.{Watched}
 use Rattle.sc_runs.specs.Inputs.{in_order, Texts, Turn, AreRead, EndsAmong, EndsReading, IsUntouched, TakesWithin}
 use Rattle.sc_runs.specs.Opening.{is_output_fault, papers_in}
-use Rattle.sc_runs.specs.Standing.{journal_turns, IsJournalRead, TellsFiles, WritesOfStanding}
+use Rattle.sc_runs.specs.Standing.{journal_turns, IsJournalRead, TellsFiles}
 use Rattle.sc_runs.specs.declared.fault.RunFault.{RunFault}
 use Rattle.sc_runs.specs.declared.fault.RunFault.TheVariants.{Read, Intake, Journal, WriteOut, WriteJournal, OutOfMemory}
 use Rattle.sc_runs.proofs.Calls.{papers_in-texts, AreTexts}
@@ -46,15 +46,15 @@ unfailed-unread A before turns fault ended =
     or-false false = refl
 
 -- the files and the journal were read, and a text of what stands was written
-pub TellsFiles-read : (Is : Market → List ℕ → Type 0) (seed : List ℕ) (opening journal : List Turn) (texts : Texts) (given schools roster lists bytes : List ℕ)
-    → (old new : Option (List ℕ)) (result : Result Tail RunFault)
+pub TellsFiles-read : {A : Type 0} (Does : Result Market IntakeFault → List ℕ → Option (List ℕ) → Option (List ℕ) → Result A RunFault → Type 0) (seed : List ℕ) (opening journal : List Turn) (texts : Texts) (given schools roster lists bytes : List ℕ)
+    → (old new : Option (List ℕ)) (result : Result A RunFault)
     → AreRead opening (in_order texts) → IsJournalRead journal given → AreTexts texts schools roster lists → bytes ≡ given
-    → WritesOfStanding Is (papers_in seed schools roster lists) bytes old new result → TellsFiles Is seed opening journal old new result
-TellsFiles-read Is seed opening journal texts given schools roster lists bytes old new result read journal_read same is wrote = inr (
+    → Does (papers_in seed schools roster lists) bytes old new result → TellsFiles Does seed opening journal old new result
+TellsFiles-read Does seed opening journal texts given schools roster lists bytes old new result read journal_read same is wrote = inr (
   texts,
   given,
   read,
   journal_read,
-  subst (λ reading. WritesOfStanding Is reading given old new result) (papers_in-texts seed texts schools roster lists same)
-      (subst (λ text. WritesOfStanding Is (papers_in seed schools roster lists) text old new result) is wrote),
+  subst (λ reading. Does reading given old new result) (papers_in-texts seed texts schools roster lists same)
+      (subst (λ text. Does (papers_in seed schools roster lists) text old new result) is wrote),
 )

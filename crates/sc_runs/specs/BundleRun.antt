@@ -10,7 +10,7 @@ use Rattle.sc_runs.specs.Inputs.{Turn, EndsReading, IsRead}
 use Rattle.sc_runs.specs.Opening.{is_output_fault, papers_in, WritesMatch}
 use Rattle.sc_runs.specs.Run.{opened_in, WritesRun}
 use Rattle.sc_runs.specs.declared.ending.Ending.{Ending}
-use Rattle.sc_runs.specs.declared.ending.Ending.TheVariants.{Done, NotCertified, Torn, BadSeed, BadBundle, Unwritten, Fault}
+use Rattle.sc_runs.specs.declared.ending.Ending.TheVariants.{Done, NotCertified, Torn, BadSeed, BadBundle, BadStudent, UnknownStudent, Unwritten, Fault}
 use Rattle.sc_runs.specs.declared.fault.RunFault.{RunFault}
 
 -- what running the papers and a script does, with a journal that keeps nothing; without a script it is
@@ -42,6 +42,8 @@ EndsBundle text old new Torn = ⊥
 EndsBundle text old new (BadSeed error) =
     (sections : Sections) × (bundle_of text ≡ Some sections) × (seed_of sections.seed ≡ Err error) × Keeps old new
 EndsBundle text old new BadBundle = (bundle_of text ≡ None) × Keeps old new
+EndsBundle text old new BadStudent = ⊥
+EndsBundle text old new (UnknownStudent student) = ⊥
 EndsBundle text old new (Unwritten file) = ⊥
 EndsBundle text old new (Fault fault) = RunsSections text old new (Err fault)
 
@@ -58,5 +60,7 @@ ends_by_output NotCertified = false
 ends_by_output Torn = false
 ends_by_output (BadSeed error) = false
 ends_by_output BadBundle = false
+ends_by_output BadStudent = false
+ends_by_output (UnknownStudent student) = false
 ends_by_output (Unwritten file) = false
 ends_by_output (Fault fault) = is_output_fault {A = Unit {0}} (Err fault)

@@ -1,10 +1,11 @@
 -- The line that the program writes on standard error.
 use Rattle.std.specs.Prelude.{List, ℕ, [], ◌++◌, codes}
+use Rattle.std.specs.Fmt.{decimal}
 use Rattle.sc_lottery.specs.Seed.{refusal_text}
 use Rattle.sc_intake.specs.FaultText.{fault_text, source_text}
 use Rattle.sc_journal.specs.FaultText as journal
 use Rattle.sc_runs.specs.declared.ending.Ending.{Ending}
-use Rattle.sc_runs.specs.declared.ending.Ending.TheVariants.{Done, NotCertified, Torn, BadSeed, BadBundle, Unwritten, Fault}
+use Rattle.sc_runs.specs.declared.ending.Ending.TheVariants.{Done, NotCertified, Torn, BadSeed, BadBundle, BadStudent, UnknownStudent, Unwritten, Fault}
 use Rattle.sc_runs.specs.declared.ending.PapersFile.{PapersFile}
 use Rattle.sc_runs.specs.declared.ending.PapersFile.TheVariants.{Schools, Roster, Lists}
 use Rattle.sc_runs.specs.declared.fault.RunFault.{RunFault}
@@ -38,6 +39,8 @@ ending_words NotCertified = []
 ending_words Torn = codes "journal torn"
 ending_words (BadSeed error) = codes "seed: " ++ refusal_text error
 ending_words BadBundle = codes "bundle"
+ending_words BadStudent = codes "student: Number"
+ending_words (UnknownStudent student) = codes "explain: UnknownStudent " ++ decimal student
 ending_words (Unwritten file) = unwritten_words file
 ending_words (Fault fault) = fault_words fault
 
@@ -52,5 +55,7 @@ fault_line NotCertified = []
 fault_line Torn = line_with (ending_words Torn)
 fault_line (BadSeed error) = line_with (ending_words (BadSeed error))
 fault_line BadBundle = line_with (ending_words BadBundle)
+fault_line BadStudent = line_with (ending_words BadStudent)
+fault_line (UnknownStudent student) = line_with (ending_words (UnknownStudent student))
 fault_line (Unwritten file) = line_with (ending_words (Unwritten file))
 fault_line (Fault fault) = line_with (ending_words (Fault fault))

@@ -10,5 +10,6 @@ pub mod Session
 pub mod Auditing
 pub mod Replaying
 pub mod Standing
+pub mod Explaining
 pub mod FaultLine
 pub mod Exporting

@@ -54,10 +54,11 @@ WritesOfStanding Is reading journal old new (Err (Read source)) = ⊥
 WritesOfStanding Is reading journal old new (Err WriteJournal) = ⊥
 
 -- what a call that tells of files did, given the turns of the opening and of the journal: reading them ended early,
--- and nothing was written; or they were read, each whole, and it wrote such a text of the papers that stand
-abbrev pub TellsFiles : (Market → List ℕ → Type 0) → List ℕ → List Turn → List Turn → Option (List ℕ) → Option (List ℕ) → Result Tail RunFault → Type 0
-TellsFiles Is seed opening journal old new result = EndsUnread (opening ++ journal) old new result
-    ⊎ ((texts : Texts) × (text : List ℕ) × AreRead opening (in_order texts) × IsJournalRead journal text × WritesOfStanding Is (opening_in seed texts) text old new result)
+-- and nothing was written; or they were read, each whole, and it did this to the papers that were read, with the journal
+abbrev pub TellsFiles : {A : Type 0} → (Result Market IntakeFault → List ℕ → Option (List ℕ) → Option (List ℕ) → Result A RunFault → Type 0)
+    → List ℕ → List Turn → List Turn → Option (List ℕ) → Option (List ℕ) → Result A RunFault → Type 0
+TellsFiles Does seed opening journal old new result = EndsUnread (opening ++ journal) old new result
+    ⊎ ((texts : Texts) × (text : List ℕ) × AreRead opening (in_order texts) × IsJournalRead journal text × Does (opening_in seed texts) text old new result)
 
 -- a text is the summary of the papers under their student-optimal stable matching
 abbrev pub IsSummary : Market → List ℕ → Type 0

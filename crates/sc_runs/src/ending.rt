@@ -6,6 +6,7 @@ ghost use Rattle.sc_runs.specs.FaultLine.{ending_words, fault_line, unwritten_wo
 
 use crate::fault::RunFault;
 use sc_lottery::SeedError;
+use sc_papers::StudentNo;
 use std::alloc::{AllocError, Global};
 use std::fmt;
 
@@ -49,6 +50,10 @@ pub enum Ending {
     BadSeed(SeedError),
     /// The bundle has not its sections.
     BadBundle,
+    /// The student whom the words name has no number of a student.
+    BadStudent,
+    /// The student who is to be explained is not in the papers.
+    UnknownStudent { student: StudentNo },
     /// A file of exported papers could not be made or written. Those before it, in the order schools, roster,
     /// lists, were written whole.
     Unwritten { file: PapersFile },
@@ -65,6 +70,12 @@ impl fmt::Display for Ending {
             Ending::Torn => f.write_str("journal torn"),
             Ending::BadSeed(error) => write!(f, "seed: {error}"),
             Ending::BadBundle => f.write_str("bundle"),
+            Ending::BadStudent => f.write_str("student: Number"),
+            Ending::UnknownStudent { student } => write!(
+                f,
+                "explain: UnknownStudent {}",
+                student.get()
+            ),
             Ending::Unwritten { file } => f.write_str(unwritten_words(*file)),
             Ending::Fault(fault) => write!(f, "{fault}"),
         }
@@ -82,8 +93,8 @@ fn unwritten_words(file: PapersFile) -> &'static str
     }
 }
 
-/// The exit status: 0 done (a torn journal is no fault), 1 not certified, 2 a bad seed, 3 a fault of
-/// an input, the bundle or the journal, 4 a file or stream that could not be made, read or written, 5
+/// The exit status: 0 done (a torn journal is no fault), 1 not certified, 2 a bad seed or student's
+/// number, 3 a fault of an input, the bundle or the journal, or an unknown student, 4 a file or stream that could not be made, read or written, 5
 /// want of memory.
 pub fn status_of(ending: &Ending) -> u8
     ensures { result ≡ status_of ending.now }
@@ -94,6 +105,8 @@ pub fn status_of(ending: &Ending) -> u8
         Ending::NotCertified => 1,
         Ending::BadSeed(_) => 2,
         Ending::BadBundle => 3,
+        Ending::BadStudent => 2,
+        Ending::UnknownStudent { .. } => 3,
         Ending::Unwritten { .. } => 4,
         Ending::Fault(fault) => status_of_fault(fault),
     }

@@ -77,7 +77,7 @@ pub fn summary_files<R: Read, W: Write>(
     journal: &mut Option<Watched<R>>,
     out: &mut Watched<W>,
 ) -> Result<Tail, RunFault>
-    ensures summary { TellsFiles IsSummary seed.now (opening_turns R.remaining opening.old opening.new) (journal_turns R.remaining journal.old journal.new)
+    ensures summary { TellsFiles (WritesOfStanding IsSummary) seed.now (opening_turns R.remaining opening.old opening.new) (journal_turns R.remaining journal.old journal.new)
         (W.contents (device_of out.old)) (W.contents (device_of out.new)) result }
     ensures failed { has_failed out.new ≡ (has_failed out.old || is_output_fault result) }
     ensures limit { All TakesWithin (opening_turns R.remaining opening.old opening.new ++ journal_turns R.remaining journal.old journal.new) }

@@ -42,6 +42,9 @@ export_names = opening_names ++ codes "to" ∷ []
 abbrev pub summary_names : List Text
 summary_names = opening_names
 
+abbrev pub explain_names : List Text
+explain_names = opening_names
+
 abbrev pub opening_options : List Rule
 opening_options = map required_option opening_names
 
@@ -63,6 +66,9 @@ export_options = map required_option export_names ++ optional_option (codes "jou
 abbrev pub summary_options : List Rule
 summary_options = map required_option summary_names ++ optional_option (codes "journal") ∷ []
 
+abbrev pub explain_options : List Rule
+explain_options = map required_option explain_names ++ optional_option (codes "student") ∷ optional_option (codes "journal") ∷ []
+
 -- a subcommand with these options
 abbrev pub subcommand : Text → List Rule → Shape
 subcommand name options = record (new_shape name) { rules = options }
@@ -81,7 +87,8 @@ command_line = record {
   top = record program_alone { is_leaf = false };
   subs = subcommand (codes "match") match_options ∷ subcommand (codes "run") run_options
       ∷ subcommand (codes "audit") audit_options ∷ subcommand (codes "replay") replay_options
-      ∷ subcommand (codes "export") export_options ∷ subcommand (codes "summary") summary_options ∷ [];
+      ∷ subcommand (codes "export") export_options ∷ subcommand (codes "summary") summary_options
+      ∷ subcommand (codes "explain") explain_options ∷ [];
 }
 
 -- `clap` has been told of this command, without subcommands

@@ -7,7 +7,7 @@ use Rattle.sc_words.specs.declared.order.OpeningWords.{OpeningWords}
 use Rattle.sc_words.specs.declared.order.Order.{Order}
 use Rattle.sc_words.specs.declared.order.Order.TheVariants.{Bundle, Opening}
 use Rattle.sc_words.specs.declared.order.Subcommand.{Subcommand}
-use Rattle.sc_words.specs.declared.order.Subcommand.TheVariants.{Match, Run, Audit, Replay, Export, Summary}
+use Rattle.sc_words.specs.declared.order.Subcommand.TheVariants.{Match, Run, Audit, Replay, Export, Summary, Explain}
 
 -- the text given for the option of this name
 abbrev pub IsGiven : List Row → Text → Bor Text → Type 0
@@ -36,6 +36,8 @@ IsSubcommandIn name rows (Replay journal) = (name ≡ codes "replay") × IsGiven
 IsSubcommandIn name rows (Export to journal) =
     (name ≡ codes "export") × IsGiven rows (codes "to") to × IsGivenOrNot rows (codes "journal") journal
 IsSubcommandIn name rows (Summary journal) = (name ≡ codes "summary") × IsGivenOrNot rows (codes "journal") journal
+IsSubcommandIn name rows (Explain student journal) =
+    (name ≡ codes "explain") × IsGivenOrNot rows (codes "student") student × IsGivenOrNot rows (codes "journal") journal
 
 -- the order of the subcommand of this name: the opening that its options name, and what is to be done with it
 abbrev pub IsOrderIn : Text → List Row → Order → Type 0

@@ -112,6 +112,23 @@ Example:
   clearinghouse summary --seed 0000000000000000000000000000000000000000000000000000000000000000 \\
       --schools schools.csv --roster roster.csv --lists lists.csv --journal journal";
 
+pub(crate) const EXPLAIN: &str =
+    "Write what came of each choice of every student, or of one, and why";
+
+pub(crate) const EXPLAIN_AFTER: &str = "\
+The table has a line for each choice, students by number and best choice first: the choice's rank from 1, the
+school, the student's own class and draw there, the school's cutoff as the report has it, and the outcome: given,
+later for a choice after the given one, or why it was not given, as in the report. With --student the lines are
+that student's alone. With --journal its amendments are made first; a last line of it that was cut short is left
+out and told on standard error, which is no fault.
+
+Exit status: 0 done, 2 wrong words, a bad seed or a student that is no number, 3 a fault in an input or a student
+who is not in the papers, 4 a file or stream that cannot be opened, read or written, 5 out of memory.
+
+Example:
+  clearinghouse explain --seed 0000000000000000000000000000000000000000000000000000000000000000 \\
+      --schools schools.csv --roster roster.csv --lists lists.csv --student 1";
+
 pub(crate) const SEED: &str = "The lottery's seed, 64 hexadecimal digits";
 
 pub(crate) const SCHOOLS: &str =
@@ -139,5 +156,7 @@ pub(crate) const OLD_JOURNAL: &str =
     "The journal that a run kept: a line for each accepted amendment, its number and the amendment";
 
 pub(crate) const KEPT_JOURNAL: &str = "The journal that a run kept, if amendments were made";
+
+pub(crate) const STUDENT: &str = "The number of the one student whose lines are written";
 
 pub(crate) const TO: &str = "The folder in which schools.csv, roster.csv and lists.csv are made";

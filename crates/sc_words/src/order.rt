@@ -60,6 +60,11 @@ pub enum Subcommand<'a> {
     Summary {
         journal: Option<&'a str>,
     },
+    /// Write what came of each choice of its students, or of one, as the papers stand after a journal if there is one.
+    Explain {
+        student: Option<&'a str>,
+        journal: Option<&'a str>,
+    },
     /// Write its papers into this folder, as they stand after a journal if there is one.
     Export {
         to: &'a str,
@@ -158,6 +163,16 @@ fn summary_in<'a>(found: &ArgMatches<'a>) -> Subcommand<'a>
     }
 }
 
+/// What `explain` asks for.
+fn explain_in<'a>(found: &ArgMatches<'a>) -> Subcommand<'a>
+    ensures { IsSubcommandIn (codes "explain") (rows_of (found_of found.now)) result }
+{
+    Subcommand::Explain {
+        student: text_in(found, "student"),
+        journal: text_in(found, "journal"),
+    }
+}
+
 /// What the subcommand of this name asks for, or `None` where there is none of this name or it lacks an
 /// option.
 fn subcommand_in<'a>(name: &str, found: &ArgMatches<'a>) -> Option<Subcommand<'a>>
@@ -171,6 +186,7 @@ fn subcommand_in<'a>(name: &str, found: &ArgMatches<'a>) -> Option<Subcommand<'a
         "replay" => replay_in(found),
         "export" => export_in(found),
         "summary" => Some(summary_in(found)),
+        "explain" => Some(explain_in(found)),
         _ => None,
     }
 }

@@ -4,7 +4,7 @@ ghost use Rattle.std.specs.Prelude.{◌≡◌, false, IfOk, codes};
 ghost use Rattle.clap.specs.Words.{app_of, rule_of};
 ghost use Rattle.sc_words.specs.CommandLine.{IsCommand, optional_option, required_option, subcommand};
 ghost use Rattle.sc_words.specs.CommandLine.{opening_options, match_options, run_options};
-ghost use Rattle.sc_words.specs.CommandLine.{audit_options, replay_options, export_options, summary_options, command_line};
+ghost use Rattle.sc_words.specs.CommandLine.{audit_options, replay_options, export_options, summary_options, explain_options, command_line};
 ghost use Rattle.sc_words.specs.CommandLine as line;
 
 use crate::help;
@@ -24,16 +24,24 @@ fn option<'a>(alloc: Global, name: &'a str, value: &'a str, help: &'a str) -> Ar
         .required(true)
 }
 
-/// An option that names a file and may be left out.
-fn optional_file<'a>(alloc: Global, name: &'a str, help: &'a str) -> Arg<'a>
+/// An option with a value that may be left out.
+fn optional<'a>(alloc: Global, name: &'a str, value: &'a str, help: &'a str) -> Arg<'a>
     ensures rule { rule_of result ≡ optional_option name.entry.now }
     ensures local { result.global ≡ false }
 {
     Arg::new(alloc, name)
         .long(name)
-        .value_name("FILE")
+        .value_name(value)
         .help(help)
         .action(ArgAction::Set)
+}
+
+/// An option that names a file and may be left out.
+fn optional_file<'a>(alloc: Global, name: &'a str, help: &'a str) -> Arg<'a>
+    ensures rule { rule_of result ≡ optional_option name.entry.now }
+    ensures local { result.global ≡ false }
+{
+    optional(alloc, name, "FILE", help)
 }
 
 /// A required option that names a file.
@@ -126,6 +134,14 @@ fn summary_command<'a>(alloc: Global) -> Result<Command<'a>, AllocError>
     ))
 }
 
+fn explain_command<'a>(alloc: Global) -> Result<Command<'a>, AllocError>
+    ensures { IfOk result (λ c. IsCommand c (subcommand (codes "explain") explain_options)) }
+{
+    with_opening(alloc, "explain", help::EXPLAIN, help::EXPLAIN_AFTER)?
+        .arg(optional(alloc, "student", "NUMBER", help::STUDENT))?
+        .arg(optional_file(alloc, "journal", help::KEPT_JOURNAL))
+}
+
 /// The program without its subcommands. Its name stands in the usage lines, since the words that it
 /// reads do not begin with it.
 fn program_alone<'a>(alloc: Global) -> Result<Command<'a>, AllocError>
@@ -152,5 +168,6 @@ pub(crate) fn program<'a>(alloc: Global) -> Result<Command<'a>, AllocError>
         .subcommand(audit_command(alloc)?)?
         .subcommand(replay_command(alloc)?)?
         .subcommand(export_command(alloc)?)?
-        .subcommand(summary_command(alloc)?)
+        .subcommand(summary_command(alloc)?)?
+        .subcommand(explain_command(alloc)?)
 }

@@ -77,6 +77,20 @@ const ORDERS: &[(&str, Subcommand<'static>)] = &[
         },
     ),
     (
+        "explain|--seed|00|--schools|schools|--roster|roster|--lists|lists",
+        Subcommand::Explain {
+            student: None,
+            journal: None,
+        },
+    ),
+    (
+        "explain|--student|7|--journal=kept|--seed|00|--schools|schools|--roster|roster|--lists|lists",
+        Subcommand::Explain {
+            student: Some("7"),
+            journal: Some("kept"),
+        },
+    ),
+    (
         "export|--seed|00|--schools|schools|--roster|roster|--lists|lists|--to|next",
         Subcommand::Export {
             to: "next",
@@ -170,6 +184,12 @@ const WRONG_LINES: &[(&str, ErrorKind)] = &[
     ("--version", ErrorKind::DisplayVersion),
     ("-V", ErrorKind::DisplayVersion),
     ("match|--version", ErrorKind::UnknownArgument),
+    ("summary|--student|1", ErrorKind::UnknownArgument),
+    (
+        "explain|--student|1|--student|2",
+        ErrorKind::ArgumentConflict,
+    ),
+    ("explain|--student|1", ErrorKind::MissingRequiredArgument),
 ];
 
 #[test]
@@ -203,6 +223,8 @@ const HELP_TEXTS: &[(&str, &str)] = &[
     ("replay|--help", "--journal <FILE>"),
     ("replay|--help", "Example:\n  clearinghouse replay"),
     ("summary|--help", "Example:\n  clearinghouse summary"),
+    ("explain|--help", "--student <NUMBER>"),
+    ("explain|--help", "Example:\n  clearinghouse explain"),
     ("export|--help", "[OPTIONS]"),
     ("export|--help", "--to <FOLDER>"),
     ("export|--help", "Example:\n  clearinghouse export"),

@@ -1,8 +1,8 @@
 //! What is told of papers as they stand, in the worked markets.
 use super::{Files, MARKET_B_FILES, ZEROS, opening};
-use sc_papers::Seed;
+use sc_papers::{Seed, StudentNo};
 use sc_report::Watched;
-use sc_runs::summary_files;
+use sc_runs::{explain_files, read_student, summary_files};
 use std::alloc::{AllocError, Global};
 use std::process::Abort;
 
@@ -91,4 +91,163 @@ const SUMMARIES: &[(Files, Option<&'static str>, &str)] = &[
 #[test]
 fn summaries(rt: HostRuntime) -> Result<(), AllocError> {
     expect_summaries(&rt, rt.alloc(), SUMMARIES)
+}
+
+/// What explaining the choices of a student, or of all, writes after a journal, if there is one, and its answer.
+fn explained(
+    alloc: Global,
+    seed: &Seed,
+    files: Files,
+    journal: Option<&'static str>,
+    student: Option<StudentNo>,
+) -> Result<String, AllocError> {
+    let mut out = Watched::new(Vec::new(alloc));
+    let mut journal = journal.map(|text| Watched::new(text.as_bytes()));
+    let mut files = opening(files);
+    let answer = explain_files(alloc, seed, &mut files, &mut journal, student, &mut out);
+    let output = String::from_utf8_lossy(alloc, out.inner().as_slice())?;
+    format!(in alloc; "{output}|{answer:?}")
+}
+
+/// Files, a journal and a student's number, if there are any, and below the header what is written and answered.
+type ExplainedRow = (Files, Option<&'static str>, Option<u32>, &'static str);
+
+/// The files, the journals and the students have these explanations and answers.
+fn expect_explanations(
+    rt: &impl Abort,
+    alloc: Global,
+    header: &str,
+    table: &[ExplainedRow],
+) -> Result<(), AllocError> {
+    let seed = Seed::from_hex(ZEROS.as_bytes()).expect(rt, "a seed");
+    for (files, journal, student, want) in table {
+        let student = student.map(|number| StudentNo::new(number).expect(rt, "a student"));
+        let left = explained(alloc, &seed, *files, *journal, student)?;
+        assert!(rt; left.as_str().strip_prefix(header) == Some(*want), "{left}");
+    }
+    Ok(())
+}
+
+const EXPLAINED_HEADER: &str =
+    "student,rank,school,class,draw,cutoff,cutoff_draw,cutoff_student,outcome\n";
+
+/// One seat and two students who are alike.
+const ONE_SEAT: Files = (
+    "school,zone,seats\n10,0,1\n",
+    "student,zone,siblings\n1,0,\n2,0,\n",
+    "student,choices\n1,10\n2,10\n",
+);
+
+/// One seat, a student who continues there, and one who lives in its zone.
+const CONTINUING: Files = (
+    "school,zone,seats\n10,1,1\n",
+    "student,zone,siblings,continuing\n1,1,,\n2,0,,10\n",
+    "student,choices\n1,10\n2,10\n",
+);
+
+/// Three students who do not stand by number, a school without seats, and one with more than it needs.
+const CLOSED_AND_FREE: Files = (
+    "school,zone,seats\n20,0,3\n10,0,0\n",
+    "student,zone,siblings\n3,0,\n2,0,\n1,0,\n",
+    "student,choices\n1,10 20\n2,20\n3,10\n",
+);
+
+const EXPLANATIONS: &[ExplainedRow] = &[
+    (HEADERS, None, None, "|Ok(Written { tail: Whole })"),
+    (
+        MARKET_B_FILES,
+        None,
+        None,
+        "1,1,10,4,e56a5d4028bd8653,4,e56a5d4028bd8653,1,given\n1,2,20,2,e56a5d4028bd8653,4,b819d2bd1aed8da0,2,later\n2,1,20,4,b819d2bd1aed8da0,4,b819d2bd1aed8da0,2,given\n2,2,10,2,b819d2bd1aed8da0,4,e56a5d4028bd8653,1,later\n|Ok(Written { tail: Whole })",
+    ),
+    (
+        MARKET_B_FILES,
+        Some("1,enter,3,1,10,10\n2,wi"),
+        None,
+        "1,1,10,4,e56a5d4028bd8653,1,ccef36a8c70d778b,3,class\n1,2,20,2,e56a5d4028bd8653,2,e56a5d4028bd8653,1,given\n2,1,20,4,b819d2bd1aed8da0,2,e56a5d4028bd8653,1,class\n2,2,10,2,b819d2bd1aed8da0,1,ccef36a8c70d778b,3,class\n3,1,10,1,ccef36a8c70d778b,1,ccef36a8c70d778b,3,given\n|Ok(Written { tail: Torn })",
+    ),
+    (
+        MARKET_B_FILES,
+        Some("1,enter,3,1,10,10\n"),
+        Some(2),
+        "2,1,20,4,b819d2bd1aed8da0,2,e56a5d4028bd8653,1,class\n2,2,10,2,b819d2bd1aed8da0,1,ccef36a8c70d778b,3,class\n|Ok(Written { tail: Whole })",
+    ),
+    (
+        ONE_SEAT,
+        None,
+        None,
+        "1,1,10,4,e56a5d4028bd8653,4,b819d2bd1aed8da0,2,lottery\n2,1,10,4,b819d2bd1aed8da0,4,b819d2bd1aed8da0,2,given\n|Ok(Written { tail: Whole })",
+    ),
+    (
+        CONTINUING,
+        None,
+        None,
+        "1,1,10,3,e56a5d4028bd8653,0,b819d2bd1aed8da0,2,class\n2,1,10,0,b819d2bd1aed8da0,0,b819d2bd1aed8da0,2,given\n|Ok(Written { tail: Whole })",
+    ),
+    (
+        CLOSED_AND_FREE,
+        None,
+        None,
+        "1,1,10,4,e56a5d4028bd8653,closed,-,-,seats\n1,2,20,4,e56a5d4028bd8653,free,-,-,given\n2,1,20,4,b819d2bd1aed8da0,free,-,-,given\n3,1,10,4,ccef36a8c70d778b,closed,-,-,seats\n|Ok(Written { tail: Whole })",
+    ),
+];
+
+#[test]
+fn explanations(rt: HostRuntime) -> Result<(), AllocError> {
+    expect_explanations(&rt, rt.alloc(), EXPLAINED_HEADER, EXPLANATIONS)
+}
+
+const UNEXPLAINED: &[ExplainedRow] = &[
+    (
+        MARKET_B_FILES,
+        None,
+        Some(3),
+        "|Ok(UnknownStudent { student: StudentNumber { number: 3 } })",
+    ),
+    (
+        MARKET_B_FILES,
+        Some("1,withdraw,1\n2,wi"),
+        Some(1),
+        "|Ok(UnknownStudent { student: StudentNumber { number: 1 } })",
+    ),
+    (
+        MARKET_B_FILES,
+        Some("1,withdraw,3\n"),
+        Some(1),
+        "|Err(Journal(JournalFault { line: 1, cause: Refused(UnknownStudent) }))",
+    ),
+    (
+        MARKET_A_FILES,
+        Some("1,withdraw,2"),
+        Some(1),
+        "student,rank,school,class,draw,cutoff,cutoff_draw,cutoff_student,outcome\n1,1,10,4,e56a5d4028bd8653,4,e56a5d4028bd8653,1,given\n1,2,20,2,e56a5d4028bd8653,4,b819d2bd1aed8da0,2,later\n|Ok(Written { tail: Torn })",
+    ),
+];
+
+#[test]
+fn nothing_of_unknown_students(rt: HostRuntime) -> Result<(), AllocError> {
+    expect_explanations(&rt, rt.alloc(), "", UNEXPLAINED)
+}
+
+/// Texts, and the number of the student whom each names.
+const NAMED: &[(&str, Option<u32>)] = &[
+    ("1", Some(1)),
+    ("000000007", Some(7)),
+    ("999999999", Some(999_999_999)),
+    ("", None),
+    ("0", None),
+    ("000", None),
+    ("1000000000", None),
+    ("0000000001", None),
+    ("+1", None),
+    ("1 ", None),
+    ("x", None),
+];
+
+#[test]
+fn students_named_by_texts(rt: HostRuntime) {
+    for (text, want) in NAMED {
+        let found = read_student(text.as_bytes()).map(|student| student.get());
+        assert!(rt; found == *want, "{text}: {found:?}");
+    }
 }

@@ -2,7 +2,7 @@ use Rattle.std.proofs.Common.{◌++◌}
 use Rattle.sc_journal.specs.declared.journal.Tail.{Tail}
 use Rattle.sc_report.specs.Watched.{device_of, has_failed}
 use Rattle.sc_runs.specs.Inputs.{opening_turns, texts_of}
-use Rattle.sc_runs.specs.Standing.{journal_turns, IsSummary}
+use Rattle.sc_runs.specs.Standing.{journal_turns, IsSummary, WritesOfStanding}
 use Rattle.sc_runs.proofs.Standings.{TellsFiles-read, unfailed-unread}
 use Rattle.sc_runs.proofs.summing.summary_files.Goals as goal
 
@@ -14,7 +14,7 @@ returns-in-Err-clause-failed g c =
 
 pub returns-clause-summary : goal.returns-clause-summary
 returns-clause-summary g c =
-    TellsFiles-read IsSummary c.args.seed.now
+    TellsFiles-read (WritesOfStanding IsSummary) c.args.seed.now
     (opening_turns g.R.Read.remaining c.args.opening.now c.read_with_journal.new.opening) (journal_turns g.R.Read.remaining c.args.journal.now c.read_with_journal.new.journal)
     (texts_of c.in-Ok.texts.opening) c.in-Ok.texts.last.items
     c.as_slices.result.schools.now c.as_slices.result.roster.now c.as_slices.result.lists.now c.as_slice.result.now

@@ -9,4 +9,5 @@ returns c =
     let audit = with_command _ _ c.in_ok-subcommand-3.field-0 _ _ c.in_ok-subcommand-3.ensures c.in_ok-audit_command.ensures run in
     let replay = with_command _ _ c.in_ok-subcommand-4.field-0 _ _ c.in_ok-subcommand-4.ensures c.in_ok-replay_command.ensures audit in
     let export = with_command _ _ c.in_ok-subcommand-5.field-0 _ _ c.in_ok-subcommand-5.ensures c.in_ok-export_command.ensures replay in
-    IfOk-weaker c.subcommand-6.result _ _ (λ r adds. with_command _ _ r _ _ adds c.in_ok-summary_command.ensures export) c.subcommand-6.ensures
+    let summary = with_command _ _ c.in_ok-subcommand-6.field-0 _ _ c.in_ok-subcommand-6.ensures c.in_ok-summary_command.ensures export in
+    IfOk-weaker c.subcommand-7.result _ _ (λ r adds. with_command _ _ r _ _ adds c.in_ok-explain_command.ensures summary) c.subcommand-7.ensures
