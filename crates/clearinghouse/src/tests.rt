@@ -283,9 +283,18 @@ const SUMMARIES: &[(&str, &str, &str)] = &[
     ),
 ];
 
+/// Takes the journal `kept` away, if an earlier test or run left it.
+fn without_kept(rt: &HostRuntime) -> io::Result<()> {
+    if fs::exists(rt, "kept")? {
+        fs::remove_file(rt, "kept")?;
+    }
+    Ok(())
+}
+
 #[test]
 fn a_summary(rt: HostRuntime) -> io::Result<()> {
     write_files(&rt)?;
+    without_kept(&rt)?;
     expect(&rt, ordered(&rt, "summary", &[]), SUMMARY, "0");
     let kept = &["--journal", "kept"];
     let absent = "clearinghouse: cannot read journal\n4";
