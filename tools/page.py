@@ -29,6 +29,14 @@ CLASSES = [
     "is in none of the groups that come first",
 ]
 
+GROUPS = [
+    "students who continue there",
+    "students with a sibling there who live in its zone",
+    "students with a sibling there",
+    "students who live in its zone",
+    "students in none of the groups that come first",
+]
+
 
 class WrongText(Exception):
     """A text that is not what it is taken for."""
@@ -162,7 +170,7 @@ th:first-child, td:last-child, .scroll th:last-child { text-align: left; }
 .bar span { display: block; height: 100%; -webkit-print-color-adjust: exact; print-color-adjust: exact; }
 .some { background: var(--some); }
 .none { background: var(--none); }
-form { display: flex; gap: 0.5rem; flex-wrap: wrap; margin: 0.5rem 0; }
+form { display: flex; gap: 0.5rem; flex-wrap: wrap; align-items: center; margin: 0.5rem 0; }
 input, button { font: inherit; padding: 0.4rem 0.6rem; border: 1px solid var(--soft); border-radius: 0.3rem; }
 button { background: var(--some); border-color: var(--some); color: #fff; }
 #answer { border-left: 4px solid var(--some); padding: 0.1rem 0 0.1rem 1rem; min-height: 3rem; }
@@ -172,12 +180,12 @@ button { background: var(--some); border-color: var(--some); color: #fff; }
 
 SCRIPT = """
 const data = JSON.parse(document.getElementById('students').textContent);
-const classes = JSON.parse(document.getElementById('classes').textContent);
+const groups = JSON.parse(document.getElementById('groups').textContent);
 const answer = document.getElementById('answer');
 function element(name, text) { const e = document.createElement(name); e.textContent = text; return e; }
 function words(line) {
   const school = line[0], outcome = line[1];
-  const own = line.length > 2 ? ` You are in class ${line[3]} there (${classes[line[3]]}), and your draw is ${line[4]}.` : '';
+  const own = line.length > 2 ? ` You are in class ${line[3]} there (${groups[line[3]]}), and your draw is ${line[4]}.` : '';
   const last = line.length > 2 && line[7] !== '-' ? ` The last student admitted is in class ${line[5]}, with the draw ${line[6]}.` : '';
   switch (outcome) {
     case 'given': return `School ${school}: this is the school you have.${own}`;
@@ -238,7 +246,7 @@ def page(title, report, summary, explain):
 <h2>Who comes first at a school</h2>
 <ol start="0">{"".join(f"<li>a student who {html.escape(words)}</li>" for words in CLASSES[:4])}<li>everybody else</li></ol>
 <p>Within a class the lottery decides: the smaller draw comes first.</p>
-<script type="application/json" id="classes">{as_script(CLASSES)}</script>
+<script type="application/json" id="groups">{as_script(GROUPS)}</script>
 <script type="application/json" id="students">{as_script(students(report, explain))}</script>
 <script>{SCRIPT}</script>
 </body>
