@@ -1,0 +1,186 @@
+#!/usr/bin/env python3
+"""Times markets that somebody might make to slow the program down, each against a random market.
+
+    adversarial.py [--students N] [--times N] [--folder FOLDER] [--program PATH]
+
+The random market is one of generate.py's, with N students, 700 schools and 12 choices. What another market may cost is what the random one
+costs, times its bytes or its proposals over those of the random one, whichever is more; the last column is the processor time over that.
+The proposals are the rejections of the log and the students who are placed. The chosen numbers are made by chosen.rs, compiled with rustc -O. Last
+it runs a script of 64 MiB whose records are no amendments, and tells the memory over the script's length.
+"""
+import argparse
+import os
+import random
+import resource
+import subprocess
+import sys
+import tempfile
+
+HERE = os.path.dirname(os.path.abspath(__file__))
+PROGRAM = os.path.join(os.path.dirname(HERE), "crates", "clearinghouse", "out", "clearinghouse")
+SEED = "00" * 32
+SCHOOLS = 700
+CHOICES = 12
+
+
+def write(folder, schools, students):
+    """Writes a market: schools as (number, zone, seats), students as (number, zone, siblings, choices)."""
+    os.makedirs(folder, exist_ok=True)
+    with open(os.path.join(folder, "schools.csv"), "w") as file:
+        file.write("school,zone,seats\n")
+        file.writelines(f"{number},{zone},{seats}\n" for number, zone, seats in schools)
+    with open(os.path.join(folder, "roster.csv"), "w") as file:
+        file.write("student,zone,siblings\n")
+        file.writelines(f"{number},{zone},{siblings}\n" for number, zone, siblings, _ in students)
+    with open(os.path.join(folder, "lists.csv"), "w") as file:
+        file.write("student,choices\n")
+        file.writelines(f"{number},{' '.join(map(str, choices))}\n" for number, _, _, choices in students)
+
+
+def generated(folder, count, *more):
+    """A market of generate.py."""
+    words = ["--students", count, "--schools", SCHOOLS, "--choices", CHOICES, "--seats", count // SCHOOLS, *more]
+    subprocess.run([sys.executable, os.path.join(HERE, "generate.py"), folder, *map(str, words)], check=True)
+
+
+def chosen_numbers(folder, count, greatest):
+    """A file of numbers that share a few places of a table."""
+    program = os.path.join(folder, "chosen")
+    if not os.path.exists(program):
+        subprocess.run(["rustc", "-O", "--edition", "2021", "-o", program, os.path.join(HERE, "chosen.rs")], check=True)
+    path = os.path.join(folder, f"numbers-{count}")
+    with open(path, "w") as file:
+        subprocess.run([program, str(count), str(greatest)], stdout=file, check=True)
+    return path
+
+
+def alike(folder, count):
+    """Everybody's list is the same, and a twelfth of them is placed."""
+    schools = [(number, 0, count // (CHOICES * CHOICES)) for number in range(1, SCHOOLS + 1)]
+    write(folder, schools, [(number, 0, "", range(1, CHOICES + 1)) for number in range(1, count + 1)])
+
+
+def one_school(folder, count):
+    """One school of 10,000 seats, which everybody lists alone."""
+    write(folder, [(1, 0, 10_000)], [(number, 0, "", [1]) for number in range(1, count + 1)])
+
+
+def a_chain(folder, count):
+    """One seat a school, taken in turn; the last student of each round puts out the first, who puts out the next, and so on."""
+    length = 5_000
+    schools = [(number, 0, 1) for number in range(1, length + 1)]
+    students = [(number, 0, str(number + 1), [number, number + 1]) for number in range(1, length)]
+    students += [(number, 0, "1", [1]) for number in range(length, count + 1)]
+    write(folder, schools, students)
+
+
+def rows_in_any_order(folder, count):
+    """A random market whose rows stand in other orders in each file."""
+    generated(folder, count)
+    for name in ("schools.csv", "roster.csv", "lists.csv"):
+        path = os.path.join(folder, name)
+        with open(path) as file:
+            header, *rows = file.readlines()
+        random.Random(name).shuffle(rows)
+        with open(path, "w") as file:
+            file.writelines([header, *rows])
+
+
+def wide_numbers(folder, count):
+    """Numbers spread to the greatest that there are."""
+    path = folder + "-numbers"
+    with open(path, "w") as file:
+        file.writelines(f"{number}\n" for number in random.Random("wide").sample(range(1, 1_000_000_000), count))
+    generated(folder, count, "--student-numbers", path)
+
+
+def chosen(folder, count):
+    """Students and schools whose numbers fall to a few places of a table."""
+    above = os.path.dirname(folder)
+    generated(folder, count, "--student-numbers", chosen_numbers(above, count, 999_999_999), "--school-numbers", chosen_numbers(above, SCHOOLS, 99_999))
+
+
+MARKETS = {
+    "random": generated,
+    "lists alike": alike,
+    "one school of 10,000 seats": one_school,
+    "a chain of 5,000 schools": a_chain,
+    "rows in random order": rows_in_any_order,
+    "numbers to 999,999,999": wide_numbers,
+    "numbers chosen to collide": chosen,
+}
+
+
+def run(program, folder, *words):
+    """Processor seconds and MiB of a subcommand over a market, whose output goes to the file `out`."""
+    files = [word for name in ("schools", "roster", "lists") for word in ("--" + name, os.path.join(folder, name + ".csv"))]
+    with open(os.path.join(folder, "out"), "wb") as out:
+        process = subprocess.Popen([program, words[0], "--seed", SEED, *files, *words[1:]], stdout=out)
+        _, status, used = os.wait4(process.pid, 0)
+    if status != 0:
+        sys.exit(f"{words[0]} of {folder} ended with {os.waitstatus_to_exitcode(status)}")
+    return used.ru_utime + used.ru_stime, used.ru_maxrss / 1024
+
+
+def lines_of(folder):
+    with open(os.path.join(folder, "out")) as file:
+        return file.readlines()
+
+
+def proposals(program, folder):
+    """How many proposals settle a market."""
+    run(program, folder, "match", "--print-log")
+    rejections = len(lines_of(folder))
+    run(program, folder, "match")
+    report = lines_of(folder)
+    assignment = report[1:report.index("school,seats,held,class,draw,student\n")]
+    return rejections + sum(not line.endswith(",-\n") for line in assignment)
+
+
+def size(folder):
+    return sum(os.path.getsize(os.path.join(folder, name + ".csv")) for name in ("schools", "roster", "lists"))
+
+
+def time_markets(given):
+    print("| market | bytes | proposals | ms | over what it may cost |")
+    print("|---|---|---|---|---|")
+    measure = None
+    for turn, (name, make) in enumerate(MARKETS.items()):
+        folder = os.path.join(given.folder, f"market-{turn}-{given.students}")
+        if not os.path.isdir(folder):
+            make(folder, given.students)
+        told = size(folder), proposals(given.program, folder)
+        spent = min(run(given.program, folder, "match")[0] for _ in range(given.times))
+        measure = measure or (told, spent)
+        allowed = measure[1] * max(told[0] / measure[0][0], told[1] / measure[0][1])
+        print(f"| {name} | {told[0]:,} | {told[1]:,} | {spent * 1e3:.0f} | {spent / allowed:.2f} |", flush=True)
+
+
+def time_script(given):
+    """A script as long as an input may be, of records that are no amendments, over a market of one school."""
+    folder = os.path.join(given.folder, "script")
+    write(folder, [(1, 0, 1)], [(1, 0, "", [1])])
+    script = os.path.join(folder, "script.csv")
+    length = 64 * 1024 * 1024
+    for record in ("x\n", "0,enter,1\n", "0,enter,7,0,," + "1 " * 30_000 + "1\n"):
+        with open(script, "w") as file:
+            file.write((record * (length // len(record)))[:length])
+        spent, memory = run(given.program, folder, "run", "--script", script, "--journal", os.path.join(folder, "journal"))
+        print(f"script of 64 MiB of records like {record[:12].strip()!r}: {spent:.1f} s, {memory:.0f} MiB, {memory / 64:.1f} times its length", flush=True)
+
+
+def main():
+    given = argparse.ArgumentParser(description=__doc__, formatter_class=argparse.RawDescriptionHelpFormatter)
+    given.add_argument("--students", type=int, default=80_000)
+    given.add_argument("--times", type=int, default=3)
+    given.add_argument("--folder", default=os.path.join(tempfile.gettempdir(), "clearinghouse-adversarial"))
+    given.add_argument("--program", default=PROGRAM)
+    given = given.parse_args()
+    resource.setrlimit(resource.RLIMIT_CORE, (0, 0))
+    os.makedirs(given.folder, exist_ok=True)
+    time_markets(given)
+    time_script(given)
+
+
+if __name__ == "__main__":
+    main()
