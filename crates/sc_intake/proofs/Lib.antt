@@ -1,5 +1,6 @@
 pub mod Cutting
 pub mod CursorMoves
+pub mod Bounded
 pub mod Words
 pub mod FirstNumber
 pub mod Giving
@@ -8,3 +9,4 @@ pub mod RowLemmas
 pub mod SeenLemmas
 pub mod PaperLemmas
 pub mod InStep
+pub mod JudgingSteps

@@ -11,6 +11,7 @@ pub mod Schools
 pub mod Roster
 pub mod Lists
 pub mod Papers
+pub mod Checking
 pub mod Script
 pub mod Log
 pub mod Seen

@@ -5,13 +5,17 @@ use Rattle.sc_intake.specs.Fault.{◌>>=◌}
 use Rattle.sc_intake.specs.declared.fault.Cause.{Cause}
 use Rattle.sc_intake.specs.declared.fault.Cause.TheVariants.{TooLong, Fields, Twice}
 
--- the next row under a header of so many fields: there may be one more, it has as many, they read as a row, and
--- no earlier row has its number
-abbrev pub next_row : {R : Type 0} → ℕ → (R → ℕ) → (ℕ → List (List ℕ) → Result R Cause) → ℕ → List R → List (List ℕ) → Result R Cause
-next_row most number read width earlier fields =
+-- what the record of this row is, under a header of so many fields: there may be one row more, it has as many fields,
+-- they read as a row, and no earlier row has its number
+abbrev pub next_row_at : {R : Type 0} → ℕ → (R → ℕ) → (ℕ → List (List ℕ) → Result R Cause) → ℕ → ℕ → List R → List (List ℕ) → Result R Cause
+next_row_at most number read width row earlier fields =
     if nat_le most (length earlier) then Err TooLong
-    else (if length fields == width then read (length earlier + 2) fields else Err Fields)
-    >>= λ row. if list_any (nat_eq (number row)) (map number earlier) then Err Twice else Ok row
+    else (if length fields == width then read row fields else Err Fields)
+    >>= λ found. if list_any (nat_eq (number found)) (map number earlier) then Err Twice else Ok found
+
+-- the next row where each record before it is a row: the header is record 1
+abbrev pub next_row : {R : Type 0} → ℕ → (R → ℕ) → (ℕ → List (List ℕ) → Result R Cause) → ℕ → List R → List (List ℕ) → Result R Cause
+next_row most number read width earlier = next_row_at most number read width (length earlier + 2) earlier
 
 -- the rows with the next one, where there is one
 abbrev pub added : {R : Type 0} → List R → Result R Cause → Result (List R) Cause

@@ -1,6 +1,6 @@
 //! The papers that the rows of the three files make.
 
-ghost use Rattle.std.specs.Prelude.{◌≡◌, [], IfErr, IfOk, map};
+ghost use Rattle.std.specs.Prelude.{◌≡◌, [], IfErr, IfOk, OnErr, map};
 ghost use Rattle.std.specs.Bool.{OnTrue};
 ghost use Rattle.std.specs.Option.{option_copied};
 ghost use Rattle.sc_intake.specs.Fault.{Gives, no_memory};
@@ -25,7 +25,11 @@ use std::alloc::{AllocError, Global};
 use std::collections::BTreeMap;
 
 /// The papers with these schools, before any student, or want of memory.
-fn open_papers(alloc: Global, seed: Seed, schools: &[SchoolRow]) -> Result<Papers, IntakeFault>
+pub(crate) fn open_papers(
+    alloc: Global,
+    seed: Seed,
+    schools: &[SchoolRow],
+) -> Result<Papers, IntakeFault>
     requires { AreRows school_number MOST_SCHOOLS schools.now }
     ensures opened { IfOk result (λ papers. papers ≡ opening seed schools.now) }
     ensures refused { IfErr result (λ fault. fault ≡ no_memory Roster) }
@@ -43,7 +47,7 @@ fn open_papers(alloc: Global, seed: Seed, schools: &[SchoolRow]) -> Result<Paper
 
 /// Where each student's list stands, by number: in a tree, since whoever chooses the numbers could slow a
 /// hashed table down.
-fn list_positions(
+pub(crate) fn list_positions(
     alloc: Global,
     lists: &[ListRow],
 ) -> Result<BTreeMap<StudentNo, usize>, AllocError>
@@ -58,7 +62,7 @@ fn list_positions(
 }
 
 /// The student's list.
-fn find_list<'a>(
+pub(crate) fn find_list<'a>(
     positions: &BTreeMap<StudentNo, usize>,
     lists: &'a [ListRow],
     student: StudentNo,
@@ -81,13 +85,14 @@ fn cause_of(refusal: Refusal) -> Cause
 }
 
 /// Enters a student of the roster with a copy of the student's list.
-fn enter_copied(
+pub(crate) fn enter_copied(
     alloc: Global,
     papers: &mut Papers,
     row: &RosterRow,
     list: Option<&ListRow>,
 ) -> Result<(), Cause>
-    ensures { Gives (λ _. papers.new) OutOfMemory (entered_by papers.old row.now (option_copied list.entry)) result }
+    ensures entered { Gives (λ _. papers.new) OutOfMemory (entered_by papers.old row.now (option_copied list.entry)) result }
+    ensures unchanged { OnErr result (papers.new ≡ papers.old) }
 {
     let Some(list) = list else {
         return Err(Cause::NoList);
@@ -97,7 +102,8 @@ fn enter_copied(
 
 /// Enters a student of the roster with these choices.
 fn enter(papers: &mut Papers, row: RosterRow, choices: SchoolList) -> Result<(), Cause>
-    ensures { Gives (λ _. papers.new) OutOfMemory (amended papers.old (Enter row.student row.zone row.siblings choices row.continuing)) result }
+    ensures entered { Gives (λ _. papers.new) OutOfMemory (amended papers.old (Enter row.student row.zone row.siblings choices row.continuing)) result }
+    ensures unchanged { OnErr result (papers.new ≡ papers.old) }
 {
     let amendment = Amendment::Enter {
         student: row.student,

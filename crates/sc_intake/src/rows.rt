@@ -1,9 +1,9 @@
 //! The rows of a file that has a header.
 
-ghost use Rattle.std.specs.Prelude.{◌≡◌, ℕ, ◌+◌, ◌≤◌, Bool, List, [], length, IfOk, OnOk, Result as Reading};
+ghost use Rattle.std.specs.Prelude.{◌≡◌, ℕ, ◌+◌, ◌≤◌, Bool, List, [], ◌≢◌, length, IfErr, IfOk, OnOk, Result as Reading};
 ghost use Rattle.sc_intake.specs.Fault.{Gives, no_memory};
 ghost use Rattle.sc_intake.specs.File.{after_header, rows_after, rows_in};
-ghost use Rattle.sc_intake.specs.Rows.{added, next_row, AreNumbers, AreRows};
+ghost use Rattle.sc_intake.specs.Rows.{added, next_row, next_row_at, AreNumbers, AreRows};
 ghost use Rattle.sc_intake.specs.declared.fault.Cause.{Cause as Why};
 ghost use Rattle.sc_intake.specs.declared.fault.Cause.TheVariants.{OutOfMemory};
 ghost use Rattle.sc_intake.specs.declared.fault.Source.{Source as Input};
@@ -60,7 +60,7 @@ pub(crate) trait Row: Numbered {
 /// may be.
 #[derive(Debug, Drop)]
 pub struct Rows<R: Numbered> {
-    rows: Vec<R>,
+    pub(crate) rows: Vec<R>,
 }
 
 impl<R: Numbered> Model for Rows<R> {
@@ -102,7 +102,7 @@ impl<R: Numbered> Rows<R> {
 
 /// Takes the header, and says how many fields it has.
 #[tactic(auto, unfolding(crate::specs::File::after_header))]
-fn take_header<R: Row>(records: &mut Records) -> Result<usize, IntakeFault>
+pub(crate) fn take_header<R: Row>(records: &mut Records) -> Result<usize, IntakeFault>
     ensures { Gives (λ width. (width, records.new.left)) (no_memory R.source) (after_header R.source R.is_header records.old.left) result }
 {
     if records.advance(R::source())? && R::is_header(records) {
@@ -111,10 +111,11 @@ fn take_header<R: Row>(records: &mut Records) -> Result<usize, IntakeFault>
     Err(IntakeFault::at(R::source(), 1, Cause::Header))
 }
 
-/// Adds the row that the record read last is, under a header of so many fields, to the rows before it, whose
-/// numbers were seen.
-fn add_row<R: Row>(
+/// Adds the row that the record read last is, in this row and under a header of so many fields, to the rows before it,
+/// whose numbers were seen. After a fault of the record the rows and their numbers are as before.
+pub(crate) fn add_row<R: Row>(
     alloc: Global,
+    row: u64,
     width: usize,
     fields: &Records,
     rows: &mut Vec<R>,
@@ -122,10 +123,12 @@ fn add_row<R: Row>(
 ) -> Result<(), Cause>
     requires rows { AreRows R.number R.MOST rows.old.items }
     requires seen { AreNumbers R.number rows.old.items seen.old }
-    ensures gives { Gives (λ _. rows.new.items) OutOfMemory (added rows.old.items (next_row R.MOST R.number R.reading width rows.old.items fields.now.current)) result }
+    ensures gives { Gives (λ _. rows.new.items) OutOfMemory (added rows.old.items (next_row_at R.MOST R.number R.reading width row rows.old.items fields.now.current)) result }
     ensures rows { OnOk result (AreRows R.number R.MOST rows.new.items) }
     ensures seen { OnOk result (AreNumbers R.number rows.new.items seen.new) }
     ensures more { OnOk result (length rows.new.items ≡ length rows.old.items + 1) }
+    ensures same_rows { IfErr result (λ cause. cause ≢ OutOfMemory → rows.new.items ≡ rows.old.items) }
+    ensures same_numbers { IfErr result (λ cause. cause ≢ OutOfMemory → AreNumbers R.number rows.old.items seen.new) }
 {
     if rows.len() >= R::MOST {
         return Err(Cause::TooLong);
@@ -133,7 +136,7 @@ fn add_row<R: Row>(
     if fields.len() != width {
         return Err(Cause::Fields);
     }
-    let found = R::read(alloc, rows.len() as u64 + 2, fields)?;
+    let found = R::read(alloc, row, fields)?;
     if !seen.insert(found.number())? {
         return Err(Cause::Twice);
     }
@@ -154,7 +157,7 @@ fn take_rows<R: Row>(
     let mut seen = SeenNumbers::new(alloc);
     'rows: while records.advance(R::source())? {
         let row = rows.len() as u64 + 2;
-        if let Err(cause) = add_row(alloc, width, records, &mut rows, &mut seen) {
+        if let Err(cause) = add_row(alloc, row, width, records, &mut rows, &mut seen) {
             return Err(IntakeFault::at(R::source(), row, cause));
         }
     }

@@ -1,6 +1,6 @@
 //! The script: stamped amendments, one a record.
 
-ghost use Rattle.std.specs.Prelude.{◌≡◌, ◌≢◌, ◌++◌, [], ◌∷◌, map, IfOk, MatchResult, OnOk};
+ghost use Rattle.std.specs.Prelude.{◌≡◌, ◌≢◌, ◌++◌, IfOk, OnOk};
 ghost use Rattle.sc_papers.specs.declared.amendment.Refusal.TheVariants.{Shape};
 ghost use Rattle.sc_intake.specs.Fault.{Gives, no_memory};
 ghost use Rattle.sc_intake.specs.Script.{add_of, amendment_of, close_of, correct_of, enter_of, list_at, rerank_of, script_in, stamped_in, stamped_of, withdraw_of};
@@ -9,10 +9,10 @@ ghost use Rattle.sc_intake.specs.declared.fault.Source.TheVariants.{Script};
 
 use crate::fault::{Cause, IntakeFault, Source};
 use crate::field::{number, number_or_none};
-use crate::input::records_in;
 use crate::ranges;
 use crate::records::Records;
 use crate::school_list::school_list;
+use crate::script_records::ScriptRecords;
 use sc_papers::{Amendment, Refusal, SchoolList, Stamped};
 use std::alloc::{AllocError, Global};
 
@@ -140,7 +140,7 @@ fn amendment_of(alloc: Global, fields: &Records) -> Result<Amendment, Cause>
 
 /// The stamped amendment that the record read last is: the stamp is in its first field.
 #[tactic(auto, unfolding(crate::specs::Script::stamped_of))]
-fn stamped_of(alloc: Global, fields: &Records) -> Result<Stamped, Cause>
+pub(crate) fn stamped_of(alloc: Global, fields: &Records) -> Result<Stamped, Cause>
     ensures { Gives (λ stamped. stamped) OutOfMemory (stamped_of fields.now.current) result }
 {
     Ok(Stamped {
@@ -160,7 +160,10 @@ fn shape(cause: Cause) -> Result<Refusal, AllocError>
 }
 
 /// What the record read last is: a stamped amendment, or `Shape`.
-fn stamped_in(alloc: Global, fields: &Records) -> Result<Result<Stamped, Refusal>, AllocError>
+pub(crate) fn stamped_in(
+    alloc: Global,
+    fields: &Records,
+) -> Result<Result<Stamped, Refusal>, AllocError>
     ensures { IfOk result (λ found. found ≡ stamped_in fields.now.current) }
 {
     match stamped_of(alloc, fields) {
@@ -169,32 +172,17 @@ fn stamped_in(alloc: Global, fields: &Records) -> Result<Result<Stamped, Refusal
     }
 }
 
-/// Adds what the record read last is to the script.
-fn add_record(
-    alloc: Global,
-    fields: &Records,
+/// Adds the records that are left of a script to those that were read.
+fn take_script(
+    records: &mut ScriptRecords<'_>,
     script: &mut Vec<Result<Stamped, Refusal>>,
 ) -> Result<(), AllocError>
-    ensures { OnOk result (script.new.items ≡ script.old.items ++ stamped_in fields.now.current ∷ []) }
+    ensures { OnOk result (script.new.items ≡ script.old.items ++ records.old) }
 {
-    script.push(stamped_in(alloc, fields)?)?;
-    Ok(())
-}
-
-/// What the records are, each a stamped amendment or `Shape`.
-fn take_script(
-    alloc: Global,
-    records: &mut Records,
-) -> Result<Vec<Result<Stamped, Refusal>>, IntakeFault>
-    ensures { MatchResult result (λ script. script.items ≡ map stamped_in records.old.left) (λ fault. fault ≡ no_memory Script) }
-{
-    let mut script = Vec::new(alloc);
-    'records: while records.advance(Source::Script)? {
-        if let Err(_refused) = add_record(alloc, records, &mut script) {
-            return Err(IntakeFault::no_memory(Source::Script));
-        }
+    'records: while let Some(entry) = records.next_record()? {
+        script.push(entry)?;
     }
-    Ok(script)
+    Ok(())
 }
 
 /// Reads a script, which has no header: each of its records is an amendment with the stamp of its record
@@ -203,14 +191,18 @@ fn take_script(
 /// The fault is `TooLong` of row 0 where the script is too long, and `Header` of row 1 where a
 /// second byte order mark follows the first. Want of memory is of row 0.
 ///
-/// The cost is the length of the script, and the memory that of its amendments.
+/// The cost is the length of the script, and the memory that of its amendments; `ScriptRecords` reads them one at a
+/// time.
 pub fn read_script(
     alloc: Global,
     bytes: &[u8],
 ) -> Result<Vec<Result<Stamped, Refusal>>, IntakeFault>
     ensures { Gives (λ script. script.items) (no_memory Script) (script_in bytes.now) result }
 {
-    let mut records = records_in(alloc, Source::Script, bytes)?;
-    let script = take_script(alloc, &mut records)?;
-    Ok(script)
+    let mut records = ScriptRecords::open(alloc, bytes)?;
+    let mut script = Vec::new(alloc);
+    match take_script(&mut records, &mut script) {
+        Ok(()) => Ok(script),
+        Err(_) => Err(IntakeFault::no_memory(Source::Script)),
+    }
 }

@@ -59,4 +59,11 @@ impl SeenNumbers {
         }
         Ok(self.others.insert(number)?)
     }
+
+    /// Whether a number was added. The cost grows with the logarithm of how many there are.
+    pub(crate) fn contains(&self, number: u32) -> bool
+        ensures { result ≡ list_any (nat_eq number) self.now }
+    {
+        self.rising.binary_search(&number).is_ok() || self.others.contains(&number)
+    }
 }

@@ -11,7 +11,7 @@ returns-in-Err c =
     let lists : into_iter_items at.lists ≡ c.in-Some-next.list ∷ into_iter_items c.next-in-loop-row.new.self = c.in-Some-next.ensures.items in
     let (earlier, parts) = at.invariant.4 in
     rw (filled-in-step c.args.papers.now c.args.roster.items c.args.lists.items c.requires.step) (in-step-fault c.args.lists.items earlier (into_iter_items c.next-in-loop-row.new.self) (into_iter_items c.next.new.self) c.in-Some.row c.in-Some-next.list
-    c.requires.lists.differ (rw lists at parts) (rw (rows, lists) at at.invariant.1) _ at.papers c.in-Err.cause c.at.result (rw rows at at.invariant.0) c.in-Err.ensures c.at.ensures)
+    c.requires.lists.differ (rw lists at parts) (rw (rows, lists) at at.invariant.1) _ at.papers c.in-Err.cause c.at.result (rw rows at at.invariant.0) c.in-Err.ensures.entered c.at.ensures)
 
 pub loop-row-preserved : goal.loop-row-preserved
 loop-row-preserved c =
@@ -22,7 +22,7 @@ loop-row-preserved c =
     let here = rw lists at parts in
     let step = rw (rows, lists) at at.invariant.1 in (
       in-step c.args.lists.items earlier (into_iter_items c.next-in-loop-row.new.self) (into_iter_items c.next.new.self) c.in-Some.row c.in-Some-next.list
-          c.requires.lists.differ here step _ at.papers c.enter.new.papers (rw rows at at.invariant.0) c.in_default-enter.ensures,
+          c.requires.lists.differ here step _ at.papers c.enter.new.papers (rw rows at at.invariant.0) c.in_default-enter.ensures.entered,
       cc step,
       let was = at.invariant.2 in let gone = c.in-Some-next.ensures.len in let short = ap length lists in omega arith,
       let was = at.invariant.3 in let gone = c.in-Some.ensures.steps.1 in let short = ap length rows in omega arith,
