@@ -3,8 +3,8 @@
 
     growths.py
 
-The gate does not run it; run it before a release. The tests are all of `sc_growths` and `sc_region`, and those of `sc_rows` on rolls, rounds, checkpoints
-and papers. `rt test` builds them; each then runs alone under `refuse.c`, which refuses one growth a run. It prints how many growths each
+The gate does not run it; run it before a release. The tests are all of `sc_growths`, and those of `sc_rows` on regions, rolls, rounds, checkpoints and
+papers. `rt test` builds them; each then runs alone under `refuse.c`, which refuses one growth a run. It prints how many growths each
 test has, and ends with status 1 where a test failed under a refusal.
 """
 import os
@@ -16,7 +16,8 @@ import tempfile
 HERE = pathlib.Path(__file__).resolve().parent
 CRATES = HERE.parent / "crates"
 # The crate, and what the names of its tests of growths end with.
-TESTED = (("sc_growths", ""), ("sc_region", ""), ("sc_rows", ("each_growth_refused", "a_spent_round", "their_next_choices")))
+REGIONS = ("regions::a_student_enters", "regions::a_student_or_a_school_changes", "regions::an_unknown_student_is_refused")
+TESTED = (("sc_growths", ""), ("sc_rows", ("each_growth_refused", "a_spent_round", "their_next_choices", *REGIONS)))
 
 
 def built(crate):

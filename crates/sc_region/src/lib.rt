@@ -7,8 +7,6 @@ mod members;
 mod reach;
 mod region_list;
 mod school_groups;
-#[cfg(test)]
-mod worked;
 
 pub use marks::RegionMarks;
 pub use reach::{region, region_marks};

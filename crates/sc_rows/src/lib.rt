@@ -19,6 +19,8 @@ mod ranges;
 #[cfg(test)]
 mod refusals;
 #[cfg(test)]
+mod regions;
+#[cfg(test)]
 mod rewinding;
 #[cfg(test)]
 mod rolls;

@@ -2,12 +2,11 @@
 //! and students 6 and 7, who list 30. Where memory is refused, a test asks again, so that each growth can be
 //! refused in turn.
 
-use crate::reach::region;
-use crate::region_list::RegionList;
 use sc_papers::{
     Amendment, Count, Papers, Refusal, SchoolList, SchoolNo, SchoolRefusal, Seats, Seed, StudentNo,
     Zone,
 };
+use sc_region::{RegionList, region};
 use std::alloc::{AllocError, Global};
 use std::process::Abort;
 
