@@ -2,6 +2,7 @@
 use Rattle.std.proofs.Common.{append_assoc, append-nil, ◌≡◌, Bool, true, false, ◌||◌, ℕ, ◌+◌, List, [], ◌∷◌, ◌++◌, Option, None, Some, Result, Ok, Err, refl, sym, ◌∙◌, subst, ap, inl, inr}
 use Rattle.std.specs.Io.KnownBytes.{Appends}
 use Rattle.std.proofs.lemmas.Bool.{true≢false}
+use Rattle.std.specs.Prelude.{MatchOption}
 use Rattle.std.specs.Result.{is_err, result_err}
 use Rattle.sc_papers.specs.Market.{Market}
 use Rattle.sc_papers.specs.Verdict.{unless_refused}
@@ -22,7 +23,7 @@ use Rattle.sc_runs.specs.declared.fault.RunFault.{RunFault}
 use Rattle.sc_runs.specs.declared.fault.RunFault.TheVariants.{Read, Intake, Journal, WriteOut, WriteJournal, OutOfMemory}
 use Rattle.sc_runs.proofs.LastReport.{IsReport-some, WellFormed-after_script}
 use Rattle.sc_runs.proofs.Openings.{Keeps-refl}
-use Rattle.sc_runs.proofs.TwoWriters.{GrowsByAll-none, GrowsByAll-trans, GrowsByPrefix-after, GrowsByPrefix-longer, journal_of-append, output_of-append}
+use Rattle.sc_runs.proofs.TwoWriters.{GrowsByAll-none, GrowsByAll-trans, GrowsByPrefix-after, GrowsByPrefix-longer, GrowsByPrefix-nothing, journal_of-append, output_of-append}
 
 -- what ended without a fault of a writer did not make it fail
 pub or-nothing : (failed more : Bool) → more ≡ false → failed ≡ (failed || more)
@@ -113,6 +114,19 @@ pub answered-failed : (old now next : Contents) (opening : StampedPapers) (all w
 answered-failed old now next opening all whole number p entry before left fault answered is same wrote =
     subst (λ records. Writes {A = Unit {0}} (answers 1 opening records) old next (Err fault)) same
     (answered-ended old now next opening all number p entry left fault (subst (Answered old now opening all number p) is answered) wrote)
+
+-- a record that was taken is the first of those that were left
+pub answered-taken : (found : Option (Result Stamped Refusal)) (entry : Result Stamped Refusal) (before left : List (Result Stamped Refusal))
+    → found ≡ Some entry → MatchOption found (before ≡ []) (λ (e : Result Stamped Refusal). before ≡ e ∷ left) → before ≡ entry ∷ left
+answered-taken None entry before left is taken = cc is
+answered-taken (Some e) entry before left is taken = let same : e ≡ entry = cc in taken ∙ ap (λ (x : Result Stamped Refusal). x ∷ left) same
+
+-- no more was written: what was is a prefix of the answers to all
+pub answered-unread : (old now : Contents) (opening : StampedPapers) (all : List (Result Stamped Refusal)) (number : ℕ) (p : StampedPapers) (left : List (Result Stamped Refusal))
+    → Answered old now opening all number p left → GrowsByPrefix (answers 1 opening all) old now
+answered-unread old now opening all number p left answered =
+    subst (λ pieces. GrowsByPrefix pieces old now) answered.rest
+    (GrowsByPrefix-after answered.written (answers (number + 1) p left) old now now answered.wrote (GrowsByPrefix-nothing (answers (number + 1) p left) now))
 
 -- what the answer to a record gives to the output is its reply line
 output_of-verdict : (line : List ℕ) (number : ℕ) (found : Option Refusal) → output_of (answer_by_verdict line number found) ≡ reply_text number (unless_refused found)

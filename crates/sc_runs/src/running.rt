@@ -1,8 +1,9 @@
 //! From four files to replies and an assignment.
 
-ghost use Rattle.std.specs.Prelude.{◌≡◌, ◌||◌, ℕ, List, ◌++◌, ◌∷◌, [], All, Option, false, MatchResult, Ok};
+ghost use Rattle.std.specs.Prelude.{◌≡◌, ◌||◌, ℕ, List, ◌++◌, ◌∷◌, [], All, Option, false, IfOk, MatchResult, Ok, ◌≤◌, ◌+◌, length};
 ghost use Rattle.sc_papers.specs.WellFormed.{WellFormed};
 ghost use Rattle.sc_intake.specs.Script.{script_in};
+ghost use Rattle.sc_intake.specs.declared.input.TheConstants.{MOST_BYTES};
 ghost use Rattle.sc_intake.specs.declared.fault.Source.TheVariants as input;
 ghost use Rattle.sc_repair.specs.Standing.{matching_of};
 ghost use Rattle.sc_report.specs.Text.{report_text};
@@ -20,18 +21,19 @@ use crate::opening::read_papers;
 use crate::recorder::Recorder;
 use crate::script::Session;
 use crate::writing::{flush_output, write_report_text};
-use sc_intake::{Source, read_script};
-use sc_papers::{Papers, Refusal, Seed, Stamped};
+use sc_intake::{ScriptRecords, Source};
+use sc_papers::{Papers, Seed};
 use sc_repair::{Clearing, Unsettled};
 use sc_report::Watched;
 use std::alloc::Global;
 use std::io::{Read, Write};
 
 /// The records of a script, or the fault of it.
-fn read_records(alloc: Global, script: &[u8]) -> Result<Vec<Result<Stamped, Refusal>>, RunFault>
-    ensures { MatchResult result (λ records. script_in script.now ≡ Ok records.items) (IsOpeningFault (script_in script.now)) }
+fn read_records(alloc: Global, script: &[u8]) -> Result<ScriptRecords<'_>, RunFault>
+    ensures read { MatchResult result (λ records. script_in script.now ≡ Ok records) (IsOpeningFault (script_in script.now)) }
+    ensures bounded { IfOk result (λ records. length records ≤ MOST_BYTES + 1) }
 {
-    let records = read_script(alloc, script)?;
+    let records = ScriptRecords::open(alloc, script)?;
     Ok(records)
 }
 
@@ -86,19 +88,20 @@ fn settle_and_finish<A: Amendable, W: Write, J: Recorder>(
 fn run_records<A: Amendable + Drop, W: Write, J: Recorder>(
     alloc: Global,
     amended: A,
-    records: Vec<Result<Stamped, Refusal>>,
+    mut records: ScriptRecords<'_>,
     out: &mut Watched<W>,
     journal: &mut J,
 ) -> Result<(), RunFault>
     requires well_formed { WellFormed (A.stands amended).papers }
-    ensures writes { WritesSession (A.stands amended) records.items
+    requires bounded { length records ≤ MOST_BYTES + 1 }
+    ensures writes { WritesSession (A.stands amended) records.entry
         (record { journal = J.contents journal.old; output = W.contents (device_of out.old) })
         (record { journal = J.contents journal.new; output = W.contents (device_of out.new) }) result }
     ensures failed { has_failed out.new ≡ (has_failed out.old || is_output_fault result) }
     ensures journal_failed { J.has_failed journal.new ≡ (J.has_failed journal.old || is_journal_fault result) }
 {
     let mut session = Session::new(amended);
-    match session.answer_all(alloc, records, out, journal) {
+    match session.answer_all(alloc, &mut records, out, journal) {
         Ok(()) => settle_and_finish(alloc, session.amended, out, journal),
         Err(fault) => Err(fault),
     }

@@ -1,6 +1,7 @@
 //! A script's records answered, one after the other.
 
-ghost use Rattle.std.specs.Prelude.{◌≡◌, ◌||◌, ℕ, ◌+◌, ◌<◌, List, ◌∷◌, [], ◌++◌, Option, None, Ok, false, IfOk, OnOk};
+ghost use Rattle.std.specs.Prelude.{◌≡◌, ◌||◌, ℕ, ◌+◌, ◌<◌, ◌≤◌, List, length, ◌∷◌, [], ◌++◌, Option, None, Ok, false, IfOk, OnOk};
+ghost use Rattle.sc_intake.specs.declared.input.TheConstants.{MOST_BYTES};
 ghost use Rattle.sc_papers.specs.declared.stamp.TheConstants.Stamp.{GREATEST};
 ghost use Rattle.sc_stamps.specs.Verdict.{stamped_verdict};
 ghost use Rattle.sc_report.specs.Reply.{reply_text};
@@ -13,6 +14,7 @@ use crate::amendable::Amendable;
 use crate::fault::RunFault;
 use crate::recorder::Recorder;
 use crate::writing::write_line;
+use sc_intake::ScriptRecords;
 use sc_journal::{LineNo, line};
 use sc_papers::{Amendment, Refusal, Stamped};
 use sc_report::{Watched, reply_line};
@@ -165,29 +167,34 @@ impl<A: Amendable> Session<A> {
         }
     }
 
-    /// Answers the records of a script in turn: the journal is given the lines of the accepted amendments,
+    /// Answers the records of a script in turn, each when it is read: the journal is given the lines of the accepted amendments,
     /// the output the reply lines, both numbered from 1, and no reply before its line.
     pub fn answer_all<W: Write, J: Recorder>(
         &mut self,
         alloc: Global,
-        script: Vec<Result<Stamped, Refusal>>,
+        script: &mut ScriptRecords<'_>,
         out: &mut Watched<W>,
         journal: &mut J,
     ) -> Result<(), RunFault>
         requires records { self.old.records ≡ 0 }
-        ensures papers { OnOk result (A.stands self.new.amended ≡ after_script (A.stands self.old.amended) script.items) }
-        ensures writes { Writes (answers 1 (A.stands self.old.amended) script.items)
+        requires bounded { length script.old ≤ MOST_BYTES + 1 }
+        ensures papers { OnOk result (A.stands self.new.amended ≡ after_script (A.stands self.old.amended) script.old) }
+        ensures writes { Writes (answers 1 (A.stands self.old.amended) script.old)
             (record { journal = J.contents journal.old; output = W.contents (device_of out.old) })
             (record { journal = J.contents journal.new; output = W.contents (device_of out.new) }) result }
         ensures failed { has_failed out.new ≡ (has_failed out.old || is_output_fault result) }
         ensures journal_failed { J.has_failed journal.new ≡ (J.has_failed journal.old || is_journal_fault result) }
     {
-        for entry in script {
+        'records: loop {
+            let entry = match script.next_record() {
+                Ok(Some(entry)) => entry,
+                Ok(None) => return Ok(()),
+                Err(_) => return Err(RunFault::OutOfMemory),
+            };
             self.records += 1;
             if let Err(fault) = self.answer(alloc, entry, out, journal) {
                 return Err(fault);
             }
         }
-        Ok(())
     }
 }

@@ -4,7 +4,7 @@ use Rattle.sc_runs.proofs.running.run_papers.Goals as goal
 
 pub returns-in-Ok-read_records-clause-writes : goal.returns-in-Ok-read_records-clause-writes
 returns-in-Ok-read_records-clause-writes g c =
-    WritesRun-session _ c.args.papers (g.A.Amendable.stands c.in-Ok.amended) c.in-Ok-read_records.records.items
+    WritesRun-session _ c.args.papers (g.A.Amendable.stands c.in-Ok.amended) c.in-Ok-read_records.records
     (record { journal = g.J.Recorder.contents c.args.journal.now; output = g.W.Write.contents (device_of c.args.out.now) })
     (record { journal = g.J.Recorder.contents c.run_records.new.journal; output = g.W.Write.contents (device_of c.run_records.new.out) })
-    c.run_records.result c.in-Ok-read_records.ensures c.in-Ok.ensures.unamended c.run_records.ensures.writes
+    c.run_records.result c.in-Ok-read_records.ensures.read c.in-Ok.ensures.unamended c.run_records.ensures.writes
