@@ -36,3 +36,4 @@ pub mod Unobjected
 pub mod TakingBack
 pub mod Exchanging
 pub mod Weaving
+pub mod EntryOrder

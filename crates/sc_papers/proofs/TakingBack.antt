@@ -39,7 +39,7 @@ lookup-last i x (e ∷ es) none =
     ]
 
 -- and removed again
-remove-last : {X : Type 0} (i : ℕ) (x : X) (es : List (ℕ × X)) → lookup (nat_eq i) es ≡ None → remove_entry (nat_eq i) (es ++ (i, x) ∷ []) ≡ es
+pub remove-last : {X : Type 0} (i : ℕ) (x : X) (es : List (ℕ × X)) → lookup (nat_eq i) es ≡ None → remove_entry (nat_eq i) (es ++ (i, x) ∷ []) ≡ es
 remove-last i x [] none = rw (eq-eqb i i refl) refl
 remove-last i x (e ∷ es) none =
     elim (cases_Bool (nat_eq i e.0)) [
@@ -69,7 +69,7 @@ put-again i x w (e ∷ es) found =
     ]
 
 -- a student who is in the papers, as they hold them
-known-student : (m : Market) (i : ℕ) → unknown_student m i ≡ None → (student : Student) × (student_of m i ≡ Some student)
+pub known-student : (m : Market) (i : ℕ) → unknown_student m i ≡ None → (student : Student) × (student_of m i ≡ Some student)
 known-student m i allowed = by_case (student_of m i) (refuse_if-none (not (is_student m i)) UnknownStudent allowed)
   where
     by_case : (found : Option Student) → not (is_some found) ≡ false → (student : Student) × (found ≡ Some student)

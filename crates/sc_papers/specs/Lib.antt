@@ -14,4 +14,5 @@ pub mod Restriction
 pub mod Chain
 pub mod Progress
 pub mod Reordering
+pub mod EntryOrder
 pub mod Interleaving

@@ -1,6 +1,7 @@
 ghost use Rattle.std.specs.Prelude.{◌≡◌, ℕ, ◌+◌, ◌<◌, ◌≤◌, ◌↔◌, [], ◌∷◌, ◌++◌, length, slice_get, position, nat_eq, nat_lt, ◌==◌, ◌&&◌, if◌then◌else◌, OnOk, OnErr, IfErr, IfOk};
 ghost use Rattle.std.specs.Option.{option_copied};
 ghost use Rattle.std.specs.List.{list_any};
+ghost use Rattle.indexmap.specs.IndexMap.{move_index};
 ghost use Rattle.sc_papers.specs.Key.{class_by, same_zone};
 
 use crate::count::Count;
@@ -94,13 +95,27 @@ fn copy_students(
     students.clone()
 }
 
+/// Moves the row at one position to another one, and those between by one position.
+fn move_row(rows: &mut Vec<StudentRow>, from: usize, to: usize)
+    requires from { from < length rows.old.items }
+    requires to { to < length rows.old.items }
+    ensures { rows.new.items ≡ move_index rows.old.items from to }
+{
+    let row = rows.remove(from);
+    // There is room where a row was just taken out.
+    if rows.insert(to, row).is_err() {
+        unreachable!()
+    }
+}
+
 impl Papers {
     ghost use Rattle.std.specs.Prelude.{◌≡◌, ℕ, ◌+◌, ◌-◌, ◌<◌, ◌≤◌, ◌↔◌, [], ◌∷◌, ◌++◌, length, map, slice_get, position, nat_eq, ◌&&◌, Some, None, if◌then◌else◌, OnOk, OnErr, IfErr, IfOk};
     ghost use Rattle.std.specs.Option.{option_and_then, option_copied};
     ghost use Rattle.sc_papers.specs.Market.{Market, choices_of, school_of, student_at, student_of, schools_of, students_of, seats_of, siblings_of, zone_of, continuing_of, is_school, is_student};
+    ghost use Rattle.sc_papers.specs.EntryOrder.{with_moved_student};
     ghost use Rattle.sc_papers.specs.Key.{key_at, key_of};
     ghost use Rattle.sc_papers.specs.WellFormed.{WellFormed, WithinLimits};
-    ghost use Rattle.sc_papers.specs.Verdict.{first_of, objections_to_add, objections_to_close, objections_to_correct, objections_to_enter, objections_to_rerank, objections_to_withdraw, with_choices, with_circumstances, with_seats, with_student, without_student, school_verdict, with_school, IsSchoolRefusal};
+    ghost use Rattle.sc_papers.specs.Verdict.{first_of, objections_to_add, objections_to_close, objections_to_correct, objections_to_enter, objections_to_rerank, with_choices, with_circumstances, with_seats, with_student, without_student, school_verdict, with_school, IsSchoolRefusal};
 
     /// Papers with this seed, no schools and no students. It takes no memory.
     pub fn new(alloc: Global, seed: Seed) -> Self
@@ -325,12 +340,25 @@ impl Papers {
         self.rows.push_reserved(row);
         Ok(())
     }
-    /// Removes a student, and the student's draw. The others keep their order and their draws.
-    pub(crate) fn withdraw(&mut self, number: StudentNumber)
-        requires { first_of (objections_to_withdraw self.old number) ≡ None }
-        ensures { self.new ≡ without_student self.old number }
+
+    /// Moves the student at one position of the order of entry to another one, each from 0; those between move
+    /// by one position. It takes no memory and cannot fail. The cost is that of the shift.
+    pub fn move_student(&mut self, from: usize, to: usize)
+        requires from { from < length self.old.students }
+        requires to { to < length self.old.students }
+        ensures { self.new ≡ with_moved_student self.old from to }
     {
-        if let Some((position, _, _)) = self.students.shift_remove_full(&number) {
+        self.students.move_index(from, to);
+        move_row(&mut self.rows, from, to);
+    }
+
+    /// Removes a student, and the student's draw; the number of nobody changes nothing. The others keep their
+    /// order and their draws. It takes no memory and cannot fail. The cost is that of the shift behind the
+    /// student, and so none for the last one.
+    pub fn withdraw(&mut self, student: StudentNumber)
+        ensures { self.new ≡ without_student self.old student }
+    {
+        if let Some((position, _, _)) = self.students.shift_remove_full(&student) {
             let _ = self.rows.remove(position);
         }
     }
