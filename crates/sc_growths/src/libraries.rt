@@ -50,44 +50,65 @@ fn open(rt: HostRuntime) {
     expect(&rt, rt.alloc(), Call::Open, "1:10 2:20 |");
 }
 
-/// The amendment that enters the newcomer, made again where memory was refused.
-fn entry(rt: &impl Abort, alloc: Global) -> Stamped {
-    match stamped(alloc, "0,enter,3,1,10,10") {
-        Ok(entry) => entry,
-        Err(_) => stamped(alloc, "0,enter,3,1,10,10").expect(rt, "an amendment"),
+/// The record of the newcomer who enters.
+pub const ENTRY: &str = "0,enter,3,1,10,10";
+
+/// The record of the first student, who withdraws.
+pub const WITHDRAWAL: &str = "0,withdraw,1";
+
+/// The amendment of a record, made again where memory was refused.
+fn amendment(rt: &impl Abort, alloc: Global, record: &str) -> Stamped {
+    match stamped(alloc, record) {
+        Ok(amendment) => amendment,
+        Err(_) => stamped(alloc, record).expect(rt, "an amendment"),
     }
 }
 
-/// Sees that the clearing stands as it was opened, and enters the newcomer again.
-fn enter_again(rt: &impl Abort, alloc: Global, clearing: &mut Clearing) -> Result<(), AllocError> {
+/// Sees that the clearing stands as it was opened, and amends it again.
+fn amend_again(
+    rt: &impl Abort,
+    alloc: Global,
+    clearing: &mut Clearing,
+    record: &str,
+) -> Result<(), AllocError> {
     assert_eq!(rt; clearing.proposals_last(), 2);
     let kept = standing(alloc, clearing)?;
     assert_eq!(rt; kept.as_str(), "1:10 2:20 |");
-    assert!(rt; clearing.amend(entry(rt, alloc)) == Ok(()));
+    assert!(rt; clearing.amend(amendment(rt, alloc, record)) == Ok(()));
     Ok(())
 }
 
-/// Enters the newcomer, a second time where memory is refused.
-fn enter(rt: &impl Abort, alloc: Global, clearing: &mut Clearing) -> Result<String, AllocError> {
-    if let Err(refusal) = clearing.amend(entry(rt, alloc)) {
+/// Amends the clearing, a second time where memory is refused.
+fn amend_once(
+    rt: &impl Abort,
+    alloc: Global,
+    clearing: &mut Clearing,
+    record: &str,
+) -> Result<String, AllocError> {
+    if let Err(refusal) = clearing.amend(amendment(rt, alloc, record)) {
         assert_eq!(rt; refusal, Refusal::OutOfMemory);
-        enter_again(rt, alloc, clearing)?;
+        amend_again(rt, alloc, clearing, record)?;
     }
     standing(alloc, clearing)
 }
 
 /// Amends a clearing, which ends here.
-fn amend_opened(rt: &impl Abort, alloc: Global, clearing: Clearing) -> Result<String, AllocError> {
+fn amend_opened(
+    rt: &impl Abort,
+    alloc: Global,
+    clearing: Clearing,
+    record: &str,
+) -> Result<String, AllocError> {
     let mut clearing = clearing;
-    let left = enter(rt, alloc, &mut clearing);
+    let left = amend_once(rt, alloc, &mut clearing, record);
     drop(clearing);
     left
 }
 
-pub fn amended(rt: &impl Abort, alloc: Global) -> Result<String, AllocError> {
+pub fn amended(rt: &impl Abort, alloc: Global, record: &str) -> Result<String, AllocError> {
     let papers = papers_of_b(rt, alloc);
     match Clearing::open(alloc, papers) {
-        Ok(clearing) => amend_opened(rt, alloc, clearing),
+        Ok(clearing) => amend_opened(rt, alloc, clearing, record),
         Err(_refused) => Err(AllocError),
     }
 }
@@ -98,13 +119,18 @@ fn amend(rt: HostRuntime) {
     expect(&rt, rt.alloc(), Call::Amend, want);
 }
 
+#[test]
+fn withdraw(rt: HostRuntime) {
+    expect(&rt, rt.alloc(), Call::Withdraw, "2:20 |");
+}
+
 /// Enters the newcomer into papers that are not settled, a second time where memory is refused, after which
 /// no amendment was accepted yet.
 fn enter_unsettled(rt: &impl Abort, alloc: Global, unsettled: &mut Unsettled) {
-    if let Err(refusal) = unsettled.amend(entry(rt, alloc)) {
+    if let Err(refusal) = unsettled.amend(amendment(rt, alloc, ENTRY)) {
         assert_eq!(rt; refusal, Refusal::OutOfMemory);
         assert_eq!(rt; unsettled.accepted().get(), 0);
-        assert!(rt; unsettled.amend(entry(rt, alloc)) == Ok(()));
+        assert!(rt; unsettled.amend(amendment(rt, alloc, ENTRY)) == Ok(()));
     }
 }
 

@@ -12,6 +12,7 @@ use std::process::Abort;
 pub enum Call {
     Open,
     Amend,
+    Withdraw,
     AmendUnsettled,
     PapersOf,
     ReadScript,
@@ -38,7 +39,8 @@ pub enum Call {
 fn attempt(rt: &impl Abort, alloc: Global, call: Call) -> Result<String, AllocError> {
     match call {
         Call::Open => libraries::opened(rt, alloc),
-        Call::Amend => libraries::amended(rt, alloc),
+        Call::Amend => libraries::amended(rt, alloc, libraries::ENTRY),
+        Call::Withdraw => libraries::amended(rt, alloc, libraries::WITHDRAWAL),
         Call::AmendUnsettled => libraries::amended_unsettled(rt, alloc),
         Call::PapersOf => libraries::papers_read(rt, alloc),
         Call::ReadScript => libraries::script_read(rt, alloc),

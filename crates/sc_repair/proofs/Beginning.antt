@@ -30,7 +30,7 @@ use Rattle.sc_repair.proofs.Parts.{next-inside, part-inside}
 use Rattle.sc_repair.proofs.Resumption.{any-turned, stands-among, students-next}
 
 -- the first students are those of the papers cut there
-students-first : (m : Market) (k : ℕ) → take k (students_of m) ≡ students_of (cut m k)
+pub students-first : (m : Market) (k : ℕ) → take k (students_of m) ≡ students_of (cut m k)
 unfolding cut
 students-first m k = take-map (λ (e : ℕ × Student). e.0) k m.students
 

@@ -1,18 +1,21 @@
--- All have had their turn: the segments are those of the new papers, and every place and proposal is told.
-use Rattle.std.proofs.Common.{◌≡◌, inl, inr, ap, sym, subst, subst₂, ◌∙◌, ℕ, ◌+◌, ◌≤◌, Bool, false, not, ◌&&◌, List, ◌++◌, length, take, drop, is_some, append-nil, arith}
-use Rattle.std.proofs.lemmas.Bool.{cases_Bool, cond-true, cond-false, and_left}
-use Rattle.std.proofs.lemmas.List.{drop_all, drop-map, length-map, take_all, take-map}
+-- All up to an end of the order of entry have had their turn: the segments are those of the papers cut there, and every
+-- place and proposal is told.
+use Rattle.std.proofs.Common.{◌≡◌, inl, inr, refl, ap, sym, subst, ◌∙◌, ℕ, zero, suc, ◌+◌, ◌≤◌, ◌==◌, Bool, true, false, not, ◌&&◌, ◌||◌, List, [], ◌∷◌, ◌++◌, length, take, drop, is_some, append-nil, arith}
+use Rattle.std.specs.List.{list_any}
+use Rattle.std.proofs.lemmas.Bool.{cases_Bool, cond-true, cond-false, and_left, false≢true}
+use Rattle.std.proofs.lemmas.List.{drop_all, drop-map, length-map, take-map}
 use Rattle.sc_papers.specs.Log.{matching_of, next_choice}
 use Rattle.sc_papers.specs.Market.{Market, students_of}
 use Rattle.sc_papers.specs.Matching.{how_many, Matching, IsStudentOptimal}
-use Rattle.sc_papers.specs.Restriction.{cut, joined, restricted, outside, AreApart, IsSegmented}
+use Rattle.sc_papers.specs.Restriction.{cut, is_among_first, joined, restricted, outside, AreApart, IsSegmented}
 use Rattle.sc_papers.specs.WellFormed.{WellFormed}
 use Rattle.sc_papers.specs.declared.rejection.Rejection.{Rejection}
-use Rattle.sc_papers.proofs.Cutting.{segments-settled}
+use Rattle.sc_papers.proofs.Cutting.{cut-cut, cut-restricted, segments-settled}
 use Rattle.sc_papers.proofs.Locality.{optimal-outside}
 use Rattle.sc_papers.proofs.Optimality.{settled-optimal}
-use Rattle.sc_papers.proofs.Restriction.{next-dropped, restricted-restricts}
+use Rattle.sc_papers.proofs.Restriction.{counts-restricted, next-dropped, restricted-restricts}
 use Rattle.sc_papers.proofs.Students.{how_many-agree}
+use Rattle.sc_papers.proofs.Subsets.{well-cut}
 use Rattle.sc_checkpoint.specs.Chains.{logs_in, students_in, Chain}
 use Rattle.sc_engine.specs.RoundView.{RoundView, has_entered, next_of, standing_but}
 use Rattle.sc_engine.proofs.Proposals.{stays}
@@ -24,35 +27,81 @@ use Rattle.sc_weave.proofs.Undoing.{woven-parts}
 use Rattle.sc_weave.proofs.Woven.{woven-segmented}
 use Rattle.sc_repair.specs.Course.{either_by, log_of, placed_before, placed_of, GoesOnInside}
 use Rattle.sc_repair.specs.Locality.{chains_of, ChangesInside}
+use Rattle.sc_repair.proofs.Beginning.{students-first}
 use Rattle.sc_repair.proofs.Chains.{log-parts, part-chains}
 use Rattle.sc_repair.proofs.Course.{entered-inside}
 use Rattle.sc_repair.proofs.Parts.{next-inside}
-use Rattle.sc_repair.proofs.Resumption.{length-students, whole-cut}
+
+-- the students of papers cut at an end
+first-most : (k : ℕ) (xs : List ℕ) → length (take k xs) ≤ k
+first-most zero xs = omega arith
+first-most (suc k) [] = omega arith
+first-most (suc k) (x ∷ xs) = omega (arith, first-most k xs)
+
+pub cut-most : (m : Market) (k : ℕ) → length (students_of (cut m k)) ≤ k
+cut-most m k = omega (arith, first-most k (students_of m), ap (λ (xs : List ℕ). length xs) (students-first m k))
+
+-- who is among the first few is among the first
+any-first : (test : ℕ → Bool) (j k : ℕ) (xs : List ℕ) → j ≤ k → list_any test (take j xs) ≡ true → list_any test (take k xs) ≡ true
+any-first test zero k xs low here = absurd (false≢true here)
+any-first test (suc j) zero xs low here = absurd (omega (arith, low))
+any-first test (suc j) (suc k) [] low here = absurd (false≢true here)
+any-first test (suc j) (suc k) (x ∷ xs) low here = go (test x) here (any-first test j k xs (omega (arith, low)))
+  where
+    go : (b : Bool) → (b || list_any test (take j xs)) ≡ true → (list_any test (take j xs) ≡ true → list_any test (take k xs) ≡ true) → (b || list_any test (take k xs)) ≡ true
+    go true there rest = refl
+    go false there rest = rest there
+
+-- whoever a log of papers cut at an end gives a place is among the first
+placed-first : (m : Market) (j k : ℕ) (log : List Rejection) (i : ℕ) → WellFormed m → j ≤ k → is_some (next_choice (cut m j) log i) ≡ true → is_among_first m k i ≡ true
+placed-first m j k log i well low placed =
+    any-first (λ x. x == i) j k (students_of m) low
+    (elim (cases_Bool (is_among_first m j i)) [
+      | inl first ↦ first
+      | inr later ↦
+          absurd (false≢true (sym (ap is_some (ap (λ n. next_choice n log i) (cut-restricted m j well) ∙ next-dropped (restricted-restricts m (is_among_first m j)) log i later)) ∙ placed))
+    ])
+
+-- so they are counted alike in all papers and in those cut at the end
+placed-cut : (m : Market) (k : ℕ) (test : ℕ → Bool) (a : Matching) → WellFormed m → ((i : ℕ) → is_some (a i) ≡ true → is_among_first m k i ≡ true) → placed_of (cut m k) test a ≡ placed_of m test a
+placed-cut m k test a well first =
+    ap (λ n. placed_of n test a) (cut-restricted m k well)
+    ∙ counts-restricted m (is_among_first m k) (λ i. test i && is_some (a i))
+    ∙ how_many-agree m (λ i. is_among_first m k i && (test i && is_some (a i))) (λ i. test i && is_some (a i))
+    (λ i. same (is_among_first m k i) (test i) (is_some (a i)) (first i))
+  where
+    same : (f t p : Bool) → (p ≡ true → f ≡ true) → (f && (t && p)) ≡ (t && p)
+    same true t p within = refl
+    same false true true within = within refl
+    same false true false within = refl
+    same false false p within = refl
 
 -- in the end each student has a chain
-pub theirs-end : (n : Market) (test : ℕ → Bool) (old : List Chain) (point gap : ℕ) (r : RoundView) (chains : List Chain) → GoesOnInside n test old point gap r chains (length n.students) → students_in chains ≡ students_of n
-theirs-end n test old point gap r chains on = on.theirs ∙ take_all (length n.students) (students_of n) (omega (arith, length-students n))
+pub theirs-end : (p : Market) (test : ℕ → Bool) (old : List Chain) (point gap : ℕ) (r : RoundView) (chains : List Chain) (end : ℕ) → GoesOnInside p test old point gap r chains end → students_in chains ≡ students_of (cut p end)
+theirs-end p test old point gap r chains end on = on.theirs ∙ students-first p end
 
 -- and no old chain is left
-others-end : (m n : Market) (test : ℕ → Bool) (old : List Chain) (point gap : ℕ) (r : RoundView) (chains : List Chain) → ChangesInside m n test point gap → students_in old ≡ students_of m → GoesOnInside n test old point gap r chains (length n.students)
+others-end : (m p : Market) (test : ℕ → Bool) (old : List Chain) (point gap : ℕ) (r : RoundView) (chains : List Chain) (end : ℕ)
+    → ChangesInside m (cut p end) test point gap → students_in old ≡ students_of m → GoesOnInside p test old point gap r chains end
     → chains_of (outside test) chains ≡ chains_of (outside test) old
-others-end m n test old point gap r chains changes theirs on =
-    let low : length old ≤ length n.students + gap =
-    omega (arith, changes.in_step.end, length-students n, length-map old (λ (c : Chain). c.student), ap (λ (xs : List ℕ). length xs) theirs) in
-    sym (append-nil (chains_of (outside test) chains)) ∙ ap (λ cs. chains_of (outside test) chains ++ chains_of (outside test) cs) (sym (drop_all (length n.students + gap) old low)) ∙ on.others
+others-end m p test old point gap r chains end changes theirs on =
+    let low : length old ≤ end + gap =
+    omega (arith, changes.in_step.end, cut-most p end, length-map old (λ (c : Chain). c.student), ap (λ (xs : List ℕ). length xs) theirs) in
+    sym (append-nil (chains_of (outside test) chains)) ∙ ap (λ cs. chains_of (outside test) chains ++ chains_of (outside test) cs) (sym (drop_all (end + gap) old low)) ∙ on.others
 
 -- the segments of those who pass and of the others are woven into those of all
-pub segments-end : (m n : Market) (test : ℕ → Bool) (old : List Chain) (point gap : ℕ) (r : RoundView) (chains : List Chain)
-    → WellFormed m → ChangesInside m n test point gap → students_in old ≡ students_of m → IsSegmented m (logs_in old) → GoesOnInside n test old point gap r chains (length n.students)
-    → IsSegmented n (logs_in chains)
-segments-end m n test old point gap r chains well changes theirs segmented on =
-    let own = theirs-end n test old point gap r chains on in
+pub segments-end : (m p : Market) (test : ℕ → Bool) (old : List Chain) (point gap : ℕ) (r : RoundView) (chains : List Chain) (end : ℕ)
+    → WellFormed m → ChangesInside m (cut p end) test point gap → students_in old ≡ students_of m → IsSegmented m (logs_in old) → GoesOnInside p test old point gap r chains end
+    → IsSegmented (cut p end) (logs_in chains)
+segments-end m p test old point gap r chains end well changes theirs segmented on =
+    let n = cut p end in
+    let own = theirs-end p test old point gap r chains end on in
     let inside : IsSegmented (restricted n test) (part_of (students_of n) test (logs_in chains)) =
-    subst₂ IsSegmented (ap (λ p. restricted p test) (whole-cut n)) (sym (part-chains test chains) ∙ ap (λ is. part_of is test (logs_in chains)) own) on.segmented in
+    subst (IsSegmented (restricted n test)) (sym (part-chains test chains) ∙ ap (λ is. part_of is test (logs_in chains)) own) on.segmented in
     let rest : IsSegmented (restricted n (outside test)) (part_of (students_of n) (outside test) (logs_in chains)) =
     subst (IsSegmented (restricted n (outside test)))
     (ap (λ is. part_of is (outside test) (logs_in old)) (sym theirs) ∙ part-chains (outside test) old
-    ∙ ap logs_in (sym (others-end m n test old point gap r chains changes theirs on))
+    ∙ ap logs_in (sym (others-end m p test old point gap r chains end changes theirs on))
     ∙ sym (part-chains (outside test) chains) ∙ ap (λ is. part_of is (outside test) (logs_in chains)) own)
     (rest-segmented m n test (part_of (students_of m) (outside test) (logs_in old)) well changes.outside
     (part-segmented m (outside test) (logs_in old) well (apart-outside m test changes.apart_before) segmented)) in
@@ -62,38 +111,40 @@ segments-end m n test old point gap r chains well changes theirs segmented on =
     (woven-segmented n test (part_of (students_of n) test (logs_in chains)) (part_of (students_of n) (outside test) (logs_in chains)) changes.well_formed changes.apart inside rest)
 
 -- those who pass stand at their next choices, and nobody else stands in the round
-next-end : (n : Market) (test : ℕ → Bool) (old : List Chain) (point gap : ℕ) (r : RoundView) (chains : List Chain) → GoesOnInside n test old point gap r chains (length n.students)
-    → (i : ℕ) → next_of n r.ranks i ≡ next_choice (restricted n test) (log_of test chains) i
-next-end n test old point gap r chains on i =
+next-end : (p : Market) (test : ℕ → Bool) (old : List Chain) (point gap : ℕ) (r : RoundView) (chains : List Chain) (end : ℕ) → GoesOnInside p test old point gap r chains end
+    → (i : ℕ) → next_of p r.ranks i ≡ next_choice (restricted (cut p end) test) (log_of test chains) i
+next-end p test old point gap r chains end on i =
     sym (on.continues.next i)
-    ∙ ap (λ p. next_choice p (log_of test (take point old) ++ r.log) i) (entered-inside n test (has_entered n r.ranks) (length n.students) on.fits.well_formed on.entered ∙ ap (λ p. restricted p test) (whole-cut n))
-    ∙ ap (λ l. next_choice (restricted n test) l i) (sym (log-parts test point chains ∙ (λ t. log_of test (on.stays t) ++ on.log t)))
+    ∙ ap (λ n. next_choice n (log_of test (take point old) ++ r.log) i) (entered-inside p test (has_entered p r.ranks) end on.fits.well_formed on.entered)
+    ∙ ap (λ l. next_choice (restricted (cut p end) test) l i) (sym (log-parts test point chains ∙ (λ t. log_of test (on.stays t) ++ on.log t)))
 
 -- so everybody has what the whole log gives
-pub matching-end : (m n : Market) (test : ℕ → Bool) (old : List Chain) (point gap : ℕ) (r : RoundView) (chains : List Chain) (places : Matching)
-    → WellFormed m → ChangesInside m n test point gap → IsStudentOptimal m places → IsSegmented n (logs_in chains) → GoesOnInside n test old point gap r chains (length n.students)
-    → (i : ℕ) → either_by test (next_of n r.ranks) places i ≡ next_choice n (joined (logs_in chains)) i
-matching-end m n test old point gap r chains places well changes optimal segmented on i =
+pub matching-end : (m p : Market) (test : ℕ → Bool) (old : List Chain) (point gap : ℕ) (r : RoundView) (chains : List Chain) (end : ℕ) (places : Matching)
+    → WellFormed m → ChangesInside m (cut p end) test point gap → IsStudentOptimal m places → IsSegmented (cut p end) (logs_in chains) → GoesOnInside p test old point gap r chains end
+    → (i : ℕ) → either_by test (next_of p r.ranks) places i ≡ next_choice (cut p end) (joined (logs_in chains)) i
+matching-end m p test old point gap r chains end places well changes optimal segmented on i =
+    let n = cut p end in
     elim (cases_Bool (test i)) [
       | inl passes ↦
-          cond-true (test i) (next_of n r.ranks i) (places i) passes ∙ next-end n test old point gap r chains on i
-          ∙ next-inside n test chains i changes.well_formed changes.apart (theirs-end n test old point gap r chains on) segmented passes
+          cond-true (test i) (next_of p r.ranks i) (places i) passes ∙ next-end p test old point gap r chains end on i
+          ∙ next-inside n test chains i changes.well_formed changes.apart (theirs-end p test old point gap r chains end on) segmented passes
       | inr fails ↦
-          cond-false (test i) (next_of n r.ranks i) (places i) fails
+          cond-false (test i) (next_of p r.ranks i) (places i) fails
           ∙ optimal-outside m n test places (matching_of n (joined (logs_in chains))) well changes.well_formed changes.apart_before changes.apart changes.outside optimal
           (settled-optimal n changes.well_formed (joined (logs_in chains)) (segments-settled n (logs_in chains) segmented)) i fails
     ]
 
 -- of those who stand in the round, each passes and has a place
-standing-end : (n : Market) (test : ℕ → Bool) (old : List Chain) (point gap : ℕ) (r : RoundView) (chains : List Chain) (given : Matching)
-    → AreApart n test → IsSegmented n (logs_in chains) → GoesOnInside n test old point gap r chains (length n.students)
-    → ((i : ℕ) → given i ≡ next_choice n (joined (logs_in chains)) i)
-    → (i : ℕ) → (is_some (next_of n r.ranks i) && not false) ≡ (test i && is_some (given i))
-standing-end n test old point gap r chains given apart segmented on is i =
-    stays (is_some (next_of n r.ranks i)) ∙ ap is_some (next-end n test old point gap r chains on i)
+standing-end : (p : Market) (test : ℕ → Bool) (old : List Chain) (point gap : ℕ) (r : RoundView) (chains : List Chain) (end : ℕ) (given : Matching)
+    → AreApart (cut p end) test → IsSegmented (cut p end) (logs_in chains) → GoesOnInside p test old point gap r chains end
+    → ((i : ℕ) → given i ≡ next_choice (cut p end) (joined (logs_in chains)) i)
+    → (i : ℕ) → (is_some (next_of p r.ranks i) && not false) ≡ (test i && is_some (given i))
+standing-end p test old point gap r chains end given apart segmented on is i =
+    let n = cut p end in
+    stays (is_some (next_of p r.ranks i)) ∙ ap is_some (next-end p test old point gap r chains end on i)
     ∙ elim (cases_Bool (test i)) [
       | inl passes ↦
-          ap is_some (next-inside n test chains i on.fits.well_formed apart (theirs-end n test old point gap r chains on) segmented passes ∙ sym (is i))
+          ap is_some (next-inside n test chains i (well-cut p end on.fits.well_formed) apart (theirs-end p test old point gap r chains end on) segmented passes ∙ sym (is i))
           ∙ ap (λ b. b && is_some (given i)) (sym passes)
       | inr fails ↦
           ap is_some (next-dropped (restricted-restricts n test) (log_of test chains) i fails) ∙ sym (and_left (test i) (is_some (given i)) fails)
@@ -108,16 +159,21 @@ part-end test chains students point theirs =
     )
 
 -- and every proposal is counted
-pub proposals-end : (n : Market) (test : ℕ → Bool) (old : List Chain) (point gap : ℕ) (r : RoundView) (chains : List Chain) (given : Matching)
-    → AreApart n test → IsSegmented n (logs_in chains) → GoesOnInside n test old point gap r chains (length n.students)
-    → ((i : ℕ) → given i ≡ next_choice n (joined (logs_in chains)) i)
-    → r.proposals + placed_of n test (matching_of (cut n point) (joined (take point (logs_in chains)))) ≡ length (joined (part_of (drop point (students_of n)) test (drop point (logs_in chains)))) + placed_of n test given
+pub proposals-end : (p : Market) (test : ℕ → Bool) (old : List Chain) (point gap : ℕ) (r : RoundView) (chains : List Chain) (end : ℕ) (given : Matching)
+    → AreApart (cut p end) test → point ≤ end → IsSegmented (cut p end) (logs_in chains) → GoesOnInside p test old point gap r chains end
+    → ((i : ℕ) → given i ≡ next_choice (cut p end) (joined (logs_in chains)) i)
+    → r.proposals + placed_of (cut p end) test (matching_of (cut (cut p end) point) (joined (take point (logs_in chains))))
+    ≡ length (joined (part_of (drop point (students_of (cut p end))) test (drop point (logs_in chains)))) + placed_of (cut p end) test given
 unfolding standing_but
-proposals-end n test old point gap r chains given apart segmented on is =
-    let standing : how_many n (λ i. is_some (next_of n r.ranks i) && not false) ≡ placed_of n test given =
-    how_many-agree n (λ i. is_some (next_of n r.ranks i) && not false) (λ i. test i && is_some (given i)) (standing-end n test old point gap r chains given apart segmented on is) in
-    let before : placed_of n test (matching_of (cut n point) (joined (take point (logs_in chains)))) ≡ placed_before n test old point =
-    ap (λ ls. placed_of n test (matching_of (cut n point) (joined ls)))
+proposals-end p test old point gap r chains end given apart low segmented on is =
+    let well = on.fits.well_formed in
+    let standing : how_many p (λ i. is_some (next_of p r.ranks i) && not false) ≡ placed_of (cut p end) test given =
+    how_many-agree p (λ i. is_some (next_of p r.ranks i) && not false) (λ i. test i && is_some (given i)) (standing-end p test old point gap r chains end given apart segmented on is)
+    ∙ sym (placed-cut p end test given well (λ i some. placed-first p end end (joined (logs_in chains)) i well (omega arith) (ap is_some (sym (is i)) ∙ some))) in
+    let before : placed_of (cut p end) test (matching_of (cut (cut p end) point) (joined (take point (logs_in chains)))) ≡ placed_before p test old point =
+    ap (λ n. placed_of (cut p end) test (matching_of n (joined (take point (logs_in chains))))) (cut-cut p point end low)
+    ∙ placed-cut p end test (matching_of (cut p point) (joined (take point (logs_in chains)))) well (λ i some. placed-first p point end (joined (take point (logs_in chains))) i well low some)
+    ∙ ap (λ ls. placed_of p test (matching_of (cut p point) (joined ls)))
     (take-map (λ (c : Chain). c.rejections) point chains ∙ ap logs_in on.stays ∙ sym (take-map (λ (c : Chain). c.rejections) point old)) in
-    let log = ap (λ (l : List Rejection). length l) (part-end test chains (students_of n) point (theirs-end n test old point gap r chains on) ∙ on.log) in
+    let log = ap (λ (l : List Rejection). length l) (part-end test chains (students_of (cut p end)) point (theirs-end p test old point gap r chains end on) ∙ on.log) in
     omega (arith, on.counted, standing, before, log)

@@ -178,27 +178,10 @@ changes-in-place m a test no_entry no_withdrawal well allowed tells =
     let none : length (students_of m) - length (students_of (after m a)) ≡ 0 = omega (arith, ap (λ (xs : List ℕ). length xs) (students-stay m a no_entry no_withdrawal)) in
     subst (ChangesInside m (after m a) test (rewind_point m a)) none (changes-inside m a test well allowed tells)
 
--- who is there after an amendment by which nobody enters was there before
-pub none-new : (m n : Market) (a : Amendment) (chains : List Chain) → newcomer a ≡ None → is_withdrawal a ≡ false → n ≡ after m a → students_in chains ≡ students_of m → length n.students + 0 ≤ length chains
+-- who is there after an amendment by which nobody enters or withdraws was there before
+pub none-new : (m n : Market) (a : Amendment) (chains : List Chain) → newcomer a ≡ None → is_withdrawal a ≡ false → n ≡ after m a → students_in chains ≡ students_of m → length n.students ≡ length chains
 none-new m n a chains no_entry no_withdrawal is theirs =
     omega (arith, ap (λ (xs : List ℕ). length xs) (ap students_of is ∙ students-stay m a no_entry no_withdrawal ∙ sym theirs), length-students n, length-map chains (λ (c : Chain). c.student))
-
-withdrawn-fewer : (m : Market) (a : Amendment) → is_withdrawal a ≡ true → length (students_of (after m a)) ≤ length (students_of m)
-withdrawn-fewer m (Enter i zone siblings choices continuing) is = absurd (true≢false (sym is))
-withdrawn-fewer m (Withdraw i) is =
-    elim (removed-or_same i m.students) [
-      | inl same ↦ omega (arith, ap (λ (es : List (ℕ × Student)). length (keys_of es)) same)
-      | inr less ↦ omega (arith, less, length-map m.students (λ (e : ℕ × Student). e.0), length-map (remove_entry (nat_eq i) m.students) (λ (e : ℕ × Student). e.0))
-    ]
-withdrawn-fewer m (Rerank i choices) is = absurd (true≢false (sym is))
-withdrawn-fewer m (Add s count) is = absurd (true≢false (sym is))
-withdrawn-fewer m (Close s count) is = absurd (true≢false (sym is))
-withdrawn-fewer m (Correct i zone siblings continuing) is = absurd (true≢false (sym is))
-
-pub none-new_left : (m n : Market) (a : Amendment) (chains : List Chain) (gap : ℕ) → is_withdrawal a ≡ true → n ≡ after m a → students_in chains ≡ students_of m → length (students_of m) - length (students_of n) ≡ gap
-    → length n.students + gap ≤ length chains
-none-new_left m n a chains gap withdrawn is theirs count =
-    omega (arith, count, withdrawn-fewer m a withdrawn, ap (λ (k : Market). length (students_of k)) is, ap (λ (xs : List ℕ). length xs) theirs, length-students n, length-map chains (λ (c : Chain). c.student))
 
 -- nobody enters by a withdrawal
 pub withdrawn-none : (a : Amendment) → is_withdrawal a ≡ true → newcomer a ≡ None

@@ -17,3 +17,4 @@ pub mod Entry
 pub mod Told
 pub mod Newcomer
 pub mod Admitted
+pub mod Changed

@@ -1,8 +1,7 @@
 -- A clearing whose papers change inside a region: what its settling needs, and what it comes to.
-use Rattle.std.proofs.Common.{◌≡◌, ◌⊎◌, inl, inr, refl, ap, sym, subst, ◌∙◌, ℕ, zero, suc, ◌+◌, ◌≤◌, ◌<◌, nat_eq, Bool, true, false, List, ◌++◌, length, take, drop, Option, Some, None, slice_get, arith}
+use Rattle.std.proofs.Common.{◌≡◌, ◌⊎◌, inl, inr, refl, ap, sym, subst, ◌∙◌, ℕ, zero, suc, ◌+◌, ◌-◌, ◌≤◌, ◌<◌, nat_eq, Bool, true, false, List, [], ◌∷◌, ◌++◌, length, take, drop, Option, Some, None, slice_get, arith}
 use Rattle.std.specs.List.{IsDistinct}
-use Rattle.std.proofs.lemmas.List.{length-map, take-append-drop, take-map}
-use Rattle.std.proofs.lemmas.Option.{slice_get_within}
+use Rattle.std.proofs.lemmas.List.{length-map, take-append-drop, take-map, take-take}
 use Rattle.std.proofs.lemmas.List.Elements.{filter-append}
 use Rattle.sc_papers.specs.Assignment.{assigned}
 use Rattle.sc_papers.specs.Log.{next_choice}
@@ -11,6 +10,7 @@ use Rattle.sc_papers.specs.Matching.{IsStudentOptimal}
 use Rattle.sc_papers.specs.Restriction.{cut, joined, outside, IsSegmented}
 use Rattle.sc_papers.specs.WellFormed.{WellFormed}
 use Rattle.sc_papers.proofs.Choices.{places-end}
+use Rattle.sc_papers.proofs.Cutting.{cut-cut}
 use Rattle.sc_papers.proofs.Locality.{optimal-outside}
 use Rattle.sc_checkpoint.specs.Chains.{logs_in, students_in, Chain}
 use Rattle.sc_engine.specs.RoundView.{RoundView, next_of}
@@ -18,12 +18,23 @@ use Rattle.sc_repair.specs.Changed.{HaveChanged}
 use Rattle.sc_repair.specs.Course.{either_by, GoesOnInside, InStep}
 use Rattle.sc_repair.specs.Locality.{chains_of, ChangesInside}
 use Rattle.sc_repair.specs.Standing.{Standing, CountsInside, IsCertified}
+use Rattle.sc_repair.proofs.Beginning.{students-first}
 use Rattle.sc_repair.proofs.Chains.{drop-past}
 use Rattle.sc_repair.proofs.Course.{others-past}
-use Rattle.sc_repair.proofs.Ending.{matching-end, proposals-end, segments-end, theirs-end}
+use Rattle.sc_repair.proofs.Ending.{cut-most, matching-end, proposals-end, segments-end, theirs-end}
 use Rattle.sc_repair.proofs.Kept.{certified-of, count-kept, logs-kept, theirs-kept}
 use Rattle.sc_repair.proofs.Resumption.{length-students}
 use Rattle.sc_repair.proofs.Rewinding.{segments-rewound}
+
+-- a student before the end of papers that are cut there
+slice-first : (k : ℕ) (xs : List ℕ) (at : ℕ) → at < k → slice_get (take k xs) at ≡ slice_get xs at
+slice-first zero xs at low = absurd (omega (arith, low))
+slice-first (suc k) [] at low = refl
+slice-first (suc k) (x ∷ xs) zero low = refl
+slice-first (suc k) (x ∷ xs) (suc at) low = slice-first k xs at (omega (arith, low))
+
+pub student-first : (p : Market) (end position i : ℕ) → position < end → slice_get (students_of p) position ≡ Some i → slice_get (students_of (cut p end)) position ≡ Some i
+student-first p end position i low here = ap (λ xs. slice_get xs position) (sym (students-first p end)) ∙ slice-first end (students_of p) position low ∙ here
 
 -- the old chains are in step
 pub chains-step : (m n : Market) (test : ℕ → Bool) (old : List Chain) (point gap k : ℕ) → ChangesInside m n test point gap → students_in old ≡ students_of m → k ≡ point
@@ -77,41 +88,55 @@ pub record Comes (m n : Market) (test : ℕ → Bool) (point : ℕ) (old : List 
   pub others : (i : ℕ) → test i ≡ false → assigned new.places i ≡ assigned old i
   pub proposals : CountsInside test point new
 
-pub comes : (m n : Market) (test : ℕ → Bool) (old : List Chain) (point gap k : ℕ) (r : RoundView) (chains : List Chain) (before after : List (ℕ × ℕ)) (proposals : ℕ)
-    → WellFormed m → ChangesInside m n test point gap → students_in old ≡ students_of m → IsSegmented m (logs_in old) → IsStudentOptimal m (assigned before) → k ≡ point
-    → GoesOnInside n test old k gap r chains (length n.students) → ((i : ℕ) → assigned after i ≡ either_by test (next_of n r.ranks) (assigned before) i) → proposals ≡ r.proposals
-    → Comes m n test point before (record { papers = n; places = after; segments = logs_in chains; proposals = proposals })
-comes m n test old point gap k r chains before after proposals well changes theirs segmented optimal count on given made =
-    let going = subst (λ j. GoesOnInside n test old j gap r chains (length n.students)) count on in
-    let new : IsSegmented n (logs_in chains) = segments-end m n test old point gap r chains well changes theirs segmented going in
+pub comes : (m p : Market) (test : ℕ → Bool) (old : List Chain) (point gap k : ℕ) (r : RoundView) (chains : List Chain) (end : ℕ) (before after : List (ℕ × ℕ)) (proposals : ℕ)
+    → WellFormed m → ChangesInside m (cut p end) test point gap → students_in old ≡ students_of m → IsSegmented m (logs_in old) → IsStudentOptimal m (assigned before) → k ≡ point
+    → GoesOnInside p test old k gap r chains end → ((i : ℕ) → assigned after i ≡ either_by test (next_of p r.ranks) (assigned before) i) → proposals ≡ r.proposals
+    → Comes m (cut p end) test point before (record { papers = cut p end; places = after; segments = logs_in chains; proposals = proposals })
+comes m p test old point gap k r chains end before after proposals well changes theirs segmented optimal count on given made =
+    let n = cut p end in
+    let low : point ≤ end = omega (arith, changes.within_new, length-students n, cut-most p end) in
+    let going = subst (λ j. GoesOnInside p test old j gap r chains end) count on in
+    let new : IsSegmented n (logs_in chains) = segments-end m p test old point gap r chains end well changes theirs segmented going in
     let matching : (i : ℕ) → assigned after i ≡ next_choice n (joined (logs_in chains)) i =
-    λ i. given i ∙ matching-end m n test old point gap r chains (assigned before) well changes optimal new going i in
+    λ i. given i ∙ matching-end m p test old point gap r chains end (assigned before) well changes optimal new going i in
     let certified = certified-of n after (logs_in chains) proposals changes.well_formed new matching in
     record {
       certified = certified;
       others = λ i fails. sym (optimal-outside m n test (assigned before) (assigned after) well changes.well_formed changes.apart_before changes.apart changes.outside optimal certified.optimal i fails);
       proposals =
-          let counted = proposals-end n test old point gap r chains (assigned after) changes.apart new going matching in
+          let counted = proposals-end p test old point gap r chains end (assigned after) changes.apart low new going matching in
           omega (arith, counted, made);
     }
 
--- the same of papers that have changed under a standing, whose first chains are kept
-module _ (n : Market) (places : List (ℕ × ℕ)) (old kept : List Chain) (test : ℕ → Bool) (point gap : ℕ) (changed : HaveChanged n places old test point gap) (is : kept ≡ take point old) where
-  count : length kept ≡ point
-  count = count-kept changed.before point old kept changed.stood.theirs changed.changes.within_old is
+-- the same of papers that have changed under a standing, whose first chains are kept; so many chains more than students were settled
+module _ (p : Market) (places : List (ℕ × ℕ)) (old kept : List Chain) (test : ℕ → Bool) (point end gap : ℕ) (changed : HaveChanged p places old test point end) (is : kept ≡ take point old) (left : gap ≡ length old - end) where
+  changes : ChangesInside changed.before (cut p end) test point gap
+  changes = subst (ChangesInside changed.before (cut p end) test point) (sym left) changed.changes
 
-  pub changed-step : (position i : ℕ) → length kept ≤ position → slice_get (students_of n) position ≡ Some i → slice_get (students_in old) (position + gap) ≡ Some i
-  changed-step position i from here =
-      elim (chains-step changed.before n test old point gap (length kept) changed.changes changed.stood.theirs count position i from here) [
+  count : length kept ≡ point
+  count = count-kept changed.before point old kept changed.stood.theirs changes.within_old is
+
+  low : point ≤ end
+  low = omega (arith, changes.within_new, length-students (cut p end), cut-most p end)
+
+  pub changed-low : length kept ≤ end
+  changed-low = omega (arith, count, low)
+
+  pub changed-gap : gap ≤ 1
+  changed-gap = changes.in_step.one_at_most
+
+  pub changed-step : (position i : ℕ) → length kept ≤ position → position < end → slice_get (students_of p) position ≡ Some i → slice_get (students_in old) (position + gap) ≡ Some i
+  changed-step position i from before here =
+      elim (chains-step changed.before (cut p end) test old point gap (length kept) changes changed.stood.theirs count position i from (student-first p end position i before here)) [
         | inl there ↦ there
         | inr (none, passes) ↦
             absurd (omega (
               arith,
               places-end (students_in old) (position + gap) none,
               length-map old (λ (c : Chain). c.student),
+              left,
               changed.nobody_new,
-              slice_get_within (students_of n) position i here,
-              length-students n,
+              before,
             ))
       ]
 
@@ -119,37 +144,40 @@ module _ (n : Market) (places : List (ℕ × ℕ)) (old kept : List Chain) (test
   changed-differ = subst (IsDistinct nat_eq) (sym changed.stood.theirs) changed.stood.well_formed.students_differ
 
   pub changed-within : length kept ≤ length old
-  changed-within =
-      omega (arith, count, changed.changes.within_old, length-map old (λ (c : Chain). c.student), ap (λ (xs : List ℕ). length xs) changed.stood.theirs, length-students changed.before)
+  changed-within = omega (arith, count, low, changed.nobody_new)
 
   pub changed-outside : chains_of (outside test) (take (length kept) old) ++ chains_of (outside test) (drop (length kept + gap) old) ≡ chains_of (outside test) old
-  changed-outside = chains-others changed.before n test old point gap (length kept) changed.changes changed.stood.theirs count
+  changed-outside = chains-others changed.before (cut p end) test old point gap (length kept) changes changed.stood.theirs count
 
   pub changed-first : kept ≡ take (length kept) old
   changed-first = is ∙ ap (λ k. take k old) (sym count)
 
-  pub changed-theirs : students_in kept ≡ take (length kept) (students_of n)
-  changed-theirs = theirs-kept changed.before n point old kept changed.changes.before changed.stood.theirs count is
+  pub changed-theirs : students_in kept ≡ take (length kept) (students_of p)
+  changed-theirs =
+      theirs-kept changed.before (cut p end) point old kept changes.before changed.stood.theirs count is
+      ∙ ap (take (length kept)) (sym (students-first p end)) ∙ take-take (length kept) end (students_of p) changed-low
 
-  pub changed-segmented : IsSegmented (cut n (length kept)) (logs_in kept)
-  changed-segmented = kept-segmented changed.before n test old kept point gap changed.changes changed.stood.segmented is count
+  pub changed-segmented : IsSegmented (cut p (length kept)) (logs_in kept)
+  changed-segmented =
+      subst (λ n. IsSegmented n (logs_in kept)) (cut-cut p (length kept) end changed-low)
+      (kept-segmented changed.before (cut p end) test old kept point gap changes changed.stood.segmented is count)
 
   -- what the settling leaves
   pub record Leaves (after : List (ℕ × ℕ)) (chains : List Chain) (made : ℕ) : Type 0 where
-    pub certified : IsCertified (record { papers = n; places = after; segments = logs_in chains; proposals = made })
-    pub theirs : students_in chains ≡ students_of n
+    pub certified : IsCertified (record { papers = cut p end; places = after; segments = logs_in chains; proposals = made })
+    pub theirs : students_in chains ≡ students_of (cut p end)
     pub stays : take point (logs_in chains) ≡ take point (logs_in old)
     pub others : (i : ℕ) → test i ≡ false → assigned after i ≡ assigned places i
-    pub proposals : CountsInside test point (record { papers = n; places = after; segments = logs_in chains; proposals = made })
+    pub proposals : CountsInside test point (record { papers = cut p end; places = after; segments = logs_in chains; proposals = made })
 
-  pub changed-leaves : (r : RoundView) (chains : List Chain) (after : List (ℕ × ℕ)) (proposals : ℕ) → GoesOnInside n test old (length kept) gap r chains (length n.students)
-      → ((i : ℕ) → assigned after i ≡ either_by test (next_of n r.ranks) (assigned places) i) → proposals ≡ r.proposals → Leaves after chains proposals
+  pub changed-leaves : (r : RoundView) (chains : List Chain) (after : List (ℕ × ℕ)) (proposals : ℕ) → GoesOnInside p test old (length kept) gap r chains end
+      → ((i : ℕ) → assigned after i ≡ either_by test (next_of p r.ranks) (assigned places) i) → proposals ≡ r.proposals → Leaves after chains proposals
   changed-leaves r chains after proposals on given made =
-      let come = comes changed.before n test old point gap (length kept) r chains places after proposals
-      changed.stood.well_formed changed.changes changed.stood.theirs changed.stood.segmented changed.stood.optimal count on given made in
+      let come = comes changed.before p test old point gap (length kept) r chains end places after proposals
+      changed.stood.well_formed changes changed.stood.theirs changed.stood.segmented changed.stood.optimal count on given made in
       record {
         certified = come.certified;
-        theirs = theirs-end n test old (length kept) gap r chains on;
+        theirs = theirs-end p test old (length kept) gap r chains end on;
         stays = segments-stay old chains point (length kept) count on.stays;
         others = come.others;
         proposals = come.proposals;

@@ -1,9 +1,9 @@
 -- Papers that changed inside a region under a standing, which is lent while they are settled anew.
-use Rattle.std.specs.Prelude.{◌≡◌, ℕ, ◌+◌, ◌≤◌, Bool, List, length}
+use Rattle.std.specs.Prelude.{◌≡◌, ℕ, ◌-◌, ◌≤◌, Bool, List, length}
 use Rattle.sc_papers.specs.Assignment.{assigned}
 use Rattle.sc_papers.specs.Market.{Market, students_of}
 use Rattle.sc_papers.specs.Matching.{IsStudentOptimal}
-use Rattle.sc_papers.specs.Restriction.{IsSegmented}
+use Rattle.sc_papers.specs.Restriction.{cut, AreApart, IsSegmented}
 use Rattle.sc_papers.specs.WellFormed.{WellFormed}
 use Rattle.sc_checkpoint.specs.Chains.{logs_in, students_in, Chain}
 use Rattle.sc_repair.specs.Locality.{ChangesInside}
@@ -16,13 +16,17 @@ pub record IsStandingOf (m : Market) (places : List (ℕ × ℕ)) (chains : List
   pub segmented : IsSegmented m (logs_in chains)
   pub optimal : IsStudentOptimal m (assigned places)
 
--- the papers changed among the students who pass and from a point on, nobody entered, and the places and the
--- chains are a standing of what they were before
-pub record HaveChanged (n : Market) (places : List (ℕ × ℕ)) (chains : List Chain) (test : ℕ → Bool) (point gap : ℕ) : Type 0 where
+-- papers changed among the students who pass and from a point on, and nobody entered: the places and the chains are a standing
+-- of what they were before, and these papers, cut at an end, are what they became; whoever comes after the end, as one does who
+-- is to leave, lies apart as the others do
+pub record HaveChanged (p : Market) (places : List (ℕ × ℕ)) (chains : List Chain) (test : ℕ → Bool) (point end : ℕ) : Type 0 where
   pub before : Market
   pub stood : IsStandingOf before places chains
-  pub changes : ChangesInside before n test point gap
-  pub nobody_new : length n.students + gap ≤ length chains
+  pub changes : ChangesInside before (cut p end) test point (length chains - end)
+  pub nobody_new : end ≤ length chains
+  pub within : end ≤ length p.students
+  pub well_formed : WellFormed p
+  pub apart : AreApart p test
 
 -- the standing of papers that were settled anew
 abbrev pub standing_of : Market → List (ℕ × ℕ) → List Chain → ℕ → Standing

@@ -198,10 +198,11 @@ impl Clearing {
     /// everybody is put back where they stand.
     ///
     /// Any other amendment costs that of finding the region and of a copy of the log, and an offer for each
-    /// proposal of the region's students from the rewind point on; a withdrawal copies the papers too. The new
-    /// segments are made whole beside the old ones before they take their place, and papers that have changed by
-    /// then go back where a growth is refused, so nothing is left half done. A refused amendment costs its
-    /// `check` alone. The stamps take a look-up.
+    /// proposal of the region's students from the rewind point on; a withdrawal also moves up whoever stands behind
+    /// the student in the order of entry. The new segments are made whole beside the old ones before they take their
+    /// place, and papers that have changed by then go back where a growth is refused, so nothing is left half done.
+    /// A refused amendment costs its `check` alone. The stamps take a look-up, and those behind a student who
+    /// withdraws move up.
     pub fn amend(&mut self, stamped: Stamped) -> Result<(), Refusal>
         ensures optimal { IsStudentOptimal (papers_after self.old.standing.papers stamped.amendment result) (matching_of self.new.standing) }
         ensures certified { IsCertified self.new.standing }

@@ -33,14 +33,13 @@ impl Settlement {
         let point = rewind_point(&self.papers, &amendment)?;
         let region = region_marks(self.alloc, &self.papers, &amendment)?;
         let back = self.papers.exchange(amendment)?;
-        // Nobody enters or withdraws, so everybody's segment stands where it did.
-        let gap = 0;
+        let end = self.papers.students_len();
         let settled = resettle::<HeapRoll>(
             self.alloc,
             &self.papers,
+            end,
             &region,
             point,
-            gap,
             &mut self.places,
             &mut self.segments,
         );

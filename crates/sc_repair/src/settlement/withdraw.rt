@@ -1,33 +1,39 @@
 //! A student who withdraws.
 
-ghost use Rattle.std.specs.Prelude.{◌≡◌, None, true, take, IfErr, IfOk, OnErr, OnOk};
+ghost use Rattle.std.specs.Prelude.{◌≡◌, None, true, take, IfErr, OnErr, OnOk};
 ghost use Rattle.sc_papers.specs.TakingBack.{is_withdrawal};
 ghost use Rattle.sc_papers.specs.Verdict.{after, verdict, IsRefusal};
+ghost use Rattle.sc_papers.specs.declared.amendment.Amendment.TheVariants.{Withdraw};
 ghost use Rattle.sc_repair.specs.Rewinding.{rewind_point};
 ghost use Rattle.sc_repair.specs.Standing.{CountsRegion, IsCertified, KeepsOthers};
 
 use super::Settlement;
 use crate::resettling::resettle;
 use crate::rewind::rewind_point;
-use sc_papers::{Amendment, Papers, Refusal};
+use sc_papers::{Amendment, Refusal, StudentNo};
 use sc_region::region_marks;
 use sc_seats::HeapRoll;
 
-/// The papers after an amendment that they allow, beside the ones that stand.
-fn amended_papers(papers: &Papers, amendment: Amendment) -> Result<Papers, Refusal>
-    requires allowed { verdict papers.now amendment ≡ None }
-    ensures accepted { IfOk result (λ amended. amended ≡ after papers.now amendment) }
-    ensures refused { IfErr result (IsRefusal (verdict papers.now amendment)) }
+/// The student who withdraws by the amendment.
+fn leaver(amendment: &Amendment) -> StudentNo
+    requires { is_withdrawal amendment.now ≡ true }
+    ensures { amendment.now ≡ Withdraw result }
 {
-    let mut amended = papers.copy()?;
-    amended.apply(amendment)?;
-    Ok(amended)
+    match amendment {
+        Amendment::Withdraw { student } => *student,
+        Amendment::Enter { .. }
+        | Amendment::Rerank { .. }
+        | Amendment::Add { .. }
+        | Amendment::Close { .. }
+        | Amendment::Correct { .. } => unreachable!(),
+    }
 }
 
 impl Settlement {
-    /// Makes the amendment by which a student withdraws, and settles its region anew from its rewind point on,
-    /// under papers that are made beside the ones that stand and take their place at the end. A refused amendment
-    /// changes nothing, and copies nothing.
+    /// Makes the amendment by which a student withdraws, in place, and settles its region anew from its rewind point
+    /// on: the student moves to the end of the order of entry, the others are settled without them, and at last the
+    /// papers let the student go. A refused amendment changes nothing. Where a growth is refused after the student
+    /// has moved, they move back.
     pub(super) fn withdraw(&mut self, amendment: Amendment) -> Result<(), Refusal>
         requires { is_withdrawal amendment ≡ true }
         ensures allowed { OnOk result (verdict self.old.papers amendment ≡ None) }
@@ -39,26 +45,33 @@ impl Settlement {
         ensures refused { IfErr result (IsRefusal (verdict self.old.papers amendment)) }
         ensures unchanged { OnErr result (self.new ≡ self.old) }
     {
+        // The rewind point of one who withdraws is their own position.
         let point = rewind_point(&self.papers, &amendment)?;
         let region = region_marks(self.alloc, &self.papers, &amendment)?;
-        let papers = amended_papers(&self.papers, amendment)?;
-        // One who withdraws leaves a gap.
-        let gap = self
-            .papers
-            .students_len()
-            .saturating_sub(papers.students_len());
-        let proposals = resettle::<HeapRoll>(
+        let student = leaver(&amendment);
+        let last = self.papers.students_len() - 1;
+        self.papers.move_student(point, last);
+        // All but the last student are settled.
+        let settled = resettle::<HeapRoll>(
             self.alloc,
-            &papers,
+            &self.papers,
+            last,
             &region,
             point,
-            gap,
             &mut self.places,
             &mut self.segments,
-        )?;
-        self.papers = papers;
-        self.proposals = proposals;
-        self.round = None;
-        Ok(())
+        );
+        match settled {
+            Ok(proposals) => {
+                self.papers.withdraw(student);
+                self.proposals = proposals;
+                self.round = None;
+                Ok(())
+            }
+            Err(_) => {
+                self.papers.move_student(last, point);
+                Err(Refusal::OutOfMemory)
+            }
+        }
     }
 }

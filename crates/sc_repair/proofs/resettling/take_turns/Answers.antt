@@ -21,7 +21,7 @@ enter_next-requires-clause-absent g c =
 
 pub segment-requires : goal.segment-requires
 segment-requires g c =
-    let there : slice_get (students_in c.args.old.now) (c.loop-position.position + c.args.gap) ≡ Some c.in-Some.student = c.requires.step c.loop-position.position c.in-Some.student (omega arith) (sym c.in-Some.ensures) in
+    let there : slice_get (students_in c.args.old.now) (c.loop-position.position + c.args.gap) ≡ Some c.in-Some.student = c.requires.step c.loop-position.position c.in-Some.student (omega arith) (omega arith) (sym c.in-Some.ensures) in
     old-within (is_among (marked_in c.args.region.now c.args.old.now)) c.args.old.now (c.loop-position.position + c.args.gap) c.in-Some.student
     (sym (marked-told c.args.region.now (students_in c.args.old.now) (c.loop-position.position + c.args.gap) c.in-Some.student c.requires.differ there) ∙ sym c.is_marked.ensures ∙ c.if-is_marked.false)
     (inl there)
@@ -34,7 +34,7 @@ loop-position-preserved g c =
     let chains = c.loop-position.segments in
     let i = c.in-Some.student in
     let position = c.loop-position.position in
-    let there : slice_get (students_in old) (position + c.args.gap) ≡ Some i = c.requires.step position i (omega arith) (sym c.in-Some.ensures) in
+    let there : slice_get (students_in old) (position + c.args.gap) ≡ Some i = c.requires.step position i (omega arith) (omega arith) (sym c.in-Some.ensures) in
     let own : region i ≡ c.is_marked.result = sym (marked-told c.args.region.now (students_in old) (position + c.args.gap) i c.requires.differ there) ∙ sym c.is_marked.ensures in
     let is_on : Round g.row.R.Denot → List Chain → Type 0 = λ round segments.
     GoesOnInside m region old (length c.args.segments.now) c.args.gap (view_of g.R.Roll.keys g.R.Roll.seats round) segments (position + 1) × (is_spent round ≡ false) in

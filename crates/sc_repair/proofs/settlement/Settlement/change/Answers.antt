@@ -1,14 +1,14 @@
 use Rattle.std.proofs.Common.{◌≡◌, ℕ, List, ap, sym, subst, subst₂, ◌∙◌, IfSome, take}
 use Rattle.sc_papers.specs.Market.{Market, students_of}
-use Rattle.sc_papers.specs.Verdict.{after}
 use Rattle.sc_checkpoint.specs.Chains.{logs_in, students_in, Chain}
 use Rattle.sc_region.specs.Marks.{marked}
-use Rattle.sc_repair.specs.Locality.{is_among, marked_in, ChangesInside, TellsRegion}
+use Rattle.sc_repair.specs.Changed.{standing_of}
+use Rattle.sc_repair.specs.Locality.{is_among, marked_in, TellsRegion}
 use Rattle.sc_repair.specs.Representation.{IsKept}
 use Rattle.sc_repair.specs.Rewinding.{rewind_point}
-use Rattle.sc_repair.specs.Standing.{Standing, CountsInside, CountsRegion, KeepsOthers}
+use Rattle.sc_repair.specs.Standing.{Standing, CountsInside, CountsRegion, IsCertified, KeepsOthers}
 use Rattle.sc_repair.proofs.Admitted.{still-certified}
-use Rattle.sc_repair.proofs.InStep.{changes-in-place, none-new}
+use Rattle.sc_repair.proofs.Changed.{in-place-changed, whole-cut-of}
 use Rattle.sc_repair.proofs.Regional.{counts-region, keeps-others, marks-tell}
 use Rattle.sc_repair.proofs.settlement.Settlement.change.Goals as goal
 
@@ -20,25 +20,19 @@ resettle-settled-requires c =
     subst (λ is. TellsRegion m c.args.amendment (is_among (marked c.in_ok-region.region is))) (sym c.self.invariant.theirs)
     (marks-tell m c.args.amendment c.in_ok-region.region c.self.invariant.certified.well_formed c.in_ok-point.ensures.allowed c.requires.no_entry c.in_ok-region.ensures.region) in
     record {
-      changed = record {
-        before = m;
-        stood = record {
-          well_formed = c.self.invariant.certified.well_formed;
-          theirs = c.self.invariant.theirs;
-          segmented = c.self.invariant.certified.segmented;
-          optimal = c.self.invariant.certified.optimal;
-        };
-        changes = subst (λ n. ChangesInside m n test c.in_ok-point.point 0) (sym c.in_ok-back.ensures.accepted)
-            (subst (λ k. ChangesInside m (after m c.args.amendment) test k 0) (sym c.in_ok-point.ensures.point)
-            (changes-in-place m c.args.amendment test c.requires.no_entry c.requires.no_withdrawal c.self.invariant.certified.well_formed c.in_ok-point.ensures.allowed tells));
-        nobody_new = none-new m c.exchange.new.self c.args.amendment c.self.inside.segments c.requires.no_entry c.requires.no_withdrawal c.in_ok-back.ensures.accepted c.self.invariant.theirs;
-      };
+      changed = in-place-changed m c.exchange.new.self c.args.amendment c.in_ok-point.point c.students_len-end.result c.self.invariant.certified.well_formed c.in_ok-point.ensures.allowed c.requires.no_entry
+          c.requires.no_withdrawal c.in_ok-back.ensures.accepted c.in_ok-point.ensures.point c.students_len-end.ensures.count c.self.inside.places c.self.inside.segments test (record {
+            well_formed = c.self.invariant.certified.well_formed;
+            theirs = c.self.invariant.theirs;
+            segmented = c.self.invariant.certified.segmented;
+            optimal = c.self.invariant.certified.optimal;
+          }) tells;
     }
 
 pub invariant_of-self-in-Ok : goal.invariant_of-self-in-Ok
 invariant_of-self-in-Ok c = record {
-  certified = c.in-Ok.ensures.certified;
-  theirs = c.in-Ok.ensures.theirs;
+  certified = subst (λ n. IsCertified (standing_of n c.resettle-settled.new.places c.resettle-settled.new.segments c.in-Ok.proposals)) (whole-cut-of c.exchange.new.self c.students_len-end.result c.students_len-end.ensures.count) c.in-Ok.ensures.certified;
+  theirs = c.in-Ok.ensures.theirs ∙ ap students_of (whole-cut-of c.exchange.new.self c.students_len-end.result c.students_len-end.ensures.count);
   round = tt;
 }
 
@@ -58,7 +52,8 @@ returns-clause-certified c =
     (c.take_back.ensures c.self.inside.papers c.in_ok-back.ensures.back) c.in-Err.ensures.places_unchanged c.in-Err.ensures.segments_unchanged c.self.invariant.certified
 
 pub returns-in-Ok-clause-certified : goal.returns-in-Ok-clause-certified
-returns-in-Ok-clause-certified c = c.in-Ok.ensures.certified
+returns-in-Ok-clause-certified c =
+    subst (λ n. IsCertified (standing_of n c.resettle-settled.new.places c.resettle-settled.new.segments c.in-Ok.proposals)) (whole-cut-of c.exchange.new.self c.students_len-end.result c.students_len-end.ensures.count) c.in-Ok.ensures.certified
 
 pub returns-in-Ok-clause-stays : goal.returns-in-Ok-clause-stays
 returns-in-Ok-clause-stays c =
@@ -87,7 +82,8 @@ returns-in-Ok-clause-proposals c =
     let new : Standing = record { papers = c.exchange.new.self; places = c.resettle-settled.new.places; segments = logs_in c.resettle-settled.new.segments; proposals = c.in-Ok.proposals } in
     subst (λ (s : Standing). CountsRegion s.papers c.args.amendment new) c.self.view_is
     (counts-region m c.args.amendment (marked_in c.in_ok-region.region c.self.inside.segments) new tells
-    (subst (λ k. CountsInside test k new) c.in_ok-point.ensures.point c.in-Ok.ensures.proposals))
+    (subst (λ k. CountsInside test k new) c.in_ok-point.ensures.point
+    (subst (λ n. CountsInside test c.in_ok-point.point (standing_of n c.resettle-settled.new.places c.resettle-settled.new.segments c.in-Ok.proposals)) (whole-cut-of c.exchange.new.self c.students_len-end.result c.students_len-end.ensures.count) c.in-Ok.ensures.proposals)))
 
 pub returns-clause-unchanged : goal.returns-clause-unchanged
 returns-clause-unchanged c =

@@ -1,95 +1,122 @@
-use Rattle.std.proofs.Common.{◌≡◌, ◌-◌, refl, sym, subst, ap, ◌∙◌, IfSome, length, take}
-use Rattle.sc_papers.specs.Market.{students_of}
-use Rattle.sc_papers.specs.Verdict.{after, verdict}
-use Rattle.sc_checkpoint.specs.Chains.{logs_in, students_in}
+use Rattle.std.proofs.Common.{◌≡◌, ◌-◌, ℕ, List, ap, sym, subst, subst₂, ◌∙◌, IfSome}
+use Rattle.sc_papers.specs.Market.{Market, students_of}
+use Rattle.sc_papers.specs.Restriction.{cut}
+use Rattle.sc_papers.specs.Verdict.{after}
+use Rattle.sc_checkpoint.specs.Chains.{logs_in, students_in, Chain}
 use Rattle.sc_region.specs.Marks.{marked}
-use Rattle.sc_repair.specs.Locality.{is_among, marked_in, ChangesInside, TellsRegion}
+use Rattle.sc_repair.specs.Changed.{standing_of}
+use Rattle.sc_repair.specs.Locality.{is_among, marked_in, TellsRegion}
 use Rattle.sc_repair.specs.Representation.{IsKept}
-use Rattle.sc_repair.specs.Rewinding.{rewind_point}
-use Rattle.sc_repair.specs.Standing.{Standing, CountsInside, CountsRegion, KeepsOthers}
+use Rattle.sc_repair.specs.Standing.{Standing, CountsInside, CountsRegion, IsCertified, KeepsOthers}
 use Rattle.sc_repair.proofs.Admitted.{still-certified}
-use Rattle.sc_repair.proofs.InStep.{changes-inside, none-new_left, withdrawn-none}
+use Rattle.sc_repair.proofs.Changed.{leaver-back, leaver-changed, leaver-from, leaver-gone, leaver-others, leaver-within}
+use Rattle.sc_repair.proofs.InStep.{withdrawn-none}
 use Rattle.sc_repair.proofs.Regional.{counts-region, keeps-others, marks-tell}
-use Rattle.sc_repair.proofs.Resumption.{length-students}
 use Rattle.sc_repair.proofs.settlement.Settlement.withdraw.Goals as goal
 
-pub resettle-requires : goal.resettle-requires
-resettle-requires c =
+pub move_student-requires-clause-from : goal.move_student-requires-clause-from
+move_student-requires-clause-from c =
+    leaver-from c.self.inside.papers c.self.inside.papers c.args.amendment c.leaver-student.result c.in_ok-point.point (c.students_len-last.result - 1) c.self.invariant.certified.well_formed c.in_ok-point.ensures.allowed c.leaver-student.ensures c.in_ok-point.ensures.point (ap (λ n. n - 1) c.students_len-last.ensures.count)
+
+pub resettle-settled-requires : goal.resettle-settled-requires
+resettle-settled-requires c =
     let m = c.self.inside.papers in
-    let n = c.in_ok-papers.papers in
     let test = is_among (marked_in c.in_ok-region.region c.self.inside.segments) in
     let tells : TellsRegion m c.args.amendment test =
     subst (λ is. TellsRegion m c.args.amendment (is_among (marked c.in_ok-region.region is))) (sym c.self.invariant.theirs)
     (marks-tell m c.args.amendment c.in_ok-region.region c.self.invariant.certified.well_formed c.in_ok-point.ensures.allowed (withdrawn-none c.args.amendment c.requires) c.in_ok-region.ensures.region) in
-    let gap : length (students_of m) - length (students_of n) ≡ c.saturating_sub-gap.result =
-    (λ t. (length-students m ∙ sym c.students_len.ensures.count) t - (length-students n ∙ sym c.students_len-2.ensures.count) t)
-    ∙ sym c.saturating_sub-gap.ensures in
     record {
-      changed = record {
-        before = m;
-        stood = record {
-          well_formed = c.self.invariant.certified.well_formed;
-          theirs = c.self.invariant.theirs;
-          segmented = c.self.invariant.certified.segmented;
-          optimal = c.self.invariant.certified.optimal;
-        };
-        changes = subst (λ k. ChangesInside m k test c.in_ok-point.point c.saturating_sub-gap.result) (sym c.in_ok-papers.ensures.accepted)
-            (subst (λ k. ChangesInside m (after m c.args.amendment) test k c.saturating_sub-gap.result) (sym c.in_ok-point.ensures.point)
-            (subst (ChangesInside m (after m c.args.amendment) test (rewind_point m c.args.amendment)) (ap (λ k. length (students_of m) - length (students_of k)) (sym c.in_ok-papers.ensures.accepted) ∙ gap)
-            (changes-inside m c.args.amendment test c.self.invariant.certified.well_formed c.in_ok-point.ensures.allowed tells)));
-        nobody_new = none-new_left m n c.args.amendment c.self.inside.segments c.saturating_sub-gap.result c.requires c.in_ok-papers.ensures.accepted c.self.invariant.theirs gap;
-      };
+      changed = leaver-changed c.self.inside.papers c.move_student.new.self c.args.amendment c.leaver-student.result c.in_ok-point.point (c.students_len-last.result - 1) c.self.invariant.certified.well_formed c.in_ok-point.ensures.allowed c.leaver-student.ensures c.in_ok-point.ensures.point (ap (λ n. n - 1) c.students_len-last.ensures.count)
+          c.move_student.ensures c.self.inside.places c.self.inside.segments test (record {
+            well_formed = c.self.invariant.certified.well_formed;
+            theirs = c.self.invariant.theirs;
+            segmented = c.self.invariant.certified.segmented;
+            optimal = c.self.invariant.certified.optimal;
+          }) tells;
     }
 
 pub invariant_of-self : goal.invariant_of-self
-invariant_of-self c = record {
-  certified = still-certified c.self.inside.papers c.self.inside.papers c.self.inside.segments c.resettle.new.segments c.self.inside.places c.resettle.new.places c.self.inside.proposals
-      refl c.in_err-proposals.ensures.places_unchanged c.in_err-proposals.ensures.segments_unchanged c.self.invariant.certified;
-  theirs = ap students_in c.in_err-proposals.ensures.segments_unchanged ∙ c.self.invariant.theirs;
-  round = subst (λ chains. IfSome c.self.inside.round (IsKept c.self.inside.papers chains)) (sym c.in_err-proposals.ensures.segments_unchanged) c.self.invariant.round;
-}
+invariant_of-self c =
+    let papers : c.withdraw.new.self ≡ after c.self.inside.papers c.args.amendment =
+    c.withdraw.ensures ∙ leaver-gone c.self.inside.papers c.move_student.new.self c.args.amendment c.leaver-student.result c.in_ok-point.point (c.students_len-last.result - 1) c.self.invariant.certified.well_formed c.in_ok-point.ensures.allowed c.leaver-student.ensures c.in_ok-point.ensures.point (ap (λ n. n - 1) c.students_len-last.ensures.count) c.move_student.ensures in
+    let same : cut c.move_student.new.self (c.students_len-last.result - 1) ≡ c.withdraw.new.self =
+    leaver-others c.self.inside.papers c.move_student.new.self c.args.amendment c.leaver-student.result c.in_ok-point.point (c.students_len-last.result - 1) c.self.invariant.certified.well_formed c.in_ok-point.ensures.allowed c.leaver-student.ensures c.in_ok-point.ensures.point (ap (λ n. n - 1) c.students_len-last.ensures.count) c.move_student.ensures ∙ sym papers in
+    record {
+      certified = subst (λ n. IsCertified (standing_of n c.resettle-settled.new.places c.resettle-settled.new.segments c.in-Ok.proposals)) same c.in-Ok.ensures.certified;
+      theirs = c.in-Ok.ensures.theirs ∙ ap students_of same;
+      round = tt;
+    }
 
-pub invariant_of-self-2 : goal.invariant_of-self-2
-invariant_of-self-2 c = record {
-  certified = c.in_ok-proposals.ensures.certified;
-  theirs = c.in_ok-proposals.ensures.theirs;
-  round = tt;
-}
+pub returns-in-Ok-clause-accepted : goal.returns-in-Ok-clause-accepted
+returns-in-Ok-clause-accepted c =
+    let papers : c.withdraw.new.self ≡ after c.self.inside.papers c.args.amendment =
+    c.withdraw.ensures ∙ leaver-gone c.self.inside.papers c.move_student.new.self c.args.amendment c.leaver-student.result c.in_ok-point.point (c.students_len-last.result - 1) c.self.invariant.certified.well_formed c.in_ok-point.ensures.allowed c.leaver-student.ensures c.in_ok-point.ensures.point (ap (λ n. n - 1) c.students_len-last.ensures.count) c.move_student.ensures in
+    papers ∙ ap (λ (s : Standing). after s.papers c.args.amendment) c.self.view_is
 
-pub returns-clause-allowed : goal.returns-clause-allowed
-returns-clause-allowed c = ap (λ (s : Standing). verdict s.papers c.args.amendment) (sym c.self.view_is) ∙ c.in_ok-point.ensures.allowed
+pub returns-in-Ok-clause-certified : goal.returns-in-Ok-clause-certified
+returns-in-Ok-clause-certified c =
+    let papers : c.withdraw.new.self ≡ after c.self.inside.papers c.args.amendment =
+    c.withdraw.ensures ∙ leaver-gone c.self.inside.papers c.move_student.new.self c.args.amendment c.leaver-student.result c.in_ok-point.point (c.students_len-last.result - 1) c.self.invariant.certified.well_formed c.in_ok-point.ensures.allowed c.leaver-student.ensures c.in_ok-point.ensures.point (ap (λ n. n - 1) c.students_len-last.ensures.count) c.move_student.ensures in
+    let same : cut c.move_student.new.self (c.students_len-last.result - 1) ≡ c.withdraw.new.self =
+    leaver-others c.self.inside.papers c.move_student.new.self c.args.amendment c.leaver-student.result c.in_ok-point.point (c.students_len-last.result - 1) c.self.invariant.certified.well_formed c.in_ok-point.ensures.allowed c.leaver-student.ensures c.in_ok-point.ensures.point (ap (λ n. n - 1) c.students_len-last.ensures.count) c.move_student.ensures ∙ sym papers in
+    subst (λ n. IsCertified (standing_of n c.resettle-settled.new.places c.resettle-settled.new.segments c.in-Ok.proposals)) same c.in-Ok.ensures.certified
 
-pub returns-clause-accepted : goal.returns-clause-accepted
-returns-clause-accepted c = c.in_ok-papers.ensures.accepted ∙ ap (λ (s : Standing). after s.papers c.args.amendment) c.self.view_is
-
-pub returns-clause-certified : goal.returns-clause-certified
-returns-clause-certified c = c.in_ok-proposals.ensures.certified
-
-pub returns-clause-stays : goal.returns-clause-stays
-returns-clause-stays c =
-    subst (λ (s : Standing). take (rewind_point s.papers c.args.amendment) (logs_in c.resettle.new.segments) ≡ take (rewind_point s.papers c.args.amendment) s.segments) c.self.view_is
-    (subst (λ k. take k (logs_in c.resettle.new.segments) ≡ take k (logs_in c.self.inside.segments)) c.in_ok-point.ensures.point c.in_ok-proposals.ensures.stays)
-
-pub returns-clause-others : goal.returns-clause-others
-returns-clause-others c =
+pub returns-in-Ok-clause-others : goal.returns-in-Ok-clause-others
+returns-in-Ok-clause-others c =
     let m = c.self.inside.papers in
     let test = is_among (marked_in c.in_ok-region.region c.self.inside.segments) in
     let tells : TellsRegion m c.args.amendment test =
     subst (λ is. TellsRegion m c.args.amendment (is_among (marked c.in_ok-region.region is))) (sym c.self.invariant.theirs)
     (marks-tell m c.args.amendment c.in_ok-region.region c.self.invariant.certified.well_formed c.in_ok-point.ensures.allowed (withdrawn-none c.args.amendment c.requires) c.in_ok-region.ensures.region) in
+    let papers : c.withdraw.new.self ≡ after c.self.inside.papers c.args.amendment =
+    c.withdraw.ensures ∙ leaver-gone c.self.inside.papers c.move_student.new.self c.args.amendment c.leaver-student.result c.in_ok-point.point (c.students_len-last.result - 1) c.self.invariant.certified.well_formed c.in_ok-point.ensures.allowed c.leaver-student.ensures c.in_ok-point.ensures.point (ap (λ n. n - 1) c.students_len-last.ensures.count) c.move_student.ensures in
     let old : Standing = record { papers = m; places = c.self.inside.places; segments = logs_in c.self.inside.segments; proposals = c.self.inside.proposals } in
-    let new : Standing = record { papers = c.in_ok-papers.papers; places = c.resettle.new.places; segments = logs_in c.resettle.new.segments; proposals = c.in_ok-proposals.proposals } in
+    let new : Standing = record { papers = c.withdraw.new.self; places = c.resettle-settled.new.places; segments = logs_in c.resettle-settled.new.segments; proposals = c.in-Ok.proposals } in
     subst (λ (s : Standing). KeepsOthers s c.args.amendment new) c.self.view_is
-    (keeps-others old new c.args.amendment (marked_in c.in_ok-region.region c.self.inside.segments) tells c.in_ok-papers.ensures.accepted c.in_ok-proposals.ensures.others)
+    (keeps-others old new c.args.amendment (marked_in c.in_ok-region.region c.self.inside.segments) tells papers c.in-Ok.ensures.others)
 
-pub returns-clause-proposals : goal.returns-clause-proposals
-returns-clause-proposals c =
+pub returns-in-Ok-clause-proposals : goal.returns-in-Ok-clause-proposals
+returns-in-Ok-clause-proposals c =
     let m = c.self.inside.papers in
     let test = is_among (marked_in c.in_ok-region.region c.self.inside.segments) in
     let tells : TellsRegion m c.args.amendment test =
     subst (λ is. TellsRegion m c.args.amendment (is_among (marked c.in_ok-region.region is))) (sym c.self.invariant.theirs)
     (marks-tell m c.args.amendment c.in_ok-region.region c.self.invariant.certified.well_formed c.in_ok-point.ensures.allowed (withdrawn-none c.args.amendment c.requires) c.in_ok-region.ensures.region) in
-    let new : Standing = record { papers = c.in_ok-papers.papers; places = c.resettle.new.places; segments = logs_in c.resettle.new.segments; proposals = c.in_ok-proposals.proposals } in
+    let papers : c.withdraw.new.self ≡ after c.self.inside.papers c.args.amendment =
+    c.withdraw.ensures ∙ leaver-gone c.self.inside.papers c.move_student.new.self c.args.amendment c.leaver-student.result c.in_ok-point.point (c.students_len-last.result - 1) c.self.invariant.certified.well_formed c.in_ok-point.ensures.allowed c.leaver-student.ensures c.in_ok-point.ensures.point (ap (λ n. n - 1) c.students_len-last.ensures.count) c.move_student.ensures in
+    let same : cut c.move_student.new.self (c.students_len-last.result - 1) ≡ c.withdraw.new.self =
+    leaver-others c.self.inside.papers c.move_student.new.self c.args.amendment c.leaver-student.result c.in_ok-point.point (c.students_len-last.result - 1) c.self.invariant.certified.well_formed c.in_ok-point.ensures.allowed c.leaver-student.ensures c.in_ok-point.ensures.point (ap (λ n. n - 1) c.students_len-last.ensures.count) c.move_student.ensures ∙ sym papers in
+    let new : Standing = record { papers = c.withdraw.new.self; places = c.resettle-settled.new.places; segments = logs_in c.resettle-settled.new.segments; proposals = c.in-Ok.proposals } in
     subst (λ (s : Standing). CountsRegion s.papers c.args.amendment new) c.self.view_is
     (counts-region m c.args.amendment (marked_in c.in_ok-region.region c.self.inside.segments) new tells
-    (subst (λ k. CountsInside test k new) c.in_ok-point.ensures.point c.in_ok-proposals.ensures.proposals))
+    (subst (λ k. CountsInside test k new) c.in_ok-point.ensures.point
+    (subst (λ n. CountsInside test c.in_ok-point.point (standing_of n c.resettle-settled.new.places c.resettle-settled.new.segments c.in-Ok.proposals)) same c.in-Ok.ensures.proposals)))
+
+pub move_student-requires-in-Err-clause-to : goal.move_student-requires-in-Err-clause-to
+move_student-requires-in-Err-clause-to c =
+    leaver-within c.self.inside.papers c.move_student.new.self c.args.amendment c.leaver-student.result c.in_ok-point.point (c.students_len-last.result - 1) c.self.invariant.certified.well_formed c.in_ok-point.ensures.allowed c.leaver-student.ensures c.in_ok-point.ensures.point (ap (λ n. n - 1) c.students_len-last.ensures.count) c.move_student.ensures
+
+pub invariant_of-self-in-Err : goal.invariant_of-self-in-Err
+invariant_of-self-in-Err c =
+    let papers : c.move_student-in-Err.new.self ≡ c.self.inside.papers =
+    c.move_student-in-Err.ensures ∙ leaver-back c.self.inside.papers c.move_student.new.self c.args.amendment c.leaver-student.result c.in_ok-point.point (c.students_len-last.result - 1) c.self.invariant.certified.well_formed c.in_ok-point.ensures.allowed c.leaver-student.ensures c.in_ok-point.ensures.point (ap (λ n. n - 1) c.students_len-last.ensures.count) c.move_student.ensures in
+    record {
+      certified = still-certified c.self.inside.papers c.move_student-in-Err.new.self c.self.inside.segments c.resettle-settled.new.segments c.self.inside.places c.resettle-settled.new.places c.self.inside.proposals
+          papers c.in-Err.ensures.places_unchanged c.in-Err.ensures.segments_unchanged c.self.invariant.certified;
+      theirs = ap students_in c.in-Err.ensures.segments_unchanged ∙ c.self.invariant.theirs ∙ ap students_of (sym papers);
+      round = subst₂ (λ m chains. IfSome c.self.inside.round (IsKept m chains)) (sym papers) (sym c.in-Err.ensures.segments_unchanged) c.self.invariant.round;
+    }
+
+pub returns-clause-certified : goal.returns-clause-certified
+returns-clause-certified c =
+    let papers : c.move_student-in-Err.new.self ≡ c.self.inside.papers =
+    c.move_student-in-Err.ensures ∙ leaver-back c.self.inside.papers c.move_student.new.self c.args.amendment c.leaver-student.result c.in_ok-point.point (c.students_len-last.result - 1) c.self.invariant.certified.well_formed c.in_ok-point.ensures.allowed c.leaver-student.ensures c.in_ok-point.ensures.point (ap (λ n. n - 1) c.students_len-last.ensures.count) c.move_student.ensures in
+    still-certified c.self.inside.papers c.move_student-in-Err.new.self c.self.inside.segments c.resettle-settled.new.segments c.self.inside.places c.resettle-settled.new.places c.self.inside.proposals
+    papers c.in-Err.ensures.places_unchanged c.in-Err.ensures.segments_unchanged c.self.invariant.certified
+
+pub returns-clause-unchanged : goal.returns-clause-unchanged
+returns-clause-unchanged c =
+    let papers : c.move_student-in-Err.new.self ≡ c.self.inside.papers =
+    c.move_student-in-Err.ensures ∙ leaver-back c.self.inside.papers c.move_student.new.self c.args.amendment c.leaver-student.result c.in_ok-point.point (c.students_len-last.result - 1) c.self.invariant.certified.well_formed c.in_ok-point.ensures.allowed c.leaver-student.ensures c.in_ok-point.ensures.point (ap (λ n. n - 1) c.students_len-last.ensures.count) c.move_student.ensures in
+    let standing : Market → List (ℕ × ℕ) → List Chain → Standing = λ m places chains. record { papers = m; places = places; segments = logs_in chains; proposals = c.self.inside.proposals } in
+    (λ t. standing (papers t) (c.in-Err.ensures.places_unchanged t) (c.in-Err.ensures.segments_unchanged t)) ∙ c.self.view_is
