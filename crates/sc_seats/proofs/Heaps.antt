@@ -1,15 +1,17 @@
 -- What an offer does to the keys of a heap.
-use Rattle.std.proofs.Common.{◌≡◌, refl, ap, sym, inl, inr, subst, ◌-◌, true, false, List, [], ◌∷◌, length, get_or, Option, Some, None, IfSome, Contains, All, slice_get, arith}
+use Rattle.std.proofs.Common.{◌≡◌, refl, ap, sym, ◌∙◌, inl, inr, subst, ◌-◌, true, false, List, [], ◌∷◌, length, get_or, Option, Some, None, IfSome, Contains, All, slice_get, arith}
 use Rattle.std.specs.Prelude.{IfNone}
+use Rattle.std.specs.Option.{option_map_or}
 use Rattle.std.proofs.lemmas.List.{get_or_default}
 use Rattle.std.specs.List.Sorted.{IsPermutation}
-use Rattle.std.proofs.lemmas.Bool.{cases_Bool}
+use Rattle.std.proofs.lemmas.Bool.{cases_Bool, false_from_ne_true, true≢false}
 use Rattle.std.proofs.lemmas.Bool.Decides.{nat_tests}
 use Rattle.std.proofs.lemmas.List.Elements.{All-contains}
 use Rattle.std.proofs.lemmas.List.Sorted.{IsPermutation-swap, IsPermutation-cons, IsPermutation-trans, IsPermutation-sym, All-permutation, Contains-permutation, length_permutation}
 use Rattle.sc_papers.specs.Key.{is_before}
 use Rattle.sc_papers.specs.declared.key.Key.{Key}
 use Rattle.sc_papers.proofs.Counting.{contains-cons, contains-tail}
+use Rattle.sc_seats.specs.Heap.{IsLastOf}
 use Rattle.sc_seats.specs.Roll.{IsAscending, in_order}
 use Rattle.sc_papers.proofs.Priority.{before-trans}
 use Rattle.sc_seats.proofs.Ordering.{ties, ties-same, behind-apart, Differ, Differ-ascending, Differ-permutation, Differ-cons, Differ-head, Differ-tail, in_order-permutes, ascending-in_order, last-of}
@@ -94,3 +96,15 @@ replaced-heap old left new key last out added =
 pub worst-in_order : (keys : List Key) (last : Option Key) → IsAscending (in_order keys) → IfSome last (Contains keys) → IfSome last (λ x. All (λ y. is_before x y ≡ false) keys) → IfNone last (keys ≡ []) → last ≡ slice_get (in_order keys) (length (in_order keys) - 1)
 worst-in_order keys None up among greatest none = ap (λ ks. slice_get (in_order ks) (length (in_order ks) - 1)) (sym none)
 worst-in_order keys (Some x) up among greatest none = sym (last-in_order keys x up among greatest)
+
+-- a key that is ahead of the last is ahead of one that is held
+pub ahead-held : (last : Option Key) (keys : List Key) (key : Key) → IsLastOf last keys → option_map_or (is_before key) last false ≡ true → (held : Key) × Contains keys held × (is_before key held ≡ true)
+ahead-held None keys key is never = absurd (true≢false (sym never))
+ahead-held (Some last) keys key is ahead = (last, is.held, ahead)
+
+-- a key that is not ahead of the last is ahead of none
+pub behind-all : (last : Option Key) (keys : List Key) (key : Key) → IsLastOf last keys → option_map_or (is_before key) last false ≡ false → All (λ held. is_before key held ≡ false) keys
+behind-all None keys key is behind = subst (All (λ held. is_before key held ≡ false)) (sym is.none) (all-from (λ held. is_before key held ≡ false) [] (λ x among. absurd (omega (arith, among.1))))
+behind-all (Some last) keys key is behind =
+    all-from (λ held. is_before key held ≡ false) keys (λ x among. false_from_ne_true (is_before key x)
+    (λ ahead. absurd (true≢false (sym (ahead-of_last key x last ahead (All-contains (λ y. is_before last y ≡ false) keys x is.behind among)) ∙ behind))))

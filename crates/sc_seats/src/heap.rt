@@ -1,9 +1,8 @@
 ghost use Rattle.std.specs.Prelude.{◌≡◌, ℕ, ◌+◌, ◌<◌, ◌≤◌, true, false, List, [], ◌∷◌, ◌++◌, length, All, Contains, IfOk, OnOk, OnErr, IfSome, IfNone};
-ghost use Rattle.std.specs.Bool.{OnTrue, OnFalse};
+ghost use Rattle.std.specs.Option.{option_map_or};
 ghost use Rattle.std.specs.BinaryHeap.{heap_items, heap_len, heap_capacity, IsHeap};
 ghost use Rattle.std.specs.List.Sorted.{IsPermutation};
 ghost use Rattle.sc_papers.specs.Key.{is_before, key_cmp};
-ghost use Rattle.sc_papers.specs.declared.key.Key.{Key as Priority};
 
 use crate::roll::Roll;
 use sc_papers::{Key, Seats};
@@ -11,12 +10,14 @@ use std::alloc::{AllocError, Global};
 use std::collections::BinaryHeap;
 use std::marker::Model;
 
-/// A roll kept as a heap with the last key on top. An offer costs the logarithm of the seats, `worst`
-/// a look at the top, and a full roll takes no memory for an offer.
+/// A roll kept as a heap with the last key on top. An offer that puts out another key costs the logarithm of the seats,
+/// one that is refused a comparison, and a full roll takes no memory for an offer.
 #[derive(Drop)]
 pub struct HeapRoll {
     keys: BinaryHeap<Key>,
     capacity: Seats,
+    // The last of the keys, if there is one, so that an offer that is refused reads no heap.
+    last: Option<Key>,
 }
 
 impl Model for HeapRoll {
@@ -55,14 +56,12 @@ fn last_of(keys: &BinaryHeap<Key>) -> Option<Key>
     }
 }
 
-/// Whether the key is ahead of the last of a heap.
-fn is_ahead_of_last(keys: &BinaryHeap<Key>, key: &Key) -> bool
-    requires { IsHeap key_cmp (heap_items keys.now) }
-    ensures ahead { OnTrue result ((last : Priority) × Contains (heap_items keys.now) last × (is_before key.now last ≡ true)) }
-    ensures behind { OnFalse result (All (λ held. is_before key.now held ≡ false) (heap_items keys.now)) }
+/// Whether the key is ahead of the last of those held, if there is one.
+fn is_ahead_of_last(last: &Option<Key>, key: &Key) -> bool
+    ensures { result ≡ option_map_or (is_before key.now) last.now false }
 {
-    match last_of(keys) {
-        Some(last) => *key < last,
+    match last {
+        Some(last) => key.is_ahead_of(last),
         None => false,
     }
 }
@@ -93,22 +92,26 @@ impl Roll for HeapRoll {
         HeapRoll {
             keys: BinaryHeap::new(alloc),
             capacity,
+            last: None,
         }
     }
 
     fn offer(&mut self, key: Key) -> Result<Option<Key>, AllocError> {
         if self.keys.len() < self.capacity.get() as usize {
             add(&mut self.keys, key)?;
+            self.last = last_of(&self.keys);
             return Ok(None);
         }
-        if is_ahead_of_last(&self.keys, &key) {
-            return Ok(Some(replace_last(&mut self.keys, key)));
+        if is_ahead_of_last(&self.last, &key) {
+            let out = replace_last(&mut self.keys, key);
+            self.last = last_of(&self.keys);
+            return Ok(Some(out));
         }
         Ok(Some(key))
     }
 
     fn worst(&self) -> Option<Key> {
-        last_of(&self.keys)
+        self.last
     }
 
     fn len(&self) -> usize {
@@ -123,6 +126,7 @@ impl Roll for HeapRoll {
         Ok(HeapRoll {
             keys: self.keys.clone()?,
             capacity: self.capacity,
+            last: self.last,
         })
     }
 }

@@ -4,4 +4,4 @@ use Rattle.sc_seats.proofs.heap.HeapRollRoll.worst.Goals as goal
 
 pub returns : goal.returns
 returns c =
-    rw (← c.self.view_is) (worst-in_order (heap_items c.self.inside.keys) c.last_of.result c.self.invariant.ascending c.last_of.ensures.held c.last_of.ensures.last c.last_of.ensures.none)
+    rw (← c.self.view_is) (worst-in_order (heap_items c.self.inside.keys) c.self.inside.last c.self.invariant.ascending c.self.invariant.last.held c.self.invariant.last.behind c.self.invariant.last.none)
