@@ -1,8 +1,13 @@
 -- The search for a school that a list names twice.
-use Rattle.std.proofs.Common.{◌≡◌, ℕ, ◌+◌, ◌<◌, ◌==◌, Bool, true, false, List, [], length, take, drop, get_or, cond, Some, refl, ◌∙◌, add-one}
-use Rattle.std.proofs.lemmas.List.{get_or_read}
+use Rattle.std.proofs.Common.{◌≡◌, ℕ, ◌+◌, ◌<◌, ◌==◌, ◌%◌, Bool, true, false, List, [], length, take, drop, get_or, cond, Some, refl, sym, ap, ◌∙◌, add-one, inl, inr, arith, ◌⊎◌}
+use Rattle.std.specs.Prelude.{slice_set}
+use Rattle.std.proofs.lemmas.Bool.{eqb-true, cases_order, or_cases}
+use Rattle.std.proofs.lemmas.List.{get_or-set_other, get_or_read}
+use Rattle.std.proofs.lemmas.Grind.{get_or-set_at}
+use Rattle.std.proofs.lemmas.List.Folds.{list_any_more}
 use Rattle.std.specs.List.{list_any}
 use Rattle.std.proofs.Math.Seq.{drop-cons, take-suc}
+use Rattle.sc_papers.specs.Marks.{AreMarked}
 use Rattle.sc_papers.specs.Verdict.{first_repeat}
 
 -- one place more has been passed
@@ -29,3 +34,20 @@ pub first_repeat-passed : (xs : List ℕ) (i x : ℕ) (b : Bool) → i < length 
 first_repeat-passed xs i x b h at so_far tells missed =
     let e = get_or_read xs i x h at 0 in
     so_far ∙ rw (first_repeat-at xs i h, ← e, ← tells, missed) refl
+
+apart : (a b : ℕ) → (a < b) ⊎ (b < a) → a ≡ b → ⊥
+apart a b either same = elim either [ inl below ↦ absurd (omega (arith, same, below)) | inr above ↦ absurd (omega (arith, same, above)) ]
+
+-- the mark of one school more
+pub marked-more : (xs : List ℕ) (i x : ℕ) (marked : List Bool) (mark : ℕ) → i < length xs → x ≡ get_or xs i x
+    → mark ≡ x % 128 → mark < length marked → AreMarked marked (take i xs) → AreMarked (slice_set marked mark true) (take (i + 1) xs)
+marked-more xs i x marked mark h at is within earlier s among =
+    elim (cases_order (s % 128) mark) [
+      | inl same ↦ get_or-set_at marked mark (s % 128) true false same within
+      | inr other ↦
+          get_or-set_other marked mark (s % 128) true false (apart (s % 128) mark other)
+          ∙ earlier s (elim (or_cases (list_any (λ t. t == s) (take i xs)) (get_or xs i x == s) (sym (list_any_more (λ t. t == s) xs i x h) ∙ among)) [
+            | inl before ↦ before
+            | inr here ↦ absurd (apart (s % 128) mark other (ap (λ t. t % 128) (sym (eqb-true (get_or xs i x) s here) ∙ sym at) ∙ sym is))
+          ])
+    ]

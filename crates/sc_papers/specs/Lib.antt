@@ -4,6 +4,7 @@ pub mod Key
 pub mod Refusal
 pub mod Verdict
 pub mod TakingBack
+pub mod Marks
 pub mod WellFormed
 pub mod StudentRow
 pub mod Representation

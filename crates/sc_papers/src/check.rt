@@ -1,7 +1,9 @@
 //! What can be said against an amendment.
 
-ghost use Rattle.std.specs.Prelude.{◌≡◌, [], not, find};
+ghost use Rattle.std.specs.Prelude.{◌≡◌, ◌%◌, ◌<◌, ◌==◌, [], not, find};
+ghost use Rattle.std.specs.List.{list_any};
 ghost use Rattle.sc_papers.specs.Market.{is_school, seats_of};
+ghost use Rattle.sc_papers.specs.Marks.{AreMarked};
 ghost use Rattle.sc_papers.specs.Verdict.{first_of, first_repeat, no_choices, objections_to_add, objections_to_close, objections_to_correct, objections_to_enter, objections_to_list, objections_to_rerank, objections_to_withdraw, too_long, twice_in, unknown_in, unknown_school, unknown_student, unless_refused, verdict};
 
 use crate::amendment::{Amendment, Refusal};
@@ -12,14 +14,36 @@ use crate::school_no::SchoolNo;
 use crate::seats::Seats;
 use sc_lottery::StudentNumber;
 
+/// How many marks there are.
+const MARKS: usize = 128;
+
+/// The mark of a school: two schools whose marks differ are different schools.
+fn mark_of(school: SchoolNo) -> usize
+    ensures mark { result ≡ school % 128 }
+    ensures within { result < 128 }
+{
+    school.get() as usize % MARKS
+}
+
+/// Whether the school is one of those before it, each of whose marks is set: where its own is not, the list is not
+/// looked through.
+fn has_come(before: &[SchoolNo], marked: &[bool; MARKS], school: SchoolNo) -> bool
+    requires { AreMarked marked.now before.now }
+    ensures { result ≡ list_any (λ t. t == school) before.now }
+{
+    marked[mark_of(school)] && before.contains(&school)
+}
+
 /// The first school of the list that equals an earlier one.
 fn find_repeat(list: &[SchoolNo]) -> Option<SchoolNo>
     ensures { result ≡ first_repeat [] list.now }
 {
+    let mut marked = [false; MARKS];
     for (place, school) in list.iter().enumerate() {
-        if list[..place].contains(school) {
+        if has_come(&list[..place], &marked, *school) {
             return Some(*school);
         }
+        marked[mark_of(*school)] = true;
     }
     None
 }
