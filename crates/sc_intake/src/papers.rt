@@ -45,6 +45,24 @@ pub(crate) fn open_papers(
     Ok(papers)
 }
 
+/// The papers with these schools and room for so many students, before any of them, or want of memory.
+fn open_with_room(
+    alloc: Global,
+    seed: Seed,
+    schools: &[SchoolRow],
+    students: usize,
+) -> Result<Papers, IntakeFault>
+    requires { AreRows school_number MOST_SCHOOLS schools.now }
+    ensures opened { IfOk result (λ papers. papers ≡ opening seed schools.now) }
+    ensures refused { IfErr result (λ fault. fault ≡ no_memory Roster) }
+{
+    let mut papers = open_papers(alloc, seed, schools)?;
+    match papers.reserve(students) {
+        Ok(()) => Ok(papers),
+        Err(_refused) => Err(IntakeFault::no_memory(Source::Roster)),
+    }
+}
+
 /// Where each student's list stands, by number: in a tree, since whoever chooses the numbers could slow a
 /// hashed table down.
 pub(crate) fn list_positions(
@@ -226,7 +244,7 @@ pub fn papers_of(
 ) -> Result<Papers, IntakeFault>
     ensures { Gives (λ papers. papers) (no_memory Roster) (papers_of seed schools.now roster.now lists.now) result }
 {
-    let mut papers = open_papers(alloc, seed, schools.as_slice())?;
+    let mut papers = open_with_room(alloc, seed, schools.as_slice(), roster.len())?;
     fill_papers(alloc, &mut papers, roster.as_slice(), lists.as_slice())?;
     Ok(papers)
 }
@@ -248,7 +266,7 @@ pub fn papers_of_rows(
     if !are_in_step(roster.as_slice(), lists.as_slice()) {
         return papers_of(alloc, seed, schools, &roster, &lists);
     }
-    let mut papers = open_papers(alloc, seed, schools.as_slice())?;
+    let mut papers = open_with_room(alloc, seed, schools.as_slice(), roster.len())?;
     fill_in_step(&mut papers, roster.into_vec(), lists.into_vec())?;
     Ok(papers)
 }

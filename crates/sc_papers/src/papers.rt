@@ -322,6 +322,16 @@ impl Papers {
         })
     }
 
+    /// Makes room for so many more students, so that none of them takes memory as they enter, but for their lists. Nothing
+    /// else changes, also where the growth is refused. The only error is want of memory.
+    pub fn reserve(&mut self, students: usize) -> Result<(), AllocError>
+        ensures { self.new ≡ self.old }
+    {
+        self.students.reserve(students)?;
+        self.rows.reserve(students)?;
+        Ok(())
+    }
+
     /// Puts a student who may enter last in the order of entry, with the one draw that it ever makes.
     /// Both growths come first, so a refused one leaves the papers as they were.
     pub(crate) fn enter(
