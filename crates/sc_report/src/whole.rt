@@ -10,8 +10,9 @@ use std::alloc::{AllocError, Global};
 use std::io::{Read, Write};
 use thiserror::Error;
 
-/// The most bytes that one call asks a reader for.
-const PIECE: usize = 65536;
+/// The most bytes that one call asks a reader for: 60 KiB. What is given grows by doubling from there, and 30 MiB come before a
+/// block of 32 MiB, which the C library's allocator would give back to the system as soon as it is let go.
+const PIECE: usize = 61440;
 
 /// Why an input could not be read whole.
 #[derive(Clone, Copy, Debug, PartialEq, Eq, Error)]
@@ -60,7 +61,7 @@ pub fn write_whole<W: Write>(to: &mut Watched<W>, text: &[u8]) -> Result<(), Dev
 /// A caller that refuses inputs of more than some length passes one byte more than that. It answers
 /// `Device` where a call of the reader failed, and `OutOfMemory` where room for what came was
 /// refused; what had come is then given up. It takes memory for what came, at most about twice its
-/// length, and for one piece of 64 KiB.
+/// length, and for one piece of 60 KiB.
 pub fn read_whole<R: Read>(
     alloc: Global,
     from: &mut Watched<R>,

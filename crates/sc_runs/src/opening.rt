@@ -57,13 +57,19 @@ pub fn open_texts(
     }
 }
 
-/// The papers that the texts hold, or their first fault. The texts are given up.
+/// The papers that the texts hold, or their first fault. The texts are given up once their rows are read, so that their
+/// memory serves the papers.
 pub fn read_owned(alloc: Global, seed: &Seed, texts: OpeningTexts) -> Result<Papers, RunFault>
     ensures { MatchResult result
         (λ papers. opening_in seed.now (texts_of texts) ≡ Ok papers)
         (IsOpeningFault (opening_in seed.now (texts_of texts))) }
 {
-    read_papers(alloc, seed, texts.as_slices())
+    let schools = read_schools(alloc, texts.schools.as_slice())?;
+    let roster = read_roster(alloc, texts.roster.as_slice())?;
+    let lists = read_lists(alloc, texts.lists.as_slice())?;
+    drop(texts);
+    let papers = papers_of_rows(alloc, *seed, &schools, roster, lists)?;
+    Ok(papers)
 }
 
 /// The standing assignment of the papers that the texts hold, or their first fault. The texts are given up

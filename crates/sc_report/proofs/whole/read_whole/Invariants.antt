@@ -7,7 +7,7 @@ use Rattle.sc_report.proofs.whole.read_whole.Given as goal
 abbrev pub invariant-pieces : goal.invariant-pieces
 invariant-pieces g l = record {
   within : vec_len l.given ≤ l.limit;
-  room : vec_len l.piece ≡ min l.limit 65536;
+  room : vec_len l.piece ≡ min l.limit 61440;
   consumed : Consumes (g.R.Read.remaining (device_of l.initial.from)) (g.R.Read.remaining (device_of l.from)) l.given.items;
   failed : has_failed l.from ≡ has_failed l.initial.from;
 }
