@@ -46,6 +46,17 @@ fn create_journal<R: Files>(rt: &R, path: &str) -> Result<Watched<R::File>, RunF
     }
 }
 
+/// A block whose release teaches the C library's allocator to keep what is let go: a page less than the greatest that does.
+const GREATEST_KEPT: usize = (32 << 20) - 8192;
+
+/// Has the memory that is let go serve again, rather than go back to the system page by page: a block of this size is taken
+/// and let go, unused. Where it is refused, nothing is lost.
+fn keep_memory(alloc: Global) {
+    if let Ok(block) = Vec::<u8>::with_capacity(alloc, GREATEST_KEPT) {
+        drop(block);
+    }
+}
+
 /// Matches the files of an opening.
 fn match_opening<R: Files + AllocGlobal, W: Write>(
     rt: &R,
@@ -54,6 +65,7 @@ fn match_opening<R: Files + AllocGlobal, W: Write>(
     show_log: bool,
     out: &mut Watched<W>,
 ) -> Result<Ending, RunFault> {
+    keep_memory(rt.alloc());
     let mut opening = open_opening(rt, words)?;
     let clearing = match_standing(rt.alloc(), seed, &mut opening, show_log, out)?;
     // The program ends here, so what stands is not taken apart.
