@@ -1,0 +1,4 @@
+pub mod Judging
+pub mod Together
+pub mod Seeds
+pub mod Noting
