@@ -24,12 +24,12 @@ import reference  # noqa: E402
 
 HERE = pathlib.Path(__file__).resolve().parent.parent
 BUILT = HERE / "crates/clearinghouse/out/clearinghouse"
-INPUTS = {"match": ["schools", "roster", "lists"], "run": ["schools", "roster", "lists", "script"],
+INPUTS = {"check": ["schools", "roster", "lists", "script"], "match": ["schools", "roster", "lists"], "run": ["schools", "roster", "lists", "script"],
           "audit": ["schools", "roster", "lists", "log"], "replay": ["schools", "roster", "lists", "journal"],
           "summary": ["schools", "roster", "lists", "journal"], "explain": ["schools", "roster", "lists", "journal"],
           "export": ["schools", "roster", "lists", "journal"]}
 # The inputs that a subcommand may go without.
-OPTIONAL = {"summary": ["journal"], "explain": ["journal"], "export": ["journal"]}
+OPTIONAL = {"check": ["script"], "summary": ["journal"], "explain": ["journal"], "export": ["journal"]}
 Case = collections.namedtuple("Case", "kind seed texts words")
 
 
@@ -180,10 +180,10 @@ def make_case(seed, at):
     texts = {"schools": rendered(rng, ["school", "zone", "seats"], [list(row) for row in rows], untidy),
              "roster": rendered(rng, roster_header(rng, roster), roster, untidy),
              "lists": rendered(rng, ["student", "choices"], [list(row) for row in lists], untidy)}
-    kind = rng.choice(["bundle", "bundle", "match", "run", "run", "audit", "replay", "summary", "explain", "export", "words"])
+    kind = rng.choice(["bundle", "bundle", "check", "check", "match", "run", "run", "audit", "replay", "summary", "explain", "export", "words"])
     script = rendered(rng, None, list(stamped(rng, texts, amendments(rng, rows, roster, rng.randint(0, 12)))), untidy)
     key = b"0" * 32
-    if kind == "run" or (kind == "bundle" and rng.random() < 0.6):
+    if kind == "run" or (kind in ("bundle", "check") and rng.random() < 0.6):
         texts["script"] = script
     elif kind == "audit":
         try:
@@ -197,7 +197,8 @@ def make_case(seed, at):
         except reference.Stop:
             journal = b"1,withdraw,1\n"
         texts["journal"] = journal if rng.random() < 0.4 else changed(rng, journal)
-    if rng.random() < 0.4:
+    # A check is mostly of files with several faults.
+    for _ in range(rng.randint(0, 6) if kind == "check" else rng.random() < 0.4):
         name = rng.choice(sorted(texts))
         texts[name] = changed(rng, texts[name])
     seed_given = seed_text(rng) if kind in ("bundle", "match", "run") else rng.choice([b"0" * 64, seed_text(rng)])
@@ -221,10 +222,15 @@ def student_words(rng, roster):
     return rng.choice([[], ["--student=" + student]])
 
 
+def seeded(kind):
+    """The option that every subcommand but `check` has before its inputs."""
+    return [] if kind == "check" else ["seed"]
+
+
 def wrong_words(rng):
     """A command line that is none of the subcommands' own."""
     name = rng.choice(sorted(INPUTS))
-    words = [[f"--{each}", each] for each in ["seed", *INPUTS[name]] if each not in OPTIONAL.get(name, [])]
+    words = [[f"--{each}", each] for each in [*seeded(name), *INPUTS[name]] if each not in OPTIONAL.get(name, [])]
     if name == "run":
         words.append(["--journal", "journal"])
     elif name == "export":
@@ -251,12 +257,14 @@ def wrong_words(rng):
 def expected(case):
     if case.kind == "bundle":
         return reference.told(reference.call_bundle, case.texts["bundle"])
-    call = {"match": reference.call_match, "run": reference.call_run, "audit": reference.call_audit, "replay": reference.call_replay,
+    call = {"check": reference.call_check, "match": reference.call_match, "run": reference.call_run, "audit": reference.call_audit, "replay": reference.call_replay,
             "summary": reference.call_summary, "explain": reference.call_explain, "export": reference.call_export}[case.kind]
 
     def made():
-        key = reference.seed_of(case.seed)
         given = [case.texts[name] for name in INPUTS[case.kind] if name in case.texts]
+        if case.kind == "check":
+            return reference.call_check(*given)
+        key = reference.seed_of(case.seed)
         if case.kind == "explain" and case.words:
             return call(key, *given, student=case.words[0].split("=", 1)[1].encode())
         return call(key, *given, print_log=True) if "--print-log" in case.words else call(key, *given)
@@ -273,7 +281,7 @@ def actual(case, program, folder):
     if case.kind == "words":
         done = subprocess.run([program, *case.words], stdin=subprocess.DEVNULL, capture_output=True, cwd=folder)
         return done.stdout, b"", b"", done.returncode
-    words = [case.kind, "--seed", case.seed.decode()]
+    words = [case.kind, *(word for each in seeded(case.kind) for word in (f"--{each}", case.seed.decode()))]
     for name in INPUTS[case.kind]:
         if name in case.texts:
             words += [f"--{name}", name]

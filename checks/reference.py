@@ -4,6 +4,7 @@
 It is slow and simple on purpose: `compare.py` runs it beside the built program on random inputs.
 
     reference.py                           reads a bundle from standard input
+    reference.py check --schools .. --roster .. --lists .. [--script ..]
     reference.py match --seed .. --schools .. --roster .. --lists .. [--print-log]
     reference.py run .. --script .. --journal ..
     reference.py audit .. --log ..
@@ -156,16 +157,17 @@ def within(limits, *found):
             raise Bad("Range")
 
 
-def rows_of(source, text, headers, most, read):
-    """The rows of a file with one of these headers, each as `read` gives it: its own number first."""
+def judged(source, text, headers, most, read):
+    """The rows of a file with one of these headers, each as `read` gives it: its own number first. A row that has a fault is passed
+    over; the faults stand beside the rows, in order."""
     found = records_of(source, text)
     if not found or found[0] not in headers:
         raise intake(source, 1, "Header")
     header = found[0]
-    rows, seen = [], set()
+    rows, seen, faults = [], set(), []
     for at, fields in enumerate(found[1:], start=2):
         try:
-            if at - 1 > most:
+            if len(rows) >= most:
                 raise Bad("TooLong")
             if len(fields) != len(header):
                 raise Bad("Fields")
@@ -173,10 +175,18 @@ def rows_of(source, text, headers, most, read):
             if row[0] in seen:
                 raise Bad("Twice")
         except Bad as bad:
-            raise intake(source, at, bad.args[0]) from None
+            faults.append(intake(source, at, bad.args[0]))
+            continue
         seen.add(row[0])
         rows.append((at, *row))
-    return rows
+    return rows, faults
+
+
+def unless_faulty(found, faults):
+    """What was found, where there is no fault; else the call ends with the first."""
+    if faults:
+        raise faults[0]
+    return found
 
 
 def school_row(fields):
@@ -299,65 +309,119 @@ def record_of(amendment):
     return "school" if amendment[0] in ("add", "close") else "student", amendment[1]
 
 
-def papers_of(key, schools, roster, lists):
-    school_rows = rows_of("schools", schools, [[b"school", b"zone", b"seats"]], MOST_SCHOOLS, school_row)
+def schools_judged(text):
+    return judged("schools", text, [[b"school", b"zone", b"seats"]], MOST_SCHOOLS, school_row)
+
+
+def roster_judged(text):
     first = [b"student", b"zone", b"siblings"]
-    roster_rows = rows_of("roster", roster, [first, [*first, b"continuing"]], MOST_STUDENTS, roster_row)
-    list_rows = rows_of("lists", lists, [[b"student", b"choices"]], MOST_STUDENTS, lists_row)
-    papers = Papers(key)
+    return judged("roster", text, [first, [*first, b"continuing"]], MOST_STUDENTS, roster_row)
+
+
+def lists_judged(text):
+    return judged("lists", text, [[b"student", b"choices"]], MOST_STUDENTS, lists_row)
+
+
+def papers_of(key, schools, roster, lists):
+    school_rows = unless_faulty(*schools_judged(schools))
+    roster_rows = unless_faulty(*roster_judged(roster))
+    list_rows = unless_faulty(*lists_judged(lists))
+    return unless_faulty(*papers_judged(key, school_rows, roster_rows, list_rows))
+
+
+def papers_judged(key, school_rows, roster_rows, list_rows):
+    """The papers of these rows, without the students whom they refuse, and the faults."""
+    papers, faults = Papers(key), []
     for _, school, zone, seats in school_rows:
         papers.schools[school] = [zone, seats]
     listed = {student: choices for _, student, choices in list_rows}
     for row, student, zone, siblings, continuing in roster_rows:
         if student not in listed:
-            raise intake("roster", row, "NoList")
+            faults.append(intake("roster", row, "NoList"))
+            continue
         amendment = ("enter", student, zone, siblings, listed[student], continuing)
         refusal = papers.refusal(amendment)
         if refusal:
-            raise intake("roster", row, "Refused " + " ".join(map(str, (refusal[0], NAMES[refusal[0]], *refusal[1:]))))
+            faults.append(intake("roster", row, "Refused " + " ".join(map(str, (refusal[0], NAMES[refusal[0]], *refusal[1:])))))
+            continue
         papers.make(amendment)
-    for row, student, _ in list_rows:
-        if student not in papers.students:
-            raise intake("lists", row, "NotInRoster")
-    return papers
+    in_roster = {row[1] for row in roster_rows}
+    faults += [intake("lists", row, "NotInRoster") for row, student, _ in list_rows if student not in in_roster]
+    return papers, faults
+
+
+def faults_of(schools, roster, lists):
+    """Every fault of three files: of each alone, and then of what their rows without a fault say together."""
+    rows, faults = [], []
+    for judge, text in (schools_judged, schools), (roster_judged, roster), (lists_judged, lists):
+        try:
+            good, found = judge(text)
+            rows.append(good)
+            faults += found
+        except Stop as stop:
+            faults.append(stop)
+    return faults + papers_judged(bytes(32), *rows)[1] if len(rows) == 3 else faults
+
+
+def script_faults(text):
+    """Every record of a script that is no amendment."""
+    faults = []
+    try:
+        found = records_of("script", text)
+    except Stop as stop:
+        return [stop]
+    for at, fields in enumerate(found, start=1):
+        try:
+            read_stamped(fields)
+        except Bad as bad:
+            faults.append(intake("script", at, bad.args[0]))
+    return faults
 
 
 def amendment_of(fields):
-    """The amendment that a record without its stamp is, or None where it is none. The school at which a student continues may be left out."""
+    """The amendment that a record without its stamp is, or None where it is none."""
+    try:
+        return read_amendment(fields)
+    except Bad:
+        return None
+
+
+def read_amendment(fields):
+    """The amendment that a record without its stamp is. The school at which a student continues may be left out."""
     forms = {b"enter": (STUDENT, ZONE, list, list, None), b"withdraw": (STUDENT,), b"rerank": (STUDENT, list),
              b"add": (SCHOOL, COUNT), b"close": (SCHOOL, COUNT), b"correct": (STUDENT, ZONE, list, None)}
-    form = forms.get(fields[0])
+    form = forms.get(fields[0]) if fields else None
     if form is None:
-        return None
+        raise Bad("Fields")
     if form[-1] is None and len(fields) == len(form):
         fields = [*fields, b""]
     if len(fields) != len(form) + 1:
-        return None
+        raise Bad("Fields")
     found = []
-    try:
-        for kind, field in zip(form, fields[1:]):
-            if kind is None:
-                found.append(school_or_none(field))
-                within(SCHOOL, *([] if found[-1] is None else [found[-1]]))
-            elif kind is list:
-                found.append(numbers(field))
-                within(SCHOOL, *found[-1])
-            else:
-                found.append(number(field))
-                within(kind, found[-1])
-    except Bad:
-        return None
+    for kind, field in zip(form, fields[1:]):
+        if kind is None:
+            found.append(school_or_none(field))
+            within(SCHOOL, *([] if found[-1] is None else [found[-1]]))
+        elif kind is list:
+            found.append(numbers(field))
+            within(SCHOOL, *found[-1])
+        else:
+            found.append(number(field))
+            within(kind, found[-1])
     return (fields[0].decode(), *found)
 
 
 def stamped_of(fields):
     """The stamp and the amendment that a script's record is, or None where it is none."""
     try:
-        stamp = number(fields[0])
+        return read_stamped(fields)
     except Bad:
         return None
-    amendment = amendment_of(fields[1:]) if len(fields) > 1 else None
-    return None if amendment is None else (stamp, amendment)
+
+
+def read_stamped(fields):
+    """The stamp and the amendment that a script's record is."""
+    return number(fields[0]), read_amendment(fields[1:])
 
 
 def line_of(at, amendment):
@@ -514,6 +578,13 @@ def too_long(*named):
 
 def files(schools, roster, lists):
     return ("schools", schools), ("roster", roster), ("lists", lists)
+
+
+def call_check(schools, roster, lists, script=None):
+    """Without a script there is no record to judge. Each fault has a line on the output, and there is no other line."""
+    too_long(*files(schools, roster, lists), ("script", script or b""))
+    faults = faults_of(schools, roster, lists) + script_faults(script or b"")
+    return b"".join(f"{fault.line}\n".encode() for fault in faults), b"", 3 if faults else 0
 
 
 def call_match(key, schools, roster, lists, print_log=False):
@@ -682,12 +753,15 @@ def main(words):
             rest = [word for word in words[1:] if word != "--print-log"]
             options = dict(zip(rest[::2], rest[1::2]))
         kept = "--journal" if "--journal" in options else None
-        last = {"match": None, "run": "--script", "audit": "--log", "replay": "--journal", "summary": kept, "explain": kept, "export": kept}[words[0]]
+        late = "--script" if "--script" in options else None
+        last = {"check": late, "match": None, "run": "--script", "audit": "--log", "replay": "--journal", "summary": kept, "explain": kept, "export": kept}[words[0]]
         names = ["--schools", "--roster", "--lists"] + ([last] if last else [])
 
         def call():
-            key = seed_of(options["--seed"].encode())
+            key = None if words[0] == "check" else seed_of(options["--seed"].encode())
             texts = [open(options[name], "rb").read() for name in names]
+            if words[0] == "check":
+                return call_check(*texts)
             if words[0] == "match":
                 return call_match(key, *texts, print_log="--print-log" in words)
             if words[0] == "explain":

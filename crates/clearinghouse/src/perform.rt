@@ -6,11 +6,11 @@ use sc_intake::Source;
 use sc_papers::{Seed, StudentNo};
 use sc_report::{Watched, write_whole};
 use sc_runs::{
-    Ending, Explained, Inputs, Opening, PapersFile, PapersFiles, RunFault, Settling, Tail, Verdict,
-    audit_files, explain_files, export_files, fault_line, match_standing, read_student,
-    replay_files, run, run_bundle, status_of, summary_files,
+    Checked, Ending, Explained, Inputs, Opening, PapersFile, PapersFiles, RunFault, Settling, Tail,
+    Verdict, audit_files, check_files, explain_files, export_files, fault_line, match_standing,
+    read_student, replay_files, run, run_bundle, status_of, summary_files,
 };
-use sc_words::{OpeningWords, Order, Subcommand, Word, order_of};
+use sc_words::{FileWords, OpeningWords, Order, Subcommand, Word, order_of};
 use std::alloc::Global;
 use std::fs::{File, OpenOptions};
 use std::io;
@@ -30,7 +30,7 @@ fn open_input<R: Files>(rt: &R, path: &str, source: Source) -> Result<Watched<R:
 }
 
 /// The files of an opening.
-fn open_opening<R: Files>(rt: &R, words: &OpeningWords<'_>) -> Result<Opening<R::File>, RunFault> {
+fn open_opening<R: Files>(rt: &R, words: &FileWords<'_>) -> Result<Opening<R::File>, RunFault> {
     Ok(Opening {
         schools: open_input(rt, words.schools, Source::Schools)?,
         roster: open_input(rt, words.roster, Source::Roster)?,
@@ -66,7 +66,7 @@ fn match_opening<R: Files + AllocGlobal, W: Write>(
     out: &mut Watched<W>,
 ) -> Result<Ending, RunFault> {
     keep_memory(rt.alloc());
-    let mut opening = open_opening(rt, words)?;
+    let mut opening = open_opening(rt, &words.files)?;
     let clearing = match_standing(rt.alloc(), seed, &mut opening, show_log, out)?;
     // The program ends here, so what stands is not taken apart.
     forget(clearing);
@@ -93,7 +93,7 @@ fn run_script<R: Files + AllocGlobal, W: Write>(
     out: &mut Watched<W>,
 ) -> Result<Ending, RunFault> {
     let mut inputs = Inputs {
-        opening: open_opening(rt, words)?,
+        opening: open_opening(rt, &words.files)?,
         script: open_input(rt, script, Source::Script)?,
     };
     let mut journal = create_journal(rt, journal)?;
@@ -109,7 +109,7 @@ fn audit_log<R: Files + AllocGlobal, W: Write>(
     log: &str,
     out: &mut Watched<W>,
 ) -> Result<Ending, RunFault> {
-    let mut opening = open_opening(rt, words)?;
+    let mut opening = open_opening(rt, &words.files)?;
     let mut log = open_input(rt, log, Source::Log)?;
     match audit_files(rt.alloc(), seed, &mut opening, &mut log, out)? {
         Verdict::Certified => Ok(Ending::Done),
@@ -125,7 +125,7 @@ fn replay_journal<R: Files + AllocGlobal, W: Write>(
     journal: &str,
     out: &mut Watched<W>,
 ) -> Result<Ending, RunFault> {
-    let mut opening = open_opening(rt, words)?;
+    let mut opening = open_opening(rt, &words.files)?;
     let mut journal = open_input(rt, journal, Source::Journal)?;
     let tail = replay_files(rt.alloc(), seed, &mut opening, &mut journal, out)?;
     Ok(ending_after(tail))
@@ -173,13 +173,14 @@ fn write_papers<R: Files + AllocGlobal>(
     write_new(rt, folder, PapersFile::Lists, files.lists.as_slice())
 }
 
-/// A journal, if there is one.
-fn open_journal<R: Files>(
+/// An input file, if there is one.
+fn open_if_any<R: Files>(
     rt: &R,
     path: Option<&str>,
+    source: Source,
 ) -> Result<Option<Watched<R::File>>, RunFault> {
     match path {
-        Some(path) => Ok(Some(open_input(rt, path, Source::Journal)?)),
+        Some(path) => Ok(Some(open_input(rt, path, source)?)),
         None => Ok(None),
     }
 }
@@ -200,8 +201,8 @@ fn export_papers<R: Files + AllocGlobal>(
     to: &str,
     journal: Option<&str>,
 ) -> Result<Ending, RunFault> {
-    let mut opening = open_opening(rt, words)?;
-    let mut journal = open_journal(rt, journal)?;
+    let mut opening = open_opening(rt, &words.files)?;
+    let mut journal = open_if_any(rt, journal, Source::Journal)?;
     let exported = export_files(rt.alloc(), seed, &mut opening, &mut journal)?;
     match write_papers(rt, to, &exported.files) {
         Ok(()) => Ok(ending_after(exported.tail)),
@@ -217,8 +218,8 @@ fn summarize<R: Files + AllocGlobal, W: Write>(
     journal: Option<&str>,
     out: &mut Watched<W>,
 ) -> Result<Ending, RunFault> {
-    let mut opening = open_opening(rt, words)?;
-    let mut journal = open_journal(rt, journal)?;
+    let mut opening = open_opening(rt, &words.files)?;
+    let mut journal = open_if_any(rt, journal, Source::Journal)?;
     let tail = summary_files(rt.alloc(), seed, &mut opening, &mut journal, out)?;
     Ok(ending_after(tail))
 }
@@ -233,8 +234,8 @@ fn explain<R: Files + AllocGlobal, W: Write>(
     journal: Option<&str>,
     out: &mut Watched<W>,
 ) -> Result<Ending, RunFault> {
-    let mut opening = open_opening(rt, words)?;
-    let mut journal = open_journal(rt, journal)?;
+    let mut opening = open_opening(rt, &words.files)?;
+    let mut journal = open_if_any(rt, journal, Source::Journal)?;
     match explain_files(rt.alloc(), seed, &mut opening, &mut journal, student, out)? {
         Explained::Written { tail } => Ok(ending_after(tail)),
         Explained::UnknownStudent { student } => Ok(Ending::UnknownStudent { student }),
@@ -305,6 +306,21 @@ fn perform_subcommand<R: Files + AllocGlobal, W: Write>(
     }
 }
 
+/// Tells every fault of the files of an opening, and of a script if there is one.
+fn check<R: Files + AllocGlobal, W: Write>(
+    rt: &R,
+    words: &FileWords<'_>,
+    script: Option<&str>,
+    out: &mut Watched<W>,
+) -> Result<Ending, RunFault> {
+    let mut opening = open_opening(rt, words)?;
+    let mut script = open_if_any(rt, script, Source::Script)?;
+    match check_files(rt.alloc(), &mut opening, &mut script, out)? {
+        Checked::Clean => Ok(Ending::Done),
+        Checked::Faulty => Ok(Ending::Faulty),
+    }
+}
+
 /// Does what an order asks for.
 fn perform_order<R: Files + AllocGlobal, I: Read + Drop, W: Write>(
     rt: &R,
@@ -314,6 +330,10 @@ fn perform_order<R: Files + AllocGlobal, I: Read + Drop, W: Write>(
 ) -> Ending {
     match order {
         Order::Bundle => run_bundle(rt.alloc(), &mut Watched::new(input), out),
+        Order::Check { files, script } => match check(rt, files, *script, out) {
+            Ok(ending) => ending,
+            Err(fault) => Ending::Fault(fault),
+        },
         Order::Opening {
             opening,
             subcommand,

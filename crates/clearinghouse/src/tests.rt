@@ -434,3 +434,49 @@ fn an_export_says_what_stands(rt: HostRuntime) -> io::Result<()> {
     expect(&rt, exporting(&rt), "", one);
     Ok(())
 }
+
+/// What checking Market B with other lists does, and a script if there is one.
+fn checked(rt: &HostRuntime, lists: &str, script: Option<&str>) -> io::Result<String> {
+    let mut options = words(
+        rt.alloc(),
+        &["check", "--schools=schools", "--roster=roster", "--lists"],
+    )?;
+    options.push(Word::from_text(String::from_str(rt.alloc(), lists)?))?;
+    if let Some(script) = script {
+        options.push(Word::from_text(String::from_str(rt.alloc(), "--script")?))?;
+        options.push(Word::from_text(String::from_str(rt.alloc(), script)?))?;
+    }
+    Ok(performed(rt, options.as_slice(), "")?)
+}
+
+#[test]
+fn a_check(rt: HostRuntime) -> io::Result<()> {
+    write_files(&rt)?;
+    expect(&rt, checked(&rt, "lists", None), "", "0");
+    fs::write(&rt, "faulty", "student,choices\n1,10 30\n2,ten\n3,10\n")?;
+    let lines =
+        "lists row 3: Number\nroster row 2: Refused 6 UnknownSchool 30\nroster row 3: NoList\nlists row 4: NotInRoster\n";
+    expect(&rt, checked(&rt, "faulty", None), lines, "3");
+    fs::write(&rt, "script", "0,enter,3,1,10,10\n0,leave,3\n")?;
+    expect(
+        &rt,
+        checked(&rt, "lists", Some("script")),
+        "script row 2: Fields\n",
+        "3",
+    );
+    let unread = "clearinghouse: cannot read lists\n4";
+    expect(
+        &rt,
+        checked(&rt, "no such file", Some("script")),
+        "",
+        unread,
+    );
+    let unread = "clearinghouse: cannot read script\n4";
+    expect(
+        &rt,
+        checked(&rt, "faulty", Some("no such file")),
+        "",
+        unread,
+    );
+    Ok(())
+}

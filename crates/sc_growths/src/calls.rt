@@ -2,15 +2,15 @@
 //! refused would be a failed write.
 
 use crate::market::{
-    BUNDLE, EXPLANATION, EXPLANATION_OF_2, EXPORTED, JOURNAL, LISTS, LOG, REPORT, ROSTER, SCHOOLS,
-    SCRIPT, SUMMARY, WHOLE_RUN, seed,
+    BUNDLE, EXPLANATION, EXPLANATION_OF_2, EXPORTED, FAULTS, FAULTY_LISTS, JOURNAL, LISTS, LOG,
+    REPORT, ROSTER, SCHOOLS, SCRIPT, SUMMARY, WHOLE_RUN, seed,
 };
 use crate::twice::{Call, expect};
 use sc_papers::StudentNo;
 use sc_report::Watched;
 use sc_runs::{
-    Ending, Inputs, Opening, PapersFiles, RunFault, Settling, audit_files, explain_files,
-    export_files, match_files, replay_files, run, run_bundle, summary_files,
+    Ending, Inputs, Opening, PapersFiles, RunFault, Settling, audit_files, check_files,
+    explain_files, export_files, match_files, replay_files, run, run_bundle, summary_files,
 };
 use std::alloc::{AllocError, Global};
 use std::process::Abort;
@@ -192,6 +192,22 @@ pub fn explained(
 fn explanation_of_files(rt: HostRuntime) {
     expect(&rt, rt.alloc(), Call::ExplainFiles, EXPLANATION);
     expect(&rt, rt.alloc(), Call::ExplainStudent, EXPLANATION_OF_2);
+}
+
+pub fn checked(rt: &impl Abort, alloc: Global) -> Result<String, AllocError> {
+    let mut out = writer(alloc)?;
+    let mut files = Opening {
+        lists: Watched::new(FAULTY_LISTS),
+        ..opening()
+    };
+    let mut script = Some(Watched::new(SCRIPT));
+    let answer = check_files(alloc, &mut files, &mut script, &mut out);
+    one_text(rt, alloc, answer.err(), &out)
+}
+
+#[test]
+fn check_of_files(rt: HostRuntime) {
+    expect(&rt, rt.alloc(), Call::CheckFiles, FAULTS);
 }
 
 pub fn ran_bundle(rt: &impl Abort, alloc: Global) -> Result<String, AllocError> {

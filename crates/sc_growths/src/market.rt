@@ -9,6 +9,13 @@ pub const ROSTER: &[u8] = b"student,zone,siblings\n1,0,20\n2,0,10\n";
 
 pub const LISTS: &[u8] = b"student,choices\n1,10 20\n2,20 10\n";
 
+/// Lists with a row that is faulty alone, a student whom the papers refuse, and one who is not in the roster.
+pub const FAULTY_LISTS: &[u8] = b"student,choices\n1,10 30\n2,ten\n3,10\n";
+
+/// The faults of the files with these lists, and of the script.
+pub const FAULTS: &str =
+    "lists row 3: Number\nroster row 2: Refused 6 UnknownSchool 30\nroster row 3: NoList\nlists row 4: NotInRoster\nscript row 2: Number\n";
+
 pub const SCRIPT: &[u8] = b"0,enter,3,1,10,10\nnonsense\n0,withdraw,99\n0,add,77,1\n1,withdraw,3\n";
 
 /// What the script's amendments leave in the journal.

@@ -31,6 +31,7 @@ pub enum Call {
     SummaryFiles,
     ExplainFiles,
     ExplainStudent,
+    CheckFiles,
     RunBundle,
 }
 
@@ -59,6 +60,7 @@ fn attempt(rt: &impl Abort, alloc: Global, call: Call) -> Result<String, AllocEr
         Call::SummaryFiles => calls::summed(rt, alloc),
         Call::ExplainFiles => calls::explained(rt, alloc, None),
         Call::ExplainStudent => calls::explained(rt, alloc, StudentNo::new(2)),
+        Call::CheckFiles => calls::checked(rt, alloc),
         Call::RunBundle => calls::ran_bundle(rt, alloc),
     }
 }

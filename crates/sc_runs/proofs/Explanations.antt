@@ -1,5 +1,5 @@
 -- Explanations, written or not.
-use Rattle.std.proofs.Common.{◌≡◌, refl, subst, ℕ, true, List, Option, Result, Ok, Err}
+use Rattle.std.proofs.Common.{◌≡◌, refl, subst, ℕ, true, List, Option, Ok, Err}
 use Rattle.std.specs.Io.KnownBytes.{Appends}
 use Rattle.sc_papers.specs.Market.{Market}
 use Rattle.sc_papers.specs.Matching.{Matching}

@@ -5,6 +5,7 @@ pub mod Reading
 pub mod Calls
 pub mod Standings
 pub mod Explanations
+pub mod Checks
 pub mod Replies
 pub mod TwoWriters
 pub mod Verdicts

@@ -1,22 +1,23 @@
--- Calls that tell of what stands: reading a journal, if there is one, and what they then did.
+-- Calls that read an input after the opening, if there is one: reading it, and what those that tell of what stands then did.
 use Rattle.std.proofs.Common.{◌≡◌, refl, ap, subst, ◌∙◌, sym, inl, inr, ℕ, Bool, true, false, ◌||◌, List, [], ◌∷◌, ◌++◌, Option, None, Some, Result, Err}
 use Rattle.std.specs.List.{All}
 use Rattle.std.proofs.lemmas.List.Elements.{All-append, All-nil, All-weaker}
 use Rattle.sc_papers.specs.Market.{Market}
 use Rattle.sc_intake.specs.declared.fault.IntakeFault.{IntakeFault}
+use Rattle.sc_intake.specs.declared.fault.Source.{Source}
 use Rattle.sc_report.specs.declared.watched.Watched.{Watched}
-use Rattle.sc_runs.specs.Inputs.{in_order, Texts, Turn, AreRead, EndsAmong, EndsReading, IsUntouched, TakesWithin}
+use Rattle.sc_runs.specs.Inputs.{in_order, turns_if_any, Texts, Turn, AreRead, EndsAmong, EndsReading, IsReadIfAny, IsUntouched, TakesWithin}
 use Rattle.sc_runs.specs.Opening.{is_output_fault, papers_in}
-use Rattle.sc_runs.specs.Standing.{journal_turns, IsJournalRead, TellsFiles}
+use Rattle.sc_runs.specs.Standing.{TellsFiles}
 use Rattle.sc_runs.specs.declared.fault.RunFault.{RunFault}
 use Rattle.sc_runs.specs.declared.fault.RunFault.TheVariants.{Read, Intake, Journal, WriteOut, WriteJournal, OutOfMemory}
 use Rattle.sc_runs.proofs.Calls.{papers_in-texts, AreTexts}
 use Rattle.sc_runs.proofs.Reading.{All-untouched, TakesWithin-untouched}
 
--- a journal that is not come to is untouched
-pub journal-untouched : {R : Type 0} (remaining : R → Option (List ℕ)) (journal : Option (Watched R)) → All IsUntouched (journal_turns remaining journal journal)
-journal-untouched remaining None = All-nil IsUntouched
-journal-untouched remaining (Some reader) = All-untouched _ (refl, refl)
+-- an input that is not come to is untouched
+pub any-untouched : {R : Type 0} (remaining : R → Option (List ℕ)) (source : Source) (last : Option (Watched R)) → All IsUntouched (turns_if_any remaining source last last)
+any-untouched remaining source None = All-nil IsUntouched
+any-untouched remaining source (Some reader) = All-untouched _ (refl, refl)
 
 -- of inputs that are not come to nothing is taken
 pub TakesWithin-later : (first later : List Turn) → All TakesWithin first → All IsUntouched later → All TakesWithin (first ++ later)
@@ -48,7 +49,7 @@ unfailed-unread A before turns fault ended =
 -- the files and the journal were read, and a text of what stands was written
 pub TellsFiles-read : {A : Type 0} (Does : Result Market IntakeFault → List ℕ → Option (List ℕ) → Option (List ℕ) → Result A RunFault → Type 0) (seed : List ℕ) (opening journal : List Turn) (texts : Texts) (given schools roster lists bytes : List ℕ)
     → (old new : Option (List ℕ)) (result : Result A RunFault)
-    → AreRead opening (in_order texts) → IsJournalRead journal given → AreTexts texts schools roster lists → bytes ≡ given
+    → AreRead opening (in_order texts) → IsReadIfAny journal given → AreTexts texts schools roster lists → bytes ≡ given
     → Does (papers_in seed schools roster lists) bytes old new result → TellsFiles Does seed opening journal old new result
 TellsFiles-read Does seed opening journal texts given schools roster lists bytes old new result read journal_read same is wrote = inr (
   texts,

@@ -10,7 +10,7 @@ use Rattle.sc_runs.specs.Inputs.{Turn, EndsReading, IsRead}
 use Rattle.sc_runs.specs.Opening.{is_output_fault, papers_in, WritesMatch}
 use Rattle.sc_runs.specs.Run.{opened_in, WritesRun}
 use Rattle.sc_runs.specs.declared.ending.Ending.{Ending}
-use Rattle.sc_runs.specs.declared.ending.Ending.TheVariants.{Done, NotCertified, Torn, BadSeed, BadBundle, BadStudent, UnknownStudent, Unwritten, Fault}
+use Rattle.sc_runs.specs.declared.ending.Ending.TheVariants.{Done, NotCertified, Faulty, Torn, BadSeed, BadBundle, BadStudent, UnknownStudent, Unwritten, Fault}
 use Rattle.sc_runs.specs.declared.fault.RunFault.{RunFault}
 
 -- what running the papers and a script does, with a journal that keeps nothing; without a script it is
@@ -38,6 +38,7 @@ pub record RunsSections (text : List ℕ) (old new : Option (List ℕ)) (result 
 abbrev pub EndsBundle : List ℕ → Option (List ℕ) → Option (List ℕ) → Ending → Type 0
 EndsBundle text old new Done = RunsSections text old new (Ok tt)
 EndsBundle text old new NotCertified = ⊥
+EndsBundle text old new Faulty = ⊥
 EndsBundle text old new Torn = ⊥
 EndsBundle text old new (BadSeed error) =
     (sections : Sections) × (bundle_of text ≡ Some sections) × (seed_of sections.seed ≡ Err error) × Keeps old new
@@ -57,6 +58,7 @@ RunsBundle turn old new ending = ((fault : RunFault) × (ending ≡ Fault fault)
 abbrev pub ends_by_output : Ending → Bool
 ends_by_output Done = false
 ends_by_output NotCertified = false
+ends_by_output Faulty = false
 ends_by_output Torn = false
 ends_by_output (BadSeed error) = false
 ends_by_output BadBundle = false

@@ -1,7 +1,7 @@
 -- The exit status of an ending.
 use Rattle.std.specs.Prelude.{ℕ}
 use Rattle.sc_runs.specs.declared.ending.Ending.{Ending}
-use Rattle.sc_runs.specs.declared.ending.Ending.TheVariants.{Done, NotCertified, Torn, BadSeed, BadBundle, BadStudent, UnknownStudent, Unwritten, Fault}
+use Rattle.sc_runs.specs.declared.ending.Ending.TheVariants.{Done, NotCertified, Faulty, Torn, BadSeed, BadBundle, BadStudent, UnknownStudent, Unwritten, Fault}
 use Rattle.sc_runs.specs.declared.fault.RunFault.{RunFault}
 use Rattle.sc_runs.specs.declared.fault.RunFault.TheVariants.{Read, Intake, Journal, WriteOut, WriteJournal, OutOfMemory}
 
@@ -15,10 +15,11 @@ status_of_fault WriteJournal = 4
 status_of_fault OutOfMemory = 5
 
 -- of an ending: 0 for done and for a torn journal, 1 for not certified, 2 for a bad seed or student, 3 for a
--- bad bundle and for a student who is not in the papers, 4 for a file of papers that was not written
+-- bad bundle, for files that were found faulty and for a student who is not in the papers, 4 for a file of papers that was not written
 abbrev pub status_of : Ending → ℕ
 status_of Done = 0
 status_of NotCertified = 1
+status_of Faulty = 3
 status_of Torn = 0
 status_of (BadSeed error) = 2
 status_of BadBundle = 3

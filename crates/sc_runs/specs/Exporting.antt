@@ -5,9 +5,9 @@ use Rattle.sc_intake.specs.Papers.{papers_in}
 use Rattle.sc_intake.specs.declared.fault.IntakeFault.{IntakeFault}
 use Rattle.sc_export.specs.Files.{lists_text, roster_text, schools_text}
 use Rattle.sc_export.specs.declared.files.PapersFiles.{PapersFiles}
-use Rattle.sc_runs.specs.Inputs.{in_order, Texts, Turn, AreRead, EndsAmong}
+use Rattle.sc_runs.specs.Inputs.{in_order, Texts, Turn, AreRead, EndsAmong, IsReadIfAny}
 use Rattle.sc_runs.specs.Opening.{opening_in}
-use Rattle.sc_runs.specs.Standing.{IsJournalRead, IsStandingFault, Stands}
+use Rattle.sc_runs.specs.Standing.{IsStandingFault, Stands}
 use Rattle.sc_runs.specs.declared.exporting.Exported.{Exported}
 use Rattle.sc_runs.specs.declared.fault.RunFault.{RunFault}
 
@@ -28,4 +28,4 @@ ExportsStanding reading journal (Err fault) = IsStandingFault reading journal fa
 -- were read, each whole, and the papers that stand were exported
 abbrev pub ExportsFiles : List ℕ → List Turn → List Turn → Result Exported RunFault → Type 0
 ExportsFiles seed opening journal result = IsErrAnd result (EndsAmong (opening ++ journal))
-    ⊎ ((texts : Texts) × (text : List ℕ) × AreRead opening (in_order texts) × IsJournalRead journal text × ExportsStanding (opening_in seed texts) text result)
+    ⊎ ((texts : Texts) × (text : List ℕ) × AreRead opening (in_order texts) × IsReadIfAny journal text × ExportsStanding (opening_in seed texts) text result)

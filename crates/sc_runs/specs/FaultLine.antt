@@ -5,7 +5,7 @@ use Rattle.sc_lottery.specs.Seed.{refusal_text}
 use Rattle.sc_intake.specs.FaultText.{fault_text, source_text}
 use Rattle.sc_journal.specs.FaultText as journal
 use Rattle.sc_runs.specs.declared.ending.Ending.{Ending}
-use Rattle.sc_runs.specs.declared.ending.Ending.TheVariants.{Done, NotCertified, Torn, BadSeed, BadBundle, BadStudent, UnknownStudent, Unwritten, Fault}
+use Rattle.sc_runs.specs.declared.ending.Ending.TheVariants.{Done, NotCertified, Faulty, Torn, BadSeed, BadBundle, BadStudent, UnknownStudent, Unwritten, Fault}
 use Rattle.sc_runs.specs.declared.ending.PapersFile.{PapersFile}
 use Rattle.sc_runs.specs.declared.ending.PapersFile.TheVariants.{Schools, Roster, Lists}
 use Rattle.sc_runs.specs.declared.fault.RunFault.{RunFault}
@@ -32,10 +32,11 @@ unwritten_words Schools = codes "cannot write schools.csv: no file is whole"
 unwritten_words Roster = codes "cannot write roster.csv: schools.csv is whole"
 unwritten_words Lists = codes "cannot write lists.csv: schools.csv and roster.csv are whole"
 
--- an ending in words; done and not certified have none
+-- an ending in words; done, not certified and found faulty have none
 abbrev pub ending_words : Ending → List ℕ
 ending_words Done = []
 ending_words NotCertified = []
+ending_words Faulty = []
 ending_words Torn = codes "journal torn"
 ending_words (BadSeed error) = codes "seed: " ++ refusal_text error
 ending_words BadBundle = codes "bundle"
@@ -48,10 +49,11 @@ ending_words (Fault fault) = fault_words fault
 abbrev pub line_with : List ℕ → List ℕ
 line_with words = codes "clearinghouse: " ++ words ++ codes "\n"
 
--- the line of an ending, which has none where all was done or the log is not certified
+-- the line of an ending, which has none where all was done, the log is not certified or files were found faulty
 abbrev pub fault_line : Ending → List ℕ
 fault_line Done = []
 fault_line NotCertified = []
+fault_line Faulty = []
 fault_line Torn = line_with (ending_words Torn)
 fault_line (BadSeed error) = line_with (ending_words (BadSeed error))
 fault_line BadBundle = line_with (ending_words BadBundle)

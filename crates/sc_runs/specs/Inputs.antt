@@ -41,6 +41,12 @@ opening_turns remaining old new =
     ∷ turn_of remaining input.Lists old.lists new.lists
     ∷ []
 
+-- the turn of a reader, if there is one
+abbrev pub turns_if_any : {R : Type 0} → (R → Option (List ℕ)) → Source → Option (Watched R) → Option (Watched R) → List Turn
+turns_if_any remaining source None new = []
+turns_if_any remaining source (Some old) None = []
+turns_if_any remaining source (Some old) (Some new) = turn_of remaining source old new ∷ []
+
 -- a text is the whole of what a reader had, where its bytes are known
 abbrev pub IsWhole : Option (List ℕ) → List ℕ → Type 0
 IsWhole None text = ⊤
@@ -84,6 +90,11 @@ AreRead [] [] = ⊤
 AreRead [] (text ∷ texts) = ⊥
 AreRead (turn ∷ rest) [] = ⊥
 AreRead (turn ∷ rest) (text ∷ texts) = IsRead turn text × AreRead rest texts
+
+-- an input was read whole, if there is one, and this is its text, which is empty where there is none
+abbrev pub IsReadIfAny : List Turn → List ℕ → Type 0
+IsReadIfAny [] text = text ≡ []
+IsReadIfAny (turn ∷ rest) text = AreRead (turn ∷ rest) (text ∷ [])
 
 -- inputs were read one after the other, until reading one of them ended early; those after it were not come to
 abbrev pub EndsAmong : List Turn → RunFault → Type 0

@@ -13,3 +13,4 @@ pub mod Standing
 pub mod Explaining
 pub mod FaultLine
 pub mod Exporting
+pub mod Checking

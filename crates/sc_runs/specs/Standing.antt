@@ -1,6 +1,6 @@
 -- What stands after an opening and a journal, if there is one, and what a call that tells a text of it does, where
 -- bytes are known.
-use Rattle.std.specs.Prelude.{◌≡◌, ◌⊎◌, ℕ, List, [], ◌∷◌, ◌++◌, Option, None, Some, Result, Ok, Err, ⊤}
+use Rattle.std.specs.Prelude.{◌≡◌, ◌⊎◌, ℕ, List, ◌++◌, Option, Result, Ok, Err, ⊤}
 use Rattle.std.specs.Io.KnownBytes.{Appends, Keeps}
 use Rattle.sc_papers.specs.Market.{Market}
 use Rattle.sc_papers.specs.Matching.{Matching, IsStudentOptimal}
@@ -12,21 +12,14 @@ use Rattle.sc_journal.specs.declared.journal.Tail.{Tail}
 use Rattle.sc_report.specs.Whole.{AppendsPrefix}
 use Rattle.sc_report.specs.declared.watched.Watched.{Watched}
 use Rattle.sc_notices.specs.SummaryText.{summary_text}
-use Rattle.sc_runs.specs.Inputs.{in_order, turn_of, Texts, Turn, AreRead}
+use Rattle.sc_runs.specs.Inputs.{in_order, turns_if_any, Texts, Turn, AreRead, IsReadIfAny}
 use Rattle.sc_runs.specs.Opening.{opening_in, EndsUnread}
 use Rattle.sc_runs.specs.declared.fault.RunFault.{RunFault}
 use Rattle.sc_runs.specs.declared.fault.RunFault.TheVariants.{Read, Intake, Journal, WriteOut, WriteJournal, OutOfMemory}
 
 -- the turn of a journal's reader, if there is a journal
 abbrev pub journal_turns : {R : Type 0} → (R → Option (List ℕ)) → Option (Watched R) → Option (Watched R) → List Turn
-journal_turns remaining None new = []
-journal_turns remaining (Some old) None = []
-journal_turns remaining (Some old) (Some new) = turn_of remaining input.Journal old new ∷ []
-
--- a journal was read whole and this is its text, which is empty where there is no journal
-abbrev pub IsJournalRead : List Turn → List ℕ → Type 0
-IsJournalRead [] text = text ≡ []
-IsJournalRead (turn ∷ rest) text = AreRead (turn ∷ rest) (text ∷ [])
+journal_turns remaining old new = turns_if_any remaining input.Journal old new
 
 -- these papers stand after the amendments of a journal over the papers that were read, and the journal ends so
 abbrev pub Stands : Result Market IntakeFault → List ℕ → Market → Tail → Type 0
@@ -58,7 +51,7 @@ WritesOfStanding Is reading journal old new (Err WriteJournal) = ⊥
 abbrev pub TellsFiles : {A : Type 0} → (Result Market IntakeFault → List ℕ → Option (List ℕ) → Option (List ℕ) → Result A RunFault → Type 0)
     → List ℕ → List Turn → List Turn → Option (List ℕ) → Option (List ℕ) → Result A RunFault → Type 0
 TellsFiles Does seed opening journal old new result = EndsUnread (opening ++ journal) old new result
-    ⊎ ((texts : Texts) × (text : List ℕ) × AreRead opening (in_order texts) × IsJournalRead journal text × Does (opening_in seed texts) text old new result)
+    ⊎ ((texts : Texts) × (text : List ℕ) × AreRead opening (in_order texts) × IsReadIfAny journal text × Does (opening_in seed texts) text old new result)
 
 -- a text is the summary of the papers under their student-optimal stable matching
 abbrev pub IsSummary : Market → List ℕ → Type 0

@@ -44,6 +44,8 @@ pub enum Ending {
     Done,
     /// The log does not certify its assignment.
     NotCertified,
+    /// The files that were checked have a fault.
+    Faulty,
     /// A journal was replayed whose last line is torn.
     Torn,
     /// The seed is no seed.
@@ -66,7 +68,7 @@ impl fmt::Display for Ending {
 
     fn fmt<W: fmt::Write>(&self, f: &mut fmt::Formatter<W>) -> fmt::Result {
         match self {
-            Ending::Done | Ending::NotCertified => Ok(()),
+            Ending::Done | Ending::NotCertified | Ending::Faulty => Ok(()),
             Ending::Torn => f.write_str("journal torn"),
             Ending::BadSeed(error) => write!(f, "seed: {error}"),
             Ending::BadBundle => f.write_str("bundle"),
@@ -94,7 +96,7 @@ fn unwritten_words(file: PapersFile) -> &'static str
 }
 
 /// The exit status: 0 done (a torn journal is no fault), 1 not certified, 2 a bad seed or student's
-/// number, 3 a fault of an input, the bundle or the journal, or an unknown student, 4 a file or stream that could not be made, read or written, 5
+/// number, 3 a fault of an input, the bundle or the journal, files that were found faulty, or an unknown student, 4 a file or stream that could not be made, read or written, 5
 /// want of memory.
 pub fn status_of(ending: &Ending) -> u8
     ensures { result ≡ status_of ending.now }
@@ -103,6 +105,7 @@ pub fn status_of(ending: &Ending) -> u8
         Ending::Done => 0,
         Ending::Torn => 0,
         Ending::NotCertified => 1,
+        Ending::Faulty => 3,
         Ending::BadSeed(_) => 2,
         Ending::BadBundle => 3,
         Ending::BadStudent => 2,
@@ -125,13 +128,13 @@ fn status_of_fault(fault: &RunFault) -> u8
     }
 }
 
-/// The line for standard error, with its newline; empty where all was done or the log is not
-/// certified. The only error is want of memory.
+/// The line for standard error, with its newline; empty where all was done, the log is not certified or files were
+/// found faulty. The only error is want of memory.
 pub fn fault_line(alloc: Global, ending: &Ending) -> Result<Vec<u8>, AllocError>
     ensures { IfOk result (λ line. line.items ≡ fault_line ending.now) }
 {
     match ending {
-        Ending::Done | Ending::NotCertified => Ok(Vec::new(alloc)),
+        Ending::Done | Ending::NotCertified | Ending::Faulty => Ok(Vec::new(alloc)),
         _ => Ok(format!(in alloc; "clearinghouse: {ending}\n")?.into_bytes()),
     }
 }

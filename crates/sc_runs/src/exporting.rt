@@ -8,10 +8,10 @@ ghost use Rattle.sc_runs.specs.Standing.{journal_turns};
 ghost use Rattle.sc_runs.specs.declared.fault.RunFault.TheVariants.{OutOfMemory};
 
 use crate::fault::RunFault;
-use crate::inputs::{Opening, OpeningTexts};
+use crate::inputs::{Opening, OpeningTexts, read_opening_and};
 use crate::opening::read_owned;
-use crate::standing::read_with_journal;
 use sc_export::{PapersFiles, export};
+use sc_intake::Source;
 use sc_journal::{Tail, replay_papers};
 use sc_papers::{Papers, Seed};
 use sc_report::Watched;
@@ -87,7 +87,7 @@ pub fn export_files<R: Read>(
     ensures limit { All TakesWithin (opening_turns R.remaining opening.old opening.new ++ journal_turns R.remaining journal.old journal.new) }
     ensures stays { is_some journal.new ≡ is_some journal.old }
 {
-    let texts = match read_with_journal(alloc, opening, journal) {
+    let texts = match read_opening_and(alloc, opening, journal, Source::Journal) {
         Ok(texts) => texts,
         Err(fault) => return Err(fault),
     };

@@ -1,7 +1,7 @@
 //! The inputs of a call, and reading each of them whole.
 
-ghost use Rattle.std.specs.Prelude.{◌++◌, ◌∷◌, [], All, IfErr, IfOk};
-ghost use Rattle.sc_runs.specs.Inputs.{in_order, opening_turns, texts_of, turn_of, AreRead, EndsAmong, EndsReading, IsRead, TakesWithin};
+ghost use Rattle.std.specs.Prelude.{◌≡◌, ◌++◌, ◌∷◌, [], All, IfErr, IfOk, is_some};
+ghost use Rattle.sc_runs.specs.Inputs.{in_order, opening_turns, texts_of, turn_of, turns_if_any, AreRead, EndsAmong, EndsReading, IsRead, IsReadIfAny, TakesWithin};
 
 use crate::fault::RunFault;
 use sc_intake::{Cause, IntakeFault, MOST_BYTES, Source};
@@ -118,6 +118,46 @@ pub fn read_inputs<R: Read>(
         Err(fault) => return Err(fault),
     };
     match read_input(alloc, last, source) {
+        Ok(last) => Ok(InputTexts { opening, last }),
+        Err(fault) => Err(fault),
+    }
+}
+
+/// Reads an input whole, if there is one, and nothing where there is none.
+fn read_if_any<R: Read>(
+    alloc: Global,
+    from: &mut Option<Watched<R>>,
+    source: Source,
+) -> Result<Vec<u8>, RunFault>
+    ensures read { IfOk result (λ given. IsReadIfAny (turns_if_any R.remaining source from.old from.new) given.items) }
+    ensures ended { IfErr result (EndsAmong (turns_if_any R.remaining source from.old from.new)) }
+    ensures limit { All TakesWithin (turns_if_any R.remaining source from.old from.new) }
+    ensures stays { is_some from.new ≡ is_some from.old }
+{
+    match from {
+        Some(from) => read_input(alloc, from, source),
+        None => Ok(Vec::new(alloc)),
+    }
+}
+
+/// Reads the files of an opening whole, and then the input after them, if there is one.
+pub fn read_opening_and<R: Read>(
+    alloc: Global,
+    opening: &mut Opening<R>,
+    last: &mut Option<Watched<R>>,
+    source: Source,
+) -> Result<InputTexts, RunFault>
+    ensures read { IfOk result (λ given. AreRead (opening_turns R.remaining opening.old opening.new) (in_order (texts_of given.opening))) }
+    ensures last { IfOk result (λ given. IsReadIfAny (turns_if_any R.remaining source last.old last.new) given.last.items) }
+    ensures ended { IfErr result (EndsAmong (opening_turns R.remaining opening.old opening.new ++ turns_if_any R.remaining source last.old last.new)) }
+    ensures limit { All TakesWithin (opening_turns R.remaining opening.old opening.new ++ turns_if_any R.remaining source last.old last.new) }
+    ensures stays { is_some last.new ≡ is_some last.old }
+{
+    let opening = match read_opening(alloc, opening) {
+        Ok(opening) => opening,
+        Err(fault) => return Err(fault),
+    };
+    match read_if_any(alloc, last, source) {
         Ok(last) => Ok(InputTexts { opening, last }),
         Err(fault) => Err(fault),
     }

@@ -1,59 +1,17 @@
 //! What stands after an opening and a journal, if there is one.
 
-ghost use Rattle.std.specs.Prelude.{◌≡◌, ◌++◌, All, IfErr, IfOk, is_some};
+ghost use Rattle.std.specs.Prelude.{IfErr, IfOk};
 ghost use Rattle.sc_repair.specs.Standing.{IsCertified};
-ghost use Rattle.sc_runs.specs.Inputs.{in_order, opening_turns, texts_of, AreRead, EndsAmong, TakesWithin};
 ghost use Rattle.sc_runs.specs.Opening.{papers_in};
-ghost use Rattle.sc_runs.specs.Standing.{journal_turns, IsJournalRead, IsStandingFault, Stands};
+ghost use Rattle.sc_runs.specs.Standing.{IsStandingFault, Stands};
 
 use crate::fault::RunFault;
-use crate::inputs::{InputTexts, Opening, OpeningSlices, read_input, read_opening};
+use crate::inputs::OpeningSlices;
 use crate::opening::read_papers;
-use sc_intake::Source;
 use sc_journal::{Tail, replay};
 use sc_papers::Seed;
 use sc_repair::Clearing;
-use sc_report::Watched;
 use std::alloc::Global;
-use std::io::Read;
-
-/// Reads a journal whole, and nothing where there is none.
-fn read_journal<R: Read>(
-    alloc: Global,
-    journal: &mut Option<Watched<R>>,
-) -> Result<Vec<u8>, RunFault>
-    ensures read { IfOk result (λ given. IsJournalRead (journal_turns R.remaining journal.old journal.new) given.items) }
-    ensures ended { IfErr result (EndsAmong (journal_turns R.remaining journal.old journal.new)) }
-    ensures limit { All TakesWithin (journal_turns R.remaining journal.old journal.new) }
-    ensures stays { is_some journal.new ≡ is_some journal.old }
-{
-    match journal {
-        Some(journal) => read_input(alloc, journal, Source::Journal),
-        None => Ok(Vec::new(alloc)),
-    }
-}
-
-/// Reads the files of an opening whole, and then a journal, if there is one.
-pub fn read_with_journal<R: Read>(
-    alloc: Global,
-    opening: &mut Opening<R>,
-    journal: &mut Option<Watched<R>>,
-) -> Result<InputTexts, RunFault>
-    ensures read { IfOk result (λ given. AreRead (opening_turns R.remaining opening.old opening.new) (in_order (texts_of given.opening))) }
-    ensures journal { IfOk result (λ given. IsJournalRead (journal_turns R.remaining journal.old journal.new) given.last.items) }
-    ensures ended { IfErr result (EndsAmong (opening_turns R.remaining opening.old opening.new ++ journal_turns R.remaining journal.old journal.new)) }
-    ensures limit { All TakesWithin (opening_turns R.remaining opening.old opening.new ++ journal_turns R.remaining journal.old journal.new) }
-    ensures stays { is_some journal.new ≡ is_some journal.old }
-{
-    let opening = match read_opening(alloc, opening) {
-        Ok(opening) => opening,
-        Err(fault) => return Err(fault),
-    };
-    match read_journal(alloc, journal) {
-        Ok(last) => Ok(InputTexts { opening, last }),
-        Err(fault) => Err(fault),
-    }
-}
 
 /// Opens the papers that the texts hold, and makes the amendments of a journal in turn. It answers what then stands,
 /// and whether bytes follow the journal's last newline, which are left unread. An opening alone stands as after a

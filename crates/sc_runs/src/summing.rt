@@ -9,9 +9,10 @@ ghost use Rattle.sc_runs.specs.Opening.{is_output_fault, papers_in, WritesText};
 ghost use Rattle.sc_runs.specs.Standing.{journal_turns, IsSummary, TellsFiles, WritesOfStanding};
 
 use crate::fault::RunFault;
-use crate::inputs::{Opening, OpeningSlices};
-use crate::standing::{read_with_journal, stand};
+use crate::inputs::{Opening, OpeningSlices, read_opening_and};
+use crate::standing::stand;
 use crate::writing::write_text;
+use sc_intake::Source;
 use sc_journal::Tail;
 use sc_notices::summary_text;
 use sc_papers::Seed;
@@ -83,7 +84,7 @@ pub fn summary_files<R: Read, W: Write>(
     ensures limit { All TakesWithin (opening_turns R.remaining opening.old opening.new ++ journal_turns R.remaining journal.old journal.new) }
     ensures stays { is_some journal.new ≡ is_some journal.old }
 {
-    let texts = match read_with_journal(alloc, opening, journal) {
+    let texts = match read_opening_and(alloc, opening, journal, Source::Journal) {
         Ok(texts) => texts,
         Err(fault) => return Err(fault),
     };

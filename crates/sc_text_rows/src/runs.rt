@@ -1,4 +1,5 @@
 //! What runs write, over inputs in memory.
+mod checks;
 mod faults;
 mod notices;
 mod sections;

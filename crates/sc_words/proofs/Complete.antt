@@ -1,5 +1,5 @@
 -- Where clap finds no fault in the words, a subcommand is there with each option that it needs.
-use Rattle.std.proofs.Common.{◌≡◌, ◌∙◌, ◌<◌, ◌||◌, ◌&&◌, ◌++◌, ◌⊎◌, ℕ, Bool, cond, not, true, false, List, [], ◌∷◌, length, Option, Some, None, IfSome, IsSome, IsSomeAnd, inl, inr, is_some, option_map, unwrap_or, refl, sym, subst, true≢false, arith, codes}
+use Rattle.std.proofs.Common.{◌≡◌, ◌∙◌, ◌<◌, ◌||◌, ◌&&◌, ◌++◌, ℕ, Bool, cond, not, true, false, List, [], ◌∷◌, length, Option, Some, None, IfSome, IsSome, IsSomeAnd, inl, inr, is_some, option_map, unwrap_or, refl, sym, subst, true≢false, arith, codes}
 use Rattle.std.specs.Prelude.{⊤, fold, slice_get, option_and_then}
 use Rattle.std.specs.List.{find, list_all, list_any}
 use Rattle.std.specs.Option.{option_map_or}
@@ -14,7 +14,7 @@ use Rattle.clap.specs.Kinds.{Kinds, check_kinds, or_else}
 use Rattle.clap.specs.Faults.{built_fault, defaults_fault, entered_fault, fault_of, level_fault, other_fault, settle_fault, step_fault, turn_fault, walk_fault, word_fault}
 use Rattle.clap.specs.Simple.{App, Shape, built, entered, label_of, names_of, rows_at, subcommand_of}
 use Rattle.clap.proofs.OnLiterals.{clap_on_literals}
-use Rattle.sc_words.specs.CommandLine.{command_line, opening_names, run_names, audit_names, replay_names, export_names, summary_names, explain_names}
+use Rattle.sc_words.specs.CommandLine.{check_names, command_line, opening_names, run_names, audit_names, replay_names, export_names, summary_names, explain_names}
 use Rattle.sc_words.specs.Complete.{HasOptions, IsComplete, IsOneOf, needed_options}
 use Rattle.sc_words.proofs.Filled.{IsFilled, cons_some, fills, level_fills, no_first, no_next}
 
@@ -244,46 +244,50 @@ abbrev leaf : ℕ → Shape
 leaf k = unwrap_or (slice_get (built command_line).subs k) top
 
 abbrev leaves : List Shape
-leaves = leaf 0 ∷ leaf 1 ∷ leaf 2 ∷ leaf 3 ∷ leaf 4 ∷ leaf 5 ∷ leaf 6 ∷ []
+leaves = leaf 0 ∷ leaf 1 ∷ leaf 2 ∷ leaf 3 ∷ leaf 4 ∷ leaf 5 ∷ leaf 6 ∷ leaf 7 ∷ []
 
 -- what clap adds of its own
 abbrev helper : Shape
-helper = leaf 7
+helper = leaf 8
 
 built_is : with_help top leaves helper ≡ built command_line
 unfolding clap_on_literals
 built_is = refl
 
-match_leaf : IsLeaf (leaf 0) (codes "match") opening_names
+check_leaf : IsLeaf (leaf 0) (codes "check") check_names
+unfolding clap_on_literals
+check_leaf = record { name_is = refl; all = refl; keeps = refl; wants = refl }
+
+match_leaf : IsLeaf (leaf 1) (codes "match") opening_names
 unfolding clap_on_literals
 match_leaf = record { name_is = refl; all = refl; keeps = refl; wants = refl }
 
-run_leaf : IsLeaf (leaf 1) (codes "run") run_names
+run_leaf : IsLeaf (leaf 2) (codes "run") run_names
 unfolding clap_on_literals
 run_leaf = record { name_is = refl; all = refl; keeps = refl; wants = refl }
 
-audit_leaf : IsLeaf (leaf 2) (codes "audit") audit_names
+audit_leaf : IsLeaf (leaf 3) (codes "audit") audit_names
 unfolding clap_on_literals
 audit_leaf = record { name_is = refl; all = refl; keeps = refl; wants = refl }
 
-replay_leaf : IsLeaf (leaf 3) (codes "replay") replay_names
+replay_leaf : IsLeaf (leaf 4) (codes "replay") replay_names
 unfolding clap_on_literals
 replay_leaf = record { name_is = refl; all = refl; keeps = refl; wants = refl }
 
-export_leaf : IsLeaf (leaf 4) (codes "export") export_names
+export_leaf : IsLeaf (leaf 5) (codes "export") export_names
 unfolding clap_on_literals
 export_leaf = record { name_is = refl; all = refl; keeps = refl; wants = refl }
 
-summary_leaf : IsLeaf (leaf 5) (codes "summary") summary_names
+summary_leaf : IsLeaf (leaf 6) (codes "summary") summary_names
 unfolding clap_on_literals
 summary_leaf = record { name_is = refl; all = refl; keeps = refl; wants = refl }
 
-explain_leaf : IsLeaf (leaf 6) (codes "explain") explain_names
+explain_leaf : IsLeaf (leaf 7) (codes "explain") explain_names
 unfolding clap_on_literals
 explain_leaf = record { name_is = refl; all = refl; keeps = refl; wants = refl }
 
 all_leaves : AllLeaves leaves needed_options
-all_leaves = (match_leaf, (run_leaf, (audit_leaf, (replay_leaf, (export_leaf, (summary_leaf, (explain_leaf, tt)))))))
+all_leaves = (check_leaf, (match_leaf, (run_leaf, (audit_leaf, (replay_leaf, (export_leaf, (summary_leaf, (explain_leaf, tt))))))))
 
 pub complete : (words : List Text) → fault_of command_line words ≡ [] → IsSomeAnd (subcommand_of command_line words) (λ p. IsComplete p.0 p.1)
 complete words none = line_complete top leaves helper needed_options refl refl refl all_leaves words none

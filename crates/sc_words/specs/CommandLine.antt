@@ -24,8 +24,14 @@ abbrev pub flag : Text → Rule
 flag name = record (new_rule name) { long = Some name; action = Some SetTrue }
 
 -- the names of the options that must be given
+abbrev pub file_names : List Text
+file_names = codes "schools" ∷ codes "roster" ∷ codes "lists" ∷ []
+
 abbrev pub opening_names : List Text
-opening_names = codes "seed" ∷ codes "schools" ∷ codes "roster" ∷ codes "lists" ∷ []
+opening_names = codes "seed" ∷ file_names
+
+abbrev pub check_names : List Text
+check_names = file_names
 
 abbrev pub run_names : List Text
 run_names = opening_names ++ codes "script" ∷ codes "journal" ∷ []
@@ -44,6 +50,9 @@ summary_names = opening_names
 
 abbrev pub explain_names : List Text
 explain_names = opening_names
+
+abbrev pub check_options : List Rule
+check_options = map required_option check_names ++ optional_option (codes "script") ∷ []
 
 abbrev pub opening_options : List Rule
 opening_options = map required_option opening_names
@@ -85,7 +94,8 @@ program_alone = record (new_shape (codes "clearinghouse")) {
 abbrev pub command_line : App
 command_line = record {
   top = record program_alone { is_leaf = false };
-  subs = subcommand (codes "match") match_options ∷ subcommand (codes "run") run_options
+  subs = subcommand (codes "check") check_options
+      ∷ subcommand (codes "match") match_options ∷ subcommand (codes "run") run_options
       ∷ subcommand (codes "audit") audit_options ∷ subcommand (codes "replay") replay_options
       ∷ subcommand (codes "export") export_options ∷ subcommand (codes "summary") summary_options
       ∷ subcommand (codes "explain") explain_options ∷ [];

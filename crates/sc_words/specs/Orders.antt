@@ -3,9 +3,10 @@ use Rattle.std.specs.Prelude.{◌≡◌, ◌↔◌, true, List, [], ◌∷◌, O
 use Rattle.std.specs.Borrow.{Bor}
 use Rattle.clap.specs.Words.{Row, Text, Kinds, fault_of, first_of, one_of, subcommand_of}
 use Rattle.sc_words.specs.CommandLine.{command_line}
+use Rattle.sc_words.specs.declared.order.FileWords.{FileWords}
 use Rattle.sc_words.specs.declared.order.OpeningWords.{OpeningWords}
 use Rattle.sc_words.specs.declared.order.Order.{Order}
-use Rattle.sc_words.specs.declared.order.Order.TheVariants.{Bundle, Opening}
+use Rattle.sc_words.specs.declared.order.Order.TheVariants.{Bundle, Check, Opening}
 use Rattle.sc_words.specs.declared.order.Subcommand.{Subcommand}
 use Rattle.sc_words.specs.declared.order.Subcommand.TheVariants.{Match, Run, Audit, Replay, Export, Summary, Explain}
 
@@ -21,10 +22,14 @@ IsGivenOrNot rows name text = first_of name rows ≡ option_map (λ t. t.now) te
 abbrev pub IsSet : List Row → Text → Type 0
 IsSet rows name = one_of name rows ≡ Some (codes "true")
 
+-- the options of the three files
+abbrev pub AreFilesIn : List Row → FileWords → Type 0
+AreFilesIn rows files = IsGiven rows (codes "schools") files.schools × IsGiven rows (codes "roster") files.roster
+    × IsGiven rows (codes "lists") files.lists
+
 -- the four options of an opening
 abbrev pub IsOpeningIn : List Row → OpeningWords → Type 0
-IsOpeningIn rows o = IsGiven rows (codes "seed") o.seed × IsGiven rows (codes "schools") o.schools
-    × IsGiven rows (codes "roster") o.roster × IsGiven rows (codes "lists") o.lists
+IsOpeningIn rows o = IsGiven rows (codes "seed") o.seed × AreFilesIn rows o.files
 
 -- what the subcommand of this name asks for, by what its options are
 abbrev pub IsSubcommandIn : Text → List Row → Subcommand → Type 0
@@ -39,9 +44,11 @@ IsSubcommandIn name rows (Summary journal) = (name ≡ codes "summary") × IsGiv
 IsSubcommandIn name rows (Explain student journal) =
     (name ≡ codes "explain") × IsGivenOrNot rows (codes "student") student × IsGivenOrNot rows (codes "journal") journal
 
--- the order of the subcommand of this name: the opening that its options name, and what is to be done with it
+-- the order of the subcommand of this name: the opening that its options name, and what is to be done with it; or the
+-- files that are to be checked, and the script if there is one
 abbrev pub IsOrderIn : Text → List Row → Order → Type 0
 IsOrderIn name rows Bundle = ⊥
+IsOrderIn name rows (Check files script) = (name ≡ codes "check") × AreFilesIn rows files × IsGivenOrNot rows (codes "script") script
 IsOrderIn name rows (Opening opening subcommand) = IsOpeningIn rows opening × IsSubcommandIn name rows subcommand
 
 -- no words, or the order of the subcommand that `clap` reads in them

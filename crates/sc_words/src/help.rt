@@ -14,6 +14,21 @@ on standard error.
 Example:
   clearinghouse < bundle";
 
+pub(crate) const CHECK: &str =
+    "Tell every fault of the files of an opening, and of a script if there is one";
+
+pub(crate) const CHECK_AFTER: &str = "\
+Writes a line SOURCE row ROW: CAUSE for each row that has a fault, with its first cause: first what is wrong with
+each file alone, in the order schools, roster, lists, then what the rows say together, then the records of the
+script that are no amendments. A row is judged by those that have no fault, so to mend one may show others. No seed
+is needed: none changes the faults.
+
+Exit status: 0 no fault, 2 wrong words, 3 a fault, 4 a file or stream that cannot be opened, read or written, 5 out
+of memory.
+
+Example:
+  clearinghouse check --schools schools.csv --roster roster.csv --lists lists.csv --script script.csv";
+
 pub(crate) const MATCH: &str =
     "Assign the places of an opening and write the report, or with --print-log its log of rejections";
 
@@ -143,6 +158,9 @@ pub(crate) const LISTS: &str =
 pub(crate) const PRINT_LOG: &str = "Write the log of rejections in place of the report";
 
 pub(crate) const SCRIPT: &str = "The amendments, one a record and no header (below)";
+
+pub(crate) const CHECKED_SCRIPT: &str =
+    "The amendments, of which each record is read and none is made";
 
 pub(crate) const NEW_JOURNAL: &str =
     "The file that keeps the accepted amendments; it is made new, or emptied before the inputs are read, and must not be one of them";

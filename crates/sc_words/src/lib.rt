@@ -8,5 +8,5 @@ mod order;
 mod program;
 mod word;
 
-pub use order::{OpeningWords, Order, Subcommand, order_of};
+pub use order::{FileWords, OpeningWords, Order, Subcommand, order_of};
 pub use word::Word;

@@ -1,19 +1,17 @@
 ghost use Rattle.std.specs.Prelude.{◌≡◌, ◌↔◌, true, [], Ok, IfOk, IfSome, IsSome, IsSomeAnd, codes};
 ghost use Rattle.clap.specs.Words.{FailsBy, first_of, found_of, rows_of, subcommand_rows_of};
-ghost use Rattle.sc_words.specs.CommandLine.{audit_names, export_names, opening_names, replay_names, run_names};
-ghost use Rattle.sc_words.specs.Complete.{HasOptions, IsComplete};
-ghost use Rattle.sc_words.specs.Orders.{IsGiven, IsGivenOrNot, IsOpeningIn, IsOrderIn, IsOrderOf, IsSet, IsSubcommandIn, faults_of};
+ghost use Rattle.sc_words.specs.CommandLine.{audit_names, check_names, export_names, file_names, opening_names, replay_names, run_names};
+ghost use Rattle.sc_words.specs.Complete.{HasOptions, IsComplete, IsOneOf, opening_subcommands};
+ghost use Rattle.sc_words.specs.Orders.{AreFilesIn, IsGiven, IsGivenOrNot, IsOpeningIn, IsOrderIn, IsOrderOf, IsSet, IsSubcommandIn, faults_of};
 
 use crate::program::program;
 use crate::word::Word;
 use clap::{ArgMatches, Error};
 use std::alloc::Global;
 
-/// The seed and the files of an opening, as the words give them.
+/// The files of an opening, as the words give them.
 #[derive(Clone, Copy, Debug, PartialEq, Eq)]
-pub struct OpeningWords<'a> {
-    /// The lottery's seed, as hexadecimal digits.
-    pub seed: &'a str,
+pub struct FileWords<'a> {
     /// The file of the schools.
     pub schools: &'a str,
     /// The file of the students.
@@ -22,11 +20,25 @@ pub struct OpeningWords<'a> {
     pub lists: &'a str,
 }
 
+/// The seed and the files of an opening, as the words give them.
+#[derive(Clone, Copy, Debug, PartialEq, Eq)]
+pub struct OpeningWords<'a> {
+    /// The lottery's seed, as hexadecimal digits.
+    pub seed: &'a str,
+    /// The three files.
+    pub files: FileWords<'a>,
+}
+
 /// What the program is to do.
 #[derive(Clone, Copy, Debug, PartialEq, Eq)]
 pub enum Order<'a> {
     /// Run the bundle on standard input.
     Bundle,
+    /// Tell every fault of the files of an opening, and of a script if there is one.
+    Check {
+        files: FileWords<'a>,
+        script: Option<&'a str>,
+    },
     /// Do this with an opening.
     Opening {
         opening: OpeningWords<'a>,
@@ -89,6 +101,18 @@ fn is_set(found: &ArgMatches<'_>, name: &str) -> bool
     found.get_one::<bool>(name).unwrap_or(false)
 }
 
+/// The options of the three files.
+fn files_in<'a>(found: &ArgMatches<'a>) -> Option<FileWords<'a>>
+    ensures given { IfSome result (AreFilesIn (rows_of (found_of found.now))) }
+    ensures found { HasOptions (rows_of (found_of found.now)) file_names → IsSome result }
+{
+    Some(FileWords {
+        schools: text_in(found, "schools")?,
+        roster: text_in(found, "roster")?,
+        lists: text_in(found, "lists")?,
+    })
+}
+
 /// The options of an opening.
 fn opening_in<'a>(found: &ArgMatches<'a>) -> Option<OpeningWords<'a>>
     ensures given { IfSome result (IsOpeningIn (rows_of (found_of found.now))) }
@@ -96,9 +120,7 @@ fn opening_in<'a>(found: &ArgMatches<'a>) -> Option<OpeningWords<'a>>
 {
     Some(OpeningWords {
         seed: text_in(found, "seed")?,
-        schools: text_in(found, "schools")?,
-        roster: text_in(found, "roster")?,
-        lists: text_in(found, "lists")?,
+        files: files_in(found)?,
     })
 }
 
@@ -173,11 +195,11 @@ fn explain_in<'a>(found: &ArgMatches<'a>) -> Subcommand<'a>
     }
 }
 
-/// What the subcommand of this name asks for, or `None` where there is none of this name or it lacks an
+/// What the subcommand of this name asks for of an opening, or `None` where there is none of this name or it lacks an
 /// option.
 fn subcommand_in<'a>(name: &str, found: &ArgMatches<'a>) -> Option<Subcommand<'a>>
     ensures given { IfSome result (IsSubcommandIn name.now (rows_of (found_of found.now))) }
-    ensures found { IsComplete name.now (rows_of (found_of found.now)) → IsSome result }
+    ensures found { IsOneOf opening_subcommands name.now (rows_of (found_of found.now)) → IsSome result }
 {
     match name {
         "match" => Some(match_in(found)),
@@ -191,6 +213,31 @@ fn subcommand_in<'a>(name: &str, found: &ArgMatches<'a>) -> Option<Subcommand<'a
     }
 }
 
+/// The order of `check`.
+fn check_in<'a>(found: &ArgMatches<'a>) -> Option<Order<'a>>
+    ensures given { IfSome result (IsOrderIn (codes "check") (rows_of (found_of found.now))) }
+    ensures found { HasOptions (rows_of (found_of found.now)) check_names → IsSome result }
+{
+    Some(Order::Check {
+        files: files_in(found)?,
+        script: text_in(found, "script"),
+    })
+}
+
+/// The order of the subcommand of this name, or `None` where there is none of this name or it lacks an option.
+fn named_order<'a>(name: &str, found: &ArgMatches<'a>) -> Option<Order<'a>>
+    ensures given { IfSome result (IsOrderIn name.now (rows_of (found_of found.now))) }
+    ensures found { IsComplete name.now (rows_of (found_of found.now)) → IsSome result }
+{
+    match name {
+        "check" => check_in(found),
+        _ => Some(Order::Opening {
+            opening: opening_in(found)?,
+            subcommand: subcommand_in(name, found)?,
+        }),
+    }
+}
+
 /// The order of a subcommand, or `None` where there is none or it lacks an option.
 fn order_in<'a>(matches: &ArgMatches<'a>) -> Option<Order<'a>>
     ensures given { IfSome result (λ order. IsSomeAnd (subcommand_rows_of matches.now)
@@ -199,10 +246,7 @@ fn order_in<'a>(matches: &ArgMatches<'a>) -> Option<Order<'a>>
         → IsSome result }
 {
     let (name, found) = matches.subcommand()?;
-    Some(Order::Opening {
-        opening: opening_in(found)?,
-        subcommand: subcommand_in(name, found)?,
-    })
+    named_order(name, found)
 }
 
 /// What the words after the program's name order: with no words the bundle, and else what `clap` reads

@@ -3,7 +3,7 @@
 ghost use Rattle.std.specs.Prelude.{◌≡◌, false, IfOk, codes};
 ghost use Rattle.clap.specs.Words.{app_of, rule_of};
 ghost use Rattle.sc_words.specs.CommandLine.{IsCommand, optional_option, required_option, subcommand};
-ghost use Rattle.sc_words.specs.CommandLine.{opening_options, match_options, run_options};
+ghost use Rattle.sc_words.specs.CommandLine.{check_options, opening_options, match_options, run_options};
 ghost use Rattle.sc_words.specs.CommandLine.{audit_options, replay_options, export_options, summary_options, explain_options, command_line};
 ghost use Rattle.sc_words.specs.CommandLine as line;
 
@@ -79,6 +79,18 @@ fn with_opening<'a>(
         .arg(file(alloc, "schools", help::SCHOOLS))?
         .arg(file(alloc, "roster", help::ROSTER))?
         .arg(file(alloc, "lists", help::LISTS))
+}
+
+fn check_command<'a>(alloc: Global) -> Result<Command<'a>, AllocError>
+    ensures { IfOk result (λ c. IsCommand c (subcommand (codes "check") check_options)) }
+{
+    Command::new(alloc, "check")
+        .about(help::CHECK)
+        .after_help(help::CHECK_AFTER)
+        .arg(file(alloc, "schools", help::SCHOOLS))?
+        .arg(file(alloc, "roster", help::ROSTER))?
+        .arg(file(alloc, "lists", help::LISTS))?
+        .arg(optional_file(alloc, "script", help::CHECKED_SCRIPT))
 }
 
 fn match_command<'a>(alloc: Global) -> Result<Command<'a>, AllocError>
@@ -163,6 +175,7 @@ pub(crate) fn program<'a>(alloc: Global) -> Result<Command<'a>, AllocError>
     ensures { IfOk result (λ c. app_of c ≡ command_line) }
 {
     program_alone(alloc)?
+        .subcommand(check_command(alloc)?)?
         .subcommand(match_command(alloc)?)?
         .subcommand(run_command(alloc)?)?
         .subcommand(audit_command(alloc)?)?

@@ -1,7 +1,7 @@
 //! What words order, and what is said of words that order nothing.
 use crate::perform::end_without_words;
 use clap::error::ErrorKind;
-use sc_words::{OpeningWords, Order, Subcommand, Word, order_of};
+use sc_words::{FileWords, OpeningWords, Order, Subcommand, Word, order_of};
 use std::alloc::{AllocError, Global};
 use std::io;
 use std::process::Abort;
@@ -15,11 +15,15 @@ fn words_of(alloc: Global, line: &str) -> Result<Vec<Word>, AllocError> {
     Ok(words)
 }
 
-const OPENING: OpeningWords<'static> = OpeningWords {
-    seed: "00",
+const FILES: FileWords<'static> = FileWords {
     schools: "schools",
     roster: "roster",
     lists: "lists",
+};
+
+const OPENING: OpeningWords<'static> = OpeningWords {
+    seed: "00",
+    files: FILES,
 };
 
 /// Lines, and what each asks for with that opening.
@@ -129,10 +133,40 @@ fn expect_subcommand<R: Abort + AllocGlobal>(rt: &R, line: &str, subcommand: Sub
     }
 }
 
+/// Lines that ask for a check of those files, and the script of each.
+const CHECKS: &[(&str, Option<&'static str>)] = &[
+    (
+        "check|--schools|schools|--roster|roster|--lists|lists",
+        None,
+    ),
+    (
+        "check|--script=late|--lists|lists|--roster=roster|--schools|schools",
+        Some("late"),
+    ),
+];
+
+/// The words of a line ask for a check of the files, and of this script.
+fn expect_check<R: Abort + AllocGlobal>(rt: &R, line: &str, script: Option<&'static str>) {
+    match words_of(rt.alloc(), line) {
+        Ok(words) => expect_order(
+            rt,
+            words.as_slice(),
+            Order::Check {
+                files: FILES,
+                script,
+            },
+        ),
+        Err(error) => panic!(rt; "{error}"),
+    }
+}
+
 #[test]
 fn command_lines(rt: HostRuntime) {
     for (line, subcommand) in ORDERS {
         expect_subcommand(&rt, line, *subcommand);
+    }
+    for (line, script) in CHECKS {
+        expect_check(&rt, line, *script);
     }
     expect_order(&rt, &[], Order::Bundle);
 }
@@ -190,6 +224,12 @@ const WRONG_LINES: &[(&str, ErrorKind)] = &[
         ErrorKind::ArgumentConflict,
     ),
     ("explain|--student|1", ErrorKind::MissingRequiredArgument),
+    ("check|--seed|00", ErrorKind::UnknownArgument),
+    ("check|--journal|kept", ErrorKind::UnknownArgument),
+    (
+        "check|--schools|schools|--roster|roster|--script|late",
+        ErrorKind::MissingRequiredArgument,
+    ),
 ];
 
 #[test]
@@ -220,6 +260,8 @@ const HELP_TEXTS: &[(&str, &str)] = &[
     ("run|--help", "Example:\n  clearinghouse run"),
     ("audit|--help", "STUDENT,SCHOOL"),
     ("audit|--help", "Example:\n  clearinghouse audit"),
+    ("check|--help", "SOURCE row ROW: CAUSE"),
+    ("check|--help", "Example:\n  clearinghouse check"),
     ("replay|--help", "--journal <FILE>"),
     ("replay|--help", "Example:\n  clearinghouse replay"),
     ("summary|--help", "Example:\n  clearinghouse summary"),

@@ -9,6 +9,6 @@ returns-clause-files g c = inr (
   texts_of c.in-Ok.texts.opening,
   c.in-Ok.texts.last.items,
   c.in-Ok.ensures.read,
-  c.in-Ok.ensures.journal,
+  c.in-Ok.ensures.last,
   subst (λ text. ExportsStanding (opening_in c.args.seed.now (texts_of c.in-Ok.texts.opening)) text c.export_texts.result) c.as_slice.ensures.value c.export_texts.ensures,
 )

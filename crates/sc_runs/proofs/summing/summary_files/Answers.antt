@@ -9,15 +9,15 @@ use Rattle.sc_runs.proofs.summing.summary_files.Goals as goal
 pub returns-in-Err-clause-failed : goal.returns-in-Err-clause-failed
 returns-in-Err-clause-failed g c =
     unfailed-unread Tail (has_failed c.args.out.now)
-    (opening_turns g.R.Read.remaining c.args.opening.now c.read_with_journal.new.opening ++ journal_turns g.R.Read.remaining c.args.journal.now c.read_with_journal.new.journal)
+    (opening_turns g.R.Read.remaining c.args.opening.now c.read_opening_and.new.opening ++ journal_turns g.R.Read.remaining c.args.journal.now c.read_opening_and.new.last)
     c.in-Err.fault c.in-Err.ensures.ended
 
 pub returns-clause-summary : goal.returns-clause-summary
 returns-clause-summary g c =
     TellsFiles-read (WritesOfStanding IsSummary) c.args.seed.now
-    (opening_turns g.R.Read.remaining c.args.opening.now c.read_with_journal.new.opening) (journal_turns g.R.Read.remaining c.args.journal.now c.read_with_journal.new.journal)
+    (opening_turns g.R.Read.remaining c.args.opening.now c.read_opening_and.new.opening) (journal_turns g.R.Read.remaining c.args.journal.now c.read_opening_and.new.last)
     (texts_of c.in-Ok.texts.opening) c.in-Ok.texts.last.items
     c.as_slices.result.schools.now c.as_slices.result.roster.now c.as_slices.result.lists.now c.as_slice.result.now
     (g.W.Write.contents (device_of c.args.out.now)) (g.W.Write.contents (device_of c.summarize.new.out)) c.summarize.result
-    c.in-Ok.ensures.read c.in-Ok.ensures.journal (record { schools_same = c.as_slices.ensures.schools; roster_same = c.as_slices.ensures.roster; lists_same = c.as_slices.ensures.lists })
+    c.in-Ok.ensures.read c.in-Ok.ensures.last (record { schools_same = c.as_slices.ensures.schools; roster_same = c.as_slices.ensures.roster; lists_same = c.as_slices.ensures.lists })
     c.as_slice.ensures.value c.summarize.ensures.summary
