@@ -1,6 +1,7 @@
 pub mod Repeats
 pub mod Assigning
 pub mod Moving
+pub mod Holders
 pub mod Keys
 pub mod Positions
 pub mod Hands

@@ -1,7 +1,7 @@
-ghost use Rattle.std.specs.Prelude.{◌≡◌, ℕ, ◌==◌, ◌&&◌, List, [], ◌∷◌, ◌++◌, None, Some, length, take, is_some, slice_get, nat_eq, if◌then◌else◌, IfOk, OnOk, OnErr};
+ghost use Rattle.std.specs.Prelude.{◌≡◌, ℕ, ◌+◌, ◌==◌, ◌&&◌, List, [], ◌∷◌, ◌++◌, None, Some, length, take, is_some, slice_get, nat_eq, if◌then◌else◌, IfOk, OnOk, OnErr};
 ghost use Rattle.std.specs.List.{IsDistinct};
 ghost use Rattle.std.specs.Map.{keys_of};
-ghost use Rattle.sc_papers.specs.Assignment.{assigned, with_place};
+ghost use Rattle.sc_papers.specs.Assignment.{assigned, holders, holding, with_place};
 
 use crate::school_no::SchoolNo;
 use crate::seeded_hash::SeededHash;
@@ -75,6 +75,7 @@ impl Assignment {
     /// memory. In constant time. Where the student is to have none, the last pair takes the place of theirs.
     pub fn move_to(&mut self, student: StudentNumber, school: Option<SchoolNo>)
         ensures moved { (j : ℕ) → assigned self.new j ≡ (if nat_eq j student && is_some (assigned self.old j) then school else assigned self.old j) }
+        ensures counted { (s : ℕ) → holders self.new s + holding (assigned self.old) s student ≡ holders self.old s + holding (assigned self.new) s student }
     {
         match school {
             Some(school) => self.replace(student, school),
@@ -84,7 +85,8 @@ impl Assignment {
 
     /// Gives a student who has a school this one instead.
     fn replace(&mut self, student: StudentNumber, school: SchoolNo)
-        ensures { (j : ℕ) → assigned self.new j ≡ (if nat_eq j student && is_some (assigned self.old j) then Some school else assigned self.old j) }
+        ensures moved { (j : ℕ) → assigned self.new j ≡ (if nat_eq j student && is_some (assigned self.old j) then Some school else assigned self.old j) }
+        ensures counted { (s : ℕ) → holders self.new s + holding (assigned self.old) s student ≡ holders self.old s + holding (assigned self.new) s student }
     {
         if let Some(place) = self.places.get_mut(&student) {
             *place = school;
@@ -93,7 +95,8 @@ impl Assignment {
 
     /// Takes a student's school away, if there is one.
     fn remove(&mut self, student: StudentNumber)
-        ensures { (j : ℕ) → assigned self.new j ≡ (if nat_eq j student && is_some (assigned self.old j) then None else assigned self.old j) }
+        ensures moved { (j : ℕ) → assigned self.new j ≡ (if nat_eq j student && is_some (assigned self.old j) then None else assigned self.old j) }
+        ensures counted { (s : ℕ) → holders self.new s + holding (assigned self.old) s student ≡ holders self.old s + holding (assigned self.new) s student }
     {
         let _ = self.places.swap_remove(&student);
     }
