@@ -18,3 +18,5 @@ pub mod Told
 pub mod Newcomer
 pub mod Admitted
 pub mod Changed
+pub mod Counts
+pub mod Held

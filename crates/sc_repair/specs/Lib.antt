@@ -8,3 +8,4 @@ pub mod Newcomer
 pub mod Changed
 pub mod Stamped
 pub mod Placing
+pub mod Places

@@ -99,8 +99,7 @@ impl Clearing {
         self.settlement.place_of(student)
     }
 
-    /// How many students have the school, or `None` for one that is not in the papers. The cost is a
-    /// look-up for each student.
+    /// How many students have the school, or `None` for one that is not in the papers. In constant time.
     pub fn held(&self, school: SchoolNo) -> Option<u32>
         ensures { result ≡ held_at self.now.standing school }
     {

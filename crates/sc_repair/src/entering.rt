@@ -11,9 +11,10 @@ ghost use Rattle.sc_engine.specs.Round.{is_spent, view_of};
 ghost use Rattle.sc_engine.specs.RoundView.{next_of, Fits};
 ghost use Rattle.sc_repair.specs.Newcomer.{is_moved, newcomer, HasEntered, IsNextToEnter, StandsAfter};
 
+use crate::places::Places;
 use sc_checkpoint::Segments;
 use sc_engine::Round;
-use sc_papers::{Amendment, Assignment, Papers, StudentNo};
+use sc_papers::{Amendment, Papers, StudentNo};
 use sc_seats::Roll;
 use std::alloc::{AllocError, Global};
 
@@ -55,7 +56,7 @@ fn note<R: Roll>(
     round: &Round<R>,
     papers: &Papers,
     student: StudentNo,
-    places: &mut Assignment,
+    places: &mut Places,
     segments: &mut Segments,
 ) -> Result<(), AllocError>
     requires ready { is_spent round.now ≡ false }
@@ -70,16 +71,17 @@ fn note<R: Roll>(
         segments.push(student, round.log())?;
         return Ok(());
     };
+    let before = places.len();
     places.put(student, school)?;
     let pushed = segments.push(student, round.log());
     if pushed.is_err() {
-        places.take_last();
+        places.truncate(before);
     }
     pushed
 }
 
 /// Gives each student whom the round's log names the school at which they stand now. It takes no memory.
-fn move_on<R: Roll>(round: &Round<R>, papers: &Papers, places: &mut Assignment)
+fn move_on<R: Roll>(round: &Round<R>, papers: &Papers, places: &mut Places)
     requires ready { is_spent round.now ≡ false }
     requires fits { Fits papers.now (view_of R.keys R.seats round.now) }
     ensures { (j : ℕ) → assigned places.new j ≡ (if is_moved (view_of R.keys R.seats round.now).log j && is_some (assigned places.old j) then next_of papers.now (view_of R.keys R.seats round.now).ranks j else assigned places.old j) }
@@ -97,7 +99,7 @@ fn enter<R: Roll>(
     round: &mut Round<R>,
     papers: &Papers,
     student: StudentNo,
-    places: &mut Assignment,
+    places: &mut Places,
     segments: &mut Segments,
 ) -> Result<u64, AllocError>
     requires next { IsNextToEnter papers.now segments.old places.old student }
@@ -128,7 +130,7 @@ pub(crate) fn enter_newcomer<R: Roll>(
     round: &mut Option<Round<R>>,
     papers: &Papers,
     student: StudentNo,
-    places: &mut Assignment,
+    places: &mut Places,
     segments: &mut Segments,
 ) -> Result<u64, AllocError>
     requires next { IsNextToEnter papers.now segments.old places.old student }

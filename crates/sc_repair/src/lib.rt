@@ -5,6 +5,7 @@
 mod clearing;
 mod entering;
 mod open_refused;
+mod places;
 mod placing;
 mod resettling;
 mod rewind;

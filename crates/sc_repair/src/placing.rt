@@ -8,9 +8,10 @@ ghost use Rattle.sc_repair.specs.Course.{either_by};
 ghost use Rattle.sc_repair.specs.Locality.{is_among, marked_in};
 ghost use Rattle.sc_repair.specs.Placing.{with_moved, with_new};
 
+use crate::places::Places;
 use sc_checkpoint::Segments;
 use sc_engine::Round;
-use sc_papers::{Assignment, Papers, StudentNo};
+use sc_papers::{Papers, StudentNo};
 use sc_region::RegionMarks;
 use sc_seats::Roll;
 use std::alloc::AllocError;
@@ -22,7 +23,7 @@ fn put_one<R: Roll>(
     papers: &Papers,
     student: StudentNo,
     guess: usize,
-    places: &mut Assignment,
+    places: &mut Places,
 ) -> Result<(), AllocError>
     requires ready { is_spent round.now ≡ false }
     requires fits { Fits papers.now (view_of R.keys R.seats round.now) }
@@ -46,7 +47,7 @@ fn put_all<R: Roll>(
     papers: &Papers,
     region: &RegionMarks,
     chains: &Segments,
-    places: &mut Assignment,
+    places: &mut Places,
 ) -> Result<(), AllocError>
     requires ready { is_spent round.now ≡ false }
     requires fits { Fits papers.now (view_of R.keys R.seats round.now) }
@@ -67,7 +68,7 @@ fn place_new<R: Roll>(
     papers: &Papers,
     region: &RegionMarks,
     chains: &Segments,
-    places: &mut Assignment,
+    places: &mut Places,
 ) -> Result<(), AllocError>
     requires ready { is_spent round.now ≡ false }
     requires fits { Fits papers.now (view_of R.keys R.seats round.now) }
@@ -89,7 +90,7 @@ fn move_all<R: Roll>(
     papers: &Papers,
     region: &RegionMarks,
     chains: &Segments,
-    places: &mut Assignment,
+    places: &mut Places,
 )
     requires ready { is_spent round.now ≡ false }
     requires fits { Fits papers.now (view_of R.keys R.seats round.now) }
@@ -115,7 +116,7 @@ pub(crate) fn place_inside<R: Roll>(
     papers: &Papers,
     region: &RegionMarks,
     chains: &Segments,
-    places: &mut Assignment,
+    places: &mut Places,
 ) -> Result<(), AllocError>
     requires ready { is_spent round.now ≡ false }
     requires fits { Fits papers.now (view_of R.keys R.seats round.now) }

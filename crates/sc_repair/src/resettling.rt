@@ -13,11 +13,12 @@ ghost use Rattle.sc_repair.specs.Course.{GoesOnInside};
 ghost use Rattle.sc_repair.specs.Locality.{chains_of, is_among, marked_in};
 ghost use Rattle.sc_repair.specs.Standing.{CountsInside, IsCertified};
 
+use crate::places::Places;
 use crate::placing::place_inside;
 use crate::settling::enter_next;
 use sc_checkpoint::Segments;
 use sc_engine::Round;
-use sc_papers::{Assignment, Papers};
+use sc_papers::Papers;
 use sc_region::RegionMarks;
 use sc_seats::Roll;
 use std::alloc::{AllocError, Global};
@@ -105,7 +106,7 @@ pub(crate) fn resettle<R: Roll>(
     end: usize,
     region: &RegionMarks,
     point: usize,
-    places: &mut Assignment,
+    places: &mut Places,
     segments: &mut Segments,
 ) -> Result<u64, AllocError>
     requires changed { HaveChanged papers.now places.old segments.old (is_among (marked_in region.now segments.old)) point end }

@@ -11,10 +11,11 @@ mod newcomer;
 mod withdraw;
 
 use crate::open_refused::OpenRefused;
+use crate::places::Places;
 use crate::settling::settle_on;
 use sc_checkpoint::Segments;
 use sc_engine::Round;
-use sc_papers::{Assignment, Papers, Rejection, SchoolNo, StudentNo};
+use sc_papers::{Assignment, MOST_STUDENTS, Papers, Rejection, SchoolNo, StudentNo};
 use sc_seats::HeapRoll;
 use std::alloc::{AllocError, Global};
 use std::marker::Model;
@@ -26,7 +27,7 @@ use std::marker::Model;
 pub(crate) struct Settlement {
     alloc: Global,
     papers: Papers,
-    places: Assignment,
+    places: Places,
     segments: Segments,
     proposals: u64,
     // Where there is one, the round in which everybody stands: it is kept from newcomer to newcomer, and made
@@ -44,30 +45,6 @@ impl Model for Settlement {
     ghost view = { standing_of };
 
     ghost invariant = { IsSound };
-}
-
-/// How many of the students have the school.
-fn count_held(papers: &Papers, places: &Assignment, school: SchoolNo) -> u32
-    ensures { result ≡ held papers.now (assigned places.now) school }
-{
-    let mut held = 0;
-    for position in 0..papers.students_len() {
-        if has(papers, places, school, position) {
-            held += 1;
-        }
-    }
-    held
-}
-
-/// Whether the student at the position has the school.
-fn has(papers: &Papers, places: &Assignment, school: SchoolNo, position: usize) -> bool
-    requires { position < length papers.now.students }
-    ensures { result ≡ has (assigned places.now) school (slice_index (students_of papers.now) position) }
-{
-    match papers.student_at(position) {
-        Some(student) => places.get(student) == Some(school),
-        None => unreachable!(),
-    }
 }
 
 impl Settlement {
@@ -93,12 +70,12 @@ impl Settlement {
     {
         let mut segments = segments;
         match settle_on::<HeapRoll>(alloc, &papers, &mut segments) {
-            Ok(settled) => Ok(Settlement {
+            Ok(placed) => Ok(Settlement {
                 alloc,
                 papers,
-                places: settled.assignment,
+                places: placed.places,
                 segments,
-                proposals: settled.proposals,
+                proposals: placed.proposals,
                 round: None,
             }),
             Err(_) => Err(OpenRefused { papers }),
@@ -142,22 +119,24 @@ impl Settlement {
         Some(self.places.get(student))
     }
 
-    /// How many students have the school, or `None` for one that is not in the papers. The cost is a
-    /// look-up for each student.
+    /// How many students have the school, or `None` for one that is not in the papers. In constant time.
     pub(crate) fn held(&self, school: SchoolNo) -> Option<u32>
         ensures { result ≡ held_at self.now school }
     {
         if self.papers.school(school).is_none() {
             return None;
         }
-        Some(count_held(&self.papers, &self.places, school))
+        // These calls tell that no student stands twice, in the places or in the papers.
+        prove!(self.places.len() <= usize::MAX);
+        prove!(self.papers.students_len() <= MOST_STUDENTS);
+        Some(self.places.held(school) as u32)
     }
 
     /// The standing assignment, lent.
     pub(crate) fn places(&self) -> &Assignment
         ensures { result.now ≡ self.now.places }
     {
-        &self.places
+        self.places.assignment()
     }
 
     /// The standing assignment as a value of its own: each placed student with their school. The only
@@ -165,7 +144,7 @@ impl Settlement {
     pub(crate) fn assignment(&self) -> Result<Assignment, AllocError>
         ensures { IfOk result (λ assignment. assignment ≡ self.now.places) }
     {
-        self.places.copy()
+        self.places.assignment().copy()
     }
 
     /// The rejections that led to the standing assignment, in the order in which they happened, lent.

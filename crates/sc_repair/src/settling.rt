@@ -13,8 +13,9 @@ ghost use Rattle.sc_engine.specs.Round.{is_spent, view_of};
 ghost use Rattle.sc_engine.specs.RoundView.{has_entered, Enters, Fits};
 ghost use Rattle.sc_repair.specs.Resumption.{proposals_of_first, GoesOn};
 
+use crate::places::Places;
 use sc_checkpoint::Segments;
-use sc_engine::{Round, Settled};
+use sc_engine::Round;
 use sc_papers::{Papers, StudentNo};
 use sc_seats::Roll;
 use std::alloc::{AllocError, Global};
@@ -60,28 +61,39 @@ fn enter_rest<R: Roll>(
     Ok(())
 }
 
+/// What a settling comes to: the places, and how many proposals it made.
+#[derive(Drop)]
+pub(crate) struct Placed {
+    pub(crate) places: Places,
+    pub(crate) proposals: u64,
+}
+
 /// Settles the papers on from the segments of their first students: these stand at their next choices,
 /// the others enter after them in order of entry, and a segment is put at the end for each. The only
 /// error is want of memory, after which the segments are to be given up.
 ///
 /// The cost is a look at each entry of the segments, and an offer for each proposal of those who enter.
-pub fn settle_on<R: Roll>(
+pub(crate) fn settle_on<R: Roll>(
     alloc: Global,
     papers: &Papers,
     segments: &mut Segments,
-) -> Result<Settled, AllocError>
+) -> Result<Placed, AllocError>
     requires well_formed { WellFormed papers.now }
     requires theirs { students_in segments.old ≡ take (length segments.old) (students_of papers.now) }
     requires segmented { IsSegmented (cut papers.now (length segments.old)) (logs_in segments.old) }
     ensures theirs { OnOk result (students_in segments.new ≡ students_of papers.now) }
     ensures segmented { OnOk result (IsSegmented papers.now (logs_in segments.new)) }
     ensures stays { OnOk result (take (length segments.old) (logs_in segments.new) ≡ logs_in segments.old) }
-    ensures matching { IfOk result (λ settled. (i : ℕ) → assigned settled.assignment i ≡ next_choice papers.now (joined (logs_in segments.new)) i) }
-    ensures proposals { IfOk result (λ settled. settled.proposals + proposals_of_first papers.now (length segments.old) (joined (logs_in segments.old)) ≡ length (joined (logs_in segments.new)) + placed papers.now (assigned settled.assignment)) }
+    ensures matching { IfOk result (λ made. (i : ℕ) → assigned made.places i ≡ next_choice papers.now (joined (logs_in segments.new)) i) }
+    ensures proposals { IfOk result (λ made. made.proposals + proposals_of_first papers.now (length segments.old) (joined (logs_in segments.old)) ≡ length (joined (logs_in segments.new)) + placed papers.now (assigned made.places)) }
 {
     let next_choices = segments.next_choices_at(papers, segments.len())?;
     let mut round: Round<R> = Round::resume(alloc, papers, next_choices.as_slice())?;
     enter_rest(&mut round, papers, segments)?;
     let settled = round.into_settled(papers)?;
-    Ok(settled)
+    let places = Places::of(alloc, settled.assignment)?;
+    Ok(Placed {
+        places,
+        proposals: settled.proposals,
+    })
 }

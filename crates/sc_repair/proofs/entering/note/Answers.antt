@@ -1,5 +1,6 @@
-use Rattle.std.proofs.Common.{◌≡◌, ap, ◌∙◌, nat_eq, cond, Result, Ok, Err}
+use Rattle.std.proofs.Common.{◌≡◌, ℕ, ap, ◌∙◌, nat_eq, cond, List, [], ◌∷◌, ◌++◌, length, take, arith, Result, Ok, Err}
 use Rattle.std.specs.Prelude.{OnErr, OnOk}
+use Rattle.std.proofs.lemmas.List.{take-append-le, take_all}
 use Rattle.sc_papers.specs.Assignment.{assigned}
 use Rattle.sc_papers.proofs.Assigning.{assigned-with_place, with_place-new}
 use Rattle.sc_repair.proofs.entering.note.Goals as goal
@@ -14,9 +15,12 @@ on_success (Err refused) P holds = tt
 
 pub returns-then-is_err-clause-places_unchanged : goal.returns-then-is_err-clause-places_unchanged
 returns-then-is_err-clause-places_unchanged g c =
-    on_error c.push-pushed.result (c.take_last.new.self ≡ c.args.places.now)
-    (c.take_last.ensures c.args.places.now c.args.student c.in-Some.school
-    (c.in_ok-put.ensures.put ∙ with_place-new c.args.places.now c.args.student c.in-Some.school c.requires.unplaced))
+    on_error c.push-pushed.result (c.truncate.new.self ≡ c.args.places.now)
+    (c.truncate.ensures
+    ∙ ap (λ (pairs : List (ℕ × ℕ)). take c.len-before.result pairs) (c.in_ok-put.ensures.put ∙ with_place-new c.args.places.now c.args.student c.in-Some.school c.requires.unplaced)
+    ∙ ap (λ (n : ℕ). take n (c.args.places.now ++ (c.args.student, c.in-Some.school) ∷ [])) c.len-before.ensures.count
+    ∙ take-append-le (length c.args.places.now) c.args.places.now ((c.args.student, c.in-Some.school) ∷ []) (omega arith)
+    ∙ take_all (length c.args.places.now) c.args.places.now (omega arith))
 
 pub returns-else-is_err-clause-given : goal.returns-else-is_err-clause-given
 returns-else-is_err-clause-given g c = on_success c.push-pushed.result _

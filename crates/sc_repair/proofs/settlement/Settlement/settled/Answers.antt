@@ -4,11 +4,11 @@ use Rattle.sc_repair.proofs.settlement.Settlement.settled.Goals as goal
 
 pub invariant_of-result : goal.invariant_of-result
 invariant_of-result c = record {
-  certified = certified-of c.args.papers c.in-Ok.settled.assignment (logs_in c.settle_on.new.segments) c.in-Ok.settled.proposals c.requires.well_formed c.in-Ok.ensures.segmented c.in-Ok.ensures.matching;
+  certified = certified-of c.args.papers c.in-Ok.placed.places (logs_in c.settle_on.new.segments) c.in-Ok.placed.proposals c.requires.well_formed c.in-Ok.ensures.segmented c.in-Ok.ensures.matching;
   theirs = c.in-Ok.ensures.theirs;
   round = tt;
 }
 
 pub returns-in-Ok-clause-certified : goal.returns-in-Ok-clause-certified
 returns-in-Ok-clause-certified c =
-    certified-of c.args.papers c.in-Ok.settled.assignment (logs_in c.settle_on.new.segments) c.in-Ok.settled.proposals c.requires.well_formed c.in-Ok.ensures.segmented c.in-Ok.ensures.matching
+    certified-of c.args.papers c.in-Ok.placed.places (logs_in c.settle_on.new.segments) c.in-Ok.placed.proposals c.requires.well_formed c.in-Ok.ensures.segmented c.in-Ok.ensures.matching

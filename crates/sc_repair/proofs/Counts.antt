@@ -1,0 +1,101 @@
+-- The counts of an assignment, pair by pair.
+use Rattle.std.proofs.Common.{◌≡◌, ℕ, ◌+◌, ◌-◌, ◌<◌, ◌≤◌, ◌==◌, cond, false, List, [], ◌∷◌, ◌++◌, Option, None, Some, slice_get, length, get_or, take, set, refl, ◌∙◌, ap, sym, arith, inl, inr}
+use Rattle.std.proofs.lemmas.Bool.{cases_Bool, cond-false, cond-true, eq-eqb, eqb-false, eqb-true}
+use Rattle.std.proofs.lemmas.List.{get_or-set_other, get_or-set_same, length-set}
+use Rattle.std.proofs.lemmas.List.Sums.{count_by-le-length, sum_by_more, sum_by_push}
+use Rattle.std.specs.Prelude.{unwrap_or}
+use Rattle.std.proofs.lemmas.Option.{slice_get-get_or, slice_get_within}
+use Rattle.sc_papers.specs.Assignment.{assigned, holders, holding}
+use Rattle.sc_papers.specs.Matching.{Matching}
+use Rattle.sc_papers.proofs.Holders.{holders-some}
+use Rattle.sc_papers.specs.declared.school_no.TheConstants.SchoolNo.{GREATEST}
+use Rattle.sc_repair.specs.Places.{AreCountsBy}
+
+-- one for the school, and nought for any other
+abbrev pub one_of : ℕ → ℕ → ℕ
+one_of t s = cond (t == s) 1 0
+
+-- one count is another than it was
+pub recounted : (f g : ℕ → ℕ) (counts : List ℕ) (t n : ℕ) → AreCountsBy f counts → t ≤ GREATEST → n ≡ g t → ((s : ℕ) → (t == s) ≡ false → g s ≡ f s) → AreCountsBy g (set counts t n)
+recounted f g counts t n are low here others = record {
+  long = omega (arith, are.long, length-set counts t n);
+  each = λ s within. elim (cases_Bool (t == s)) [
+    | inl same ↦
+        let at : t ≡ s = eqb-true t s same in
+        ap (λ (k : ℕ). get_or (set counts t n) k 0) (sym at) ∙ get_or-set_same counts t n 0 (omega (arith, are.long, low)) ∙ here ∙ ap g at
+    | inr other ↦ get_or-set_other counts t s n 0 (λ same. eqb-false t s other (sym same)) ∙ are.each s within ∙ sym (others s other)
+  ];
+}
+
+-- one more at a school
+pub counted-more : (f g : ℕ → ℕ) (counts : List ℕ) (t : ℕ) → AreCountsBy f counts → t ≤ GREATEST → ((s : ℕ) → g s ≡ f s + one_of t s) → AreCountsBy g (set counts t (get_or counts t 0 + 1))
+counted-more f g counts t are low more =
+    recounted f g counts t (get_or counts t 0 + 1) are low
+    (omega (arith, are.each t low, more t, cond-true {A = ℕ} (t == t) 1 0 (eq-eqb t t refl)))
+    (λ s other. omega (arith, more s, cond-false {A = ℕ} (t == s) 1 0 other))
+
+-- one less at a school
+pub counted-less : (f g : ℕ → ℕ) (counts : List ℕ) (t : ℕ) → AreCountsBy f counts → t ≤ GREATEST → ((s : ℕ) → g s + one_of t s ≡ f s) → AreCountsBy g (set counts t (get_or counts t 0 - 1))
+counted-less f g counts t are low less =
+    recounted f g counts t (get_or counts t 0 - 1) are low
+    (omega (arith, are.each t low, less t, cond-true {A = ℕ} (t == t) 1 0 (eq-eqb t t refl)))
+    (λ s other. omega (arith, less s, cond-false {A = ℕ} (t == s) 1 0 other))
+
+-- the counts by another way of counting that gives the same
+pub counted-alike : (f g : ℕ → ℕ) (counts : List ℕ) → AreCountsBy f counts → ((s : ℕ) → g s ≡ f s) → AreCountsBy g counts
+counted-alike f g counts are alike = record { long = are.long; each = λ s low. are.each s low ∙ sym (alike s) }
+
+-- one less, where there was one
+pub less-one : (f : ℕ → ℕ) (t : ℕ) → 0 < f t → (s : ℕ) → (f s - one_of t s) + one_of t s ≡ f s
+less-one f t some s = elim (cases_Bool (t == s)) [
+  | inl same ↦
+      let at : f t ≡ f s = ap f (eqb-true t s same) in
+      omega (arith, some, at, cond-true {A = ℕ} (t == s) 1 0 same)
+  | inr other ↦ omega (arith, cond-false {A = ℕ} (t == s) 1 0 other)
+]
+
+-- whether a student counts for a school
+pub holding-some : (a : Matching) (i t s : ℕ) → a i ≡ Some t → holding a s i ≡ one_of t s
+holding-some a i t s at = rw at refl
+
+pub holding-none : (a : Matching) (i s : ℕ) → a i ≡ None → holding a s i ≡ 0
+holding-none a i s at = rw at refl
+
+-- the counts without a student who has a school
+abbrev pub without : List (ℕ × ℕ) → ℕ → ℕ → ℕ
+without old from s = holders old s - one_of from s
+
+pub counted-without : (old : List (ℕ × ℕ)) (i from : ℕ) (counts : List ℕ) → AreCountsBy (holders old) counts → assigned old i ≡ Some from → from ≤ GREATEST → AreCountsBy (without old from) (set counts from (get_or counts from 0 - 1))
+counted-without old i from counts are had low = counted-less (holders old) (without old from) counts from are low (less-one (holders old) from (holders-some old i from had))
+
+-- one who has a school and gets another, or none
+module _ (old new : List (ℕ × ℕ)) (i from : ℕ) (had : assigned old i ≡ Some from) (counted : (s : ℕ) → holders new s + holding (assigned old) s i ≡ holders old s + holding (assigned new) s i) where
+  pub holders-arrived : (to : ℕ) → assigned new i ≡ Some to → (s : ℕ) → holders new s ≡ without old from s + one_of to s
+  holders-arrived to gets s =
+      omega (arith, counted s, holding-some (assigned old) i from s had, holding-some (assigned new) i to s gets, less-one (holders old) from (holders-some old i from had) s)
+
+  pub holders-left : assigned new i ≡ None → (s : ℕ) → holders new s ≡ without old from s
+  holders-left none s =
+      omega (arith, counted s, holding-some (assigned old) i from s had, holding-none (assigned new) i s none, less-one (holders old) from (holders-some old i from had) s)
+
+-- the pairs up to the next position
+pub holders-more : (pairs : List (ℕ × ℕ)) (k s : ℕ) (d : ℕ × ℕ) → k < length pairs → holders (take (k + 1) pairs) s ≡ holders (take k pairs) s + one_of (get_or pairs k d).1 s
+holders-more pairs k s d low = sum_by_more (λ pair. one_of pair.1 s) pairs k d low
+
+-- the pairs up to a position, but for the last of them
+pub holders-last : (pairs : List (ℕ × ℕ)) (k : ℕ) (pair : ℕ × ℕ) (s : ℕ) → 0 < k → slice_get pairs (k - 1) ≡ Some pair → holders (take (k - 1) pairs) s + one_of pair.1 s ≡ holders (take k pairs) s
+holders-last pairs k pair s some at =
+    let low = slice_get_within pairs (k - 1) pair at in
+    let is : get_or pairs (k - 1) pair ≡ pair = ap (λ (o : Option (ℕ × ℕ)). unwrap_or o pair) (sym (slice_get-get_or pairs (k - 1) pair low) ∙ at) in
+    let next : (k - 1) + 1 ≡ k = omega (arith, some) in
+    ap (λ (p : ℕ × ℕ). holders (take (k - 1) pairs) s + one_of p.1 s) (sym is)
+    ∙ sym (holders-more pairs (k - 1) s pair low)
+    ∙ ap (λ (n : ℕ). holders (take n pairs) s) next
+
+-- a pair at the end
+pub holders-push : (pairs : List (ℕ × ℕ)) (i t s : ℕ) → holders (pairs ++ (i, t) ∷ []) s ≡ holders pairs s + one_of t s
+holders-push pairs i t s = sum_by_push (λ pair. one_of pair.1 s) pairs (i, t)
+
+-- no more pairs have a school than there are
+pub holders-le : (pairs : List (ℕ × ℕ)) (s : ℕ) → holders pairs s ≤ length pairs
+holders-le pairs s = count_by-le-length (λ pair. pair.1 == s) pairs

@@ -1,0 +1,170 @@
+//! The standing assignment, with how many students have each school.
+
+ghost use Rattle.std.specs.Prelude.{◌≡◌, ℕ, ◌+◌, ◌-◌, ◌^◌, ◌<◌, ◌≤◌, ◌&&◌, None, is_some, length, take, nat_eq, slice_set, get_or, if◌then◌else◌, IfOk, OnOk, OnErr};
+ghost use Rattle.std.specs.List.{IsDistinct};
+ghost use Rattle.std.specs.Map.{keys_of};
+ghost use Rattle.sc_papers.specs.Assignment.{assigned, holders, with_place};
+ghost use Rattle.sc_papers.specs.declared.school_no.TheConstants.SchoolNo.{GREATEST as greatest_school};
+ghost use Rattle.sc_repair.specs.Places.{AreCounts};
+
+use sc_papers::{Assignment, SchoolNo, StudentNo};
+use std::alloc::{AllocError, Global};
+use std::marker::Model;
+
+/// An assignment that knows how many students have each school.
+#[derive(Drop)]
+pub(crate) struct Places {
+    assignment: Assignment,
+    // By the number of the school.
+    counts: Vec<usize>,
+}
+
+impl Model for Places {
+    ghost use Rattle.std.specs.Prelude.{List, ℕ};
+    ghost use Rattle.sc_repair.specs.Places.{AreCounts};
+
+    ghost Value = { List (ℕ × ℕ) };
+
+    ghost view = { λ p. p.assignment };
+
+    ghost invariant = { λ p. AreCounts p.assignment p.counts.items };
+}
+
+/// Counts one more at the school.
+fn count_one(counts: &mut Vec<usize>, school: SchoolNo)
+    requires long { greatest_school < length counts.old.items }
+    requires fits { school ≤ greatest_school → get_or counts.old.items school 0 + 1 < 2 ^ 64 }
+    ensures within { school ≤ greatest_school }
+    ensures counted { counts.new.items ≡ slice_set counts.old.items school (get_or counts.old.items school 0 + 1) }
+{
+    let number = school.get() as usize;
+    counts[number] += 1;
+}
+
+/// Counts one less at the school.
+fn uncount_one(counts: &mut Vec<usize>, school: SchoolNo)
+    requires long { greatest_school < length counts.old.items }
+    requires some { school ≤ greatest_school → 0 < get_or counts.old.items school 0 }
+    ensures within { school ≤ greatest_school }
+    ensures counted { counts.new.items ≡ slice_set counts.old.items school (get_or counts.old.items school 0 - 1) }
+{
+    let number = school.get() as usize;
+    counts[number] -= 1;
+}
+
+/// How many counts there are: one for each number that a school may have, and one for 0, which none has.
+fn counts_len() -> usize
+    ensures { greatest_school < result }
+{
+    SchoolNo::GREATEST as usize + 1
+}
+
+/// The counts of an assignment.
+fn counts_of(alloc: Global, assignment: &Assignment) -> Result<Vec<usize>, AllocError>
+    ensures { IfOk result (λ counts. AreCounts assignment.now counts.items) }
+{
+    let mut counts = Vec::from_elem(alloc, 0, counts_len())?;
+    for position in 0..assignment.len() {
+        let Some(pair) = assignment.at(position) else {
+            unreachable!()
+        };
+        count_one(&mut counts, pair.1);
+    }
+    Ok(counts)
+}
+
+/// Takes the pairs from a position on out of the counts.
+fn uncount_from(counts: &mut Vec<usize>, assignment: &Assignment, from: usize)
+    requires within { from ≤ length assignment.now }
+    requires counts { AreCounts assignment.now counts.old.items }
+    ensures { AreCounts (take from assignment.now) counts.new.items }
+{
+    let mut left = assignment.len();
+    while from < left {
+        left -= 1;
+        let Some(pair) = assignment.at(left) else {
+            unreachable!()
+        };
+        uncount_one(counts, pair.1);
+    }
+}
+
+impl Places {
+    /// The places of an assignment. The only error is want of memory.
+    pub(crate) fn of(alloc: Global, assignment: Assignment) -> Result<Self, AllocError>
+        ensures { IfOk result (λ places. places ≡ assignment) }
+    {
+        let counts = counts_of(alloc, &assignment)?;
+        Ok(Places { assignment, counts })
+    }
+
+    /// The assignment, lent.
+    pub(crate) fn assignment(&self) -> &Assignment
+        ensures { result.now ≡ self.now }
+    {
+        &self.assignment
+    }
+
+    /// How many students have the school. In constant time.
+    pub(crate) fn held(&self, school: SchoolNo) -> usize
+        ensures { result ≡ holders self.now school }
+    {
+        self.counts[school.get() as usize]
+    }
+
+    /// The school that the student has, if any. In constant time.
+    pub(crate) fn get(&self, student: StudentNo) -> Option<SchoolNo>
+        ensures { result ≡ assigned self.now student }
+    {
+        self.assignment.get(student)
+    }
+
+    /// How many students have a school.
+    pub(crate) fn len(&self) -> usize
+        ensures count { result ≡ length self.now }
+        ensures students_differ { IsDistinct nat_eq (keys_of self.now) }
+    {
+        self.assignment.len()
+    }
+
+    /// Gives a student who has none the school, at the end of the order. A refused growth changes nothing.
+    pub(crate) fn put(&mut self, student: StudentNo, school: SchoolNo) -> Result<(), AllocError>
+        requires unplaced { assigned self.old student ≡ None }
+        ensures put { OnOk result (self.new ≡ with_place self.old student school) }
+        ensures unchanged { OnErr result (self.new ≡ self.old) }
+    {
+        self.assignment.put(student, school)?;
+        // This call tells that the pairs can be counted.
+        prove!(self.assignment.len() <= usize::MAX);
+        count_one(&mut self.counts, school);
+        Ok(())
+    }
+
+    /// Gives a student who has a school another one, or none; one who has none stays without. It takes no memory.
+    /// In constant time.
+    pub(crate) fn move_to(&mut self, student: StudentNo, school: Option<SchoolNo>)
+        ensures moved { (j : ℕ) → assigned self.new j ≡ (if nat_eq j student && is_some (assigned self.old j) then school else assigned self.old j) }
+    {
+        let before = self.assignment.get(student);
+        self.assignment.move_to(student, school);
+        let Some(from) = before else {
+            return;
+        };
+        uncount_one(&mut self.counts, from);
+        if let Some(to) = &school {
+            prove!(self.assignment.len() <= usize::MAX);
+            count_one(&mut self.counts, *to);
+        }
+    }
+
+    /// Keeps the first pairs of the order, so many of them, and takes the others away. It takes no memory; the cost is
+    /// their number.
+    pub(crate) fn truncate(&mut self, count: usize)
+        ensures { self.new ≡ take count self.old }
+    {
+        if count < self.assignment.len() {
+            uncount_from(&mut self.counts, &self.assignment, count);
+            self.assignment.truncate(count);
+        }
+    }
+}
