@@ -15,3 +15,12 @@ offered old mid new seats key (Some out) within over added together last none = 
   full = λ some. omega (arith, over, length_permutation mid (out ∷ new) together);
   within = omega (arith, within, length_permutation (key ∷ old) mid added, length_permutation mid (out ∷ new) together);
 }
+
+-- where there is room, nobody is out
+pub offered-room : (old new : List Key) (seats : ℕ) (key : Key) → length old < seats → IsPermutation (key ∷ old) new → Offers old seats key new None
+offered-room old new seats key room added = record {
+  together = added;
+  last = tt;
+  full = λ some. absurd (cc some);
+  within = omega (arith, room, length_permutation (key ∷ old) new added);
+}

@@ -1,5 +1,5 @@
 //! The best keys of a school, as many as it has seats.
-ghost use Rattle.std.specs.Prelude.{◌≡◌, ◌≤◌, false, [], ◌∷◌, length, All, IfOk, OnOk, IfSome, IfNone};
+ghost use Rattle.std.specs.Prelude.{◌≡◌, ◌≤◌, true, false, [], ◌∷◌, length, All, IfOk, OnOk, IfSome, IfNone};
 ghost use Rattle.std.specs.BinaryHeap.{heap_items, IsHeap};
 ghost use Rattle.std.specs.List.Sorted.{IsPermutation};
 ghost use Rattle.sc_papers.specs.Key.{is_before, key_cmp};
@@ -29,8 +29,19 @@ fn take_last(keys: &mut BinaryHeap<Key>) -> Option<Key>
     keys.pop()
 }
 
+/// Whether the key is ahead of none of those in a heap.
+fn is_behind_all(keys: &BinaryHeap<Key>, key: &Key) -> bool
+    requires heap { IsHeap key_cmp (heap_items keys.now) }
+    ensures { result ≡ true → All (λ kept. is_before key.now kept ≡ false) (heap_items keys.now) }
+{
+    match keys.peek() {
+        Some(last) => !key.is_ahead_of(last),
+        None => true,
+    }
+}
+
 /// Offers one of these seats to a key, and answers the last of all keys where they are more than the
-/// seats. The cost is the logarithm of the seats.
+/// seats. The cost is the logarithm of the seats, and a comparison where the key itself is the last.
 pub(crate) fn offer(
     keys: &mut BinaryHeap<Key>,
     seats: Seats,
@@ -41,9 +52,13 @@ pub(crate) fn offer(
     ensures heap { OnOk result (IsHeap key_cmp (heap_items keys.new)) }
     ensures offered { IfOk result (λ out. Offers (heap_items keys.old) seats key (heap_items keys.new) out) }
 {
-    add(keys, key)?;
-    if keys.len() <= seats.get() as usize {
+    if keys.len() < seats.get() as usize {
+        add(keys, key)?;
         return Ok(None);
     }
+    if is_behind_all(keys, &key) {
+        return Ok(Some(key));
+    }
+    add(keys, key)?;
     Ok(take_last(keys))
 }
