@@ -3,7 +3,7 @@
 
     gate_times.py [COMMAND ..]
 
-Without a command it runs `rt ci`. It looks at the processes of the toolchain twice a second, and counts the time of their children
+Without a command it runs `rt ci`. Twice a second it looks at the processes of the toolchain that the command began, and counts the time of their children
 with them too once these have ended, so the table is a tenth or so off; the totals of the whole run, user and system, are exact.
 It prints a table in the form of docs/GATE.md.
 """
@@ -32,13 +32,36 @@ def told(pid):
     return crate, kind, sum(map(int, fields[11:15])) / TICKS
 
 
+def parents():
+    """Each process and the one that began it."""
+    found = {}
+    for pid in filter(str.isdigit, os.listdir("/proc")):
+        try:
+            found[pid] = open(f"/proc/{pid}/stat").read().rsplit(") ", 1)[1].split()[1]
+        except OSError:
+            continue
+    return found
+
+
+def below(top, begun_by):
+    """The processes that one began, and those that these began."""
+    children = collections.defaultdict(list)
+    for pid, parent in begun_by.items():
+        children[parent].append(pid)
+    left, found = [top], []
+    while left:
+        left.extend(more := children[left.pop()])
+        found.extend(more)
+    return found
+
+
 def main():
     command = sys.argv[1:] or ["rt", "ci"]
     began = time.monotonic()
     run = subprocess.Popen(command)
     seen = {}
     while run.poll() is None:
-        for pid in filter(str.isdigit, os.listdir("/proc")):
+        for pid in below(str(run.pid), parents()):
             found = told(pid)
             if found:
                 seen[pid, found[:2]] = max(found[2], seen.get((pid, found[:2]), 0))
