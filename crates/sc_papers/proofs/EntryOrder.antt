@@ -1,20 +1,21 @@
--- A student who moves in the order of entry, and back.
-use Rattle.std.proofs.Common.{◌≡◌, ℕ, zero, suc, ◌+◌, ◌-◌, ◌<◌, ◌≤◌, nat_eq, List, [], ◌∷◌, ◌++◌, length, take, insert, remove, slice_get, Option, Some, None, IsPermutation, refl, sym, ap, subst, ◌∙◌, arith, Bool, Contains, inl, inr}
+-- A student who moves in the order of entry, and back; and two who change places.
+use Rattle.std.proofs.Common.{◌≡◌, ℕ, zero, suc, ◌+◌, ◌-◌, ◌<◌, ◌≤◌, nat_eq, List, [], ◌∷◌, ◌++◌, length, take, insert, remove, slice_get, swap, Option, Some, None, IsPermutation, refl, sym, ap, subst, ◌∙◌, arith, Bool, Contains, inl, inr}
 use Rattle.std.specs.Option.{option_map_or}
 use Rattle.std.specs.Map.{keys_of, lookup, remove_entry}
 use Rattle.std.specs.List.{position_or_len}
 use Rattle.std.proofs.Math.Seq.{take-append_seam}
 use Rattle.std.proofs.lemmas.Bool.{cases_Bool, cond-true, eq-eqb, eqb-true}
 use Rattle.std.proofs.lemmas.Cmp.{nat_eq_equiv}
-use Rattle.std.proofs.lemmas.List.Sorted.{All-permutation, IsPermutation-insert, IsPermutation-map, IsPermutation-refl, IsPermutation-remove, IsPermutation-trans, length_permutation}
+use Rattle.std.proofs.lemmas.List.Sorted.{All-permutation, IsPermutation-insert, IsPermutation-map, IsPermutation-refl, IsPermutation-remove, IsPermutation-swap, IsPermutation-trans, length_permutation}
 use Rattle.std.proofs.lemmas.Map.{lookup-remove_entry}
 use Rattle.std.proofs.lemmas.Map.Keys.{IsDistinct-IsPermutation}
 use Rattle.std.proofs.lemmas.Option.{get_or_from_slice_get, slice_get_within}
 use Rattle.indexmap.specs.IndexMap.{move_index}
 use Rattle.indexmap.proofs.RemoveLemmas.{moved_last}
+use Rattle.indexmap.proofs.ReorderLemmas.{map-swap}
 use Rattle.indexmap.proofs.SetLemmas.{map-move}
 use Rattle.sc_lottery.specs.Draw.{draw}
-use Rattle.sc_papers.specs.EntryOrder.{with_moved_student}
+use Rattle.sc_papers.specs.EntryOrder.{with_moved_student, with_swapped_students}
 use Rattle.sc_papers.specs.Market.{Market, student_of, students_of}
 use Rattle.sc_papers.specs.Reordering.{IsReordering}
 use Rattle.sc_papers.specs.Restriction.{cut, AreApart}
@@ -54,31 +55,34 @@ moved-reordering m from to = record {
   students = moved-items m.students from to;
 }
 
+-- papers with the same students in another order
+abbrev reordered : Market → List (ℕ × Student) → Market
+reordered m students = record m { students = students }
+
 -- well-formed
+WellFormed-reordered : (m : Market) (students : List (ℕ × Student)) → IsPermutation m.students students → WellFormed m → WellFormed (reordered m students)
+WellFormed-reordered m students moved formed = record {
+  schools_differ = formed.schools_differ;
+  students_differ = IsDistinct-IsPermutation nat_eq nat_eq_equiv.symm (keys_of m.students) (keys_of students) (IsPermutation-map (λ e. e.0) m.students students moved) formed.students_differ;
+  students_proper =
+      let proper = IsProper-known m (reordered m students) (λ s known. known) in
+      All-permutation (λ (entry : ℕ × Student). IsProper (reordered m students) entry.1) m.students students moved (λ k d here. proper _ (formed.students_proper k d here));
+}
+
 pub WellFormed-moved : (m : Market) (from to : ℕ) → WellFormed m → WellFormed (with_moved_student m from to)
-WellFormed-moved m from to formed =
-    let moved = moved-items m.students from to in
-    record {
-      schools_differ = formed.schools_differ;
-      students_differ =
-          IsDistinct-IsPermutation nat_eq nat_eq_equiv.symm (keys_of m.students) (keys_of (move_index m.students from to)) (IsPermutation-map (λ e. e.0) m.students (move_index m.students from to) moved)
-          formed.students_differ;
-      students_proper =
-          let proper = IsProper-known m (with_moved_student m from to) (λ s known. known) in
-          All-permutation (λ (entry : ℕ × Student). IsProper (with_moved_student m from to) entry.1) m.students (move_index m.students from to) moved
-          (λ k d here. proper _ (formed.students_proper k d here));
-    }
+WellFormed-moved m from to formed = WellFormed-reordered m (move_index m.students from to) (moved-items m.students from to) formed
 
 -- and within the limits
+WithinLimits-reordered : (m : Market) (students : List (ℕ × Student)) → IsPermutation m.students students → WithinLimits m → WithinLimits (reordered m students)
+WithinLimits-reordered m students moved within = record {
+  schools = within.schools;
+  seats = within.seats;
+  students = let same = length_permutation m.students students moved in let bound = within.students in omega arith;
+  lists = All-permutation (λ (entry : ℕ × Student). IsShort entry.1) m.students students moved within.lists;
+}
+
 pub WithinLimits-moved : (m : Market) (from to : ℕ) → WithinLimits m → WithinLimits (with_moved_student m from to)
-WithinLimits-moved m from to within =
-    let moved = moved-items m.students from to in
-    record {
-      schools = within.schools;
-      seats = within.seats;
-      students = let same = length_permutation m.students (move_index m.students from to) moved in let bound = within.students in omega arith;
-      lists = All-permutation (λ (entry : ℕ × Student). IsShort entry.1) m.students (move_index m.students from to) moved within.lists;
-    }
+WithinLimits-moved m from to within = WithinLimits-reordered m (move_index m.students from to) (moved-items m.students from to) within
 
 -- the fields of the type `Papers` stay sound where a student moves, and the student's row as far
 pub IsSound-moved : (old new : Inside) (from to : ℕ) → IsSound old
@@ -95,6 +99,26 @@ IsSound-moved old new from to sound seed schools positions students rows =
           let before = sound.rows in
           rows ∙ ap (λ rs. move_index rs from to) before
           ∙ sym (map-move (λ (e : ℕ × Student). row_of old.positions (draw old.lottery e.0) e.1) old.students.entries from to)
+          ∙ rw (seed, positions, students) refl;
+    }
+
+-- and where two students and their rows change places
+pub IsSound-swapped : (old new : Inside) (a b : ℕ) → a < length old.students.entries → b < length old.students.entries → IsSound old
+    → new.lottery ≡ old.lottery → new.schools ≡ old.schools → new.positions ≡ old.positions → new.students.entries ≡ swap old.students.entries a b
+    → new.rows.items ≡ swap old.rows.items a b
+    → IsSound new
+IsSound-swapped old new a b low high sound seed schools positions students rows =
+    let m = market_of old in
+    let after : market_of new ≡ with_swapped_students m a b = rw (seed, schools, students) refl in
+    let moved = IsPermutation-swap m.students (swap m.students a b) a b low high refl in
+    record {
+      well_formed = rw after (WellFormed-reordered m (swap m.students a b) moved sound.well_formed);
+      within_limits = rw after (WithinLimits-reordered m (swap m.students a b) moved sound.within_limits);
+      positions = rw (positions, schools) sound.positions;
+      rows =
+          let before = sound.rows in
+          rows ∙ ap (λ rs. swap rs a b) before
+          ∙ sym (map-swap (λ (e : ℕ × Student). row_of old.positions (draw old.lottery e.0) e.1) old.students.entries a b)
           ∙ rw (seed, positions, students) refl;
     }
 

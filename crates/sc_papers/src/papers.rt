@@ -1,4 +1,4 @@
-ghost use Rattle.std.specs.Prelude.{◌≡◌, ℕ, ◌+◌, ◌<◌, ◌≤◌, ◌↔◌, [], ◌∷◌, ◌++◌, length, slice_get, position, nat_eq, nat_lt, ◌==◌, ◌&&◌, if◌then◌else◌, OnOk, OnErr, IfErr, IfOk};
+ghost use Rattle.std.specs.Prelude.{◌≡◌, ℕ, ◌+◌, ◌<◌, ◌≤◌, ◌↔◌, [], ◌∷◌, ◌++◌, length, slice_get, position, nat_eq, nat_lt, swap, ◌==◌, ◌&&◌, if◌then◌else◌, OnOk, OnErr, IfErr, IfOk};
 ghost use Rattle.std.specs.Option.{option_copied};
 ghost use Rattle.std.specs.List.{list_any};
 ghost use Rattle.indexmap.specs.IndexMap.{move_index};
@@ -108,11 +108,20 @@ fn move_row(rows: &mut Vec<StudentRow>, from: usize, to: usize)
     }
 }
 
+/// Changes the rows at two positions for one another.
+fn swap_rows(rows: &mut Vec<StudentRow>, a: usize, b: usize)
+    requires a { a < length rows.old.items }
+    requires b { b < length rows.old.items }
+    ensures { rows.new.items ≡ swap rows.old.items a b }
+{
+    rows.swap(a, b);
+}
+
 impl Papers {
     ghost use Rattle.std.specs.Prelude.{◌≡◌, ℕ, ◌+◌, ◌-◌, ◌<◌, ◌≤◌, ◌↔◌, [], ◌∷◌, ◌++◌, length, map, slice_get, position, nat_eq, ◌&&◌, Some, None, if◌then◌else◌, OnOk, OnErr, IfErr, IfOk};
     ghost use Rattle.std.specs.Option.{option_and_then, option_copied};
     ghost use Rattle.sc_papers.specs.Market.{Market, choices_of, school_of, student_at, student_of, schools_of, students_of, seats_of, siblings_of, zone_of, continuing_of, is_school, is_student};
-    ghost use Rattle.sc_papers.specs.EntryOrder.{with_moved_student};
+    ghost use Rattle.sc_papers.specs.EntryOrder.{with_moved_student, with_swapped_students};
     ghost use Rattle.sc_papers.specs.Key.{key_at, key_of};
     ghost use Rattle.sc_papers.specs.WellFormed.{WellFormed, WithinLimits};
     ghost use Rattle.sc_papers.specs.Verdict.{first_of, objections_to_add, objections_to_close, objections_to_correct, objections_to_enter, objections_to_rerank, with_choices, with_circumstances, with_seats, with_student, without_student, school_verdict, with_school, IsSchoolRefusal};
@@ -360,6 +369,17 @@ impl Papers {
     {
         self.students.move_index(from, to);
         move_row(&mut self.rows, from, to);
+    }
+
+    /// Changes the students at two positions of the order of entry for one another, each from 0; all others stay where
+    /// they are. It takes no memory and cannot fail. In constant time.
+    pub fn swap_students(&mut self, a: usize, b: usize)
+        requires a { a < length self.old.students }
+        requires b { b < length self.old.students }
+        ensures { self.new ≡ with_swapped_students self.old a b }
+    {
+        self.students.swap_indices(a, b);
+        swap_rows(&mut self.rows, a, b);
     }
 
     /// Removes a student, and the student's draw; the number of nobody changes nothing. The others keep their

@@ -1,5 +1,5 @@
 -- The stamps of the records of papers.
-use Rattle.std.specs.Prelude.{◌≡◌, ℕ, ◌+◌, nat_eq, List, [], ◌∷◌, ◌++◌, length, position, remove, replicate, slice_index_or, slice_set, Option, None, Some}
+use Rattle.std.specs.Prelude.{◌≡◌, ℕ, ◌+◌, nat_eq, List, [], ◌∷◌, ◌++◌, length, position, remove, replicate, slice_index_or, slice_set, swap, Option, None, Some}
 use Rattle.sc_papers.specs.Market.{Market, schools_of, students_of}
 use Rattle.sc_papers.specs.declared.amendment.Amendment.{Amendment}
 use Rattle.sc_papers.specs.declared.amendment.Amendment.TheVariants.{Enter, Withdraw, Rerank, Add, Close, Correct}
@@ -69,3 +69,7 @@ finished (School k) stamps = record stamps { accepted = stamps.accepted + 1; sch
 -- the stamps after an accepted amendment, of papers as they were before it
 abbrev pub stamps_after : Market → Amendment → Stamps → Stamps
 stamps_after m a stamps = finished (marking_of m a) (begun (marking_of m a) stamps)
+
+-- the stamps of the students at two positions of the order of entry, each in the other's place
+abbrev pub with_swapped_stamps : Stamps → ℕ → ℕ → Stamps
+with_swapped_stamps stamps a b = record stamps { students = swap stamps.students a b }

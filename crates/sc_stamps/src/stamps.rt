@@ -1,4 +1,4 @@
-ghost use Rattle.std.specs.Prelude.{◌≡◌, ℕ, ◌<◌, List, length, replicate, IfOk, OnOk, OnErr};
+ghost use Rattle.std.specs.Prelude.{◌≡◌, ℕ, ◌<◌, List, length, replicate, swap, IfOk, OnOk, OnErr};
 ghost use Rattle.sc_stamps.specs.Stamps.{stamp_at, with_stamp, without_stamp};
 
 use crate::marking::{Marking, marking_of};
@@ -44,11 +44,11 @@ fn stamp_at(stamps: &Vec<Stamp>, position: Option<usize>) -> Stamp
 }
 
 impl Stamps {
-    ghost use Rattle.std.specs.Prelude.{◌≡◌, ◌<◌, IfOk, OnOk, OnErr};
+    ghost use Rattle.std.specs.Prelude.{◌≡◌, ◌<◌, length, IfOk, OnOk, OnErr};
     ghost use Rattle.sc_papers.specs.Verdict.{unless_refused};
     ghost use Rattle.sc_papers.specs.declared.stamp.TheConstants.Stamp.{GREATEST};
     ghost use Rattle.sc_stamps.specs.Record.{record_of};
-    ghost use Rattle.sc_stamps.specs.Stamps.{Stamps as AllStamps, begun, finished, no_stamps, stamp_of};
+    ghost use Rattle.sc_stamps.specs.Stamps.{Stamps as AllStamps, begun, finished, no_stamps, stamp_of, with_swapped_stamps};
     ghost use Rattle.sc_stamps.specs.Verdict.{stamped_verdict};
     ghost use Rattle.sc_stamps.specs.declared.record.Record.TheVariants.{OfStudent, OfSchool};
 
@@ -152,6 +152,25 @@ impl Stamps {
         }
         self.accepted = next;
     }
+
+    /// Changes the stamps of the students at two positions of the order of entry for one another, each from 0, where
+    /// the papers do so with the students. It takes no memory and cannot fail. In constant time.
+    pub fn swap_students(&mut self, a: usize, b: usize)
+        requires a { a < length self.old.students }
+        requires b { b < length self.old.students }
+        ensures { self.new ≡ with_swapped_stamps self.old a b }
+    {
+        swap(&mut self.students, a, b);
+    }
+}
+
+/// Changes the stamps at two positions for one another.
+fn swap(stamps: &mut Vec<Stamp>, a: usize, b: usize)
+    requires a { a < length stamps.old.items }
+    requires b { b < length stamps.old.items }
+    ensures { stamps.new.items ≡ swap stamps.old.items a b }
+{
+    stamps.swap(a, b);
 }
 
 /// Puts a stamp at a position, where there is one.
