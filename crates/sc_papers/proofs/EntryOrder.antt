@@ -102,7 +102,11 @@ IsSound-moved old new from to sound seed schools positions students rows =
           ∙ rw (seed, positions, students) refl;
     }
 
--- and where two students and their rows change places
+-- well-formed papers stay so where two students change places
+pub WellFormed-swapped : (m : Market) (a b : ℕ) → a < length m.students → b < length m.students → WellFormed m → WellFormed (with_swapped_students m a b)
+WellFormed-swapped m a b low high formed = WellFormed-reordered m (swap m.students a b) (IsPermutation-swap m.students (swap m.students a b) a b low high refl) formed
+
+-- and the fields stay sound where their rows do so too
 pub IsSound-swapped : (old new : Inside) (a b : ℕ) → a < length old.students.entries → b < length old.students.entries → IsSound old
     → new.lottery ≡ old.lottery → new.schools ≡ old.schools → new.positions ≡ old.positions → new.students.entries ≡ swap old.students.entries a b
     → new.rows.items ≡ swap old.rows.items a b
@@ -112,7 +116,7 @@ IsSound-swapped old new a b low high sound seed schools positions students rows 
     let after : market_of new ≡ with_swapped_students m a b = rw (seed, schools, students) refl in
     let moved = IsPermutation-swap m.students (swap m.students a b) a b low high refl in
     record {
-      well_formed = rw after (WellFormed-reordered m (swap m.students a b) moved sound.well_formed);
+      well_formed = rw after (WellFormed-swapped m a b low high sound.well_formed);
       within_limits = rw after (WithinLimits-reordered m (swap m.students a b) moved sound.within_limits);
       positions = rw (positions, schools) sound.positions;
       rows =
@@ -167,7 +171,7 @@ get-next x xs m n next = rw next refl
 remove-next : {X : Type 0} (x : X) (xs : List X) (m n : ℕ) → m ≡ suc n → remove (x ∷ xs) m ≡ x ∷ remove xs n
 remove-next x xs m n next = rw next refl
 
-entry-there : {X : Type 0} (i : ℕ) (x : X) (es : List (ℕ × X)) → lookup (nat_eq i) es ≡ Some x → slice_get es (position_or_len (nat_eq i) (keys_of es)) ≡ Some (i, x)
+pub entry-there : {X : Type 0} (i : ℕ) (x : X) (es : List (ℕ × X)) → lookup (nat_eq i) es ≡ Some x → slice_get es (position_or_len (nat_eq i) (keys_of es)) ≡ Some (i, x)
 entry-there i x [] found = cc
 entry-there i x (e ∷ es) found =
     elim (cases_Bool (nat_eq i e.0)) [

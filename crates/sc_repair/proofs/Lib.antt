@@ -20,3 +20,8 @@ pub mod Admitted
 pub mod Changed
 pub mod Counts
 pub mod Held
+pub mod InTurn
+pub mod EntryTurns
+pub mod StampedInTurn
+pub mod AmendedInTurn
+pub mod InOrder

@@ -9,3 +9,4 @@ pub mod Changed
 pub mod Stamped
 pub mod Placing
 pub mod Places
+pub mod Turns

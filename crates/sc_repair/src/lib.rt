@@ -4,6 +4,7 @@
 
 mod clearing;
 mod entering;
+mod entry_order;
 mod open_refused;
 mod places;
 mod placing;
@@ -11,6 +12,7 @@ mod resettling;
 mod rewind;
 mod settlement;
 mod settling;
+mod turns;
 mod unsettled;
 
 pub use clearing::Clearing;

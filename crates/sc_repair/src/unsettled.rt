@@ -1,7 +1,9 @@
 ghost use Rattle.std.specs.Prelude.{◌≡◌};
 
 use crate::clearing::Clearing;
+use crate::entry_order::{leaver, make, put_in_order, put_last};
 use crate::open_refused::OpenRefused;
+use crate::turns::Turns;
 use sc_papers::{Amendment, Papers, Refusal, Stamp, Stamped};
 use sc_stamps::{Stamps, marking_of};
 use std::alloc::{AllocError, Global};
@@ -11,19 +13,22 @@ use std::marker::Model;
 /// amendments, and look at no standing assignment before the last of them.
 #[derive(Drop)]
 pub struct Unsettled {
+    // In an order of their own: whoever withdraws goes last before, so that nobody moves up.
     papers: Papers,
     stamps: Stamps,
+    // The order of entry.
+    turns: Turns,
 }
 
 impl Model for Unsettled {
-    ghost use Rattle.sc_stamps.specs.Stamps.{IsInStep};
     ghost use Rattle.sc_stamps.specs.Verdict.{StampedPapers};
+    ghost use Rattle.sc_repair.specs.Turns.{stamped_in_turn, AreInTurn};
 
     ghost Value = { StampedPapers };
 
-    ghost view = { λ u. record { papers = u.papers; stamps = u.stamps } };
+    ghost view = { λ u. stamped_in_turn u.turns.positions u.papers u.stamps };
 
-    ghost invariant = { λ u. IsInStep u.papers u.stamps };
+    ghost invariant = { λ u. AreInTurn u.turns u.papers u.stamps };
 }
 
 impl Unsettled {
@@ -46,16 +51,27 @@ impl Unsettled {
         ensures well_formed { WellFormed papers }
     {
         // Papers tell that they are well-formed where they tell how many students there are.
-        let _students = papers.students_len();
+        let students = papers.students_len();
+        let turns = Turns::first(alloc, students)?;
         let stamps = Stamps::new(alloc, &papers)?;
-        Ok(Unsettled { papers, stamps })
+        Ok(Unsettled {
+            papers,
+            stamps,
+            turns,
+        })
     }
 
-    /// The papers as they stand. Papers are always well-formed.
-    pub fn papers(&self) -> &Papers
-        ensures { result.now ≡ self.now.papers }
+    /// The papers as they stand, in order of entry. One pass over all who ever entered; it takes no memory.
+    pub fn into_papers(self) -> Papers
+        ensures { result ≡ self.papers }
     {
-        &self.papers
+        let Unsettled {
+            mut papers,
+            mut stamps,
+            mut turns,
+        } = self;
+        put_in_order(&mut papers, &mut stamps, &mut turns);
+        papers
     }
 
     /// How many amendments were accepted: the stamp that the last of them gave its record.
@@ -78,7 +94,8 @@ impl Unsettled {
     /// `check` does, or else want of memory. After a refusal the papers and the stamps are as before; the
     /// amendment is given up. An accepted amendment carried the stamp that its record had.
     ///
-    /// The cost is that of `check`, of `Papers::apply`, and a look-up.
+    /// The cost is that of two checks and a few look-ups, with one draw of the lottery for a student who enters; nobody
+    /// moves up where one withdraws. Only an entry takes memory.
     pub fn amend(&mut self, stamped: Stamped) -> Result<(), Refusal>
         ensures allowed { OnOk result (stamped_verdict self.old stamped ≡ None) }
         ensures accepted { OnOk result (self.new ≡ stamped_after self.old stamped.amendment) }
@@ -94,7 +111,7 @@ impl Unsettled {
     /// stamp, or answers the first refusal of the papers, as `Papers::check` does, or in its place want of
     /// memory. After a refusal the papers and the stamps are as before; the amendment is given up.
     ///
-    /// The cost is that of `Papers::apply`, and a look-up.
+    /// The cost is that of `amend`, with one check.
     pub fn apply(&mut self, amendment: Amendment) -> Result<(), Refusal>
         requires room { self.old.stamps.accepted < GREATEST }
         ensures allowed { OnOk result (verdict self.old.papers amendment ≡ None) }
@@ -103,14 +120,20 @@ impl Unsettled {
         ensures unchanged { OnErr result (self.new ≡ self.old) }
     {
         let marking = marking_of(&self.papers, &amendment);
-        self.stamps.begin(marking)?;
-        match self.papers.apply(amendment) {
+        put_last(
+            &mut self.papers,
+            &mut self.stamps,
+            &mut self.turns,
+            leaver(marking),
+        );
+        self.turns.begin(marking)?;
+        match make(&mut self.papers, &mut self.stamps, amendment) {
             Ok(()) => {
-                self.stamps.finish(marking);
+                self.turns.finish(marking);
                 Ok(())
             }
             Err(refusal) => {
-                self.stamps.give_up(marking);
+                self.turns.give_up(marking);
                 Err(refusal)
             }
         }
@@ -120,7 +143,7 @@ impl Unsettled {
     /// student-optimal stable matching, however they came to be as they are. The only error is want of memory,
     /// which gives the papers back.
     ///
-    /// The cost is that of `Clearing::resume`.
+    /// The cost is that of `into_papers` and of `Clearing::resume`.
     pub fn settle(self, alloc: Global) -> Result<Clearing, OpenRefused>
         ensures papers { IfOk result (λ clearing. stamped_papers clearing ≡ self) }
         ensures optimal { IfOk result (λ clearing. IsStudentOptimal self.papers (matching_of clearing.standing)) }
@@ -128,6 +151,12 @@ impl Unsettled {
         ensures proposals { IfOk result (λ clearing. clearing.standing.proposals ≡ proposals_from_scratch clearing.standing) }
         ensures refused { IfErr result (λ refused. refused.papers ≡ self.papers) }
     {
-        Clearing::resume(alloc, self.papers, self.stamps)
+        let Unsettled {
+            mut papers,
+            mut stamps,
+            mut turns,
+        } = self;
+        put_in_order(&mut papers, &mut stamps, &mut turns);
+        Clearing::resume(alloc, papers, stamps)
     }
 }

@@ -42,8 +42,9 @@ fn export_after(alloc: Global, papers: Papers, journal: &[u8]) -> Result<Exporte
 {
     match replay_papers(alloc, papers, journal) {
         Ok((amended, tail)) => {
-            let files = files_of(alloc, amended.papers());
-            drop(amended);
+            let papers = amended.into_papers();
+            let files = files_of(alloc, &papers);
+            drop(papers);
             match files {
                 Ok(files) => Ok(Exported { files, tail }),
                 Err(fault) => Err(fault),

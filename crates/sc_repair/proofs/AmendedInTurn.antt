@@ -1,0 +1,335 @@
+-- An amendment of papers and stamps that stand in an order of their own, seen in order of turn.
+use Rattle.std.proofs.Common.{◌≡◌, refl, sym, ap, subst, ◌∙◌, ℕ, zero, suc, ◌+◌, ◌-◌, ◌<◌, ◌≤◌, nat_eq, Bool, true, false, List, [], ◌∷◌, ◌++◌, length, map, position, remove, take, slice_get, slice_set, swap, Option, Some, None, IfSome, inl, inr, ◌⊎◌, arith}
+use Rattle.std.specs.Map.{keys_of, lookup, remove_entry, set_value}
+use Rattle.std.specs.Option.{option_map_or}
+use Rattle.std.proofs.lemmas.List.{length-append, length-take}
+use Rattle.std.proofs.lemmas.List.Edits.{length-remove, length-swap}
+use Rattle.std.proofs.lemmas.Option.{none-some, same_Some, slice_get_within}
+use Rattle.sc_papers.specs.EntryOrder.{with_swapped_students}
+use Rattle.sc_papers.specs.Market.{Market, school_of, schools_of, seats_of, student_of, students_of}
+use Rattle.sc_papers.specs.Verdict.{after, changed_school, changed_student, objections_to_withdraw, verdict, with_student, without_student}
+use Rattle.sc_papers.specs.WellFormed.{WellFormed}
+use Rattle.sc_papers.specs.declared.amendment.Amendment.{Amendment}
+use Rattle.sc_papers.specs.declared.amendment.Amendment.TheVariants.{Enter, Withdraw, Rerank, Add, Close, Correct}
+use Rattle.sc_papers.specs.declared.records.School.{School}
+use Rattle.sc_papers.specs.declared.records.Student.{Student}
+use Rattle.sc_stamps.specs.Stamps.{IsInStep, Stamps, marking_of, stamps_after, with_stamp, with_swapped_stamps, without_stamp}
+use Rattle.sc_stamps.specs.Verdict.{StampedPapers, stamped_after}
+use Rattle.sc_papers.proofs.Amending.{WellFormed-after}
+use Rattle.sc_papers.proofs.EntryOrder.{WellFormed-swapped}
+use Rattle.sc_papers.proofs.Objections.{first_of-none}
+use Rattle.sc_papers.proofs.TakingBack.{known-student}
+use Rattle.sc_stamps.proofs.Places.{length-put}
+use Rattle.sc_stamps.proofs.Step.{in-step-after}
+use Rattle.sc_stamps.specs.declared.marking.Marking.{Marking}
+use Rattle.sc_stamps.specs.declared.marking.Marking.TheVariants.{Newcomer, StudentLeaves, StudentStays, School as OfSchool}
+use Rattle.sc_repair.specs.Turns.{AreInTurn, AreTurns, TurnsOfEntry, begun_turns, entered, finished_turns, first_turns, in_turn, last_papers, last_stamps, last_turns, leaver, left, papers_in_turn, stamped_in_turn, stamps_in_turn, swapped}
+use Rattle.sc_repair.proofs.EntryTurns.{AreTurns-first, AreTurns-entered, AreTurns-left, AreTurns-swapped, exchanged-first, turn-alone, turn-of, turns-avoid}
+use Rattle.sc_repair.proofs.InTurn.{Alone, Avoids, earlier, earlier-same, in_turn-entered, in_turn-set, in_turn-swapped, swapped-there}
+use Rattle.sc_repair.proofs.StampedInTurn.{each, entry-at, known-in_turn, lookup-in_turn, nobody-in_turn, own-turn, place-in_turn, position-at, remove-in_turn, remove-plain, set_value-in_turn, unknown-at, verdict-in_turn}
+
+abbrev student_with : ℕ → List ℕ → List ℕ → Option ℕ → Student
+student_with zone siblings choices continuing = record { zone = zone; siblings = siblings; choices = choices; continuing = continuing }
+
+-- whoever enters comes last in order of turn
+entered-in_turn : {X : Type 0} (t : TurnsOfEntry) (xs : List X) (x : X) → AreTurns t → length t.turns ≡ length xs → in_turn (entered t).positions (xs ++ x ∷ []) ≡ in_turn t.positions xs ++ x ∷ []
+entered-in_turn t xs x are count =
+    (λ u. in_turn (t.positions ++ Some (count u) ∷ []) (xs ++ x ∷ [])) ∙ in_turn-entered t.positions xs x (subst (Avoids t.positions) count (turns-avoid t are))
+
+module _ (t : TurnsOfEntry) (m : Market) (stamps : Stamps) (kept : AreInTurn t m stamps) where
+  -- what the papers hold of a student changes
+  papers-changed : (i : ℕ) (change : Student → Student) → papers_in_turn t.positions (changed_student m i change) ≡ changed_student (papers_in_turn t.positions m) i change
+  papers-changed i change = go (position (nat_eq i) (students_of m)) refl
+    where
+      go : (place : Option ℕ) → position (nat_eq i) (students_of m) ≡ place → papers_in_turn t.positions (changed_student m i change) ≡ changed_student (papers_in_turn t.positions m) i change
+      go None here =
+          let none : student_of m i ≡ None = unknown-at i m.students here in
+          let too : student_of (papers_in_turn t.positions m) i ≡ None = known-in_turn t m stamps kept i ∙ none in
+          rw (none, too) refl
+      go (Some p) here =
+          let (turn, own) = own-turn t m stamps kept i p here in
+          let (v, is, at) = entry-at i p m.students here in
+          let some : student_of m i ≡ Some v = is in
+          let too : student_of (papers_in_turn t.positions m) i ≡ Some v = known-in_turn t m stamps kept i ∙ is in
+          let set : in_turn t.positions (set_value (nat_eq i) m.students (change v)) ≡ set_value (nat_eq i) (in_turn t.positions m.students) (change v) =
+          set_value-in_turn t.positions m.students (each t m stamps kept) kept.well_formed.students_differ i p turn (change v) (turn-alone t p turn kept.turns own) here in
+          rw (some, too) (λ u. let n : Market = record m { students = set u } in n)
+
+  -- and the student gets a stamp
+  stamps-changed : (i w : ℕ) → in_turn t.positions (with_stamp stamps.students (position (nat_eq i) (students_of m)) w) ≡ with_stamp (in_turn t.positions stamps.students) (position (nat_eq i) (students_of (papers_in_turn t.positions m))) w
+  stamps-changed i w = go (position (nat_eq i) (students_of m)) refl
+    where
+      go : (place : Option ℕ) → position (nat_eq i) (students_of m) ≡ place
+          → in_turn t.positions (with_stamp stamps.students (position (nat_eq i) (students_of m)) w) ≡ with_stamp (in_turn t.positions stamps.students) (position (nat_eq i) (students_of (papers_in_turn t.positions m))) w
+      go None here =
+          (λ u. in_turn t.positions (with_stamp stamps.students (here u) w)) ∙ sym (λ u. with_stamp (in_turn t.positions stamps.students) (nobody-in_turn t m stamps kept i here u) w)
+      go (Some p) here =
+          let (turn, own) = own-turn t m stamps kept i p here in
+          let (v, is, at) = entry-at i p m.students here in
+          (λ u. in_turn t.positions (with_stamp stamps.students (here u) w))
+          ∙ in_turn-set t.positions stamps.students p turn w (turn-alone t p turn kept.turns own) (omega (arith, kept.in_step.students, slice_get_within m.students p (i, v) at))
+          ∙ sym (λ u. with_stamp (in_turn t.positions stamps.students) ((place-in_turn t m stamps kept i p turn own here ∙ ap Some (earlier-same t.positions turn m.students stamps.students (sym kept.in_step.students))) u) w)
+
+  -- what the papers hold of a school changes
+  papers-seated : (s : ℕ) (change : School → School) → papers_in_turn t.positions (changed_school m s change) ≡ changed_school (papers_in_turn t.positions m) s change
+  papers-seated s change = go (school_of m s) refl
+    where
+      go : (found : Option School) → school_of m s ≡ found → papers_in_turn t.positions (changed_school m s change) ≡ changed_school (papers_in_turn t.positions m) s change
+      go None is = rw is refl
+      go (Some school) is = rw is refl
+
+  -- two students change places
+  pub swapped-in_turn : (a b : ℕ) → a < length m.students → b < length m.students → stamped_in_turn (swapped a b t).positions (with_swapped_students m a b) (with_swapped_stamps stamps a b) ≡ stamped_in_turn t.positions m stamps
+  swapped-in_turn a b low high =
+      let students = in_turn-swapped t.positions m.students a b low high in
+      let own = in_turn-swapped t.positions stamps.students a b (omega (arith, kept.in_step.students, low)) (omega (arith, kept.in_step.students, high)) in
+      (λ u. let p : StampedPapers = record { papers = record m { students = students u }; stamps = record stamps { students = own u } } in p)
+
+  -- an amendment, by which whoever leaves stands last
+  pub after-in_turn : (a : Amendment) → ((p : ℕ) → leaver (marking_of m a) ≡ Some p → p ≡ length t.turns - 1) → verdict m a ≡ None
+      → stamped_in_turn (finished_turns (marking_of m a) (begun_turns (marking_of m a) t)).positions (after m a) (stamps_after m a stamps) ≡ stamped_after (stamped_in_turn t.positions m stamps) a
+  unfolding seats_of
+  after-in_turn (Enter i zone siblings choices continuing) last allowed =
+      let student : Student = record { zone = zone; siblings = siblings; choices = choices; continuing = continuing } in
+      let students = entered-in_turn t m.students (i, student) kept.turns kept.count in
+      let own = entered-in_turn t stamps.students (stamps.accepted + 1) kept.turns (kept.count ∙ sym kept.in_step.students) in
+      (λ u. let p : StampedPapers = record { papers = record m { students = students u }; stamps = record stamps { accepted = stamps.accepted + 1; students = own u } } in p)
+  after-in_turn (Withdraw i) last allowed = go (position (nat_eq i) (students_of m)) refl
+    where
+      go : (place : Option ℕ) → position (nat_eq i) (students_of m) ≡ place
+          → stamped_in_turn (left t).positions (without_student m i) (stamps_after m (Withdraw i) stamps) ≡ stamped_after (stamped_in_turn t.positions m stamps) (Withdraw i)
+      go None here = let known = known-student m i (first_of-none (objections_to_withdraw m i) allowed).0 in absurd (none-some known.0 (sym (unknown-at i m.students here) ∙ known.1))
+      go (Some p) here =
+          let (turn, own) = own-turn t m stamps kept i p here in
+          let at : p ≡ length t.turns - 1 = last p here in
+          let mine : slice_get t.turns (length t.turns - 1) ≡ Some turn = ap (slice_get t.turns) (sym at) ∙ own in
+          let place = place-in_turn t m stamps kept i p turn own here in
+          let students : in_turn (left t).positions (remove_entry (nat_eq i) m.students) ≡ remove_entry (nat_eq i) (in_turn t.positions m.students) =
+          ap (in_turn (left t).positions) (remove-plain i p m.students here ∙ ap (remove m.students) at)
+          ∙ remove-in_turn t m.students turn kept.turns kept.count mine
+          ∙ sym (remove-plain i (earlier t.positions turn m.students) (in_turn t.positions m.students) place) in
+          let own_stamps : in_turn (left t).positions (without_stamp stamps.students (position (nat_eq i) (students_of m))) ≡ without_stamp (in_turn t.positions stamps.students) (position (nat_eq i) (students_of (papers_in_turn t.positions m))) =
+          ap (in_turn (left t).positions) (ap (without_stamp stamps.students) here ∙ ap (remove stamps.students) at)
+          ∙ remove-in_turn t stamps.students turn kept.turns (kept.count ∙ sym kept.in_step.students) mine
+          ∙ ap (remove (in_turn t.positions stamps.students)) (earlier-same t.positions turn stamps.students m.students kept.in_step.students)
+          ∙ sym (ap (without_stamp (in_turn t.positions stamps.students)) place) in
+          (λ u. let p : StampedPapers = record { papers = record m { students = students u }; stamps = record stamps { accepted = stamps.accepted + 1; students = own_stamps u } } in p)
+  after-in_turn (Rerank i choices) last allowed =
+      let students = papers-changed i (λ student. record student { choices = choices }) in
+      let own = stamps-changed i (stamps.accepted + 1) in
+      (λ u. let p : StampedPapers = record { papers = students u; stamps = record stamps { accepted = stamps.accepted + 1; students = own u } } in p)
+  after-in_turn (Add s count) last allowed =
+      let schools = papers-seated s (λ school. record school { seats = seats_of m s + count }) in
+      (λ u. let p : StampedPapers = record { papers = schools u; stamps = record stamps { accepted = stamps.accepted + 1; students = in_turn t.positions stamps.students; schools = with_stamp stamps.schools (position (nat_eq s) (schools_of m)) (stamps.accepted + 1) } } in p)
+  after-in_turn (Close s count) last allowed =
+      let schools = papers-seated s (λ school. record school { seats = seats_of m s - count }) in
+      (λ u. let p : StampedPapers = record { papers = schools u; stamps = record stamps { accepted = stamps.accepted + 1; students = in_turn t.positions stamps.students; schools = with_stamp stamps.schools (position (nat_eq s) (schools_of m)) (stamps.accepted + 1) } } in p)
+  after-in_turn (Correct i zone siblings continuing) last allowed =
+      let students = papers-changed i (λ student. record student { zone = zone; siblings = siblings; continuing = continuing }) in
+      let own = stamps-changed i (stamps.accepted + 1) in
+      (λ u. let p : StampedPapers = record { papers = students u; stamps = record stamps { accepted = stamps.accepted + 1; students = own u } } in p)
+
+  -- each student keeps a stamp and a turn
+  pub kept-swapped : (a b : ℕ) → a < length m.students → b < length m.students → AreInTurn (swapped a b t) (with_swapped_students m a b) (with_swapped_stamps stamps a b)
+  kept-swapped a b low high = record {
+    well_formed = WellFormed-swapped m a b low high kept.well_formed;
+    in_step = record { students = length-swap stamps.students a b ∙ kept.in_step.students ∙ sym (length-swap m.students a b); schools = kept.in_step.schools };
+    turns = AreTurns-swapped t a b (omega (arith, kept.count, low)) (omega (arith, kept.count, high)) kept.turns;
+    count = length-swap t.turns a b ∙ kept.count ∙ sym (length-swap m.students a b);
+  }
+
+  pub kept-after : (a : Amendment) → verdict m a ≡ None → AreInTurn (finished_turns (marking_of m a) (begun_turns (marking_of m a) t)) (after m a) (stamps_after m a stamps)
+  kept-after a allowed = record {
+    well_formed = WellFormed-after m a kept.well_formed allowed;
+    in_step = in-step-after m stamps a kept.in_step;
+    turns = turns-after a;
+    count = count-after a allowed (in-step-after m stamps a kept.in_step);
+  }
+    where
+      turns-after : (b : Amendment) → AreTurns (finished_turns (marking_of m b) (begun_turns (marking_of m b) t))
+      turns-after (Enter i zone siblings choices continuing) = AreTurns-entered t kept.turns
+      turns-after (Withdraw i) = AreTurns-left t kept.turns
+      turns-after (Rerank i choices) = kept.turns
+      turns-after (Add s count) = kept.turns
+      turns-after (Close s count) = kept.turns
+      turns-after (Correct i zone siblings continuing) = kept.turns
+
+      count-after : (b : Amendment) → verdict m b ≡ None → IsInStep (after m b) (stamps_after m b stamps) → length (finished_turns (marking_of m b) (begun_turns (marking_of m b) t)).turns ≡ length (after m b).students
+      count-after (Enter i zone siblings choices continuing) may step =
+          omega (arith, kept.count, length-append t.turns (length t.positions ∷ []), length-append m.students ((i, student_with zone siblings choices continuing) ∷ []))
+      count-after (Withdraw i) may step = gone (position (nat_eq i) (students_of m)) refl
+        where
+          gone : (place : Option ℕ) → position (nat_eq i) (students_of m) ≡ place → length (take (length t.turns - 1) t.turns) ≡ length (remove_entry (nat_eq i) m.students)
+          gone None here = let known = known-student m i (first_of-none (objections_to_withdraw m i) may).0 in absurd (none-some known.0 (sym (unknown-at i m.students here) ∙ known.1))
+          gone (Some p) here =
+              let (v, is, at) = entry-at i p m.students here in
+              let low = slice_get_within m.students p (i, v) at in
+              omega (arith, kept.count, length-take (length t.turns - 1) t.turns, length-remove m.students p low, ap (λ (es : List (ℕ × Student)). length es) (remove-plain i p m.students here))
+      count-after (Rerank i choices) may step = kept.count ∙ sym kept.in_step.students ∙ sym (length-put stamps.students (position (nat_eq i) (students_of m)) (stamps.accepted + 1)) ∙ step.students
+      count-after (Add s count) may step = kept.count ∙ sym kept.in_step.students ∙ step.students
+      count-after (Close s count) may step = kept.count ∙ sym kept.in_step.students ∙ step.students
+      count-after (Correct i zone siblings continuing) may step = kept.count ∙ sym kept.in_step.students ∙ sym (length-put stamps.students (position (nat_eq i) (students_of m)) (stamps.accepted + 1)) ∙ step.students
+
+-- a newcomer's turn leaves turns what they are
+pub turns-begun : (k : Marking) (u : TurnsOfEntry) → AreTurns u → AreTurns (begun_turns k u)
+turns-begun Newcomer u are = AreTurns-entered u are
+turns-begun (StudentLeaves q) u are = are
+turns-begun (StudentStays q) u are = are
+turns-begun (OfSchool q) u are = are
+
+-- a student who leaves stands in the papers
+pub leaver-within : (m : Market) (a : Amendment) → IfSome (leaver (marking_of m a)) (λ p. p < length m.students)
+leaver-within m (Enter i zone siblings choices continuing) = tt
+leaver-within m (Withdraw i) = go (position (nat_eq i) (students_of m)) refl
+  where
+    go : (place : Option ℕ) → position (nat_eq i) (students_of m) ≡ place → IfSome place (λ p. p < length m.students)
+    go None here = tt
+    go (Some p) here = let (v, is, at) = entry-at i p m.students here in slice_get_within m.students p (i, v) at
+leaver-within m (Rerank i choices) = tt
+leaver-within m (Add s count) = tt
+leaver-within m (Close s count) = tt
+leaver-within m (Correct i zone siblings continuing) = tt
+
+-- papers, stamps and turns where whoever leaves has changed places with the last one
+module _ (t : TurnsOfEntry) (m : Market) (stamps : Stamps) (kept : AreInTurn t m stamps) where
+  pub kept-last : (place : Option ℕ) → IfSome place (λ p. p < length m.students) → AreInTurn (last_turns place t) (last_papers place m) (last_stamps place stamps)
+  kept-last None within = kept
+  kept-last (Some p) within =
+      let turns : length m.students - 1 ≡ length t.turns - 1 = omega (arith, kept.count) in
+      let marks : length m.students - 1 ≡ length stamps.students - 1 = omega (arith, kept.in_step.students) in
+      subst (λ k. AreInTurn (swapped p k t) (with_swapped_students m p (length m.students - 1)) (with_swapped_stamps stamps p (length stamps.students - 1))) turns
+      (subst (λ k. AreInTurn (swapped p (length m.students - 1) t) (with_swapped_students m p (length m.students - 1)) (with_swapped_stamps stamps p k)) marks
+      (kept-swapped t m stamps kept p (length m.students - 1) within (omega (arith, within))))
+
+  pub same-last : (place : Option ℕ) → IfSome place (λ p. p < length m.students)
+      → stamped_in_turn (last_turns place t).positions (last_papers place m) (last_stamps place stamps) ≡ stamped_in_turn t.positions m stamps
+  same-last None within = refl
+  same-last (Some p) within =
+      let turns : length t.turns - 1 ≡ length m.students - 1 = omega (arith, kept.count) in
+      let marks : length stamps.students - 1 ≡ length m.students - 1 = omega (arith, kept.in_step.students) in
+      (λ u. stamped_in_turn (swapped p (turns u) t).positions (with_swapped_students m p (length m.students - 1)) (with_swapped_stamps stamps p (marks u)))
+      ∙ swapped-in_turn t m stamps kept p (length m.students - 1) within (omega (arith, within))
+
+  -- who is then the last one
+  pub leaves-last : (a : Amendment) (p : ℕ) → leaver (marking_of (last_papers (leaver (marking_of m a)) m) a) ≡ Some p → p ≡ length (last_turns (leaver (marking_of m a)) t).turns - 1
+  leaves-last (Enter i zone siblings choices continuing) p is = absurd (none-some p is)
+  leaves-last (Withdraw i) p is = go (position (nat_eq i) (students_of m)) refl is
+    where
+      go : (place : Option ℕ) → position (nat_eq i) (students_of m) ≡ place → position (nat_eq i) (students_of (last_papers place m)) ≡ Some p → p ≡ length (last_turns place t).turns - 1
+      go None here there = absurd (none-some p (sym here ∙ there))
+      go (Some q) here there =
+          let (v, found, at) = entry-at i q m.students here in
+          let low : q < length m.students = slice_get_within m.students q (i, v) at in
+          let high : length m.students - 1 < length m.students = omega (arith, low) in
+          let moved : slice_get (swap m.students q (length m.students - 1)) (length m.students - 1) ≡ Some (i, v) =
+          ap (slice_get (swap m.students q (length m.students - 1))) (sym (exchanged-first q (length m.students - 1))) ∙ swapped-there m.students q (length m.students - 1) q low high ∙ at in
+          let differ = (WellFormed-swapped m q (length m.students - 1) low high kept.well_formed).students_differ in
+          let own : p ≡ length m.students - 1 = same_Some p (length m.students - 1) (sym there ∙ position-at i (length m.students - 1) v (swap m.students q (length m.students - 1)) differ moved) in
+          omega (arith, own, kept.count, length-swap t.turns q (length t.turns - 1))
+  leaves-last (Rerank i choices) p is = absurd (none-some p is)
+  leaves-last (Add s count) p is = absurd (none-some p is)
+  leaves-last (Close s count) p is = absurd (none-some p is)
+  leaves-last (Correct i zone siblings continuing) p is = absurd (none-some p is)
+
+  -- the verdict, and what becomes of all three by an amendment
+  module _ (a : Amendment) where
+    pub kept-ready : AreInTurn (last_turns (leaver (marking_of m a)) t) (last_papers (leaver (marking_of m a)) m) (last_stamps (leaver (marking_of m a)) stamps)
+    kept-ready = kept-last (leaver (marking_of m a)) (leaver-within m a)
+
+    pub same-ready : stamped_in_turn (last_turns (leaver (marking_of m a)) t).positions (last_papers (leaver (marking_of m a)) m) (last_stamps (leaver (marking_of m a)) stamps) ≡ stamped_in_turn t.positions m stamps
+    same-ready = same-last (leaver (marking_of m a)) (leaver-within m a)
+
+    pub verdict-ready : verdict (papers_in_turn t.positions m) a ≡ verdict (last_papers (leaver (marking_of m a)) m) a
+    verdict-ready =
+        ap (λ (p : StampedPapers). verdict p.papers a) (sym same-ready)
+        ∙ verdict-in_turn (last_turns (leaver (marking_of m a)) t) (last_papers (leaver (marking_of m a)) m) (last_stamps (leaver (marking_of m a)) stamps) kept-ready a
+
+    pub accepted-ready : (last_stamps (leaver (marking_of m a)) stamps).accepted ≡ stamps.accepted
+    accepted-ready = ap (λ (p : StampedPapers). p.stamps.accepted) same-ready
+
+    same-kind : (n : Market) (u : TurnsOfEntry) (b : Amendment) → finished_turns (marking_of m b) (begun_turns (marking_of m b) u) ≡ finished_turns (marking_of n b) (begun_turns (marking_of n b) u)
+    same-kind n u (Enter i zone siblings choices continuing) = refl
+    same-kind n u (Withdraw i) = refl
+    same-kind n u (Rerank i choices) = refl
+    same-kind n u (Add s count) = refl
+    same-kind n u (Close s count) = refl
+    same-kind n u (Correct i zone siblings continuing) = refl
+
+    -- once the amendment is made
+    pub kept-made : (u : TurnsOfEntry) (n : Market) (others : Stamps) → verdict (last_papers (leaver (marking_of m a)) m) a ≡ None
+        → n ≡ after (last_papers (leaver (marking_of m a)) m) a → others ≡ stamps_after (last_papers (leaver (marking_of m a)) m) a (last_stamps (leaver (marking_of m a)) stamps)
+        → u ≡ finished_turns (marking_of m a) (begun_turns (marking_of m a) (last_turns (leaver (marking_of m a)) t))
+        → AreInTurn u n others
+    kept-made u n others allowed papers marks turns =
+        let done : TurnsOfEntry = finished_turns (marking_of (last_papers (leaver (marking_of m a)) m) a) (begun_turns (marking_of (last_papers (leaver (marking_of m a)) m) a) (last_turns (leaver (marking_of m a)) t)) in
+        subst (λ (x : TurnsOfEntry). AreInTurn x n others) (sym (turns ∙ same-kind (last_papers (leaver (marking_of m a)) m) (last_turns (leaver (marking_of m a)) t) a))
+        (subst (λ (x : Market). AreInTurn done x others) (sym papers)
+        (subst (λ (x : Stamps). AreInTurn done (after (last_papers (leaver (marking_of m a)) m) a) x) (sym marks)
+        (kept-after (last_turns (leaver (marking_of m a)) t) (last_papers (leaver (marking_of m a)) m) (last_stamps (leaver (marking_of m a)) stamps) kept-ready a allowed)))
+
+    pub made-in_turn : (u : TurnsOfEntry) (n : Market) (others : Stamps) → verdict (last_papers (leaver (marking_of m a)) m) a ≡ None
+        → n ≡ after (last_papers (leaver (marking_of m a)) m) a → others ≡ stamps_after (last_papers (leaver (marking_of m a)) m) a (last_stamps (leaver (marking_of m a)) stamps)
+        → u ≡ finished_turns (marking_of m a) (begun_turns (marking_of m a) (last_turns (leaver (marking_of m a)) t))
+        → stamped_in_turn u.positions n others ≡ stamped_after (stamped_in_turn t.positions m stamps) a
+    made-in_turn u n others allowed papers marks turns =
+        let kinds = turns ∙ same-kind (last_papers (leaver (marking_of m a)) m) (last_turns (leaver (marking_of m a)) t) a in
+        (λ x. stamped_in_turn (kinds x).positions (papers x) (marks x))
+        ∙ after-in_turn (last_turns (leaver (marking_of m a)) t) (last_papers (leaver (marking_of m a)) m) (last_stamps (leaver (marking_of m a)) stamps) kept-ready a (leaves-last a) allowed
+        ∙ ap (λ (p : StampedPapers). stamped_after p a) same-ready
+
+-- the three, told by equations
+pub kept-along : (t u : TurnsOfEntry) (m n : Market) (stamps others : Stamps) → u ≡ t → n ≡ m → others ≡ stamps → AreInTurn t m stamps → AreInTurn u n others
+kept-along t u m n stamps others turns papers marks kept =
+    subst (λ (x : TurnsOfEntry). AreInTurn x n others) (sym turns) (subst (λ (x : Market). AreInTurn t x others) (sym papers) (subst (λ (x : Stamps). AreInTurn t m x) (sym marks) kept))
+
+module _ (t : TurnsOfEntry) (m : Market) (stamps : Stamps) (kept : AreInTurn t m stamps) (a : Amendment) (place : Option ℕ) (u : TurnsOfEntry) (n : Market) (others : Stamps)
+    (at : place ≡ leaver (marking_of m a)) (turns : u ≡ last_turns place t) (papers : n ≡ last_papers place m) (marks : others ≡ last_stamps place stamps) where
+  place-turns : u ≡ last_turns (leaver (marking_of m a)) t
+  place-turns = turns ∙ ap (λ p. last_turns p t) at
+
+  place-papers : n ≡ last_papers (leaver (marking_of m a)) m
+  place-papers = papers ∙ ap (λ p. last_papers p m) at
+
+  place-stamps : others ≡ last_stamps (leaver (marking_of m a)) stamps
+  place-stamps = marks ∙ ap (λ p. last_stamps p stamps) at
+
+  pub ready-kept : AreInTurn u n others
+  ready-kept = kept-along _ u _ n _ others place-turns place-papers place-stamps (kept-ready t m stamps kept a)
+
+  pub ready-same : stamped_in_turn u.positions n others ≡ stamped_in_turn t.positions m stamps
+  ready-same = (λ x. stamped_in_turn (place-turns x).positions (place-papers x) (place-stamps x)) ∙ same-ready t m stamps kept a
+
+  pub ready-verdict : verdict (papers_in_turn t.positions m) a ≡ verdict n a
+  ready-verdict = verdict-ready t m stamps kept a ∙ ap (λ (p : Market). verdict p a) (sym place-papers)
+
+  pub ready-accepted : others.accepted ≡ stamps.accepted
+  ready-accepted = ap (λ (p : StampedPapers). p.stamps.accepted) ready-same
+
+  -- and once the amendment is made
+  module _ (v : TurnsOfEntry) (after_it : Market) (with_it : Stamps) (allowed : verdict n a ≡ None) (made : after_it ≡ after n a) (marked : with_it ≡ stamps_after n a others)
+      (turned : v ≡ finished_turns (marking_of m a) (begun_turns (marking_of m a) u)) where
+    the-verdict : verdict (last_papers (leaver (marking_of m a)) m) a ≡ None
+    the-verdict = ap (λ (p : Market). verdict p a) (sym place-papers) ∙ allowed
+
+    the-papers : after_it ≡ after (last_papers (leaver (marking_of m a)) m) a
+    the-papers = made ∙ ap (λ (p : Market). after p a) place-papers
+
+    the-stamps : with_it ≡ stamps_after (last_papers (leaver (marking_of m a)) m) a (last_stamps (leaver (marking_of m a)) stamps)
+    the-stamps = marked ∙ (λ x. stamps_after (place-papers x) a (place-stamps x))
+
+    the-turns : v ≡ finished_turns (marking_of m a) (begun_turns (marking_of m a) (last_turns (leaver (marking_of m a)) t))
+    the-turns = turned ∙ ap (λ (x : TurnsOfEntry). finished_turns (marking_of m a) (begun_turns (marking_of m a) x)) place-turns
+
+    pub done-kept : AreInTurn v after_it with_it
+    done-kept = kept-made t m stamps kept a v after_it with_it the-verdict the-papers the-stamps the-turns
+
+    pub done-in_turn : stamped_in_turn v.positions after_it with_it ≡ stamped_after (stamped_in_turn t.positions m stamps) a
+    done-in_turn = made-in_turn t m stamps kept a v after_it with_it the-verdict the-papers the-stamps the-turns
+
+-- students who enter in the order in which they stand
+pub kept-first : (m : Market) (stamps : Stamps) → WellFormed m → IsInStep m stamps → AreInTurn (first_turns (length m.students)) m stamps
+kept-first m stamps well step = record { well_formed = well; in_step = step; turns = AreTurns-first (length m.students); count = first-count (length m.students) }
+  where
+    first-count : (count : ℕ) → length (first_turns count).turns ≡ count
+    first-count zero = refl
+    first-count (suc count) = length-append (first_turns count).turns (length (first_turns count).positions ∷ []) ∙ omega (arith, first-count count)

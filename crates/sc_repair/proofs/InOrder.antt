@@ -1,0 +1,239 @@
+-- Students who are put in order of turn, one turn after the other.
+use Rattle.std.proofs.Common.{◌≡◌, refl, sym, ap, subst, ◌∙◌, ℕ, zero, suc, ◌+◌, ◌-◌, ◌<◌, ◌≤◌, List, [], ◌∷◌, ◌++◌, length, map, take, slice_get, Option, Some, None, inl, inr, ◌⊎◌, arith}
+use Rattle.std.specs.Prelude.{filter_map}
+use Rattle.std.specs.List.{cons_option, range_with_len}
+use Rattle.std.specs.Option.{option_and_then, option_map}
+use Rattle.std.proofs.lemmas.List.{append-nil, length-append, length-map, take-map, take_all}
+use native.Mathlib.Decide.{dec_lt}
+use Rattle.std.proofs.lemmas.List.Elements.{filter_map-append}
+use Rattle.std.proofs.lemmas.Option.{none-some, same_Some, slice_get-map, slice_get_within}
+use Rattle.sc_papers.specs.EntryOrder.{with_swapped_students}
+use Rattle.sc_papers.specs.Market.{Market}
+use Rattle.sc_stamps.specs.Stamps.{Stamps, with_swapped_stamps}
+use Rattle.sc_stamps.specs.Verdict.{StampedPapers}
+use Rattle.sc_repair.specs.Turns.{AreInTurn, AreTurns, TurnsOfEntry, exchanged, first_turns, in_turn, stamped_in_turn, swapped}
+use Rattle.sc_repair.proofs.AmendedInTurn.{kept-swapped, swapped-in_turn}
+use Rattle.sc_repair.proofs.EntryTurns.{exchanged-second, turn-of}
+use Rattle.sc_repair.proofs.InTurn.{exchanged-other, slice_get_none, take-there}
+
+-- the positions of those who stand, in order of turn
+abbrev pub standing : List (Option ℕ) → List ℕ
+standing places = filter_map (λ place. place) places
+
+-- the items in turn are those at these positions
+picked : {X : Type 0} (places : List (Option ℕ)) (xs : List X) → in_turn places xs ≡ filter_map (slice_get xs) (standing places)
+picked [] xs = refl
+picked (None ∷ places) xs = picked places xs
+picked (Some p ∷ places) xs = ap (cons_option (slice_get xs p)) (picked places xs)
+
+-- the items at the positions from 0 on
+from-place : {X : Type 0} (zs xs : List X) (a : ℕ) → ((i : ℕ) → slice_get zs (a + i) ≡ slice_get xs i) → filter_map (slice_get zs) (range_with_len a (length xs)) ≡ xs
+from-place zs [] a same = refl
+from-place zs (x ∷ xs) a same =
+    let own : slice_get zs a ≡ Some x = ap (slice_get zs) (plain a) ∙ same 0 in
+    (λ t. cons_option (own t) (from-place zs xs (a + 1) (λ i. ap (slice_get zs) (next a i) ∙ same (suc i)) t))
+  where
+    plain : (n : ℕ) → n ≡ n + 0
+    plain n = omega arith
+
+    next : (n i : ℕ) → n + 1 + i ≡ n + suc i
+    next n i = omega arith
+
+-- so nobody is elsewhere than in order of turn
+pub in-order : {X : Type 0} (places : List (Option ℕ)) (xs : List X) → standing places ≡ range_with_len 0 (length xs) → in_turn places xs ≡ xs
+in-order places xs is = picked places xs ∙ ap (filter_map (slice_get xs)) is ∙ from-place xs xs 0 (λ i. ap (slice_get xs) (plain i))
+  where
+    plain : (i : ℕ) → 0 + i ≡ i
+    plain i = omega arith
+
+-- the positions from 0 on, by one more
+range-more : (a n : ℕ) → range_with_len a (n + 1) ≡ range_with_len a n ++ (a + n) ∷ []
+range-more a zero = ap (λ k. k ∷ []) (plain a)
+  where
+    plain : (n : ℕ) → n ≡ n + 0
+    plain n = omega arith
+range-more a (suc n) = ap (range_with_len a) (more n) ∙ ap (λ rest. a ∷ rest) (range-more (a + 1) n ∙ ap (λ k. range_with_len (a + 1) n ++ k ∷ []) (next a n))
+  where
+    more : (k : ℕ) → suc k + 1 ≡ suc (k + 1)
+    more k = omega arith
+
+    next : (m k : ℕ) → m + 1 + k ≡ m + suc k
+    next m k = omega arith
+
+range-there : (a n i : ℕ) → i < n → slice_get (range_with_len a n) i ≡ Some (a + i)
+range-there a zero i low = absurd (omega (arith, low))
+range-there a (suc n) zero low = ap Some (plain a)
+  where
+    plain : (n : ℕ) → n ≡ n + 0
+    plain n = omega arith
+range-there a (suc n) (suc i) low = range-there (a + 1) n i (omega (arith, low)) ∙ ap Some (next a i)
+  where
+    next : (m k : ℕ) → m + 1 + k ≡ m + suc k
+    next m k = omega arith
+
+range-within : (a n i k : ℕ) → slice_get (range_with_len a n) i ≡ Some k → k < a + n
+range-within a zero i k here = absurd (none-some k here)
+range-within a (suc n) zero k here = omega (arith, same_Some a k here)
+range-within a (suc n) (suc i) k here = let rest = range-within (a + 1) n i k here in omega (arith, rest)
+
+range-kept : (f : ℕ → ℕ) (a n : ℕ) → ((k : ℕ) → k < a + n → f k ≡ k) → map f (range_with_len a n) ≡ range_with_len a n
+range-kept f a zero same = refl
+range-kept f a (suc n) same = (λ t. same a (omega arith) t ∷ range-kept f (a + 1) n (λ k low. same k (omega (arith, low))) t)
+
+-- whoever stands has a turn, and whoever has a turn stands
+standing-turn : (places : List (Option ℕ)) (i p : ℕ) → slice_get (standing places) i ≡ Some p → (turn : ℕ) × (slice_get places turn ≡ Some (Some p))
+standing-turn [] i p here = absurd (none-some p here)
+standing-turn (None ∷ places) i p here = let (turn, at) = standing-turn places i p here in (suc turn, at)
+standing-turn (Some q ∷ places) zero p here = (0, ap Some here)
+standing-turn (Some q ∷ places) (suc i) p here = let (turn, at) = standing-turn places i p here in (suc turn, at)
+
+turn-standing : (places : List (Option ℕ)) (turn p : ℕ) → slice_get places turn ≡ Some (Some p) → (i : ℕ) × (slice_get (standing places) i ≡ Some p)
+turn-standing [] turn p here = absurd (none-some (Some p) here)
+turn-standing (None ∷ places) zero p here = absurd (none-some p (same_Some None (Some p) here))
+turn-standing (None ∷ places) (suc turn) p here = turn-standing places turn p here
+turn-standing (Some q ∷ places) zero p here = (0, same_Some (Some q) (Some p) here)
+turn-standing (Some q ∷ places) (suc turn) p here = let (i, at) = turn-standing places turn p here in (suc i, at)
+
+standing-mapped : (f : ℕ → ℕ) (places : List (Option ℕ)) → standing (map (option_map f) places) ≡ map f (standing places)
+standing-mapped f [] = refl
+standing-mapped f (None ∷ places) = standing-mapped f places
+standing-mapped f (Some p ∷ places) = ap (λ rest. f p ∷ rest) (standing-mapped f places)
+
+-- the turns up to one more
+take-next : {X : Type 0} (xs : List X) (n : ℕ) (x : X) → slice_get xs n ≡ Some x → take (n + 1) xs ≡ take n xs ++ x ∷ []
+take-next [] n x here = absurd (none-some x here)
+take-next (y ∷ xs) zero x here = ap (λ z. z ∷ []) (same_Some y x here)
+take-next (y ∷ xs) (suc n) x here = ap (λ k. take k (y ∷ xs)) (more n) ∙ ap (λ rest. y ∷ rest) (take-next xs n x here)
+  where
+    more : (k : ℕ) → suc k + 1 ≡ suc (k + 1)
+    more k = omega arith
+
+-- the first turns' students stand in order at the first positions
+abbrev pub FirstInOrder : List (Option ℕ) → ℕ → ℕ → Type 0
+FirstInOrder places turn place = standing (take turn places) ≡ range_with_len 0 place
+
+-- a turn whose student withdrew changes nothing
+pub order-passed : (places : List (Option ℕ)) (turn place : ℕ) → slice_get places turn ≡ Some None → FirstInOrder places turn place → FirstInOrder places (turn + 1) place
+order-passed places turn place here before =
+    ap standing (take-next places turn None here) ∙ filter_map-append (λ (q : Option ℕ). q) (take turn places) (None ∷ [])
+    ∙ append-nil (standing (take turn places)) ∙ before
+
+-- the next student does not stand among the first ones yet
+pub order-later : (t : TurnsOfEntry) (turn place p : ℕ) → AreTurns t → slice_get t.positions turn ≡ Some (Some p) → FirstInOrder t.positions turn place → place ≤ p
+order-later t turn place p are here before = elim (dec_lt p place) [
+  | yes low ↦
+      let (early, at) = standing-turn (take turn t.positions) p p (ap (λ ps. slice_get ps p) before ∙ range-there 0 place p low ∙ ap Some (plain p)) in
+      let (first, there) = take-there turn early t.positions (Some p) at in
+      absurd (omega (arith, first, same_Some early turn (sym ((are early p).0 there) ∙ (are turn p).0 here)))
+  | no high ↦ omega (arith, high)
+]
+  where
+    plain : (i : ℕ) → 0 + i ≡ i
+    plain i = omega arith
+
+-- and changes places with whoever stands next
+pub order-next : (t : TurnsOfEntry) (turn place p : ℕ) → AreTurns t → slice_get t.positions turn ≡ Some (Some p) → FirstInOrder t.positions turn place
+    → FirstInOrder (swapped place p t).positions (turn + 1) (place + 1)
+order-next t turn place p are here before =
+    let later = order-later t turn place p are here before in
+    let own : slice_get (map (option_map (exchanged place p)) t.positions) turn ≡ Some (Some place) =
+    slice_get-map (option_map (exchanged place p)) t.positions turn ∙ ap (option_map (option_map (exchanged place p))) here ∙ ap (λ k. Some (Some k)) (exchanged-second place p) in
+    ap standing (take-next (map (option_map (exchanged place p)) t.positions) turn (Some place) own)
+    ∙ filter_map-append (λ (q : Option ℕ). q) (take turn (map (option_map (exchanged place p)) t.positions)) (Some place ∷ [])
+    ∙ ap (λ ps. ps ++ place ∷ [])
+    (ap standing (take-map (option_map (exchanged place p)) turn t.positions) ∙ standing-mapped (exchanged place p) (take turn t.positions) ∙ ap (map (exchanged place p)) before
+    ∙ range-kept (exchanged place p) 0 place (λ k low. exchanged-other place p k (λ same. absurd (omega (arith, low, same))) (λ same. absurd (omega (arith, low, same, later)))))
+    ∙ sym (range-more 0 place ∙ ap (λ k. range_with_len 0 place ++ k ∷ []) (plain place))
+  where
+    plain : (i : ℕ) → 0 + i ≡ i
+    plain i = omega arith
+
+-- at the end, everybody stands in order
+pub order-whole : (t : TurnsOfEntry) (place : ℕ) → AreTurns t → standing t.positions ≡ range_with_len 0 place → place ≡ length t.turns
+order-whole t place are is = elim (dec_lt (length t.turns) place) [
+  | yes low ↦
+      let (turn, at) = standing-turn t.positions (length t.turns) (length t.turns) (ap (λ ps. slice_get ps (length t.turns)) is ∙ range-there 0 place (length t.turns) low ∙ ap Some (plain (length t.turns))) in
+      absurd (omega (arith, slice_get_within t.turns (length t.turns) turn ((are turn (length t.turns)).0 at)))
+  | no high ↦ elim (dec_lt place (length t.turns)) [
+    | yes short ↦
+        let (turn, own) = turn-of t.turns place short in
+        let (i, at) = turn-standing t.positions turn place ((are turn place).1 own) in
+        absurd (omega (arith, range-within 0 place i place (ap (λ ps. slice_get ps i) (sym is) ∙ at)))
+    | no long ↦ omega (arith, high, long)
+  ]
+]
+  where
+    plain : (i : ℕ) → 0 + i ≡ i
+    plain i = omega arith
+
+-- what has been put in order so far
+pub record IsOrdering (whole : StampedPapers) (turn place end : ℕ) (t : TurnsOfEntry) (m : Market) (stamps : Stamps) : Type 0 where
+  pub in_turn : AreInTurn t m stamps
+  pub same : stamped_in_turn t.positions m stamps ≡ whole
+  pub order : FirstInOrder t.positions turn place
+  pub count : length t.positions ≡ end
+  pub few : place ≤ turn
+
+-- at the beginning
+pub ordering-begun : (t : TurnsOfEntry) (m : Market) (stamps : Stamps) (end : ℕ) → AreInTurn t m stamps → end ≡ length t.positions → IsOrdering (stamped_in_turn t.positions m stamps) 0 0 end t m stamps
+ordering-begun t m stamps end kept is = record { in_turn = kept; same = refl; order = refl; count = sym is; few = omega arith }
+
+-- where the next turn's student stands, and the place for them
+pub ordering-within : (whole : StampedPapers) (turn place end p : ℕ) (t : TurnsOfEntry) (m : Market) (stamps : Stamps) → IsOrdering whole turn place end t m stamps → slice_get t.positions turn ≡ Some (Some p)
+    → (place ≤ p) × (p < length m.students)
+ordering-within whole turn place end p t m stamps so here =
+    let kept = so.in_turn in
+    (order-later t turn place p kept.turns here so.order, omega (arith, kept.count, slice_get_within t.turns p turn ((kept.turns turn p).0 here)))
+
+-- after a turn whose student withdrew
+pub ordering-passed : (whole : StampedPapers) (turn place end : ℕ) (t : TurnsOfEntry) (m : Market) (stamps : Stamps) → IsOrdering whole turn place end t m stamps → slice_get t.positions turn ≡ Some None
+    → IsOrdering whole (turn + 1) place end t m stamps
+ordering-passed whole turn place end t m stamps so here = record { in_turn = so.in_turn; same = so.same; order = order-passed t.positions turn place here so.order; count = so.count; few = omega (arith, so.few) }
+
+-- and after one whose student stands now where they belong
+pub ordering-next : (whole : StampedPapers) (turn place end p : ℕ) (t : TurnsOfEntry) (m : Market) (stamps : Stamps) → IsOrdering whole turn place end t m stamps → slice_get t.positions turn ≡ Some (Some p)
+    → IsOrdering whole (turn + 1) (place + 1) end (swapped place p t) (with_swapped_students m place p) (with_swapped_stamps stamps place p)
+ordering-next whole turn place end p t m stamps so here =
+    let (later, within) = ordering-within whole turn place end p t m stamps so here in
+    let low : place < length m.students = omega (arith, later, within) in
+    record {
+      in_turn = kept-swapped t m stamps so.in_turn place p low within;
+      same = swapped-in_turn t m stamps so.in_turn place p low within ∙ so.same;
+      order = order-next t turn place p so.in_turn.turns here so.order;
+      count = length-map t.positions (option_map (exchanged place p)) ∙ so.count;
+      few = omega (arith, so.few);
+    }
+
+-- at the end
+pub ordering-done : (whole : StampedPapers) (turn place end : ℕ) (t : TurnsOfEntry) (m : Market) (stamps : Stamps) → IsOrdering whole turn place end t m stamps → end ≤ turn → record { papers = m; stamps = stamps } ≡ whole
+ordering-done whole turn place end t m stamps so past =
+    let kept = so.in_turn in
+    let all : standing t.positions ≡ range_with_len 0 place = ap standing (sym (take_all turn t.positions (omega (arith, so.count, past)))) ∙ so.order in
+    let many : place ≡ length t.turns = order-whole t place kept.turns all in
+    let students : in_turn t.positions m.students ≡ m.students = in-order t.positions m.students (all ∙ ap (range_with_len 0) (many ∙ kept.count)) in
+    let own : in_turn t.positions stamps.students ≡ stamps.students = in-order t.positions stamps.students (all ∙ ap (range_with_len 0) (many ∙ kept.count ∙ sym kept.in_step.students)) in
+    (λ u. let r : StampedPapers = record { papers = record m { students = sym students u }; stamps = record stamps { students = sym own u } } in r) ∙ so.same
+
+-- the four that stand in an ordering, told by equations
+pub ordering-at : (whole : StampedPapers) (turn place now end : ℕ) (s t : TurnsOfEntry) (m n : Market) (stamps others : Stamps) → IsOrdering whole turn place end s m stamps
+    → now ≡ place → t ≡ s → n ≡ m → others ≡ stamps → IsOrdering whole turn now end t n others
+ordering-at whole turn place now end s t m n stamps others so places turns papers marks =
+    subst (λ k. IsOrdering whole turn k end t n others) (sym places)
+    (subst (λ (u : TurnsOfEntry). IsOrdering whole turn place end u n others) (sym turns)
+    (subst (λ (p : Market). IsOrdering whole turn place end s p others) (sym papers)
+    (subst (λ (q : Stamps). IsOrdering whole turn place end s m q) (sym marks) so)))
+
+-- whoever enters in the order in which they stand is in order
+pub first-in_turn : {X : Type 0} (xs : List X) → in_turn (first_turns (length xs)).positions xs ≡ xs
+first-in_turn xs = in-order (first_turns (length xs)).positions xs (first-standing (length xs)).1
+  where
+    first-standing : (count : ℕ) → (length (first_turns count).turns ≡ count) × (standing (first_turns count).positions ≡ range_with_len 0 count)
+    first-standing zero = (refl, refl)
+    first-standing (suc count) =
+        let (many, before) = first-standing count in
+        let more : suc count ≡ count + 1 = omega arith in
+        let plain : length (first_turns count).turns ≡ 0 + count = omega (arith, many) in (
+          length-append (first_turns count).turns (length (first_turns count).positions ∷ []) ∙ omega (arith, many),
+          filter_map-append (λ (q : Option ℕ). q) (first_turns count).positions (Some (length (first_turns count).turns) ∷ [])
+              ∙ (λ u. before u ++ plain u ∷ []) ∙ sym (range-more 0 count) ∙ ap (range_with_len 0) (sym more),
+        )

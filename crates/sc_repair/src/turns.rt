@@ -1,0 +1,128 @@
+ghost use Rattle.std.specs.Prelude.{◌≡◌, ◌<◌, Some, length, slice_get, IfOk, OnOk, OnErr};
+ghost use Rattle.sc_repair.specs.Turns.{TurnsOfEntry, begun_turns, entered, finished_turns, first_turns, left, swapped, AreTurns};
+
+use sc_stamps::Marking;
+use std::alloc::{AllocError, Global};
+use std::marker::Model;
+
+/// In which order students entered who stand in an order of their own: of each turn, in which one student
+/// entered, the position where that student stands, and back.
+#[derive(Drop)]
+pub(crate) struct Turns {
+    // By turn; `None` where the student of the turn withdrew.
+    positions: Vec<Option<usize>>,
+    // By position.
+    turns: Vec<usize>,
+}
+
+impl Model for Turns {
+    ghost use Rattle.sc_repair.specs.Turns.{TurnsOfEntry};
+
+    ghost Value = { TurnsOfEntry };
+
+    ghost view = { λ t. record { positions = t.positions.items; turns = t.turns.items } };
+}
+
+impl Turns {
+    ghost use Rattle.std.specs.Prelude.{◌≡◌, ◌<◌, Some, length, slice_get, IfOk, OnOk, OnErr};
+    ghost use Rattle.sc_repair.specs.Turns.{TurnsOfEntry, begun_turns, entered, finished_turns, first_turns, left, swapped, AreTurns};
+
+    /// So many students who entered in the order in which they stand. The only error is want of memory.
+    pub(crate) fn first(alloc: Global, count: usize) -> Result<Self, AllocError>
+        ensures { IfOk result (λ turns. turns ≡ first_turns count) }
+    {
+        let mut turns = Turns {
+            positions: Vec::with_capacity(alloc, count)?,
+            turns: Vec::with_capacity(alloc, count)?,
+        };
+        for turn in 0..count {
+            turns.enter()?;
+        }
+        Ok(turns)
+    }
+
+    /// How many turns there were.
+    pub(crate) fn len(&self) -> usize
+        ensures { result ≡ length self.now.positions }
+    {
+        self.positions.len()
+    }
+
+    /// The position of the student of a turn, or `None` where they withdrew.
+    pub(crate) fn position(&self, turn: usize) -> Option<usize>
+        requires { turn < length self.now.positions }
+        ensures { slice_get self.now.positions turn ≡ Some result }
+    {
+        self.positions[turn]
+    }
+
+    /// Gives the next turn to one who enters and will stand last. The only error is want of memory, after which
+    /// the turns are as before.
+    fn enter(&mut self) -> Result<(), AllocError>
+        ensures entered { OnOk result (self.new ≡ entered self.old) }
+        ensures unchanged { OnErr result (self.new ≡ self.old) }
+    {
+        let turn = self.positions.len();
+        let position = self.turns.len();
+        self.positions.reserve(1)?;
+        self.turns.push(turn)?;
+        self.positions.push_reserved(Some(position));
+        Ok(())
+    }
+
+    /// Lets whoever stands last go.
+    fn leave(&mut self)
+        requires { AreTurns self.old }
+        ensures { self.new ≡ left self.old }
+    {
+        if let Some(turn) = self.turns.pop() {
+            self.positions[turn] = None;
+        }
+    }
+
+    /// Changes those at two positions for one another. It takes no memory.
+    pub(crate) fn swap(&mut self, a: usize, b: usize)
+        requires turns { AreTurns self.old }
+        requires a { a < length self.old.turns }
+        requires b { b < length self.old.turns }
+        ensures { self.new ≡ swapped a b self.old }
+    {
+        let first = self.turns[a];
+        let second = self.turns[b];
+        self.positions[first] = Some(b);
+        self.positions[second] = Some(a);
+        self.turns.swap(a, b);
+    }
+
+    /// Makes ready for an amendment: a newcomer gets their turn. The only error is want of memory, after which the
+    /// turns are as before.
+    pub(crate) fn begin(&mut self, marking: Marking) -> Result<(), AllocError>
+        ensures begun { OnOk result (self.new ≡ begun_turns marking self.old) }
+        ensures unchanged { OnErr result (self.new ≡ self.old) }
+    {
+        if let Marking::Newcomer = marking {
+            self.enter()?;
+        }
+        Ok(())
+    }
+
+    /// Takes back what `begin` made ready. It takes no memory.
+    pub(crate) fn give_up(&mut self, marking: Marking)
+        ensures { (before : TurnsOfEntry) → self.old ≡ begun_turns marking before → self.new ≡ before }
+    {
+        if let Marking::Newcomer = marking {
+            let _ = self.positions.pop();
+            let _ = self.turns.pop();
+        }
+    }
+
+    /// Lets whoever stands last go, where a student leaves by the amendment that was made ready. It takes no memory.
+    pub(crate) fn finish(&mut self, marking: Marking)
+        requires { AreTurns self.old }
+        ensures { self.new ≡ finished_turns marking self.old }
+    {
+        if let Marking::StudentLeaves(_) = marking {
+            self.leave();
+        }
+    }
+}
