@@ -114,7 +114,7 @@ fn tail_after(bytes: &[u8], end: usize) -> Tail
 /// The fault names the first line that is not taken, with the first cause that applies. After a fault
 /// the papers are given up; who needs them keeps a copy.
 ///
-/// The cost is one pass over the bytes, and the cost of each amendment's `apply` and a look-up.
+/// The cost is one pass over the bytes, and that of `Unsettled::apply` for each amendment, which is a few look-ups.
 pub fn replay_papers(
     alloc: Global,
     papers: Papers,
