@@ -7,3 +7,4 @@ pub mod Filtering
 pub mod Reaching
 pub mod ChoicePlaces
 pub mod Marked
+mod MarkedPositions

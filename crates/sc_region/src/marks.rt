@@ -1,31 +1,53 @@
 //! The students of a region, by position.
 
-ghost use Rattle.std.specs.Prelude.{◌≡◌, false, slice_index_or};
+ghost use Rattle.std.specs.Prelude.{◌≡◌, false, slice_index_or, IfOk};
+ghost use Rattle.sc_region.specs.Marks.{ArePositions};
 
+use std::alloc::{AllocError, Global};
 use std::marker::Model;
 
 /// Which students of the papers are in a region: a mark for each of them, in order of entry.
 #[derive(Debug, Drop)]
 pub struct RegionMarks {
     marks: Vec<bool>,
+    // The positions that are marked, rising.
+    positions: Vec<usize>,
 }
 
 impl Model for RegionMarks {
     ghost use Rattle.std.specs.Prelude.{Bool, List};
+    ghost use Rattle.sc_region.specs.Marks.{ArePositions};
 
     ghost Value = { List Bool };
 
     ghost view = { λ r. r.marks.items };
+
+    ghost invariant = { λ r. ArePositions r.marks.items r.positions.items };
+}
+
+/// The positions that are marked, rising.
+fn positions_of(alloc: Global, marks: &[bool]) -> Result<Vec<usize>, AllocError>
+    ensures { IfOk result (λ positions. ArePositions marks.now positions.items) }
+{
+    let mut positions = Vec::new(alloc);
+    for (position, mark) in marks.iter().enumerate() {
+        if *mark {
+            positions.push(position)?;
+        }
+    }
+    Ok(positions)
 }
 
 impl RegionMarks {
-    ghost use Rattle.std.specs.Prelude.{◌≡◌, false, slice_index_or};
+    ghost use Rattle.std.specs.Prelude.{◌≡◌, ◌↔◌, ℕ, false, slice_index_or, Contains, IsTrue, IfOk};
+    ghost use Rattle.std.specs.List.Sorted.{IsStrictlyIncreasing};
 
-    /// These marks. It takes no memory.
-    pub(crate) fn from_vec(marks: Vec<bool>) -> Self
-        ensures { result ≡ marks.items }
+    /// These marks. One pass over them; memory is taken for the positions that are marked.
+    pub(crate) fn of(alloc: Global, marks: Vec<bool>) -> Result<Self, AllocError>
+        ensures { IfOk result (λ region. region ≡ marks.items) }
     {
-        RegionMarks { marks }
+        let positions = positions_of(alloc, marks.as_slice())?;
+        Ok(RegionMarks { marks, positions })
     }
 
     /// Whether the student at a position of the order of entry is marked; past the last mark nobody is. In
@@ -44,5 +66,14 @@ impl RegionMarks {
         ensures { result.now ≡ self.now }
     {
         self.marks.as_slice()
+    }
+
+    /// The positions of those who are marked, lent, in order of entry: so whoever goes through the region alone
+    /// looks at nobody else. In constant time.
+    pub fn positions(&self) -> &[usize]
+        ensures rising { IsStrictlyIncreasing result.now }
+        ensures marked { (position : ℕ) → (Contains result.now position ↔ IsTrue (slice_index_or self.now position false)) }
+    {
+        self.positions.as_slice()
     }
 }

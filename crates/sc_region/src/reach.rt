@@ -136,7 +136,7 @@ fn marks_of_region(
 /// memory. The papers are not changed.
 ///
 /// The cost is one pass over all choices, by their positions, with steps to the root of each one's group.
-/// Memory is taken for each school and each student.
+/// Memory is taken for each school and each student, and once more for each of the region.
 pub fn region_marks(
     alloc: Global,
     papers: &Papers,
@@ -151,5 +151,6 @@ pub fn region_marks(
     let marks = marks_of_region(alloc, papers, amendment)?;
     // This call tells that the papers are well-formed.
     prove!(papers.students_len() <= MOST_STUDENTS);
-    Ok(RegionMarks::from_vec(marks))
+    let region = RegionMarks::of(alloc, marks)?;
+    Ok(region)
 }

@@ -19,9 +19,9 @@ returns-clause-region c position i here =
     let m = c.args.papers.now in
     let a = c.args.amendment.now in
     let test = is_member m (region_groups m a) (group_of m (region_groups m a) (start_of m a)) in
-    let marks : c.from_vec.result ≡ map test (students_of m) = c.from_vec.ensures ∙ c.in_ok-marks.ensures in
-    let own : get_or c.from_vec.result position false ≡ test i =
-    get_or_from_slice_get c.from_vec.result position (test i) false
+    let marks : c.in_ok-region.region ≡ map test (students_of m) = c.in_ok-region.ensures ∙ c.in_ok-marks.ensures in
+    let own : get_or c.in_ok-region.region position false ≡ test i =
+    get_or_from_slice_get c.in_ok-region.region position (test i) false
     (ap (λ bs. slice_get bs position) marks ∙ slice_get-map test (students_of m) position ∙ ap (option_map test) here) in
     let exact = region-marked m a c.students_len.ensures.well_formed (allowed (verdict m a) (sym c.check.ensures ∙ c.in_ok-check.was)) i (contains-at (students_of m) position i here) in (
       λ passes. exact.0 (sym own ∙ passes),
