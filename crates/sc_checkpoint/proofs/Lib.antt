@@ -1,4 +1,4 @@
-mod Cutting
+mod Joining
 mod Bits
 mod Marking
 mod Finding

@@ -10,7 +10,7 @@ use Rattle.sc_checkpoint.specs.Chains.{logs_in, students_in, Chain}
 use Rattle.sc_checkpoint.specs.Marks.{log_of}
 
 -- the chain at a position, by its student and its rejections
-chain-at : (chains : List Chain) (at i : ℕ) (log : List Rejection) → slice_get (students_in chains) at ≡ Some i → slice_get (logs_in chains) at ≡ Some log → slice_get chains at ≡ Some (record { student = i; rejections = log })
+pub chain-at : (chains : List Chain) (at i : ℕ) (log : List Rejection) → slice_get (students_in chains) at ≡ Some i → slice_get (logs_in chains) at ≡ Some log → slice_get chains at ≡ Some (record { student = i; rejections = log })
 chain-at [] at i log here its = absurd (none-some i here)
 chain-at (chain ∷ chains) zero i log here its = λ t. Some (record { student = same_Some chain.student i here t; rejections = same_Some chain.rejections log its t })
 chain-at (chain ∷ chains) (suc at) i log here its = chain-at chains at i log here its

@@ -23,7 +23,7 @@ pub(crate) fn is_marked(marks: &[bool], position: usize) -> bool
 }
 
 /// Puts each entry's school among the ranks of the entry's student.
-fn mark_all(papers: &Papers, table: &mut Vec<RankSet>, entries: &[Rejection])
+pub(crate) fn mark_all(papers: &Papers, table: &mut Vec<RankSet>, entries: &[Rejection])
     ensures tabled { (log : List Rejection) → AreTabled papers.now log table.old.items → AreTabled papers.now (log ++ entries.now) table.new.items }
     ensures same_length { length table.new.items ≡ length table.old.items }
 {

@@ -3,40 +3,43 @@
 ghost use Rattle.std.specs.Prelude.{◌≡◌, ℕ, ◌<◌, ◌≤◌, ◌==◌, ◌++◌, ◌∷◌, [], List, Bool, filter, length, take, find, not, position, slice_get, Some, IfOk, IfSome};
 ghost use Rattle.sc_papers.specs.Log.{next_choice};
 ghost use Rattle.sc_papers.specs.Market.{students_of, choices_of};
+ghost use Rattle.sc_papers.specs.Restriction.{joined};
 ghost use Rattle.sc_papers.specs.declared.rejection.Rejection.{Rejection};
-ghost use Rattle.sc_checkpoint.specs.Chains.{students_in};
+ghost use Rattle.sc_checkpoint.specs.Chains.{logs_in, students_in};
 ghost use Rattle.sc_checkpoint.specs.Marks.{log_of, Tells};
 ghost use Rattle.sc_checkpoint.specs.Ranks.{has_rank, AreRejectedRanks, AreTabled};
 ghost use Rattle.sc_checkpoint.specs.NextChoices.{next_choices_after};
 
-use crate::marked::{is_marked, rejected_ranks_of_marked};
+use crate::marked::{is_marked, mark_all, rejected_ranks_of_marked};
 use crate::next_choice::NextChoice;
 use crate::rank_set::RankSet;
 use crate::segments::Segments;
 use sc_papers::{LONGEST_LIST, Papers, Rejection, SchoolNo, StudentNo};
 use std::alloc::{AllocError, Global};
 
-/// Where the first `k` students of the papers stand after the log. The only error is a refused
-/// growth.
+/// Where the first `k` students of the papers stand after the log of the first `k` segments. The only error is
+/// a refused growth.
 ///
 /// One pass over the log marks, for each student, which of its choices rejected it, and one over the
 /// students finds the first that did not. An entry costs a look-up and its student's choices.
 pub(crate) fn next_choices_of_first(
     alloc: Global,
     papers: &Papers,
-    log: &[Rejection],
+    segments: &Segments,
     k: usize,
 ) -> Result<Vec<NextChoice>, AllocError>
-    requires { k ≤ length (students_of papers.now) }
-    ensures { IfOk result (λ next_choices. next_choices.items ≡ next_choices_after papers.now log.now (take k (students_of papers.now))) }
+    requires within { k ≤ length segments.now }
+    requires students { k ≤ length (students_of papers.now) }
+    ensures { IfOk result (λ next_choices. next_choices.items ≡ next_choices_after papers.now (joined (take k (logs_in segments.now))) (take k (students_of papers.now))) }
 {
-    let rejected = rejected_ranks(alloc, papers, log, k)?;
+    let rejected = rejected_ranks(alloc, papers, segments, k)?;
     let mut next_choices = Vec::with_capacity(alloc, k)?;
     for position in 0..k {
         let Some(student) = papers.student_at(position) else {
             unreachable!()
         };
-        next_choices.push_reserved(next_choice_of(papers, student, position, rejected[position]));
+        let next = first_outside(papers.choices_at(position), rejected[position]);
+        next_choices.push_reserved(NextChoice { student, next });
     }
     Ok(next_choices)
 }
@@ -68,19 +71,20 @@ pub(crate) fn next_choices_of_marked(
     Ok(next_choices)
 }
 
-/// For each of the first `k` students, the ranks of the choices that rejected it.
+/// For each of the first `k` students, the ranks of the choices that rejected it, by the first `k` segments.
 fn rejected_ranks(
     alloc: Global,
     papers: &Papers,
-    log: &[Rejection],
+    segments: &Segments,
     k: usize,
 ) -> Result<Vec<RankSet>, AllocError>
+    requires { k ≤ length segments.now }
     ensures count { IfOk result (λ table. length table.items ≡ k) }
-    ensures tabled { IfOk result (λ table. AreTabled papers.now log.now table.items) }
+    ensures tabled { IfOk result (λ table. AreTabled papers.now (joined (take k (logs_in segments.now))) table.items) }
 {
     let mut table = vec![in alloc; RankSet::new(); k]?;
-    for entry in log {
-        mark(papers, &mut table, *entry);
+    for position in 0..k {
+        mark_all(papers, &mut table, segments.segment(position));
     }
     Ok(table)
 }
@@ -108,18 +112,6 @@ fn rank_in(choices: &[SchoolNo], school: SchoolNo) -> Option<usize>
     ensures { result ≡ position (λ s. s == school) choices.now }
 {
     choices.iter().position(|choice| *choice == school)
-}
-
-/// Where the student at the position stands, by the ranks of the choices that rejected it.
-#[tactic(auto, unfolding(sc_papers::specs::Log::next_choice))]
-fn next_choice_of(papers: &Papers, student: StudentNo, at: usize, rejected: RankSet) -> NextChoice
-    requires { slice_get (students_of papers.now) at ≡ Some student }
-    ensures { (log : List Rejection) → AreRejectedRanks papers.now log student rejected → result ≡ record { student = student; next = next_choice papers.now log student } }
-{
-    NextChoice {
-        student,
-        next: first_outside(papers.choices_at(at), rejected),
-    }
 }
 
 /// The first of the choices whose rank is not in the set.

@@ -1,6 +1,6 @@
 use crate::next_choice::NextChoice;
 use crate::next_choices::{next_choices_of_first, next_choices_of_marked};
-use crate::segment::{Segment, end_of_first};
+use crate::segment::Segment;
 use sc_papers::{Papers, Rejection, StudentNo};
 use std::alloc::{AllocError, Global};
 use std::marker::Model;
@@ -8,10 +8,11 @@ use std::marker::Model;
 /// The log of rejections cut into segments, one for each student in order of entry: the rejections of
 /// the student's chain. A checkpoint is a position from 0 to their number, and nothing is stored for
 /// it: the log after the first k students entered is the first k segments, joined.
+///
+/// Each segment lies apart from the others, so that one can be renewed while they stay where they are.
 #[derive(Drop)]
 pub struct Segments {
     alloc: Global,
-    log: Vec<Rejection>,
     segments: Vec<Segment>,
 }
 
@@ -21,15 +22,13 @@ impl Model for Segments {
 
     ghost Value = { List Chain };
 
-    ghost use Rattle.sc_checkpoint.specs.Representation.{chains_of, IsSound};
+    ghost use Rattle.sc_checkpoint.specs.Representation.{chains_of};
 
     ghost view = { chains_of };
-
-    ghost invariant = { IsSound };
 }
 
 impl Segments {
-    ghost use Rattle.std.specs.Prelude.{◌≡◌, ℕ, ◌<◌, ◌≤◌, Bool, [], filter, length, take, slice_get, Some, IfOk, OnOk, OnErr};
+    ghost use Rattle.std.specs.Prelude.{◌≡◌, ℕ, ◌<◌, ◌≤◌, Bool, [], filter, length, min, take, slice_get, Some, IfOk, OnOk, OnErr};
     ghost use Rattle.sc_papers.specs.Restriction.{joined};
     ghost use Rattle.sc_checkpoint.specs.Chains.{students_in, logs_in, with_chain};
     ghost use Rattle.sc_checkpoint.specs.Marks.{log_of, Tells};
@@ -42,7 +41,6 @@ impl Segments {
     {
         Segments {
             alloc,
-            log: Vec::new(alloc),
             segments: Vec::new(alloc),
         }
     }
@@ -54,10 +52,10 @@ impl Segments {
         ensures unchanged { OnErr result (self.new ≡ self.old) }
     {
         self.segments.reserve(1)?;
-        self.log.extend_from_slice(rejections)?;
+        let rejections = Vec::from_slice(self.alloc, rejections)?;
         self.segments.push_reserved(Segment {
             student,
-            end: self.log.len(),
+            rejections,
         });
         Ok(())
     }
@@ -69,19 +67,16 @@ impl Segments {
         self.segments.len()
     }
 
-    /// The whole log, lent: the segments joined.
-    pub fn rejections(&self) -> &[Rejection]
-        ensures { result.now ≡ joined (logs_in self.now) }
+    /// How many rejections the segments have, all together, or the greatest number where they have more. One
+    /// pass over the segments.
+    pub fn log_len(&self) -> usize
+        ensures { result ≡ min (length (joined (logs_in self.now))) usize.MAX }
     {
-        self.log.as_slice()
-    }
-
-    /// The log of the first `k` students, lent: the first `k` segments joined. In constant time.
-    pub fn first(&self, k: usize) -> &[Rejection]
-        requires { k ≤ length self.now }
-        ensures { result.now ≡ joined (take k (logs_in self.now)) }
-    {
-        &self.log[..end_of_first(self.segments.as_slice(), k)]
+        let mut count = 0_usize;
+        for position in 0..self.len() {
+            count = count.saturating_add(self.segment(position).len());
+        }
+        count
     }
 
     /// The segment at a position, from 0, lent: the rejections of one student's chain. In constant
@@ -90,10 +85,7 @@ impl Segments {
         requires { k < length self.now }
         ensures { slice_get (logs_in self.now) k ≡ Some result.now }
     {
-        // This call tells that the next position is in range too.
-        prove!(k < self.len());
-        let (_, segment) = self.first(k + 1).split_at(self.first(k).len());
-        segment
+        self.segments[k].rejections.as_slice()
     }
 
     /// The student whose segment stands at a position, from 0. In constant time.
@@ -104,33 +96,39 @@ impl Segments {
         self.segments[k].student
     }
 
-    /// The whole log as a value of its own, or the error of a refused growth. The cost is its length.
+    /// The whole log as a value of its own: the segments joined. The only error is a refused growth. The cost
+    /// is a look at each segment and the log's length.
     pub fn flat(&self) -> Result<Vec<Rejection>, AllocError>
         ensures { IfOk result (λ log. log.items ≡ joined (logs_in self.now)) }
     {
-        Vec::from_slice(self.alloc, self.rejections())
+        let log = self.prefix(self.len())?;
+        Ok(log)
     }
 
-    /// The log of the first `k` students as a value of its own, or the error of a refused growth. The
-    /// cost is its length.
+    /// The log of the first `k` students as a value of its own: the first `k` segments joined. The only error is
+    /// a refused growth. The cost is `k` and the log's length.
     pub fn prefix(&self, k: usize) -> Result<Vec<Rejection>, AllocError>
         requires { k ≤ length self.now }
         ensures { IfOk result (λ log. log.items ≡ joined (take k (logs_in self.now))) }
     {
-        Vec::from_slice(self.alloc, self.first(k))
+        let mut log = Vec::new(self.alloc);
+        for position in 0..k {
+            log.extend_from_slice(self.segment(position))?;
+        }
+        Ok(log)
     }
 
     /// The first `k` segments, or the error of a refused growth. The cost is `k` and the length of
-    /// their log, which are copied as they stand.
+    /// their log, which are copied.
     pub fn copy_prefix(&self, k: usize) -> Result<Self, AllocError>
         requires { k ≤ length self.now }
         ensures { IfOk result (λ segments. segments ≡ take k self.now) }
     {
-        Ok(Segments {
-            alloc: self.alloc,
-            log: self.prefix(k)?,
-            segments: Vec::from_slice(self.alloc, &self.segments[..k])?,
-        })
+        let mut copy = Segments::new(self.alloc);
+        for position in 0..k {
+            copy.push(self.student(position), self.segment(position))?;
+        }
+        Ok(copy)
     }
 
     /// Where the first `k` students of the papers stand after the log of their segments: each one's
@@ -144,7 +142,7 @@ impl Segments {
         requires students { take k (students_in self.now) ≡ take k (students_of papers.now) }
         ensures { IfOk result (λ next_choices. next_choices.items ≡ next_choices_after papers.now (joined (take k (logs_in self.now))) (take k (students_of papers.now))) }
     {
-        next_choices_of_first(self.alloc, papers, self.first(k), k)
+        next_choices_of_first(self.alloc, papers, self, k)
     }
 
     /// Where those of the first `k` students of the papers stand who are marked, after the log of their own

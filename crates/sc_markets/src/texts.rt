@@ -35,6 +35,6 @@ pub fn places_text(alloc: Global, clearing: &Clearing) -> Result<String, AllocEr
 /// The standing as a text: the places, and the log, as `1:20 2:0 3:10 |(1,10)(2,20)(2,10)`.
 pub fn standing(alloc: Global, clearing: &Clearing) -> Result<String, AllocError> {
     let places = places_text(alloc, clearing)?;
-    let log = log_text(alloc, clearing.rejections())?;
+    let log = log_text(alloc, clearing.log()?.as_slice())?;
     format!(in alloc; "{places}|{log}")
 }

@@ -28,7 +28,7 @@ impl Model for Clearing {
 }
 
 impl Clearing {
-    ghost use Rattle.std.specs.Prelude.{◌≡◌, None, take, IfOk, IfErr, OnErr, OnOk};
+    ghost use Rattle.std.specs.Prelude.{◌≡◌, None, length, min, take, IfOk, IfErr, OnErr, OnOk};
     ghost use Rattle.sc_papers.specs.Matching.{IsStudentOptimal};
     ghost use Rattle.sc_papers.specs.Verdict.{unless_refused, IsRefusal};
     ghost use Rattle.sc_stamps.specs.Record.{record_of};
@@ -121,14 +121,15 @@ impl Clearing {
         self.settlement.assignment()
     }
 
-    /// The rejections that led to the standing assignment, in the order in which they happened, lent.
-    pub fn rejections(&self) -> &[Rejection]
-        ensures { result.now ≡ log_of self.now.standing }
+    /// How many rejections led to the standing assignment, or the greatest number where there were more. One
+    /// pass over the students.
+    pub fn log_len(&self) -> usize
+        ensures { result ≡ min (length (log_of self.now.standing)) usize.MAX }
     {
-        self.settlement.rejections()
+        self.settlement.log_len()
     }
 
-    /// The rejections that led to the standing assignment, as a value of its own. They are settled for
+    /// The rejections that led to the standing assignment, in the order in which they happened, as a value of its own. They are settled for
     /// the papers as they stand, so whoever doubts the assignment can check them. The only error is
     /// want of memory; the cost is their number.
     pub fn log(&self) -> Result<Vec<Rejection>, AllocError>

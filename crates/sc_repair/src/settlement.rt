@@ -48,7 +48,7 @@ impl Model for Settlement {
 }
 
 impl Settlement {
-    ghost use Rattle.std.specs.Prelude.{◌≡◌, ℕ, List, length, take, IfOk, IfErr};
+    ghost use Rattle.std.specs.Prelude.{◌≡◌, ℕ, List, length, min, take, IfOk, IfErr};
     ghost use Rattle.sc_papers.specs.Market.{students_of};
     ghost use Rattle.sc_papers.specs.Matching.{IsStudentOptimal};
     ghost use Rattle.sc_papers.specs.Restriction.{cut, IsSegmented};
@@ -147,11 +147,12 @@ impl Settlement {
         self.places.assignment().copy()
     }
 
-    /// The rejections that led to the standing assignment, in the order in which they happened, lent.
-    pub(crate) fn rejections(&self) -> &[Rejection]
-        ensures { result.now ≡ log_of self.now }
+    /// How many rejections led to the standing assignment, or the greatest number where there were more. One
+    /// pass over the students.
+    pub(crate) fn log_len(&self) -> usize
+        ensures { result ≡ min (length (log_of self.now)) usize.MAX }
     {
-        self.segments.rejections()
+        self.segments.log_len()
     }
 
     /// The rejections that led to the standing assignment, as a value of its own. They are settled for

@@ -143,8 +143,7 @@ pub(crate) fn push_reason_lines(
 /// How many bytes the reasons take at most: a standing assignment has a line for each rejection.
 pub(crate) fn room_for_reasons(clearing: &Clearing) -> usize {
     clearing
-        .rejections()
-        .len()
+        .log_len()
         .saturating_mul(LONGEST_LINE)
         .saturating_add(HEADER.len())
 }

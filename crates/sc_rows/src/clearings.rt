@@ -8,7 +8,7 @@ use sc_markets::{
     FIVE_STUDENTS, Files, MARKET_A, MARKET_B, MARKET_B_CONTINUING, TWO_STUDENTS, amendment, seen,
     standing,
 };
-use sc_papers::Refusal;
+use sc_papers::{Refusal, Rejection};
 use sc_repair::Clearing;
 use std::alloc::{AllocError, Global};
 use std::process::Abort;
@@ -205,7 +205,12 @@ fn expect_read_back(rt: &impl Abort, clearing: &Clearing) {
     let places = clearing.assignment().expect(rt, "memory");
     assert!(rt; places.at(0) == clearing.places().at(0));
     let log = clearing.log().expect(rt, "memory");
-    assert!(rt; log.as_slice() == clearing.rejections());
+    assert!(rt; log.len() == clearing.log_len());
+    let rejected = Rejection {
+        student: student(rt, 1),
+        school: school(rt, 1),
+    };
+    assert_eq!(rt; log.as_slice(), [rejected].as_slice());
 }
 
 #[test]

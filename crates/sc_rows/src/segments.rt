@@ -112,12 +112,10 @@ fn expect_cuts(rt: &impl Abort, segments: &Segments)
 {
     let chain = last_chain(rt);
     assert_eq!(rt; segments.len(), 3);
-    assert_eq!(rt; segments.rejections(), chain.as_slice());
+    assert_eq!(rt; segments.log_len(), 3);
     assert_eq!(rt; segments.segment(0).len(), 0);
     assert_eq!(rt; segments.segment(2), chain.as_slice());
     assert_eq!(rt; segments.student(2), student(rt, 3));
-    assert_eq!(rt; segments.first(2).len(), 0);
-    assert_eq!(rt; segments.first(3), chain.as_slice());
 }
 
 #[test]
@@ -135,7 +133,8 @@ fn push_one(rt: &impl Abort, rewound: &mut Segments)
     assert_eq!(rt; rewound.len(), 2);
     let pushed = rewound.push(student(rt, 3), &chain[..1]);
     assert!(rt; pushed.is_ok());
-    assert_eq!(rt; rewound.rejections(), &chain[..1]);
+    assert_eq!(rt; rewound.segment(2), &chain[..1]);
+    assert_eq!(rt; rewound.log_len(), 1);
 }
 
 fn expect_copies(rt: &impl Abort, segments: &Segments)
@@ -145,6 +144,8 @@ fn expect_copies(rt: &impl Abort, segments: &Segments)
     assert_eq!(rt; log.as_slice(), last_chain(rt).as_slice());
     let prefix = segments.prefix(2).expect(rt, "memory");
     assert_eq!(rt; prefix.len(), 0);
+    let prefix = segments.prefix(3).expect(rt, "memory");
+    assert_eq!(rt; prefix.as_slice(), last_chain(rt).as_slice());
     let mut rewound = segments.copy_prefix(2).expect(rt, "memory");
     push_one(rt, &mut rewound);
     drop(rewound);
@@ -259,7 +260,7 @@ fn expect_growths(rt: &impl Abort, segments: &mut Segments)
     assert!(rt; given_or(copied(segments), 3) == 3);
     let pushed = segments.push(student(rt, 4), &last_chain(rt)).is_ok();
     assert!(rt; segments.len() == if pushed { 4 } else { 3 });
-    assert!(rt; segments.rejections().len() == if pushed { 6 } else { 3 });
+    assert!(rt; segments.log_len() == if pushed { 6 } else { 3 });
 }
 
 // Run with each allocation refused in turn, this one sees want of memory from each call that takes any.

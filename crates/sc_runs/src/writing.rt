@@ -1,6 +1,6 @@
 //! Writing to the output: a line, a text, the report and the log of the standing assignment.
 
-ghost use Rattle.std.specs.Prelude.{◌≡◌, ◌||◌, IfErr};
+ghost use Rattle.std.specs.Prelude.{◌≡◌, ◌||◌, IfErr, IfOk};
 ghost use Rattle.std.specs.Io.KnownBytes.{Keeps};
 ghost use Rattle.sc_repair.specs.Standing.{matching_of, IsCertified};
 ghost use Rattle.sc_report.specs.Text.{IsReportText};
@@ -11,7 +11,7 @@ ghost use Rattle.sc_runs.specs.declared.fault.RunFault.TheVariants.{WriteOut};
 use crate::fault::RunFault;
 use sc_repair::Clearing;
 use sc_report::{ReportFault, Watched, log_text, write_report, write_whole};
-use std::alloc::Global;
+use std::alloc::{AllocError, Global};
 use std::io::Write;
 
 /// Writes a line, or any text, and does not flush it.
@@ -81,6 +81,16 @@ pub fn write_flushed_report<W: Write>(
     flush_output(out)
 }
 
+/// The log of rejections that certifies the standing assignment, as a text. The only error is want of memory.
+fn certificate(alloc: Global, clearing: &Clearing) -> Result<Vec<u8>, AllocError>
+    requires certified { IsCertified clearing.now.standing }
+    ensures { IfOk result (λ text. IsCertificate clearing.now.standing.papers text.items) }
+{
+    let log = clearing.log()?;
+    let text = log_text(alloc, log.as_slice())?;
+    Ok(text)
+}
+
 /// Writes the log of rejections that certifies the standing assignment, and flushes it.
 pub fn write_log<W: Write>(
     alloc: Global,
@@ -92,7 +102,7 @@ pub fn write_log<W: Write>(
         (W.contents (device_of out.old)) (W.contents (device_of out.new)) result }
     ensures failed { has_failed out.new ≡ (has_failed out.old || is_output_fault result) }
 {
-    match log_text(alloc, clearing.rejections()) {
+    match certificate(alloc, clearing) {
         Ok(text) => write_text(text.as_slice(), out),
         Err(_) => Err(RunFault::OutOfMemory),
     }

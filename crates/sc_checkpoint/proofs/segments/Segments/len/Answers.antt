@@ -1,7 +1,8 @@
 use Rattle.std.proofs.Common.{ap, length, arith}
-use Rattle.sc_checkpoint.proofs.Cutting.{length-chains}
+use Rattle.std.proofs.lemmas.List.{length-map}
+use Rattle.sc_checkpoint.specs.Representation.{chain_of}
 use Rattle.sc_checkpoint.proofs.segments.Segments.len.Goals as goal
 
 pub returns : goal.returns
 returns c =
-    omega (arith, ap length c.self.view_is, length-chains 0 c.self.inside.log.items c.self.inside.segments.items, c.self.inside.segments.ok.0)
+    omega (arith, ap length c.self.view_is, length-map c.self.inside.segments.items chain_of, c.self.inside.segments.ok.0)

@@ -1,18 +1,19 @@
-use Rattle.std.proofs.Common.{◌<◌, Some, ap, sym, length, ◌∙◌, arith}
+use Rattle.std.proofs.Common.{◌<◌, refl, ap, length, slice_get, Some, sym, ◌∙◌, arith}
 use Rattle.std.proofs.lemmas.List.{length-map}
-use Rattle.sc_checkpoint.specs.Chains.{Chain, logs_in}
-use Rattle.sc_checkpoint.proofs.Cutting.{segment-at, segment-room}
+use Rattle.std.proofs.lemmas.Option.{slice_get_read}
+use Rattle.sc_checkpoint.specs.Chains.{logs_in}
+use Rattle.sc_checkpoint.specs.Representation.{chain_of}
+use Rattle.sc_checkpoint.proofs.Joining.{log-at}
 use Rattle.sc_checkpoint.proofs.segments.Segments.segment.Goals as goal
 
-pub split_at-requires : goal.split_at-requires
-split_at-requires c =
-    let logs = logs_in c.args.self.now in
-    let low : c.args.k < length logs = omega (arith, length-map c.args.self.now (λ (chain : Chain). chain.rejections)) in
-    segment-room c.args.k logs c.first.result.now c.first-2.result.now low c.first.ensures c.first-2.ensures
+pub index-requires : goal.index-requires
+index-requires c =
+    omega (arith, ap length c.self.view_is, length-map c.self.inside.segments.items chain_of, c.self.inside.segments.ok.0)
 
 pub returns : goal.returns
 returns c =
-    let logs = logs_in c.args.self.now in
-    let low : c.args.k < length logs = omega (arith, length-map c.args.self.now (λ (chain : Chain). chain.rejections)) in
-    segment-at c.args.k logs c.first.result.now c.first-2.result.now low c.first.ensures c.first-2.ensures
-    ∙ ap Some (sym c.split_at.ensures.back)
+    let segments = c.self.inside.segments.items in
+    let low : c.args.k < length segments = omega (arith, ap length c.self.view_is, length-map segments chain_of) in
+    ap (λ chains. slice_get (logs_in chains) c.args.k) (sym c.self.view_is)
+    ∙ log-at segments c.args.k c.index.result.now (slice_get_read segments (length segments) c.args.k c.index.result.now refl low c.index.ensures)
+    ∙ ap Some (sym c.as_slice.ensures.value)
