@@ -3,3 +3,5 @@ mod Bits
 mod Marking
 mod Finding
 mod Passing
+pub mod Rising
+pub mod Replacing

@@ -57,8 +57,8 @@ other-kept log e i s apart =
     rejected-push log e i s ∙ ap (λ b. is_rejected log i s || b) (other-entry e i s apart) ∙ or-false (is_rejected log i s)
 
 -- an entry of no student of the table, or of a school that its student doesn't list
-pub table-kept : (m : Market) (log : List Rejection) (e : Rejection) (table : List RankSet) → ((at rank : ℕ) → at < length table → slice_get (students_of m) at ≡ Some e.student → slice_get (choices_of m e.student) rank ≡ Some e.school → ⊥) → AreTabled m log table → AreTabled m (log ++ e ∷ []) table
-table-kept m log e table apart before = record {
+pub table-kept : (m : Market) (students : List ℕ) (log : List Rejection) (e : Rejection) (table : List RankSet) → ((at rank : ℕ) → at < length table → slice_get students at ≡ Some e.student → slice_get (choices_of m e.student) rank ≡ Some e.school → ⊥) → AreTabled m students log table → AreTabled m students (log ++ e ∷ []) table
+table-kept m students log e table apart before = record {
   at = λ at i ranks at_student at_table rank s at_school.
       before.at at i ranks at_student at_table rank s at_school
       ∙ sym (other-kept log e i s (λ same_student same_school.
@@ -67,18 +67,20 @@ table-kept m log e table apart before = record {
       (ap (λ j. slice_get (choices_of m j) rank) same_student ∙ at_school ∙ ap Some (sym same_school))));
 }
 
-pub table-unknown : (m : Market) (log : List Rejection) (e : Rejection) (table : List RankSet) → position (nat_eq e.student) (students_of m) ≡ None → AreTabled m log table → AreTabled m (log ++ e ∷ []) table
-table-unknown m log e table none =
-    table-kept m log e table (λ at rank low at_student at_school.
-    absurd (false≢true (sym (position-none (nat_eq e.student) (students_of m) at e.student none at_student) ∙ eq-eqb e.student e.student refl)))
+-- no student has a number that is not in the papers
+pub unknown-nowhere : (m : Market) (i : ℕ) → position (nat_eq i) (students_of m) ≡ None → (at : ℕ) → slice_get (students_of m) at ≡ Some i → ⊥
+unknown-nowhere m i none at here = false≢true (sym (position-none (nat_eq i) (students_of m) at i none here) ∙ eq-eqb i i refl)
 
-pub table-unlisted : (m : Market) (log : List Rejection) (e : Rejection) (table : List RankSet) → position (λ s. s == e.school) (choices_of m e.student) ≡ None → AreTabled m log table → AreTabled m (log ++ e ∷ []) table
-table-unlisted m log e table none =
-    table-kept m log e table (λ at rank low at_student at_school.
+pub table-unknown : (m : Market) (students : List ℕ) (log : List Rejection) (e : Rejection) (table : List RankSet) → ((at : ℕ) → slice_get students at ≡ Some e.student → ⊥) → AreTabled m students log table → AreTabled m students (log ++ e ∷ []) table
+table-unknown m students log e table none = table-kept m students log e table (λ at rank low at_student at_school. none at at_student)
+
+pub table-unlisted : (m : Market) (students : List ℕ) (log : List Rejection) (e : Rejection) (table : List RankSet) → position (λ s. s == e.school) (choices_of m e.student) ≡ None → AreTabled m students log table → AreTabled m students (log ++ e ∷ []) table
+table-unlisted m students log e table none =
+    table-kept m students log e table (λ at rank low at_student at_school.
     absurd (false≢true (sym (position-none (λ s. s == e.school) (choices_of m e.student) rank e.school none at_school) ∙ eq-eqb e.school e.school refl)))
 
 -- the entry's student stands at its position
-student-here : (m : Market) (i at : ℕ) → position (nat_eq i) (students_of m) ≡ Some at → slice_get (students_of m) at ≡ Some i
+pub student-here : (m : Market) (i at : ℕ) → position (nat_eq i) (students_of m) ≡ Some at → slice_get (students_of m) at ≡ Some i
 student-here m i at found =
     let here = position-here (nat_eq i) (students_of m) at found in
     here.1 ∙ ap Some (sym (eqb-true i here.0 here.2))
@@ -89,9 +91,9 @@ school-here m i s rank found =
     here.1 ∙ ap Some (eqb-true here.0 s here.2)
 
 -- an entry of a student past the table
-pub table-past : (m : Market) (log : List Rejection) (e : Rejection) (table : List RankSet) (position_of : ℕ) → WellFormed m → position (nat_eq e.student) (students_of m) ≡ Some position_of → length table ≤ position_of → AreTabled m log table → AreTabled m (log ++ e ∷ []) table
+pub table-past : (m : Market) (log : List Rejection) (e : Rejection) (table : List RankSet) (position_of : ℕ) → WellFormed m → position (nat_eq e.student) (students_of m) ≡ Some position_of → length table ≤ position_of → AreTabled m (students_of m) log table → AreTabled m (students_of m) (log ++ e ∷ []) table
 table-past m log e table position_of well found past =
-    table-kept m log e table (λ at rank low at_student at_school.
+    table-kept m (students_of m) log e table (λ at rank low at_student at_school.
     absurd (omega (arith, past, low, one-place (students_of m) at position_of e.student well.students_differ at_student (student-here m e.student position_of found))))
 
 -- of the choices of the entry's student, the one at the entry's rank is the entry's school
@@ -109,14 +111,15 @@ rank-of-entry m e i s rank rank_of well is_student at_school listed =
     ]
 
 -- an entry put into the table
-pub table-marked : (m : Market) (log : List Rejection) (e : Rejection) (table : List RankSet) (position_of rank_of : ℕ) (old new : RankSet)
+pub table-marked : (m : Market) (students : List ℕ) (log : List Rejection) (e : Rejection) (table : List RankSet) (position_of rank_of : ℕ) (old new : RankSet)
     → WellFormed m
-    → position (nat_eq e.student) (students_of m) ≡ Some position_of
+    → ((j k t : ℕ) → slice_get students j ≡ Some t → slice_get students k ≡ Some t → j ≡ k)
+    → slice_get students position_of ≡ Some e.student
     → position (λ s. s == e.school) (choices_of m e.student) ≡ Some rank_of
     → slice_get table position_of ≡ Some old
     → ((other : ℕ) → has_rank new other ≡ (has_rank old other || other == rank_of))
-    → AreTabled m log table → AreTabled m (log ++ e ∷ []) (set table position_of new)
-table-marked m log e table position_of rank_of old new well student school old_at added before = record {
+    → AreTabled m students log table → AreTabled m students (log ++ e ∷ []) (set table position_of new)
+table-marked m students log e table position_of rank_of old new well once student school old_at added before = record {
   at = λ at i ranks at_student at_table rank s at_school.
       elim (cases_eq at position_of) [
         | inl same ↦ marked_row at i ranks at_student at_table rank s at_school same
@@ -124,15 +127,15 @@ table-marked m log e table position_of rank_of old new well student school old_a
       ];
 }
   where
-    marked_row : (at i : ℕ) (ranks : RankSet) → slice_get (students_of m) at ≡ Some i → slice_get (set table position_of new) at ≡ Some ranks → (rank s : ℕ) → slice_get (choices_of m i) rank ≡ Some s → at ≡ position_of → has_rank ranks rank ≡ is_rejected (log ++ e ∷ []) i s
+    marked_row : (at i : ℕ) (ranks : RankSet) → slice_get students at ≡ Some i → slice_get (set table position_of new) at ≡ Some ranks → (rank s : ℕ) → slice_get (choices_of m i) rank ≡ Some s → at ≡ position_of → has_rank ranks rank ≡ is_rejected (log ++ e ∷ []) i s
     marked_row at i ranks at_student at_table rank s at_school same =
         let low : position_of < length table = slice_get_within table position_of old old_at in
         let long : position_of < length (set table position_of new) = omega (arith, low, length-set table position_of new) in
         let written : slice_get (set table position_of new) position_of ≡ Some new =
         slice_get-get_or (set table position_of new) position_of new long ∙ ap Some (get_or-set_same table position_of new new low) in
         let is_new : ranks ≡ new = same_Some ranks new (sym at_table ∙ ap (slice_get (set table position_of new)) same ∙ written) in
-        let at_position : slice_get (students_of m) position_of ≡ Some i = ap (slice_get (students_of m)) (sym same) ∙ at_student in
-        let is_student : e.student ≡ i = same_Some e.student i (sym (student-here m e.student position_of student) ∙ at_position) in
+        let at_position : slice_get students position_of ≡ Some i = ap (slice_get students) (sym same) ∙ at_student in
+        let is_student : e.student ≡ i = same_Some e.student i (sym student ∙ at_position) in
         let listed : slice_get (choices_of m i) rank_of ≡ Some e.school =
         ap (λ j. slice_get (choices_of m j) rank_of) (sym is_student) ∙ school-here m e.student e.school rank_of school in
         ap (λ set_of. has_rank set_of rank) is_new
@@ -141,7 +144,7 @@ table-marked m log e table position_of rank_of old new well student school old_a
         ∙ ap (λ b. is_rejected log i s || b) (rank-of-entry m e i s rank rank_of well is_student at_school listed)
         ∙ sym (rejected-push log e i s)
 
-    other_row : (at i : ℕ) (ranks : RankSet) → slice_get (students_of m) at ≡ Some i → slice_get (set table position_of new) at ≡ Some ranks → (rank s : ℕ) → slice_get (choices_of m i) rank ≡ Some s → (at ≡ position_of → ⊥) → has_rank ranks rank ≡ is_rejected (log ++ e ∷ []) i s
+    other_row : (at i : ℕ) (ranks : RankSet) → slice_get students at ≡ Some i → slice_get (set table position_of new) at ≡ Some ranks → (rank s : ℕ) → slice_get (choices_of m i) rank ≡ Some s → (at ≡ position_of → ⊥) → has_rank ranks rank ≡ is_rejected (log ++ e ∷ []) i s
     other_row at i ranks at_student at_table rank s at_school apart =
         let low : at < length table = omega (arith, slice_get_within (set table position_of new) at ranks at_table, length-set table position_of new) in
         let here : slice_get table at ≡ Some ranks =
@@ -149,11 +152,11 @@ table-marked m log e table position_of rank_of old new well student school old_a
         ∙ ap Some (sym (get_or-set_other table position_of at new ranks apart) ∙ get_or_from_slice_get (set table position_of new) at ranks ranks at_table) in
         before.at at i ranks at_student here rank s at_school
         ∙ sym (other-kept log e i s (λ same_student same_school.
-        apart (one-place (students_of m) at position_of i well.students_differ at_student (student-here m e.student position_of student ∙ ap Some same_student))))
+        apart (once at position_of i at_student (student ∙ ap Some same_student))))
 
 -- before the first entry
-pub table-new : (m : Market) (k : ℕ) (ranks : RankSet) (table : List RankSet) → ((rank : ℕ) → has_rank ranks rank ≡ false) → table ≡ replicate k ranks → AreTabled m [] table
-table-new m k ranks table none made = record {
+pub table-new : (m : Market) (students : List ℕ) (k : ℕ) (ranks : RankSet) (table : List RankSet) → ((rank : ℕ) → has_rank ranks rank ≡ false) → table ≡ replicate k ranks → AreTabled m students [] table
+table-new m students k ranks table none made = record {
   at = λ at i row at_student at_table rank s at_school.
       let low : at < k = omega (arith, slice_get_within table at row at_table, ap length made, length-replicate k ranks) in
       let is_row : row ≡ ranks =

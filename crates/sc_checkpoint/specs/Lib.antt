@@ -2,4 +2,3 @@ pub mod NextChoices
 pub mod Chains
 pub mod Representation
 pub mod Ranks
-pub mod Marks

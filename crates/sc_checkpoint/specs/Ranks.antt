@@ -1,7 +1,7 @@
 -- Sets of ranks in a list of choices, and which ranks the schools that rejected a student have.
 use Rattle.std.specs.Prelude.{◌≡◌, ℕ, ◌==◌, Bool, List, Some, slice_get}
 use Rattle.std.specs.Int.{bit_at}
-use Rattle.sc_papers.specs.Market.{Market, students_of, choices_of}
+use Rattle.sc_papers.specs.Market.{Market, choices_of}
 use Rattle.sc_papers.specs.Log.{is_rejected}
 use Rattle.sc_papers.specs.declared.rejection.Rejection.{Rejection}
 use Rattle.sc_checkpoint.specs.declared.rank_set.RankSet.{RankSet}
@@ -15,6 +15,6 @@ abbrev pub AreRejectedRanks : Market → List Rejection → ℕ → RankSet → 
 AreRejectedRanks m log i ranks =
     (rank s : ℕ) → slice_get (choices_of m i) rank ≡ Some s → has_rank ranks rank ≡ is_rejected log i s
 
--- a table of such sets, one for each of the first students of the papers
-pub record AreTabled (m : Market) (log : List Rejection) (table : List RankSet) : Type 0 where
-  pub at : (position i : ℕ) (ranks : RankSet) → slice_get (students_of m) position ≡ Some i → slice_get table position ≡ Some ranks → AreRejectedRanks m log i ranks
+-- a table of such sets, one for each of the first of these students
+pub record AreTabled (m : Market) (students : List ℕ) (log : List Rejection) (table : List RankSet) : Type 0 where
+  pub at : (position i : ℕ) (ranks : RankSet) → slice_get students position ≡ Some i → slice_get table position ≡ Some ranks → AreRejectedRanks m log i ranks

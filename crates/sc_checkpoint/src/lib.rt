@@ -2,7 +2,7 @@
 //! settling can go on from any position of the order.
 #![tactic(auto)]
 
-mod marked;
+mod at_positions;
 mod next_choice;
 mod next_choices;
 mod rank_set;

@@ -5,12 +5,10 @@ ghost use Rattle.sc_papers.specs.Log.{next_choice};
 ghost use Rattle.sc_papers.specs.Market.{students_of, choices_of};
 ghost use Rattle.sc_papers.specs.Restriction.{joined};
 ghost use Rattle.sc_papers.specs.declared.rejection.Rejection.{Rejection};
-ghost use Rattle.sc_checkpoint.specs.Chains.{logs_in, students_in};
-ghost use Rattle.sc_checkpoint.specs.Marks.{log_of, Tells};
+ghost use Rattle.sc_checkpoint.specs.Chains.{logs_in};
 ghost use Rattle.sc_checkpoint.specs.Ranks.{has_rank, AreRejectedRanks, AreTabled};
 ghost use Rattle.sc_checkpoint.specs.NextChoices.{next_choices_after};
 
-use crate::marked::{is_marked, mark_all, rejected_ranks_of_marked};
 use crate::next_choice::NextChoice;
 use crate::rank_set::RankSet;
 use crate::segments::Segments;
@@ -44,33 +42,6 @@ pub(crate) fn next_choices_of_first(
     Ok(next_choices)
 }
 
-/// Where those of the first `k` students of the papers stand who are marked, after the log of their segments.
-/// The only error is a refused growth.
-pub(crate) fn next_choices_of_marked(
-    alloc: Global,
-    papers: &Papers,
-    segments: &Segments,
-    marks: &[bool],
-    k: usize,
-) -> Result<Vec<NextChoice>, AllocError>
-    requires within { k ≤ length segments.now }
-    requires students { take k (students_in segments.now) ≡ take k (students_of papers.now) }
-    ensures { IfOk result (λ next_choices. (test : ℕ → Bool) → Tells marks.now (students_in segments.now) test → next_choices.items ≡ next_choices_after papers.now (log_of test (take k segments.now)) (filter test (take k (students_of papers.now)))) }
-{
-    let rejected = rejected_ranks_of_marked(alloc, papers, segments, marks, k)?;
-    let mut next_choices = Vec::with_capacity(alloc, k)?;
-    for position in 0..k {
-        if is_marked(marks, position) {
-            let Some(student) = papers.student_at(position) else {
-                unreachable!()
-            };
-            let next = first_outside(papers.choices_at(position), rejected[position]);
-            next_choices.push_reserved(NextChoice { student, next });
-        }
-    }
-    Ok(next_choices)
-}
-
 /// For each of the first `k` students, the ranks of the choices that rejected it, by the first `k` segments.
 fn rejected_ranks(
     alloc: Global,
@@ -80,7 +51,7 @@ fn rejected_ranks(
 ) -> Result<Vec<RankSet>, AllocError>
     requires { k ≤ length segments.now }
     ensures count { IfOk result (λ table. length table.items ≡ k) }
-    ensures tabled { IfOk result (λ table. AreTabled papers.now (joined (take k (logs_in segments.now))) table.items) }
+    ensures tabled { IfOk result (λ table. AreTabled papers.now (students_of papers.now) (joined (take k (logs_in segments.now))) table.items) }
 {
     let mut table = vec![in alloc; RankSet::new(); k]?;
     for position in 0..k {
@@ -91,8 +62,8 @@ fn rejected_ranks(
 
 /// Puts the entry's school among the ranks of the entry's student, where the student is in the table
 /// and lists the school.
-pub(crate) fn mark(papers: &Papers, table: &mut [RankSet], entry: Rejection)
-    ensures { (log : List Rejection) → AreTabled papers.now log table.old → AreTabled papers.now (log ++ entry ∷ []) table.new }
+fn mark(papers: &Papers, table: &mut [RankSet], entry: Rejection)
+    ensures { (log : List Rejection) → AreTabled papers.now (students_of papers.now) log table.old → AreTabled papers.now (students_of papers.now) (log ++ entry ∷ []) table.new }
 {
     let Some(position) = papers.student_position(entry.student) else {
         return;
@@ -107,15 +78,25 @@ pub(crate) fn mark(papers: &Papers, table: &mut [RankSet], entry: Rejection)
     }
 }
 
+/// Puts each entry's school among the ranks of the entry's student.
+fn mark_all(papers: &Papers, table: &mut Vec<RankSet>, entries: &[Rejection])
+    ensures tabled { (log : List Rejection) → AreTabled papers.now (students_of papers.now) log table.old.items → AreTabled papers.now (students_of papers.now) (log ++ entries.now) table.new.items }
+    ensures same_length { length table.new.items ≡ length table.old.items }
+{
+    for entry in entries {
+        mark(papers, table, *entry);
+    }
+}
+
 /// The school's rank among the choices.
-fn rank_in(choices: &[SchoolNo], school: SchoolNo) -> Option<usize>
+pub(crate) fn rank_in(choices: &[SchoolNo], school: SchoolNo) -> Option<usize>
     ensures { result ≡ position (λ s. s == school) choices.now }
 {
     choices.iter().position(|choice| *choice == school)
 }
 
 /// The first of the choices whose rank is not in the set.
-fn first_outside(choices: &[SchoolNo], ranks: RankSet) -> Option<SchoolNo>
+pub(crate) fn first_outside(choices: &[SchoolNo], ranks: RankSet) -> Option<SchoolNo>
     requires { length choices.now ≤ LONGEST_LIST }
     ensures { (test : ℕ → Bool) → ((rank s : ℕ) → slice_get choices.now rank ≡ Some s → has_rank ranks rank ≡ test s) → result ≡ find (λ s. not (test s)) choices.now }
 {

@@ -1,6 +1,7 @@
+use crate::at_positions::next_choices_at_positions;
 use crate::next_choice::NextChoice;
-use crate::next_choices::{next_choices_of_first, next_choices_of_marked};
-use crate::segment::Segment;
+use crate::next_choices::next_choices_of_first;
+use crate::segment::{Segment, replace_at};
 use sc_papers::{Papers, Rejection, StudentNo};
 use std::alloc::{AllocError, Global};
 use std::marker::Model;
@@ -28,12 +29,12 @@ impl Model for Segments {
 }
 
 impl Segments {
-    ghost use Rattle.std.specs.Prelude.{◌≡◌, ℕ, ◌<◌, ◌≤◌, Bool, [], filter, length, min, take, slice_get, Some, IfOk, OnOk, OnErr};
+    ghost use Rattle.std.specs.Prelude.{◌≡◌, ℕ, ◌<◌, ◌≤◌, [], length, map, min, remove, take, slice_get, slice_index, Some, IfOk, OnOk, OnErr};
+    ghost use Rattle.std.specs.List.Sorted.{IsStrictlyIncreasing};
     ghost use Rattle.sc_papers.specs.Restriction.{joined};
-    ghost use Rattle.sc_checkpoint.specs.Chains.{students_in, logs_in, with_chain};
-    ghost use Rattle.sc_checkpoint.specs.Marks.{log_of, Tells};
+    ghost use Rattle.sc_checkpoint.specs.Chains.{students_in, logs_in, logs_at, replaced, with_chain};
     ghost use Rattle.sc_checkpoint.specs.NextChoices.{next_choices_after};
-    ghost use Rattle.sc_papers.specs.Market.{students_of};
+    ghost use Rattle.sc_papers.specs.Market.{student_at, students_of};
 
     /// No segments. It takes no memory.
     pub fn new(alloc: Global) -> Self
@@ -145,23 +146,39 @@ impl Segments {
         next_choices_of_first(self.alloc, papers, self, k)
     }
 
-    /// Where those of the first `k` students of the papers stand who are marked, after the log of their own
-    /// segments alone: each mark is that of the student at its position, and whoever has none is not marked. The
+    /// Where the students at some positions of the papers stand after the log of the segments there alone. The
     /// only error is a refused growth.
     ///
-    /// The cost is a look at each of the `k` marks, and for those who are marked a look-up and a pass over one list
-    /// of choices for each entry of their segments, and such a pass for each of them. Memory is taken for the `k`
-    /// students.
+    /// The cost is, for each entry of these segments, a look-up, a binary search among the positions and a pass over
+    /// one list of choices, and such a pass for each position. Memory is taken for the positions alone.
     pub fn next_choices_of(
         &self,
         papers: &Papers,
-        marks: &[bool],
-        k: usize,
+        positions: &[usize],
     ) -> Result<Vec<NextChoice>, AllocError>
-        requires within { k ≤ length self.now }
-        requires students { take k (students_in self.now) ≡ take k (students_of papers.now) }
-        ensures { IfOk result (λ next_choices. (test : ℕ → Bool) → Tells marks.now (students_in self.now) test → next_choices.items ≡ next_choices_after papers.now (log_of test (take k self.now)) (filter test (take k (students_of papers.now)))) }
+        requires rising { IsStrictlyIncreasing positions.now }
+        requires within { (k : ℕ) → k < length positions.now → slice_index positions.now k < length (students_of papers.now) }
+        requires held { (k : ℕ) → k < length positions.now → slice_index positions.now k < length self.now }
+        ensures { IfOk result (λ next_choices. next_choices.items ≡ next_choices_after papers.now (joined (logs_at positions.now self.now)) (map (student_at papers.now) positions.now)) }
     {
-        next_choices_of_marked(self.alloc, papers, self, marks, k)
+        next_choices_at_positions(self.alloc, papers, self, positions)
+    }
+
+    /// Gives the segments at some positions up for renewed ones, in turn: one at each position. It takes no memory;
+    /// the cost is that of the positions.
+    pub fn replace(&mut self, positions: &[usize], renewed: Segments)
+        requires within { (k : ℕ) → k < length positions.now → slice_index positions.now k < length self.old }
+        requires one_each { length renewed ≡ length positions.now }
+        ensures { self.new ≡ replaced self.old positions.now renewed }
+    {
+        replace_at(&mut self.segments, positions, renewed.segments);
+    }
+
+    /// Takes out the segment at a position. It takes no memory; whoever stands behind moves up by one.
+    pub fn remove(&mut self, position: usize)
+        requires { position < length self.old }
+        ensures { self.new ≡ remove self.old position }
+    {
+        self.segments.remove(position);
     }
 }

@@ -25,3 +25,7 @@ pub mod EntryTurns
 pub mod StampedInTurn
 pub mod AmendedInTurn
 pub mod InOrder
+pub mod Positioned
+pub mod Renewing
+pub mod Picked
+pub mod Regions

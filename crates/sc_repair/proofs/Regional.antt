@@ -1,9 +1,10 @@
 -- A clearing after an amendment, told by the amendment's region.
-use Rattle.std.proofs.Common.{◌≡◌, ◌↔◌, inl, inr, refl, ap, sym, subst, ◌∙◌, ℕ, nat_eq, Bool, true, false, not, List, Some, None, Contains, IsTrue, is_some, slice_get, arith}
+use Rattle.std.proofs.Common.{◌≡◌, ◌↔◌, inl, inr, refl, ap, sym, subst, ◌∙◌, ℕ, nat_eq, Bool, true, false, not, List, Some, None, Contains, IsTrue, is_some, length, slice_get, arith}
 use Rattle.std.specs.Prelude.{slice_index_or}
 use Rattle.std.specs.Map.{lookup}
 use Rattle.std.proofs.lemmas.Bool.{cond-true, eqb-true, false_from_ne_true}
 use Rattle.std.proofs.lemmas.Cmp.{nat_eq_equiv}
+use Rattle.std.proofs.lemmas.List.{length-map}
 use Rattle.std.proofs.lemmas.Map.Views.{list_any-from_Contains, Contains-from_any}
 use Rattle.sc_papers.specs.Market.{Market, is_student, student_of, students_of}
 use Rattle.sc_papers.specs.Restriction.{restricted, outside, AlikeOutside}
@@ -15,6 +16,7 @@ use Rattle.sc_papers.proofs.Choices.{place-of}
 use Rattle.sc_papers.proofs.Positions.{student-among}
 use Rattle.sc_papers.specs.declared.amendment.Amendment.{Amendment}
 use Rattle.sc_papers.proofs.Restriction.{student-restricted}
+use Rattle.sc_checkpoint.specs.Chains.{students_in, Chain}
 use Rattle.sc_region.specs.Groups.{entrants}
 use Rattle.sc_region.specs.Marks.{marked}
 use Rattle.sc_region.specs.Region.{InRegion}
@@ -25,6 +27,7 @@ use Rattle.sc_repair.specs.Locality.{is_among, TellsRegion}
 use Rattle.sc_repair.specs.Rewinding.{rewind_point}
 use Rattle.sc_repair.specs.Standing.{matching_of, Standing, CountsInside, CountsRegion, KeepsOthers}
 use Rattle.sc_repair.proofs.Region.{region-alike}
+use Rattle.sc_repair.proofs.Resumption.{length-students}
 
 -- a list that has exactly the students of the region tells it
 pub list-tells : (m : Market) (a : Amendment) (region : List ℕ) → ((i : ℕ) → Contains region i ↔ InRegion m a i) → TellsRegion m a (is_among region)
@@ -52,6 +55,11 @@ marks-tell m a marks well allowed no_entry told =
         | inr enters ↦ absurd (nobody-enters a i no_entry enters)
       ],
     ))
+
+-- there is a mark for each chain
+pub marks-count : (m : Market) (marks : List Bool) (chains : List Chain) → length marks ≡ length m.students → students_in chains ≡ students_of m → length marks ≡ length chains
+marks-count m marks chains one_each theirs =
+    omega (arith, one_each, ap (λ (is : List ℕ). length is) theirs, length-map chains (λ (c : Chain). c.student), length-students m)
 
 -- a student outside stays in the papers
 student-outside : (m n : Market) (test : ℕ → Bool) (i : ℕ) → AlikeOutside test m n → test i ≡ false → student_of n i ≡ student_of m i

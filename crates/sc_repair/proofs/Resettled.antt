@@ -108,26 +108,23 @@ comes m p test old point gap k r chains end before after proposals well changes 
           omega (arith, counted, made);
     }
 
--- the same of papers that have changed under a standing, whose first chains are kept; so many chains more than students were settled
-module _ (p : Market) (places : List (ℕ × ℕ)) (old kept : List Chain) (test : ℕ → Bool) (point end gap : ℕ) (changed : HaveChanged p places old test point end) (is : kept ≡ take point old) (left : gap ≡ length old - end) where
+-- the same of papers that have changed under a standing; so many chains more than students were settled
+module _ (p : Market) (places : List (ℕ × ℕ)) (old : List Chain) (test : ℕ → Bool) (point end gap : ℕ) (changed : HaveChanged p places old test point end) (left : gap ≡ length old - end) where
   changes : ChangesInside changed.before (cut p end) test point gap
   changes = subst (ChangesInside changed.before (cut p end) test point) (sym left) changed.changes
 
-  count : length kept ≡ point
-  count = count-kept changed.before point old kept changed.stood.theirs changes.within_old is
+  count : length (take point old) ≡ point
+  count = count-kept changed.before point old (take point old) changed.stood.theirs changes.within_old refl
 
-  low : point ≤ end
-  low = omega (arith, changes.within_new, length-students (cut p end), cut-most p end)
-
-  pub changed-low : length kept ≤ end
-  changed-low = omega (arith, count, low)
+  pub changed-low : point ≤ end
+  changed-low = omega (arith, changes.within_new, length-students (cut p end), cut-most p end)
 
   pub changed-gap : gap ≤ 1
   changed-gap = changes.in_step.one_at_most
 
-  pub changed-step : (position i : ℕ) → length kept ≤ position → position < end → slice_get (students_of p) position ≡ Some i → slice_get (students_in old) (position + gap) ≡ Some i
+  pub changed-step : (position i : ℕ) → point ≤ position → position < end → slice_get (students_of p) position ≡ Some i → slice_get (students_in old) (position + gap) ≡ Some i
   changed-step position i from before here =
-      elim (chains-step changed.before (cut p end) test old point gap (length kept) changes changed.stood.theirs count position i from (student-first p end position i before here)) [
+      elim (chains-step changed.before (cut p end) test old point gap point changes changed.stood.theirs refl position i from (student-first p end position i before here)) [
         | inl there ↦ there
         | inr (none, passes) ↦
             absurd (omega (
@@ -143,24 +140,20 @@ module _ (p : Market) (places : List (ℕ × ℕ)) (old kept : List Chain) (test
   pub changed-differ : IsDistinct nat_eq (students_in old)
   changed-differ = subst (IsDistinct nat_eq) (sym changed.stood.theirs) changed.stood.well_formed.students_differ
 
-  pub changed-within : length kept ≤ length old
-  changed-within = omega (arith, count, low, changed.nobody_new)
+  pub changed-outside : chains_of (outside test) (take point old) ++ chains_of (outside test) (drop (point + gap) old) ≡ chains_of (outside test) old
+  changed-outside = chains-others changed.before (cut p end) test old point gap point changes changed.stood.theirs refl
 
-  pub changed-outside : chains_of (outside test) (take (length kept) old) ++ chains_of (outside test) (drop (length kept + gap) old) ≡ chains_of (outside test) old
-  changed-outside = chains-others changed.before (cut p end) test old point gap (length kept) changes changed.stood.theirs count
-
-  pub changed-first : kept ≡ take (length kept) old
-  changed-first = is ∙ ap (λ k. take k old) (sym count)
-
-  pub changed-theirs : students_in kept ≡ take (length kept) (students_of p)
+  pub changed-theirs : students_in (take point old) ≡ take point (students_of p)
   changed-theirs =
-      theirs-kept changed.before (cut p end) point old kept changes.before changed.stood.theirs count is
-      ∙ ap (take (length kept)) (sym (students-first p end)) ∙ take-take (length kept) end (students_of p) changed-low
+      theirs-kept changed.before (cut p end) point old (take point old) changes.before changed.stood.theirs count refl
+      ∙ ap (λ k. take k (students_of (cut p end))) count
+      ∙ ap (take point) (sym (students-first p end)) ∙ take-take point end (students_of p) changed-low
 
-  pub changed-segmented : IsSegmented (cut p (length kept)) (logs_in kept)
+  pub changed-segmented : IsSegmented (cut p point) (logs_in (take point old))
   changed-segmented =
-      subst (λ n. IsSegmented n (logs_in kept)) (cut-cut p (length kept) end changed-low)
-      (kept-segmented changed.before (cut p end) test old kept point gap changes changed.stood.segmented is count)
+      subst (λ n. IsSegmented n (logs_in (take point old))) (cut-cut p point end changed-low)
+      (subst (λ k. IsSegmented (cut (cut p end) k) (logs_in (take point old))) count
+      (kept-segmented changed.before (cut p end) test old (take point old) point gap changes changed.stood.segmented refl count))
 
   -- what the settling leaves
   pub record Leaves (after : List (ℕ × ℕ)) (chains : List Chain) (made : ℕ) : Type 0 where
@@ -170,15 +163,15 @@ module _ (p : Market) (places : List (ℕ × ℕ)) (old kept : List Chain) (test
     pub others : (i : ℕ) → test i ≡ false → assigned after i ≡ assigned places i
     pub proposals : CountsInside test point (record { papers = cut p end; places = after; segments = logs_in chains; proposals = made })
 
-  pub changed-leaves : (r : RoundView) (chains : List Chain) (after : List (ℕ × ℕ)) (proposals : ℕ) → GoesOnInside p test old (length kept) gap r chains end
+  pub changed-leaves : (r : RoundView) (chains : List Chain) (after : List (ℕ × ℕ)) (proposals : ℕ) → GoesOnInside p test old point gap r chains end
       → ((i : ℕ) → assigned after i ≡ either_by test (next_of p r.ranks) (assigned places) i) → proposals ≡ r.proposals → Leaves after chains proposals
   changed-leaves r chains after proposals on given made =
-      let come = comes changed.before p test old point gap (length kept) r chains end places after proposals
-      changed.stood.well_formed changes changed.stood.theirs changed.stood.segmented changed.stood.optimal count on given made in
+      let come = comes changed.before p test old point gap point r chains end places after proposals
+      changed.stood.well_formed changes changed.stood.theirs changed.stood.segmented changed.stood.optimal refl on given made in
       record {
         certified = come.certified;
-        theirs = theirs-end p test old (length kept) gap r chains end on;
-        stays = segments-stay old chains point (length kept) count on.stays;
+        theirs = theirs-end p test old point gap r chains end on;
+        stays = segments-stay old chains point point refl on.stays;
         others = come.others;
         proposals = come.proposals;
       }

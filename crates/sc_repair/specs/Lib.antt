@@ -8,5 +8,6 @@ pub mod Newcomer
 pub mod Changed
 pub mod Stamped
 pub mod Placing
+pub mod Renewed
 pub mod Places
 pub mod Turns

@@ -8,6 +8,7 @@ mod entry_order;
 mod open_refused;
 mod places;
 mod placing;
+mod region_positions;
 mod resettling;
 mod rewind;
 mod settlement;

@@ -51,13 +51,13 @@ fn put_all<R: Roll>(
 ) -> Result<(), AllocError>
     requires ready { is_spent round.now ≡ false }
     requires fits { Fits papers.now (view_of R.keys R.seats round.now) }
+    requires one_each { length region.now ≡ length chains.now }
     ensures grown { (more : List (ℕ × ℕ)) × (places.new ≡ places.old ++ more) }
     ensures given { OnOk result ((j : ℕ) → assigned places.new j ≡ with_new (marked_in region.now chains.now) (next_of papers.now (view_of R.keys R.seats round.now).ranks) (assigned places.old) j) }
 {
-    for position in 0..chains.len() {
-        if region.is_marked(position) {
-            put_one(round, papers, chains.student(position), position, places)?;
-        }
+    let positions = region.positions();
+    for position in positions {
+        put_one(round, papers, chains.student(*position), *position, places)?;
     }
     Ok(())
 }
@@ -72,6 +72,7 @@ fn place_new<R: Roll>(
 ) -> Result<(), AllocError>
     requires ready { is_spent round.now ≡ false }
     requires fits { Fits papers.now (view_of R.keys R.seats round.now) }
+    requires one_each { length region.now ≡ length chains.now }
     ensures given { OnOk result ((j : ℕ) → assigned places.new j ≡ with_new (marked_in region.now chains.now) (next_of papers.now (view_of R.keys R.seats round.now).ranks) (assigned places.old) j) }
     ensures unchanged { OnErr result (places.new ≡ places.old) }
 {
@@ -94,14 +95,14 @@ fn move_all<R: Roll>(
 )
     requires ready { is_spent round.now ≡ false }
     requires fits { Fits papers.now (view_of R.keys R.seats round.now) }
+    requires one_each { length region.now ≡ length chains.now }
     ensures { (j : ℕ) → assigned places.new j ≡ with_moved (marked_in region.now chains.now) (next_of papers.now (view_of R.keys R.seats round.now).ranks) (assigned places.old) j }
 {
-    for position in 0..chains.len() {
-        if region.is_marked(position) {
-            let student = chains.student(position);
-            let school = round.next_choice_near(papers, student, position);
-            places.move_to(student, school);
-        }
+    let positions = region.positions();
+    for position in positions {
+        let student = chains.student(*position);
+        let school = round.next_choice_near(papers, student, *position);
+        places.move_to(student, school);
     }
 }
 
@@ -109,8 +110,8 @@ fn move_all<R: Roll>(
 /// none to whoever stands at none; everybody else keeps what they have. The only error is want of memory, which
 /// changes nothing.
 ///
-/// The cost is a look at each mark, and some look-ups for each student of the region. Memory is taken for those who
-/// had no school and are given one.
+/// The cost is some look-ups for each student of the region. Memory is taken for those who had no school and are given
+/// one.
 pub(crate) fn place_inside<R: Roll>(
     round: &Round<R>,
     papers: &Papers,
@@ -120,6 +121,7 @@ pub(crate) fn place_inside<R: Roll>(
 ) -> Result<(), AllocError>
     requires ready { is_spent round.now ≡ false }
     requires fits { Fits papers.now (view_of R.keys R.seats round.now) }
+    requires one_each { length region.now ≡ length chains.now }
     ensures given { OnOk result ((j : ℕ) → assigned places.new j ≡ either_by (is_among (marked_in region.now chains.now)) (next_of papers.now (view_of R.keys R.seats round.now).ranks) (assigned places.old) j) }
     ensures unchanged { OnErr result (places.new ≡ places.old) }
 {

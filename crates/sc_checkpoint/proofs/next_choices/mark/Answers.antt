@@ -1,13 +1,15 @@
 use Rattle.std.proofs.Common.{◌≡◌, ◌==◌, ap, sym, ◌∙◌, Some, None, position}
 use Rattle.std.proofs.lemmas.Option.{slice_get-get_or}
-use Rattle.sc_papers.specs.Market.{choices_of}
+use Rattle.sc_papers.specs.Market.{choices_of, students_of}
+use Rattle.sc_papers.proofs.Choices.{one-place}
 use Rattle.sc_papers.proofs.Hands.{position-low, student-there}
-use Rattle.sc_checkpoint.proofs.Marking.{table-unknown, table-unlisted, table-past, table-marked}
+use Rattle.sc_checkpoint.proofs.Marking.{student-here, unknown-nowhere, table-unknown, table-unlisted, table-past, table-marked}
 use Rattle.sc_checkpoint.proofs.next_choices.mark.Goals as goal
 
 pub returns-in_default : goal.returns-in_default
 returns-in_default c = λ log before.
-    table-unknown c.args.papers.now log c.args.entry c.args.table.now (sym c.student_position.ensures ∙ c.in_default.is) before
+    let m = c.args.papers.now in
+    table-unknown m (students_of m) log c.args.entry c.args.table.now (unknown-nowhere m c.args.entry.student (sym c.student_position.ensures ∙ c.in_default.is)) before
 
 pub choices_at-requires : goal.choices_at-requires
 choices_at-requires c = position-low c.args.papers.now c.args.entry.student c.in-Some.position (sym c.student_position.ensures ∙ c.in-Some.is)
@@ -19,7 +21,7 @@ returns-in_default-rank_in c = λ log before.
     let own = student-there m e.student c.in-Some.position (sym c.student_position.ensures ∙ c.in-Some.is) in
     let none : position (λ s. s == e.school) (choices_of m e.student) ≡ None =
     ap (position (λ s. s == e.school)) (sym (c.choices_at.ensures.choices ∙ ap (choices_of m) own)) ∙ sym c.rank_in.ensures ∙ c.in_default-rank_in.is in
-    table-unlisted m log e c.args.table.now none before
+    table-unlisted m (students_of m) log e c.args.table.now none before
 
 pub returns-then-position-table : goal.returns-then-position-table
 returns-then-position-table c = λ log before.
@@ -29,8 +31,8 @@ returns-then-position-table c = λ log before.
     let own = student-there m e.student c.in-Some.position found in
     let rank : position (λ s. s == e.school) (choices_of m e.student) ≡ Some c.in-Some-rank_in.rank =
     ap (position (λ s. s == e.school)) (sym (c.choices_at.ensures.choices ∙ ap (choices_of m) own)) ∙ sym c.rank_in.ensures ∙ c.in-Some-rank_in.is in
-    table-marked m log e c.args.table.now c.in-Some.position c.in-Some-rank_in.rank _ c.with.result c.students_len.ensures.well_formed
-    found rank (slice_get-get_or c.args.table.now c.in-Some.position _ c.if-position-table.true) c.with.ensures before
+    table-marked m (students_of m) log e c.args.table.now c.in-Some.position c.in-Some-rank_in.rank _ c.with.result c.students_len.ensures.well_formed
+    (λ j k t. one-place (students_of m) j k t c.students_len.ensures.well_formed.students_differ) (student-here m e.student c.in-Some.position found) rank (slice_get-get_or c.args.table.now c.in-Some.position _ c.if-position-table.true) c.with.ensures before
 
 pub returns-else-position-table : goal.returns-else-position-table
 returns-else-position-table c = λ log before.

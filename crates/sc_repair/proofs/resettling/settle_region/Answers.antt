@@ -1,46 +1,56 @@
-use Rattle.std.proofs.Common.{◌≡◌, ap, sym, subst, ◌∙◌, filter, get_or, length, take, refl, false}
-use Rattle.std.proofs.lemmas.List.{take-map}
-use Rattle.sc_papers.specs.Market.{students_of}
-use Rattle.sc_checkpoint.specs.Chains.{students_in, Chain}
-use Rattle.sc_checkpoint.specs.Marks.{Tells}
+use Rattle.std.proofs.Common.{◌≡◌, ◌-◌, ap, sym, subst, ◌∙◌, filter, length, take, refl, map, arith}
+use Rattle.std.specs.List.Sorted.{IsStrictlyIncreasing}
+use Rattle.std.proofs.lemmas.List.{length-take-le}
+use Rattle.sc_papers.specs.Market.{student_at, students_of}
+use Rattle.sc_papers.specs.Restriction.{joined}
+use Rattle.sc_checkpoint.specs.Chains.{logs_at}
 use Rattle.sc_checkpoint.specs.NextChoices.{next_choices_after, stands, AreNextChoices}
 use Rattle.sc_engine.specs.Round.{view_of}
-use Rattle.sc_region.proofs.Marked.{marked-told}
 use Rattle.sc_repair.specs.Course.{log_of}
 use Rattle.sc_repair.specs.Locality.{is_among, marked_in}
-use Rattle.sc_repair.proofs.Beginning.{inside-begins, next-choices-kept, stand-inside}
+use Rattle.sc_repair.proofs.Beginning.{inside-begins, stand-inside}
+use Rattle.sc_repair.proofs.Positioned.{before-low, within-rising}
+use Rattle.sc_repair.proofs.Regions.{before-stand}
+use Rattle.sc_repair.proofs.Resumption.{length-students}
 use Rattle.sc_repair.proofs.resettling.settle_region.Goals as goal
 
-pub next_choices_of-requires-clause-students : goal.next_choices_of-requires-clause-students
-next_choices_of-requires-clause-students g c =
-    let chains = c.args.segments.now in
-    ap (λ j. take j (students_in c.args.old.now)) c.len.ensures ∙ take-map (λ (chain : Chain). chain.student) (length chains) c.args.old.now
-    ∙ ap students_in (sym c.requires.first) ∙ c.requires.theirs ∙ ap (λ j. take j (students_of c.args.papers.now)) (sym c.len.ensures)
+pub next_choices_of-requires-clause-rising : goal.next_choices_of-requires-clause-rising
+next_choices_of-requires-clause-rising g c = subst IsStrictlyIncreasing (sym c.positions_before.ensures) (within-rising c.args.region.now 0 c.args.point)
+
+pub next_choices_of-requires-clause-within : goal.next_choices_of-requires-clause-within
+next_choices_of-requires-clause-within g c = λ k low.
+    omega (arith, before-low c.args.region.now c.args.point c.positions_before.result.now c.positions_before.ensures k low, c.requires.point, c.requires.end, length-students c.args.papers.now)
+
+pub next_choices_of-requires-clause-held : goal.next_choices_of-requires-clause-held
+next_choices_of-requires-clause-held g c = λ k low.
+    omega (arith, before-low c.args.region.now c.args.point c.positions_before.result.now c.positions_before.ensures k low, c.requires.point, c.requires.nobody_new)
 
 pub resume-requires : goal.resume-requires
 resume-requires g c =
     let m = c.args.papers.now in
-    let chains = c.args.segments.now in
     let old = c.args.old.now in
-    let test = is_among (marked_in c.args.region.now old) in
-    let tells : Tells c.as_slice.result.now (students_in old) test =
-    λ at i here. ap (λ bs. get_or bs at false) c.as_slice.ensures ∙ marked-told c.args.region.now (students_in old) at i c.requires.differ here in
-    let standing : c.as_slice-2.result.now ≡ next_choices_after m (log_of test chains) (filter test (take (length chains) (students_of m))) =
-    c.as_slice-2.ensures.value ∙ c.in_ok-next_choices.ensures test tells ∙ next-choices-kept m test old chains c.len.result c.len.ensures c.requires.first in
-    (log_of test chains, subst (AreNextChoices m (log_of test chains)) (sym standing) (stand-inside m test chains (length chains) c.requires.well_formed c.requires.apart c.requires.theirs c.requires.segmented))
+    let marks = c.args.region.now in
+    let test = is_among (marked_in marks old) in
+    let first = take c.args.point old in
+    let standing : c.as_slice.result.now ≡ next_choices_after m (log_of test first) (filter test (take c.args.point (students_of m))) =
+    c.as_slice.ensures.value ∙ c.in_ok-next_choices.ensures
+    ∙ ap (λ ps. next_choices_after m (joined (logs_at ps old)) (map (student_at m) ps)) c.positions_before.ensures
+    ∙ before-stand m old marks c.args.point c.args.end c.requires.point c.requires.end c.requires.nobody_new c.requires.one_each c.requires.differ c.requires.theirs in
+    (log_of test first, subst (AreNextChoices m (log_of test first)) (sym standing) (stand-inside m test first c.args.point c.requires.well_formed c.requires.apart c.requires.theirs c.requires.segmented))
 
 pub take_turns-requires-clause-on : goal.take_turns-requires-clause-on
 take_turns-requires-clause-on g c =
     let m = c.args.papers.now in
-    let chains = c.args.segments.now in
     let old = c.args.old.now in
-    let test = is_among (marked_in c.args.region.now old) in
-    let tells : Tells c.as_slice.result.now (students_in old) test =
-    λ at i here. ap (λ bs. get_or bs at false) c.as_slice.ensures ∙ marked-told c.args.region.now (students_in old) at i c.requires.differ here in
-    let standing : c.as_slice-2.result.now ≡ next_choices_after m (log_of test chains) (filter test (take (length chains) (students_of m))) =
-    c.as_slice-2.ensures.value ∙ c.in_ok-next_choices.ensures test tells ∙ next-choices-kept m test old chains c.len.result c.len.ensures c.requires.first in
-    inside-begins m test old chains c.args.gap (view_of g.R.Roll.keys g.R.Roll.seats c.in_ok-round.round) (length chains) c.requires.apart
-    refl c.requires.first c.requires.theirs c.requires.segmented c.requires.others c.in_ok-round.ensures.fits
+    let marks = c.args.region.now in
+    let test = is_among (marked_in marks old) in
+    let first = take c.args.point old in
+    let standing : c.as_slice.result.now ≡ next_choices_after m (log_of test first) (filter test (take c.args.point (students_of m))) =
+    c.as_slice.ensures.value ∙ c.in_ok-next_choices.ensures
+    ∙ ap (λ ps. next_choices_after m (joined (logs_at ps old)) (map (student_at m) ps)) c.positions_before.ensures
+    ∙ before-stand m old marks c.args.point c.args.end c.requires.point c.requires.end c.requires.nobody_new c.requires.one_each c.requires.differ c.requires.theirs in
+    inside-begins m test old first (length old - c.args.end) (view_of g.R.Roll.keys g.R.Roll.seats c.in_ok-round.round) c.args.point c.requires.apart
+    (length-take-le c.args.point old (omega (arith, c.requires.point, c.requires.nobody_new))) refl c.requires.theirs c.requires.segmented c.requires.others c.in_ok-round.ensures.fits
     (λ i. c.in_ok-round.ensures.entered i ∙ ap (λ ss. stands ss i) standing)
-    (c.in_ok-round.ensures.continues (log_of test chains) (subst (AreNextChoices m (log_of test chains)) (sym standing) (stand-inside m test chains (length chains) c.requires.well_formed c.requires.apart c.requires.theirs c.requires.segmented)))
+    (c.in_ok-round.ensures.continues (log_of test first) (subst (AreNextChoices m (log_of test first)) (sym standing) (stand-inside m test first c.args.point c.requires.well_formed c.requires.apart c.requires.theirs c.requires.segmented)))
     c.in_ok-round.ensures.log c.in_ok-round.ensures.proposals

@@ -1,51 +1,101 @@
-use Rattle.std.proofs.Common.{◌≡◌, ◌+◌, inl, sym, subst, subst₂, ◌∙◌, List, Some, length, slice_get, false, arith}
+use Rattle.std.proofs.Common.{◌≡◌, ◌<◌, ◌+◌, ◌-◌, ap, sym, ◌∙◌, ℕ, List, Some, get_or, length, slice_get, arith}
 use Rattle.sc_papers.specs.Market.{students_of}
 use Rattle.sc_papers.proofs.Choices.{contains-at}
 use Rattle.sc_papers.proofs.Positions.{among-student}
-use Rattle.sc_checkpoint.specs.Chains.{students_in, Chain}
-use Rattle.sc_engine.specs.Round.{is_spent, view_of}
-use Rattle.sc_engine.specs.declared.round.Round.{Round}
-use Rattle.sc_region.proofs.Marked.{marked-told}
-use Rattle.sc_repair.specs.Course.{GoesOnInside}
+use Rattle.sc_checkpoint.specs.Chains.{students_in}
 use Rattle.sc_repair.specs.Locality.{is_among, marked_in}
-use Rattle.sc_repair.proofs.Course.{inside-absent, inside-next, old-within, outside-more}
+use Rattle.sc_repair.specs.Renewed.{marked_from}
+use Rattle.sc_repair.proofs.Regions.{are-turns}
+use Rattle.sc_repair.proofs.Renewing.{turn-absent, turn-at, turn-next, turn-student, turns-begin, turns-end}
 use Rattle.sc_repair.proofs.resettling.take_turns.Goals as goal
-use Rattle.sc_repair.proofs.resettling.take_turns.Goals.{then-is_marked+in_ok-enter_next, else-is_marked+in_ok-push}
+
+pub loop-position-init : goal.loop-position-init
+loop-position-init g c =
+    let m = c.args.papers.now in
+    let old = c.args.old.now in
+    let marks = c.args.region.now in
+    let are = are-turns m old marks c.args.point c.args.end c.requires.point c.requires.end c.requires.nobody_new c.requires.one_each c.requires.differ c.requires.step in (
+      turns-begin m (is_among (marked_in marks old)) old marks c.args.point (length old - c.args.end) c.args.end are _ c.args.renewed.now c.requires.none c.requires.on,
+      c.requires.ready,
+    )
+
+pub student-requires : goal.student-requires
+student-requires g c =
+    let m = c.args.papers.now in
+    let old = c.args.old.now in
+    let marks = c.args.region.now in
+    let at = c.loop-position.position-index in
+    let are = are-turns m old marks c.args.point c.args.end c.requires.point c.requires.end c.requires.nobody_new c.requires.one_each c.requires.differ c.requires.step in
+    let turns_are : c.positions_from-turns.result.now ≡ marked_from marks (c.args.point + (length old - c.args.end)) =
+    c.positions_from-turns.ensures ∙ ap (λ n. marked_from marks (c.args.point + (n - c.args.end))) c.len.ensures in
+    let low : at < length (marked_from marks (c.args.point + (length old - c.args.end))) = omega (arith, ap (λ (ps : List ℕ). length ps) turns_are, c.loop-position-test.true) in
+    let (from, high, its) = turn-at m (is_among (marked_in marks old)) old marks c.args.point (length old - c.args.end) c.args.end are at low in
+    omega (arith, ap (λ ps. get_or ps at 0) turns_are, high, c.requires.nobody_new)
+
+pub enter_next-requires-clause-fits : goal.enter_next-requires-clause-fits
+enter_next-requires-clause-fits g c = c.loop-position.invariant.0.on.fits
 
 pub enter_next-requires-clause-student : goal.enter_next-requires-clause-student
-enter_next-requires-clause-student g c = among-student c.args.papers.now c.in-Some.student (contains-at (students_of c.args.papers.now) c.loop-position.position c.in-Some.student (sym c.in-Some.ensures))
+enter_next-requires-clause-student g c =
+    let m = c.args.papers.now in
+    let old = c.args.old.now in
+    let marks = c.args.region.now in
+    let at = c.loop-position.position-index in
+    let are = are-turns m old marks c.args.point c.args.end c.requires.point c.requires.end c.requires.nobody_new c.requires.one_each c.requires.differ c.requires.step in
+    let turns_are : c.positions_from-turns.result.now ≡ marked_from marks (c.args.point + (length old - c.args.end)) =
+    c.positions_from-turns.ensures ∙ ap (λ n. marked_from marks (c.args.point + (n - c.args.end))) c.len.ensures in
+    let low : at < length (marked_from marks (c.args.point + (length old - c.args.end))) = omega (arith, ap (λ (ps : List ℕ). length ps) turns_are, c.loop-position-test.true) in
+    let own : slice_get (students_in old) (get_or (marked_from marks (c.args.point + (length old - c.args.end))) at 0) ≡ Some c.student.result =
+    ap (λ ps. slice_get (students_in old) (get_or ps at 0)) (sym turns_are) ∙ c.student.ensures in
+    let here = turn-student m (is_among (marked_in marks old)) old marks c.args.point (length old - c.args.end) c.args.end are at c.student.result low own in
+    among-student m c.student.result (contains-at (students_of m) _ c.student.result here)
 
 pub enter_next-requires-clause-absent : goal.enter_next-requires-clause-absent
 enter_next-requires-clause-absent g c =
-    inside-absent c.args.papers.now (is_among (marked_in c.args.region.now c.args.old.now)) c.args.old.now _ c.args.gap _ c.loop-position.segments c.loop-position.position c.in-Some.student (sym c.in-Some.ensures) c.loop-position.invariant.0
-
-pub segment-requires : goal.segment-requires
-segment-requires g c =
-    let there : slice_get (students_in c.args.old.now) (c.loop-position.position + c.args.gap) ≡ Some c.in-Some.student = c.requires.step c.loop-position.position c.in-Some.student (omega arith) (omega arith) (sym c.in-Some.ensures) in
-    old-within (is_among (marked_in c.args.region.now c.args.old.now)) c.args.old.now (c.loop-position.position + c.args.gap) c.in-Some.student
-    (sym (marked-told c.args.region.now (students_in c.args.old.now) (c.loop-position.position + c.args.gap) c.in-Some.student c.requires.differ there) ∙ sym c.is_marked.ensures ∙ c.if-is_marked.false)
-    (inl there)
+    let m = c.args.papers.now in
+    let old = c.args.old.now in
+    let marks = c.args.region.now in
+    let at = c.loop-position.position-index in
+    let are = are-turns m old marks c.args.point c.args.end c.requires.point c.requires.end c.requires.nobody_new c.requires.one_each c.requires.differ c.requires.step in
+    let turns_are : c.positions_from-turns.result.now ≡ marked_from marks (c.args.point + (length old - c.args.end)) =
+    c.positions_from-turns.ensures ∙ ap (λ n. marked_from marks (c.args.point + (n - c.args.end))) c.len.ensures in
+    let low : at < length (marked_from marks (c.args.point + (length old - c.args.end))) = omega (arith, ap (λ (ps : List ℕ). length ps) turns_are, c.loop-position-test.true) in
+    let own : slice_get (students_in old) (get_or (marked_from marks (c.args.point + (length old - c.args.end))) at 0) ≡ Some c.student.result =
+    ap (λ ps. slice_get (students_in old) (get_or ps at 0)) (sym turns_are) ∙ c.student.ensures in
+    turn-absent m (is_among (marked_in marks old)) old marks c.args.point (length old - c.args.end) c.args.end are at c.student.result c.loop-position.renewed _ c.loop-position.invariant.0 low own
 
 pub loop-position-preserved : goal.loop-position-preserved
 loop-position-preserved g c =
     let m = c.args.papers.now in
-    let region = is_among (marked_in c.args.region.now c.args.old.now) in
     let old = c.args.old.now in
-    let chains = c.loop-position.segments in
-    let i = c.in-Some.student in
-    let position = c.loop-position.position in
-    let there : slice_get (students_in old) (position + c.args.gap) ≡ Some i = c.requires.step position i (omega arith) (omega arith) (sym c.in-Some.ensures) in
-    let own : region i ≡ c.is_marked.result = sym (marked-told c.args.region.now (students_in old) (position + c.args.gap) i c.requires.differ there) ∙ sym c.is_marked.ensures in
-    let is_on : Round g.row.R.Denot → List Chain → Type 0 = λ round segments.
-    GoesOnInside m region old (length c.args.segments.now) c.args.gap (view_of g.R.Roll.keys g.R.Roll.seats round) segments (position + 1) × (is_spent round ≡ false) in
-    elim c.if-is_marked.branch [
-      | then-is_marked+in_ok-enter_next w ↦ subst₂ is_on (sym w.round-is) (sym w.segments-is) (
-        inside-next m region old _ c.args.gap _ _ chains _ position i (sym c.in-Some.ensures) (own ∙ w.if-is_marked.true) (inl there) c.loop-position.invariant.0 w.in_ok-enter_next.ensures.enters w.in_ok-enter_next.ensures.chain,
-        w.in_ok-enter_next.ensures.ready,
-      )
-      | else-is_marked+in_ok-push w ↦ subst₂ is_on (sym w.round-is) (sym w.segments-is) (
-        subst (λ segments. GoesOnInside m region old (length c.args.segments.now) c.args.gap (view_of g.R.Roll.keys g.R.Roll.seats c.loop-position.round) segments (position + 1)) (sym w.in_ok-push.ensures.pushed)
-            (outside-more m region old _ c.args.gap _ chains w.segment.result.now position i (sym c.in-Some.ensures) (own ∙ w.if-is_marked.false) (inl there) w.segment.ensures c.loop-position.invariant.0),
-        c.loop-position.invariant.1,
-      )
-    ]
+    let marks = c.args.region.now in
+    let at = c.loop-position.position-index in
+    let are = are-turns m old marks c.args.point c.args.end c.requires.point c.requires.end c.requires.nobody_new c.requires.one_each c.requires.differ c.requires.step in
+    let turns_are : c.positions_from-turns.result.now ≡ marked_from marks (c.args.point + (length old - c.args.end)) =
+    c.positions_from-turns.ensures ∙ ap (λ n. marked_from marks (c.args.point + (n - c.args.end))) c.len.ensures in
+    let low : at < length (marked_from marks (c.args.point + (length old - c.args.end))) = omega (arith, ap (λ (ps : List ℕ). length ps) turns_are, c.loop-position-test.true) in
+    let own : slice_get (students_in old) (get_or (marked_from marks (c.args.point + (length old - c.args.end))) at 0) ≡ Some c.student.result =
+    ap (λ ps. slice_get (students_in old) (get_or ps at 0)) (sym turns_are) ∙ c.student.ensures in (
+      turn-next m (is_among (marked_in marks old)) old marks c.args.point (length old - c.args.end) c.args.end are at c.student.result c.loop-position.renewed c.enter_next.new.segments _ _
+          c.loop-position.invariant.0 low own c.in_ok-enter_next.ensures.enters c.in_ok-enter_next.ensures.chain,
+      c.in_ok-enter_next.ensures.ready,
+    )
+
+pub returns-clause-on : goal.returns-clause-on
+returns-clause-on g c =
+    let m = c.args.papers.now in
+    let old = c.args.old.now in
+    let marks = c.args.region.now in
+    let are = are-turns m old marks c.args.point c.args.end c.requires.point c.requires.end c.requires.nobody_new c.requires.one_each c.requires.differ c.requires.step in
+    let turns_are : c.positions_from-turns.result.now ≡ marked_from marks (c.args.point + (length old - c.args.end)) =
+    c.positions_from-turns.ensures ∙ ap (λ n. marked_from marks (c.args.point + (n - c.args.end))) c.len.ensures in
+    turns-end m (is_among (marked_in marks old)) old marks c.args.point (length old - c.args.end) c.args.end are c.loop-position.position-index c.loop-position.renewed _ c.loop-position.invariant.0
+    (omega (arith, ap (λ (ps : List ℕ). length ps) turns_are, c.loop-position-test.false, c.loop-position.auto.position-index-end))
+
+pub returns-clause-one_each : goal.returns-clause-one_each
+returns-clause-one_each g c =
+    let old = c.args.old.now in
+    let marks = c.args.region.now in
+    let turns_are : c.positions_from-turns.result.now ≡ marked_from marks (c.args.point + (length old - c.args.end)) =
+    c.positions_from-turns.ensures ∙ ap (λ n. marked_from marks (c.args.point + (n - c.args.end))) c.len.ensures in
+    omega (arith, c.loop-position.invariant.0.count, ap (λ (ps : List ℕ). length ps) turns_are, c.loop-position-test.false, c.loop-position.auto.position-index-end)

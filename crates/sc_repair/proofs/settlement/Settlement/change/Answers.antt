@@ -9,7 +9,7 @@ use Rattle.sc_repair.specs.Rewinding.{rewind_point}
 use Rattle.sc_repair.specs.Standing.{Standing, CountsInside, CountsRegion, IsCertified, KeepsOthers}
 use Rattle.sc_repair.proofs.Admitted.{still-certified}
 use Rattle.sc_repair.proofs.Changed.{in-place-changed, whole-cut-of}
-use Rattle.sc_repair.proofs.Regional.{counts-region, keeps-others, marks-tell}
+use Rattle.sc_repair.proofs.Regional.{counts-region, keeps-others, marks-count, marks-tell}
 use Rattle.sc_repair.proofs.settlement.Settlement.change.Goals as goal
 
 pub resettle-settled-requires : goal.resettle-settled-requires
@@ -27,6 +27,7 @@ resettle-settled-requires c =
             segmented = c.self.invariant.certified.segmented;
             optimal = c.self.invariant.certified.optimal;
           }) tells;
+      one_each = marks-count m c.in_ok-region.region c.self.inside.segments c.in_ok-region.ensures.one_each c.self.invariant.theirs;
     }
 
 pub invariant_of-self-in-Ok : goal.invariant_of-self-in-Ok

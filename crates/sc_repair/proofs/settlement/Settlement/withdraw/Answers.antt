@@ -11,7 +11,7 @@ use Rattle.sc_repair.specs.Standing.{Standing, CountsInside, CountsRegion, IsCer
 use Rattle.sc_repair.proofs.Admitted.{still-certified}
 use Rattle.sc_repair.proofs.Changed.{leaver-back, leaver-changed, leaver-from, leaver-gone, leaver-others, leaver-within}
 use Rattle.sc_repair.proofs.InStep.{withdrawn-none}
-use Rattle.sc_repair.proofs.Regional.{counts-region, keeps-others, marks-tell}
+use Rattle.sc_repair.proofs.Regional.{counts-region, keeps-others, marks-count, marks-tell}
 use Rattle.sc_repair.proofs.settlement.Settlement.withdraw.Goals as goal
 
 pub move_student-requires-clause-from : goal.move_student-requires-clause-from
@@ -33,6 +33,7 @@ resettle-settled-requires c =
             segmented = c.self.invariant.certified.segmented;
             optimal = c.self.invariant.certified.optimal;
           }) tells;
+      one_each = marks-count m c.in_ok-region.region c.self.inside.segments c.in_ok-region.ensures.one_each c.self.invariant.theirs;
     }
 
 pub invariant_of-self : goal.invariant_of-self

@@ -1,0 +1,11 @@
+use Rattle.std.proofs.Common.{◌≡◌, length, map, take, vec_len, vec_capacity}
+use Rattle.sc_papers.specs.Market.{student_at}
+use Rattle.sc_papers.specs.Restriction.{joined}
+use Rattle.sc_checkpoint.specs.Chains.{logs_at}
+use Rattle.sc_checkpoint.specs.NextChoices.{next_choices_after}
+use Rattle.sc_checkpoint.proofs.at_positions.next_choices_at_positions.Given as goal
+
+abbrev pub invariant-loop-place : goal.invariant-loop-place
+invariant-loop-place l =
+    (l.next_choices.items ≡ next_choices_after l.papers (joined (logs_at l.positions l.segments)) (take l.place (map (student_at l.papers) l.positions)))
+    × (vec_len l.next_choices ≡ l.place) × (vec_capacity l.next_choices ≡ length l.positions)

@@ -1,0 +1,212 @@
+-- The positions of the marked, before a point and from one on.
+use Rattle.std.proofs.Common.{◌≡◌, ◌↔◌, inl, inr, refl, ap, sym, subst, ◌∙◌, ℕ, zero, suc, ◌+◌, ◌-◌, ◌<◌, ◌≤◌, Bool, true, false, List, [], ◌∷◌, ◌++◌, cond, drop, filter, get_or, length, map, take, Contains, IsTrue, Some, slice_get, arith}
+use Rattle.std.specs.List.{range_with_len}
+use Rattle.std.specs.List.Sorted.{IsStrictlyIncreasing}
+use Rattle.std.proofs.lemmas.Bool.{cases_lt, false≢true}
+use Rattle.std.proofs.lemmas.List.{get_or-take, get_or-drop, get_or_default, length-drop, length-take-le, map-append}
+use Rattle.std.proofs.lemmas.List.FromFn.{get_or-range_with_len, length-range_with_len}
+use Rattle.std.proofs.lemmas.List.Elements.{filter-append, filter_more}
+use Rattle.std.proofs.lemmas.List.Kept.{IsStrictlyIncreasing-filter}
+use Rattle.std.proofs.lemmas.Option.{get_or_from_slice_get, slice_get_within}
+use Rattle.sc_papers.proofs.Counting.{contains-cons, contains-head, contains-tail}
+use Rattle.sc_checkpoint.proofs.Rising.{rising-less}
+use Rattle.sc_repair.specs.Renewed.{marked_before, marked_from, marked_within}
+
+-- rising numbers behind the first
+rising-tail : (x : ℕ) (xs : List ℕ) → IsStrictlyIncreasing (x ∷ xs) → IsStrictlyIncreasing xs
+rising-tail x xs rising k low = omega (arith, rising (suc k) (omega (arith, low)), ap (λ n. get_or (x ∷ xs) n 0) (far k))
+  where
+    far : (k : ℕ) → suc k + 1 ≡ suc (k + 1)
+    far k = omega arith
+
+rising-head : (x : ℕ) (xs : List ℕ) (p : ℕ) → IsStrictlyIncreasing (x ∷ xs) → Contains xs p → x < p
+rising-head x xs p rising (k, low, at) =
+    omega (arith, rising-less (x ∷ xs) 0 (suc k) rising (omega arith) (omega (arith, low)), get_or_default xs k 0 p low, at)
+
+-- rising numbers are the same where the same ones are among them
+pub rising-same : (xs ys : List ℕ) → IsStrictlyIncreasing xs → IsStrictlyIncreasing ys → ((p : ℕ) → Contains xs p → Contains ys p) → ((p : ℕ) → Contains ys p → Contains xs p) → xs ≡ ys
+rising-same [] [] up down there back = refl
+rising-same [] (y ∷ ys) up down there back = let (k, low, at) = back y (contains-head y ys) in absurd (omega (arith, low))
+rising-same (x ∷ xs) [] up down there back = let (k, low, at) = there x (contains-head x xs) in absurd (omega (arith, low))
+rising-same (x ∷ xs) (y ∷ ys) up down there back =
+    let first : x ≡ y =
+    elim (contains-cons y ys x (there x (contains-head x xs))) [
+      | inl same ↦ sym same
+      | inr later ↦ elim (contains-cons x xs y (back y (contains-head y ys))) [
+        | inl same ↦ same
+        | inr after ↦ absurd (omega (arith, rising-head y ys x down later, rising-head x xs y up after))
+      ]
+    ] in
+    let rest : xs ≡ ys = rising-same xs ys (rising-tail x xs up) (rising-tail y ys down)
+    (λ p among. elim (contains-cons y ys p (there p (contains-tail x xs p among))) [
+      | inl same ↦ absurd (omega (arith, rising-head x xs p up among, first, same))
+      | inr later ↦ later
+    ])
+    (λ p among. elim (contains-cons x xs p (back p (contains-tail y ys p among))) [
+      | inl same ↦ absurd (omega (arith, rising-head y ys p down among, first, same))
+      | inr later ↦ later
+    ]) in
+    λ t. first t ∷ rest t
+
+-- parts of rising numbers rise
+rising-take : (n : ℕ) (xs : List ℕ) → n ≤ length xs → IsStrictlyIncreasing xs → IsStrictlyIncreasing (take n xs)
+rising-take n xs fits rising k low =
+    let few = length-take-le n xs fits in
+    omega (arith, get_or-take n xs k 0 (omega (arith, low, few)), get_or-take n xs (k + 1) 0 (omega (arith, low, few)), rising k (omega (arith, low, few, fits)))
+
+rising-drop : (n : ℕ) (xs : List ℕ) → IsStrictlyIncreasing xs → IsStrictlyIncreasing (drop n xs)
+rising-drop n xs rising k low =
+    let far : n + (k + 1) ≡ n + k + 1 = omega arith in
+    omega (
+      arith,
+      get_or-drop n xs k 0,
+      get_or-drop n xs (k + 1) 0 ∙ ap (λ at. get_or xs at 0) far,
+      rising (n + k) (omega (arith, low, length-drop n xs)),
+    )
+
+range-rising : (from count : ℕ) → IsStrictlyIncreasing (range_with_len from count)
+range-rising from count k low =
+    let long = length-range_with_len from count in
+    omega (arith, get_or-range_with_len from count k 0 (omega (arith, low, long)), get_or-range_with_len from count (k + 1) 0 (omega (arith, low, long)))
+
+pub within-rising : (marks : List Bool) (from count : ℕ) → IsStrictlyIncreasing (marked_within marks from count)
+within-rising marks from count = IsStrictlyIncreasing-filter (λ p. get_or marks p false) (range_with_len from count) (range-rising from count)
+
+-- what a filter keeps
+kept-from : (test : ℕ → Bool) (xs : List ℕ) (p : ℕ) → Contains (filter test xs) p → Contains xs p × (test p ≡ true)
+kept-from test [] p (k, low, at) = absurd (omega (arith, low))
+kept-from test (x ∷ xs) p among = go (test x) refl (kept-from test xs p) among
+  where
+    go : (b : Bool) → test x ≡ b → (Contains (filter test xs) p → Contains xs p × (test p ≡ true)) → Contains (cond b (x ∷ filter test xs) (filter test xs)) p → Contains (x ∷ xs) p × (test p ≡ true)
+    go true passes rest among = elim (contains-cons x (filter test xs) p among) [
+      | inl same ↦ (subst (Contains (x ∷ xs)) same (contains-head x xs), ap test (sym same) ∙ passes)
+      | inr later ↦ let (there, its) = rest later in (contains-tail x xs p there, its)
+    ]
+    go false fails rest among = let (there, its) = rest among in (contains-tail x xs p there, its)
+
+kept-there : (test : ℕ → Bool) (xs : List ℕ) (p : ℕ) → Contains xs p → test p ≡ true → Contains (filter test xs) p
+kept-there test [] p (k, low, at) passes = absurd (omega (arith, low))
+kept-there test (x ∷ xs) p among passes = go (test x) refl (λ after. kept-there test xs p after passes)
+  where
+    later : (b : Bool) → Contains (filter test xs) p → Contains (cond b (x ∷ filter test xs) (filter test xs)) p
+    later true there = contains-tail x (filter test xs) p there
+    later false there = there
+
+    go : (b : Bool) → test x ≡ b → (Contains xs p → Contains (filter test xs) p) → Contains (cond b (x ∷ filter test xs) (filter test xs)) p
+    go b is rest = elim (contains-cons x xs p among) [
+      | inl same ↦
+          subst (λ c. Contains (cond c (x ∷ filter test xs) (filter test xs)) p) (sym (ap test same ∙ passes) ∙ is)
+          (subst (Contains (x ∷ filter test xs)) same (contains-head x (filter test xs)))
+      | inr after ↦ later b (rest after)
+    ]
+
+range-from : (from count p : ℕ) → Contains (range_with_len from count) p → (from ≤ p) × (p < from + count)
+range-from from count p (k, low, at) =
+    let long = length-range_with_len from count in
+    let is = get_or-range_with_len from count k p (omega (arith, low, long)) in
+    (omega (arith, is, at), omega (arith, is, at, low, long))
+
+range-there : (from count p : ℕ) → from ≤ p → p < from + count → Contains (range_with_len from count) p
+range-there from count p low high =
+    let long = length-range_with_len from count in
+    let within : p - from < count = omega (arith, low, high) in
+    (p - from, omega (arith, within, long), get_or-range_with_len from count (p - from) p within ∙ omega (arith, low))
+
+pub within-from : (marks : List Bool) (from count p : ℕ) → Contains (marked_within marks from count) p → (from ≤ p) × (p < from + count) × (get_or marks p false ≡ true)
+within-from marks from count p among =
+    let (there, its) = kept-from (λ at. get_or marks at false) (range_with_len from count) p among in
+    let (low, high) = range-from from count p there in
+    (low, high, its)
+
+pub within-there : (marks : List Bool) (from count p : ℕ) → from ≤ p → p < from + count → get_or marks p false ≡ true → Contains (marked_within marks from count) p
+within-there marks from count p low high its = kept-there (λ at. get_or marks at false) (range_with_len from count) p (range-there from count p low high) its
+
+-- a marked position is that of a mark
+pub mark-low : (marks : List Bool) (p : ℕ) → get_or marks p false ≡ true → p < length marks
+mark-low [] p its = absurd (false≢true its)
+mark-low (b ∷ marks) zero its = omega arith
+mark-low (b ∷ marks) (suc p) its = omega (arith, mark-low marks p its)
+
+-- the rising positions of all that are marked, cut where those from a position on begin
+pub first-marked : (marks : List Bool) (positions : List ℕ) (n point : ℕ) → IsStrictlyIncreasing positions → ((p : ℕ) → (Contains positions p ↔ IsTrue (get_or marks p false)))
+    → n ≤ length positions → ((k : ℕ) → k < n → get_or positions k 0 < point) → ((k : ℕ) → n ≤ k → k < length positions → point ≤ get_or positions k 0)
+    → take n positions ≡ marked_before marks point
+first-marked marks positions n point rising told fits before rest =
+    rising-same (take n positions) (marked_before marks point) (rising-take n positions fits rising) (within-rising marks 0 point)
+    (λ p (k, low, at).
+    let few : k < n = omega (arith, low, length-take-le n positions fits) in
+    let is : get_or positions k p ≡ p = sym (get_or-take n positions k p few) ∙ at in
+    within-there marks 0 point p (omega arith) (omega (arith, before k few, get_or_default positions k 0 p (omega (arith, few, fits)), is)) ((told p).0 (k, omega (arith, few, fits), is)))
+    (λ p among.
+    let (low, high, its) = within-from marks 0 point p among in
+    let (k, within, is) = (told p).1 its in
+    elim (cases_lt k n) [
+      | inl few ↦ (k, omega (arith, few, length-take-le n positions fits), get_or-take n positions k p few ∙ is)
+      | inr past ↦ absurd (omega (arith, high, rest k past within, get_or_default positions k 0 p within, is))
+    ])
+
+pub last-marked : (marks : List Bool) (positions : List ℕ) (n from : ℕ) → IsStrictlyIncreasing positions → ((p : ℕ) → (Contains positions p ↔ IsTrue (get_or marks p false)))
+    → n ≤ length positions → ((k : ℕ) → k < n → get_or positions k 0 < from) → ((k : ℕ) → n ≤ k → k < length positions → from ≤ get_or positions k 0)
+    → drop n positions ≡ marked_from marks from
+last-marked marks positions n from rising told fits before rest =
+    rising-same (drop n positions) (marked_from marks from) (rising-drop n positions rising) (within-rising marks from (length marks - from))
+    (λ p (k, low, at).
+    let long = length-drop n positions in
+    let within : n + k < length positions = omega (arith, low, long) in
+    let is : get_or positions (n + k) p ≡ p = sym (get_or-drop n positions k p) ∙ at in
+    let its = (told p).0 (n + k, within, is) in
+    let low : from ≤ p = omega (arith, rest (n + k) (omega arith) within, get_or_default positions (n + k) 0 p within, is) in
+    within-there marks from (length marks - from) p low (omega (arith, low, mark-low marks p its)) its)
+    (λ p among.
+    let (low, high, its) = within-from marks from (length marks - from) p among in
+    let (k, within, is) = (told p).1 its in
+    elim (cases_lt k n) [
+      | inl few ↦ absurd (omega (arith, low, before k few, get_or_default positions k 0 p within, is))
+      | inr past ↦
+          let far : n + (k - n) ≡ k = omega (arith, past) in
+          (k - n, omega (arith, past, within, length-drop n positions), get_or-drop n positions (k - n) p ∙ ap (λ at. get_or positions at p) far ∙ is)
+    ])
+
+-- one more of a range
+range-push : (from count : ℕ) → range_with_len from (suc count) ≡ range_with_len from count ++ (from + count) ∷ []
+range-push from zero = ap (λ p. p ∷ []) (omega arith)
+range-push from (suc count) = ap (λ ps. from ∷ ps) (range-push (from + 1) count ∙ ap (λ p. range_with_len (from + 1) count ++ p ∷ []) (omega arith))
+
+-- what stands at the marked positions before a point is what passes of the first
+pub picked-first : {X : Type 0} (f : ℕ → X) (xs : List X) (test : X → Bool) (marks : List Bool) (point : ℕ) → point ≤ length xs → ((p : ℕ) → p < point → slice_get xs p ≡ Some (f p)) → ((p : ℕ) → p < point → get_or marks p false ≡ test (f p))
+    → map f (marked_before marks point) ≡ filter test (take point xs)
+picked-first f xs test marks zero fits there told = refl
+picked-first {X = X} f xs test marks (suc k) fits there told =
+    let first = picked-first f xs test marks k (omega (arith, fits)) (λ p low. there p (omega (arith, low))) (λ p low. told p (omega (arith, low))) in
+    let here : slice_get xs k ≡ Some (f k) = there k (omega arith) in
+    let more : marked_within marks 0 (suc k) ≡ marked_within marks 0 k ++ cond (get_or marks k false) (k ∷ []) [] = range-more marks k in
+    let last : filter test (take (suc k) xs) ≡ filter test (take k xs) ++ cond (test (f k)) (f k ∷ []) [] =
+    ap (λ n. filter test (take n xs)) (one k) ∙ filter_more test xs k (f k) (slice_get_within xs k (f k) here)
+    ∙ ap (λ (x : X). filter test (take k xs) ++ cond (test x) (x ∷ []) []) (get_or_from_slice_get xs k (f k) (f k) here) in
+    ap (map f) more ∙ map-append f (marked_within marks 0 k) (cond (get_or marks k false) (k ∷ []) [])
+    ∙ ap (λ ys. ys ++ map f (cond (get_or marks k false) (k ∷ []) [])) first
+    ∙ ap (λ b. filter test (take k xs) ++ map f (cond b (k ∷ []) [])) (told k (omega arith))
+    ∙ ap (λ ys. filter test (take k xs) ++ ys) (mapped (test (f k)))
+    ∙ sym last
+  where
+    one : (k : ℕ) → suc k ≡ k + 1
+    one k = omega arith
+
+    mapped : (b : Bool) → map f (cond b (k ∷ []) []) ≡ cond b (f k ∷ []) []
+    mapped true = refl
+    mapped false = refl
+
+    range-more : (marks : List Bool) (k : ℕ) → marked_within marks 0 (suc k) ≡ marked_within marks 0 k ++ cond (get_or marks k false) (k ∷ []) []
+    range-more marks k =
+        let whole : range_with_len 0 (suc k) ≡ range_with_len 0 k ++ k ∷ [] = range-push 0 k ∙ ap (λ p. range_with_len 0 k ++ p ∷ []) (omega arith) in
+        ap (filter (λ p. get_or marks p false)) whole ∙ filter-append (λ p. get_or marks p false) (range_with_len 0 k) (k ∷ [])
+
+-- positions before a point are below it, and those from one on are positions of marks
+pub before-low : (marks : List Bool) (point : ℕ) (positions : List ℕ) → positions ≡ marked_before marks point → (k : ℕ) → k < length positions → get_or positions k 0 < point
+before-low marks point positions is k low =
+    omega (arith, (within-from marks 0 point (get_or positions k 0) (subst (λ ps. Contains ps (get_or positions k 0)) is (k, low, get_or_default positions k (get_or positions k 0) 0 low))).1)
+
+pub from-low : (marks : List Bool) (from : ℕ) (positions : List ℕ) → positions ≡ marked_from marks from → (k : ℕ) → k < length positions → get_or positions k 0 < length marks
+from-low marks from positions is k low =
+    mark-low marks (get_or positions k 0)
+    (within-from marks from (length marks - from) (get_or positions k 0) (subst (λ ps. Contains ps (get_or positions k 0)) is (k, low, get_or_default positions k (get_or positions k 0) 0 low))).2
