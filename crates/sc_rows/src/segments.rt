@@ -133,8 +133,9 @@ fn push_one(rt: &impl Abort, rewound: &mut Segments)
     assert_eq!(rt; rewound.len(), 2);
     let pushed = rewound.push(student(rt, 3), &chain[..1]);
     assert!(rt; pushed.is_ok());
-    assert_eq!(rt; rewound.segment(2), &chain[..1]);
     assert_eq!(rt; rewound.log_len(), 1);
+    let log = rewound.flat().expect(rt, "memory");
+    assert_eq!(rt; log.as_slice(), &chain[..1]);
 }
 
 fn expect_copies(rt: &impl Abort, segments: &Segments)
