@@ -236,13 +236,20 @@ module _ (m : Market) (well : WellFormed m) where
         subst (Linked m a s) one (itself s);
   }
 
-  -- the groups that the choices of all students join
-  pub grouped-partial : (a : Amendment) → IsPartial m a (joined_students m (students_of m))
+  -- the groups that the choices of some students join
+  pub joined-partial : (a : Amendment) (students : List ℕ) → ((i : ℕ) → Contains students i → is_student m i ≡ true) → IsPartial m a (joined_students m students)
   unfolding joined_students
-  grouped-partial a = students-partial a (range_with_len 0 (length (schools_of m))) (students_of m) (λ i among. among-student m i among) (start-partial a)
+  joined-partial a students known = students-partial a (range_with_len 0 (length (schools_of m))) students known (start-partial a)
+
+  pub joined-together : (students : List ℕ) → ((i : ℕ) → Contains students i → is_student m i ≡ true) → (i s : ℕ) → Contains students i → Contains (choices_of m i) s
+      → group_of m (joined_students m students) s ≡ group_of m (joined_students m students) (first_choice m i)
+  unfolding joined_students
+  joined-together students known i s among listed = students-together (range_with_len 0 (length (schools_of m))) students known start-whole i among s listed
+
+  -- and of all
+  pub grouped-partial : (a : Amendment) → IsPartial m a (joined_students m (students_of m))
+  grouped-partial a = joined-partial a (students_of m) (λ i among. among-student m i among)
 
   pub grouped-together : (i s : ℕ) → Contains (choices_of m i) s
       → group_of m (joined_students m (students_of m)) s ≡ group_of m (joined_students m (students_of m)) (first_choice m i)
-  unfolding joined_students
-  grouped-together i s listed =
-      students-together (range_with_len 0 (length (schools_of m))) (students_of m) (λ j among. among-student m j among) start-whole i (lister-among m i s listed) s listed
+  grouped-together i s listed = joined-together (students_of m) (λ j among. among-student m j among) i s (lister-among m i s listed) listed

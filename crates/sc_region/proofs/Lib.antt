@@ -7,4 +7,4 @@ pub mod Filtering
 pub mod Reaching
 pub mod ChoicePlaces
 pub mod Marked
-mod MarkedPositions
+pub mod Candidates

@@ -1,5 +1,5 @@
--- The groups that the old lists and the new choices join tell the region.
-use Rattle.std.proofs.Common.{◌≡◌, ◌⊎◌, ◌↔◌, inl, inr, refl, sym, ap, subst, ◌∙◌, ℕ, ◌==◌, nat_eq, Bool, true, Some, None, Contains, IsTrue, filter}
+-- The groups that lists and the new choices join tell the region.
+use Rattle.std.proofs.Common.{◌≡◌, ◌⊎◌, ◌↔◌, inl, inr, sym, ap, subst, ◌∙◌, ℕ, ◌==◌, nat_eq, Bool, true, List, Some, None, Contains, IsTrue, filter}
 use Rattle.std.specs.List.{IsDistinct}
 use Rattle.std.proofs.lemmas.Bool.{eqb-true, eq-eqb}
 use Rattle.std.proofs.lemmas.List.Elements.{Contains-append_cases, Contains-append_left, Contains-append_right}
@@ -10,11 +10,11 @@ use Rattle.sc_papers.specs.declared.amendment.Amendment.{Amendment}
 use Rattle.sc_papers.proofs.Positions.{among-student, student-among}
 use Rattle.sc_papers.proofs.Students.{choice-known, lister-among}
 use Rattle.sc_region.proofs.Filtering.{filter-among, filter-differ, filter-kept}
-use Rattle.sc_region.specs.Groups.{entrants, first_choice, group_of, is_member, joined_students, members_of, new_choices, region_groups, region_members, start_of}
+use Rattle.sc_region.specs.Groups.{entrants, first_choice, group_of, is_member, joined_students, members_of, new_choices, region_groups, region_members, start_of, widened}
 use Rattle.sc_region.specs.Region.{amended_student, InRegion, amended, concerned, next, Lists}
 use Rattle.sc_region.proofs.Changes.{amended-known, amended-some, entrant-amended, entrants-differ, new-amended, new-known, new-listed, old-or_new, start-amended, start-first, start-known, start-listed}
 use Rattle.sc_region.proofs.Choosing.{first-listed}
-use Rattle.sc_region.proofs.Joining.{Linked, itself, shared, through, Coarser, IsPartial, grouped-partial, grouped-together, list-coarser, list-partial, list-together}
+use Rattle.sc_region.proofs.Joining.{Linked, itself, shared, through, AreWhole, Coarser, IsPartial, grouped-partial, grouped-together, list-coarser, list-partial, list-together}
 
 module _ (m : Market) (a : Amendment) (well : WellFormed m) (allowed : verdict m a ≡ None) where
   -- who lists a school, lists a school of the papers
@@ -39,50 +39,7 @@ module _ (m : Market) (a : Amendment) (well : WellFormed m) (allowed : verdict m
       let (i, is) = new-amended a s among in
       shared i (start_of m a) s (start-listed m a well allowed i is) (inr (new-listed m a allowed i s is among))
 
-  region-partial : IsPartial m a (region_groups m a)
-  unfolding region_groups
-  region-partial =
-      list-partial m (start_of m a) first_known a (joined_students m (students_of m)) (new_choices a) (new-known m a allowed) new-linked (grouped-partial m well a)
-
-  region-coarser : Coarser m (joined_students m (students_of m)) (region_groups m a)
-  unfolding region_groups
-  region-coarser = list-coarser m (start_of m a) first_known (joined_students m (students_of m)) (new_choices a) (grouped-partial m well a).whole
-
-  new-together : (s : ℕ) → Contains (new_choices a) s → group_of m (region_groups m a) s ≡ group_of m (region_groups m a) (start_of m a)
-  unfolding region_groups
-  new-together s among =
-      list-together m (start_of m a) first_known (joined_students m (students_of m)) (new_choices a) (grouped-partial m well a).whole (new-known m a allowed) s among
-
-  old-together : (i s : ℕ) → Contains (choices_of m i) s → group_of m (region_groups m a) s ≡ group_of m (region_groups m a) (first_choice m i)
-  old-together i s listed =
-      let known = among-student m i (lister-among m i s listed) in
-      region-coarser.kept s (first_choice m i) (choice-known m well i s listed) (choice-known m well i (first_choice m i) (first-listed m well i known)) (grouped-together m well i s listed)
-
-  amended-together : (i s : ℕ) → amended_student a ≡ Some i → Contains (choices_of m i) s → group_of m (region_groups m a) s ≡ group_of m (region_groups m a) (start_of m a)
-  amended-together i s is listed = old-together i s listed ∙ ap (group_of m (region_groups m a)) (sym (start-first m a allowed i s is listed))
-
-  -- all that a student lists is in one group
-  region-together : (i s t : ℕ) → Lists m a i s → Lists m a i t → group_of m (region_groups m a) s ≡ group_of m (region_groups m a) t
-  region-together i s t first second = go (by-old i s first) (by-old i t second)
-    where
-      go : Contains (choices_of m i) s ⊎ ((amended_student a ≡ Some i) × Contains (new_choices a) s)
-          → Contains (choices_of m i) t ⊎ ((amended_student a ≡ Some i) × Contains (new_choices a) t)
-          → group_of m (region_groups m a) s ≡ group_of m (region_groups m a) t
-      go (inl old_s) (inl old_t) = old-together i s old_s ∙ sym (old-together i t old_t)
-      go (inl old_s) (inr (is, new_t)) = amended-together i s is old_s ∙ sym (new-together t new_t)
-      go (inr (is, new_s)) (inl old_t) = new-together s new_s ∙ sym (amended-together i t is old_t)
-      go (inr (is, new_s)) (inr (also, new_t)) = new-together s new_s ∙ sym (new-together t new_t)
-
-  -- linked schools are in one group
-  linked-together : (s t : ℕ) → Linked m a s t → group_of m (region_groups m a) s ≡ group_of m (region_groups m a) t
-  linked-together _ _ (itself s) = refl
-  linked-together _ _ (shared i s t first second) = region-together i s t first second
-  linked-together _ _ (through s t u first second) = linked-together s t first ∙ linked-together t u second
-
   -- all who list a school are in the region
-  AllIn : ℕ → Type 0
-  AllIn s = (i : ℕ) → Lists m a i s → InRegion m a i
-
   start-in : (i : ℕ) → Lists m a i (start_of m a) → InRegion m a i
   start-in i lists = elim (amended-some a) [
     | inl (j, is) ↦ next i j (start_of m a) (amended j is) (start-listed m a well allowed j is) lists
@@ -93,12 +50,6 @@ module _ (m : Market) (a : Amendment) (well : WellFormed m) (allowed : verdict m
   linked-in _ _ (itself s) all = all
   linked-in _ _ (shared j s t first second) all = λ i lists. next i j t (all j first) second lists
   linked-in _ _ (through s t u first second) all = linked-in t u second (linked-in s t first all)
-
-  -- what one of the region lists is linked to the school to begin with
-  in-linked : (i : ℕ) → InRegion m a i → (t : ℕ) → Lists m a i t → Linked m a (start_of m a) t
-  in-linked _ (amended i is) t lists = shared i (start_of m a) t (start-listed m a well allowed i is) lists
-  in-linked _ (concerned i s is listed) t lists = shared i (start_of m a) t (subst (Lists m a i) (sym (start-amended m a s is)) listed) lists
-  in-linked _ (next i j s within first second) t lists = through (start_of m a) s t (in-linked j within s first) (shared i s t second lists)
 
   -- the region has students of the papers, and the one who enters
   lister-known : (i s : ℕ) → Lists m a i s → (is_student m i ≡ true) ⊎ Contains (entrants a) i
@@ -112,16 +63,76 @@ module _ (m : Market) (a : Amendment) (well : WellFormed m) (allowed : verdict m
   in-known _ (concerned i s is listed) = lister-known i s listed
   in-known _ (next i j s within first second) = lister-known i s second
 
-  member-in : (i : ℕ) → Contains (students_of m) i → group_of m (region_groups m a) (first_choice m i) ≡ group_of m (region_groups m a) (start_of m a) → InRegion m a i
+-- groups of linked schools: whoever's first choice is in the group to begin with, is in the region
+module _ (m : Market) (a : Amendment) (well : WellFormed m) (allowed : verdict m a ≡ None) (groups : List ℕ) (before : IsPartial m a groups) where
+  widened-partial : IsPartial m a (widened m a groups)
+  unfolding widened
+  widened-partial =
+      list-partial m (start_of m a) (first_known m a well allowed) a groups (new_choices a) (new-known m a allowed) (new-linked m a well allowed) before
+
+  pub member-in : (i : ℕ) → Contains (students_of m) i → group_of m (widened m a groups) (first_choice m i) ≡ group_of m (widened m a groups) (start_of m a) → InRegion m a i
   member-in i among same =
       let known = among-student m i among in
       let listed = first-listed m well i known in
-      linked-in (start_of m a) (first_choice m i)
-      (region-partial.sound (start_of m a) (first_choice m i) first_known (choice-known m well i (first_choice m i) listed) (sym same))
-      start-in i (inl listed)
+      linked-in m a well allowed (start_of m a) (first_choice m i)
+      (widened-partial.sound (start_of m a) (first_choice m i) (first_known m a well allowed) (choice-known m well i (first_choice m i) listed) (sym same))
+      (start-in m a well allowed) i (inl listed)
 
-  in-member : (i : ℕ) → InRegion m a i → is_student m i ≡ true → group_of m (region_groups m a) (first_choice m i) ≡ group_of m (region_groups m a) (start_of m a)
-  in-member i within known = sym (linked-together (start_of m a) (first_choice m i) (in-linked i within (first_choice m i) (inl (first-listed m well i known))))
+-- groups that hold together what some students list before the amendment
+module _ (m : Market) (a : Amendment) (well : WellFormed m) (allowed : verdict m a ≡ None) (groups : List ℕ) (whole : AreWhole m groups)
+    (Of : ℕ → Type 0) (closed : (i s : ℕ) → Of i → Contains (choices_of m i) s → group_of m groups s ≡ group_of m groups (first_choice m i)) where
+  widened-coarser : Coarser m groups (widened m a groups)
+  unfolding widened
+  widened-coarser = list-coarser m (start_of m a) (first_known m a well allowed) groups (new_choices a) whole
+
+  new-together : (s : ℕ) → Contains (new_choices a) s → group_of m (widened m a groups) s ≡ group_of m (widened m a groups) (start_of m a)
+  unfolding widened
+  new-together s among =
+      list-together m (start_of m a) (first_known m a well allowed) groups (new_choices a) whole (new-known m a allowed) s among
+
+  old-together : (i s : ℕ) → Of i → Contains (choices_of m i) s → group_of m (widened m a groups) s ≡ group_of m (widened m a groups) (first_choice m i)
+  old-together i s of listed =
+      let known = among-student m i (lister-among m i s listed) in
+      widened-coarser.kept s (first_choice m i) (choice-known m well i s listed) (choice-known m well i (first_choice m i) (first-listed m well i known)) (closed i s of listed)
+
+  amended-together : (i s : ℕ) → Of i → amended_student a ≡ Some i → Contains (choices_of m i) s → group_of m (widened m a groups) s ≡ group_of m (widened m a groups) (start_of m a)
+  amended-together i s of is listed = old-together i s of listed ∙ ap (group_of m (widened m a groups)) (sym (start-first m a allowed i s is listed))
+
+  -- all that such a student lists, before or after, is in one of the widened groups
+  pub region-together : (i s t : ℕ) → Of i → Lists m a i s → Lists m a i t → group_of m (widened m a groups) s ≡ group_of m (widened m a groups) t
+  region-together i s t of first second = go (by-old m a well allowed i s first) (by-old m a well allowed i t second)
+    where
+      go : Contains (choices_of m i) s ⊎ ((amended_student a ≡ Some i) × Contains (new_choices a) s)
+          → Contains (choices_of m i) t ⊎ ((amended_student a ≡ Some i) × Contains (new_choices a) t)
+          → group_of m (widened m a groups) s ≡ group_of m (widened m a groups) t
+      go (inl old_s) (inl old_t) = old-together i s of old_s ∙ sym (old-together i t of old_t)
+      go (inl old_s) (inr (is, new_t)) = amended-together i s of is old_s ∙ sym (new-together t new_t)
+      go (inr (is, new_s)) (inl old_t) = new-together s new_s ∙ sym (amended-together i t of is old_t)
+      go (inr (is, new_s)) (inr (also, new_t)) = new-together s new_s ∙ sym (new-together t new_t)
+
+  -- and where the region is of them, all that one of the region lists is in the group to begin with
+  in-near : ((i : ℕ) → InRegion m a i → Of i) → (i : ℕ) → InRegion m a i → (t : ℕ) → Lists m a i t → group_of m (widened m a groups) t ≡ group_of m (widened m a groups) (start_of m a)
+  in-near all _ (amended i is) t lists =
+      region-together i t (start_of m a) (all i (amended i is)) lists (start-listed m a well allowed i is)
+  in-near all _ (concerned i s is listed) t lists =
+      region-together i t (start_of m a) (all i (concerned i s is listed)) lists (subst (Lists m a i) (sym (start-amended m a s is)) listed)
+  in-near all _ (next i j s within first second) t lists =
+      region-together i t s (all i (next i j s within first second)) lists second ∙ in-near all j within s first
+
+  pub in-member : ((i : ℕ) → InRegion m a i → Of i) → (i : ℕ) → InRegion m a i → is_student m i ≡ true
+      → group_of m (widened m a groups) (first_choice m i) ≡ group_of m (widened m a groups) (start_of m a)
+  in-member all i within known = in-near all i within (first_choice m i) (inl (first-listed m well i known))
+
+-- the groups that all lists join
+module _ (m : Market) (a : Amendment) (well : WellFormed m) (allowed : verdict m a ≡ None) where
+  all-in : (i : ℕ) → Contains (students_of m) i → group_of m (region_groups m a) (first_choice m i) ≡ group_of m (region_groups m a) (start_of m a) → InRegion m a i
+  unfolding region_groups
+  all-in = member-in m a well allowed (joined_students m (students_of m)) (grouped-partial m well a)
+
+  in-all : (i : ℕ) → InRegion m a i → is_student m i ≡ true → group_of m (region_groups m a) (first_choice m i) ≡ group_of m (region_groups m a) (start_of m a)
+  unfolding region_groups
+  in-all =
+      in-member m a well allowed (joined_students m (students_of m)) (grouped-partial m well a).whole (InRegion m a) (λ i s within listed. grouped-together m well i s listed) (λ i within. within)
 
   -- the members are the region
   pub region-exact : (i : ℕ) → (Contains (region_members m a) i ↔ InRegion m a i)
@@ -133,15 +144,15 @@ module _ (m : Market) (a : Amendment) (well : WellFormed m) (allowed : verdict m
 
       to : Contains (region_members m a) i → InRegion m a i
       to among = elim (Contains-append_cases (filter test (students_of m)) (entrants a) i among) [
-        | inl member ↦ let (there, passes) = filter-among test (students_of m) i member in member-in i there (eqb-true _ _ passes)
+        | inl member ↦ let (there, passes) = filter-among test (students_of m) i member in all-in i there (eqb-true _ _ passes)
         | inr enters ↦ amended i (entrant-amended m a i enters)
       ]
 
       from : InRegion m a i → Contains (region_members m a) i
-      from within = elim (in-known i within) [
+      from within = elim (in-known m a well allowed i within) [
         | inl known ↦
             Contains-append_left (filter test (students_of m)) (entrants a) i
-            (filter-kept test (students_of m) i (student-among m i known) (eq-eqb _ _ (in-member i within known)))
+            (filter-kept test (students_of m) i (student-among m i known) (eq-eqb _ _ (in-all i within known)))
         | inr enters ↦ Contains-append_right (filter test (students_of m)) (entrants a) i enters
       ]
 
@@ -149,8 +160,8 @@ module _ (m : Market) (a : Amendment) (well : WellFormed m) (allowed : verdict m
   pub region-marked : (i : ℕ) → Contains (students_of m) i → (IsTrue (is_member m (region_groups m a) (group_of m (region_groups m a) (start_of m a)) i) ↔ InRegion m a i)
   unfolding is_member
   region-marked i among = (
-    λ passes. member-in i among (eqb-true _ _ passes),
-    λ within. eq-eqb _ _ (in-member i within (among-student m i among)),
+    λ passes. all-in i among (eqb-true _ _ passes),
+    λ within. eq-eqb _ _ (in-all i within (among-student m i among)),
   )
 
   -- and they differ

@@ -1,7 +1,7 @@
 -- Groups of schools: the number of each school's group, by the school's position in the order of entry.
 use Rattle.std.specs.Prelude.{ℕ, Bool, ◌==◌, nat_eq, List, [], ◌∷◌, ◌++◌, filter, length, map, min, max, slice_index, if◌then◌else◌}
 use Rattle.std.specs.List.{fold, position_or_len, range_with_len}
-use Rattle.sc_papers.specs.Market.{Market, schools_of, students_of, choices_of}
+use Rattle.sc_papers.specs.Market.{Market, schools_of, student_at, students_of, choices_of}
 use Rattle.sc_papers.specs.declared.amendment.Amendment.{Amendment}
 use Rattle.sc_papers.specs.declared.amendment.Amendment.TheVariants.{Enter, Withdraw, Rerank, Add, Close, Correct}
 
@@ -66,13 +66,25 @@ entrants (Add s count) = []
 entrants (Close s count) = []
 entrants (Correct i zone siblings continuing) = []
 
+-- the groups with the new choices joined to the school to begin with
+unfoldable pub widened : Market → Amendment → List ℕ → List ℕ
+widened m a groups = joined_list m (start_of m a) groups (new_choices a)
+
 -- the groups that all lists join, those before the amendment and those after it
 unfoldable pub region_groups : Market → Amendment → List ℕ
-region_groups m a = joined_list m (start_of m a) (joined_students m (students_of m)) (new_choices a)
+region_groups m a = widened m a (joined_students m (students_of m))
 
 -- whether a student's first choice is in the group
 unfoldable pub is_member : Market → List ℕ → ℕ → ℕ → Bool
 is_member m groups group i = group_of m groups (first_choice m i) == group
+
+-- of these positions in the order of entry, those of the students whose first choice is in the group
+unfoldable pub positions_in : Market → List ℕ → ℕ → List ℕ → List ℕ
+positions_in m groups group positions = filter (λ p. is_member m groups group (student_at m p)) positions
+
+-- the students at these positions
+abbrev pub students_at : Market → List ℕ → List ℕ
+students_at m positions = map (student_at m) positions
 
 -- the students of the papers whose first choice is in the group
 unfoldable pub members_of : Market → List ℕ → ℕ → List ℕ

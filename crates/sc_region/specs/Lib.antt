@@ -2,3 +2,4 @@ pub mod Region
 pub mod Groups
 pub mod Marks
 pub mod Roots
+pub mod Districts

@@ -1,0 +1,102 @@
+-- The region is found among students of whom it is known that they have all of it.
+use Rattle.std.proofs.Common.{◌≡◌, ◌↔◌, inl, inr, ◌<◌, ap, subst, sym, ◌∙◌, ℕ, List, [], ◌∷◌, length, map, Bool, true, Some, None, Contains, filter, slice_get, arith}
+use Rattle.std.proofs.lemmas.Bool.{eqb-true, eq-eqb}
+use Rattle.std.proofs.lemmas.Map.Entries.{length-keys_of}
+use Rattle.std.proofs.lemmas.Option.{slice_get_within}
+use Rattle.sc_papers.specs.Market.{Market, choices_of, is_student, student_at, students_of}
+use Rattle.sc_papers.specs.Verdict.{verdict}
+use Rattle.sc_papers.specs.WellFormed.{WellFormed}
+use Rattle.sc_papers.specs.declared.amendment.Amendment.{Amendment}
+use Rattle.sc_papers.proofs.Choices.{contains-at, place-of}
+use Rattle.sc_papers.proofs.Counting.{contains-cons, contains-head, contains-tail}
+use Rattle.sc_papers.proofs.Hands.{hand-is, hand-student}
+use Rattle.sc_papers.proofs.Positions.{among-student, student-among}
+use Rattle.sc_papers.proofs.Students.{lister-among}
+use Rattle.sc_region.specs.Groups.{first_choice, group_of, is_member, joined_students, positions_in, start_of, students_at, widened}
+use Rattle.sc_region.specs.Region.{InRegion}
+use Rattle.sc_region.proofs.Filtering.{filter-among, filter-kept}
+use Rattle.sc_region.proofs.Joining.{AreWhole, joined-partial, joined-together}
+use Rattle.sc_region.proofs.Reaching.{in-member, member-in}
+
+-- what stands in a list stands, mapped, in the mapped one
+map-kept : (f : ℕ → ℕ) (xs : List ℕ) (x : ℕ) → Contains xs x → Contains (map f xs) (f x)
+map-kept f [] x (k, low, at) = absurd (omega (arith, low))
+map-kept f (y ∷ xs) x among = elim (contains-cons y xs x among) [
+  | inl same ↦ subst (λ z. Contains (f y ∷ map f xs) (f z)) same (contains-head (f y) (map f xs))
+  | inr later ↦ contains-tail (f y) (map f xs) (f x) (map-kept f xs x later)
+]
+
+-- and the other way round
+map-among : (f : ℕ → ℕ) (xs : List ℕ) (y : ℕ) → Contains (map f xs) y → (x : ℕ) × Contains xs x × (f x ≡ y)
+map-among f [] y (k, low, at) = absurd (omega (arith, low))
+map-among f (x ∷ xs) y among = elim (contains-cons (f x) (map f xs) y among) [
+  | inl same ↦ (x, contains-head x xs, same)
+  | inr later ↦ let (z, there, is) = map-among f xs y later in (z, contains-tail x xs z there, is)
+]
+
+-- where no list leaves its group, a student of the region has their first choice in the widened group to begin with
+pub region-near : (m : Market) (a : Amendment) → WellFormed m → verdict m a ≡ None → (groups : List ℕ) → AreWhole m groups
+    → ((i s : ℕ) → Contains (choices_of m i) s → group_of m groups s ≡ group_of m groups (first_choice m i))
+    → (i : ℕ) → InRegion m a i → is_student m i ≡ true → is_member m (widened m a groups) (group_of m (widened m a groups) (start_of m a)) i ≡ true
+unfolding is_member
+region-near m a well allowed groups whole closed i within known =
+    eq-eqb _ _ (in-member m a well allowed groups whole (λ j. Unit {0}) (λ j s of listed. closed j s listed) (λ j inside. tt) i within known)
+
+-- students of the papers who have all of the region that are students of the papers
+module _ (m : Market) (a : Amendment) (well : WellFormed m) (allowed : verdict m a ≡ None) (students : List ℕ)
+    (known : (i : ℕ) → Contains students i → is_student m i ≡ true) (enough : (i : ℕ) → InRegion m a i → is_student m i ≡ true → Contains students i) where
+  candidate-in : (i : ℕ) → Contains (students_of m) i → is_member m (widened m a (joined_students m students)) (group_of m (widened m a (joined_students m students)) (start_of m a)) i ≡ true → InRegion m a i
+  unfolding is_member
+  candidate-in i among passes = member-in m a well allowed (joined_students m students) (joined-partial m well a students known) i among (eqb-true _ _ passes)
+
+  in-candidate : (i : ℕ) → InRegion m a i → is_student m i ≡ true → is_member m (widened m a (joined_students m students)) (group_of m (widened m a (joined_students m students)) (start_of m a)) i ≡ true
+  unfolding is_member
+  in-candidate i within i_known =
+      eq-eqb _ _
+      (in-member m a well allowed (joined_students m students) (joined-partial m well a students known).whole (InRegion m a)
+      (λ j s inside listed. joined-together m well students known j s (enough j inside (among-student m j (lister-among m j s listed))) listed)
+      (λ j inside. inside) i within i_known)
+
+-- and the same by positions
+module _ (m : Market) (a : Amendment) (well : WellFormed m) (allowed : verdict m a ≡ None) (positions : List ℕ)
+    (within : (p : ℕ) → Contains positions p → p < length (students_of m)) (enough : (p : ℕ) → p < length (students_of m) → InRegion m a (student_at m p) → Contains positions p) where
+  at-known : (i : ℕ) → Contains (students_at m positions) i → is_student m i ≡ true
+  at-known i among =
+      let (p, there, is) = map-among (student_at m) positions i among in
+      subst (λ j. is_student m j ≡ true) is (hand-student m p (omega (arith, within p there, length-keys_of m.students)))
+
+  at-enough : (i : ℕ) → InRegion m a i → is_student m i ≡ true → Contains (students_at m positions) i
+  at-enough i inside known =
+      let (p, there) = place-of (students_of m) i (student-among m i known) in
+      let own : student_at m p ≡ i = hand-is m p i there in
+      subst (Contains (students_at m positions)) own
+      (map-kept (student_at m) positions p (enough p (slice_get_within (students_of m) p i there) (subst (InRegion m a) (sym own) inside)))
+
+  pub positions-exact : (p i : ℕ) → slice_get (students_of m) p ≡ Some i
+      → (Contains (positions_in m (widened m a (joined_students m (students_at m positions))) (group_of m (widened m a (joined_students m (students_at m positions))) (start_of m a)) positions) p ↔ InRegion m a i)
+  unfolding positions_in
+  positions-exact p i here = (to, from)
+    where
+      test : ℕ → Bool
+      test q = is_member m (widened m a (joined_students m (students_at m positions))) (group_of m (widened m a (joined_students m (students_at m positions))) (start_of m a)) (student_at m q)
+
+      own : student_at m p ≡ i
+      own = hand-is m p i here
+
+      low : p < length (students_of m)
+      low = slice_get_within (students_of m) p i here
+
+      known : is_student m i ≡ true
+      known = among-student m i (contains-at (students_of m) p i here)
+
+      to : Contains (filter test positions) p → InRegion m a i
+      to among =
+          candidate-in m a well allowed (students_at m positions) at-known at-enough i (contains-at (students_of m) p i here)
+          (ap (λ j. is_member m (widened m a (joined_students m (students_at m positions))) (group_of m (widened m a (joined_students m (students_at m positions))) (start_of m a)) j) (sym own)
+          ∙ (filter-among test positions p among).1)
+
+      from : InRegion m a i → Contains (filter test positions) p
+      from inside =
+          filter-kept test positions p (enough p low (subst (InRegion m a) (sym own) inside))
+          (ap (λ j. is_member m (widened m a (joined_students m (students_at m positions))) (group_of m (widened m a (joined_students m (students_at m positions))) (start_of m a)) j) own
+          ∙ in-candidate m a well allowed (students_at m positions) at-known at-enough i inside known)

@@ -1,0 +1,22 @@
+-- Districts of schools, which no student's list leaves.
+use Rattle.std.specs.Prelude.{◌≡◌, ℕ, List, [], length, slice_index_or, Contains}
+use Rattle.sc_papers.specs.Market.{Market, choices_of, schools_of, students_of}
+use Rattle.sc_region.specs.Groups.{first_choice, group_of, place_of}
+
+-- a number for each school's district, and for each school a list of students, both by the school's
+-- position in the order of entry
+pub record DistrictsView : Type 0 where
+  pub groups : List ℕ
+  pub firsts : List (List ℕ)
+
+-- the students listed at a school's position
+abbrev pub firsts_at : List (List ℕ) → ℕ → List ℕ
+firsts_at firsts place = slice_index_or firsts place []
+
+-- each student's choices lie in one district, and each student is listed at their first choice; whoever
+-- else is listed there does no harm
+pub record AreDistricts (m : Market) (d : DistrictsView) : Type 0 where
+  pub one_each : length d.groups ≡ length (schools_of m)
+  pub closed : (i s : ℕ) → Contains (choices_of m i) s → group_of m d.groups s ≡ group_of m d.groups (first_choice m i)
+  pub firsts_each : length d.firsts ≡ length (schools_of m)
+  pub listed : (i : ℕ) → Contains (students_of m) i → Contains (firsts_at d.firsts (place_of m (first_choice m i))) i
