@@ -56,7 +56,7 @@ place-is test xs p found = elim (cases_Bool (nat_lt (position_or_len test xs) (l
 ]
 
 -- a school of the papers has a place among them
-place-within : (m : Market) (s : ℕ) → is_school m s ≡ true → (place_of m s < length (schools_of m)) × (get_or (schools_of m) (place_of m s) s ≡ s)
+pub place-within : (m : Market) (s : ℕ) → is_school m s ≡ true → (place_of m s < length (schools_of m)) × (get_or (schools_of m) (place_of m s) s ≡ s)
 place-within m s known =
     let (at, found) = school-position m s known in
     let here = position-at (schools_of m) s at found in

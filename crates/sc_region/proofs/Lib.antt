@@ -7,4 +7,7 @@ pub mod Filtering
 pub mod Reaching
 pub mod ChoicePlaces
 pub mod Marked
-pub mod Candidates
+pub mod Having
+mod MarkedPositions
+pub mod Listed
+pub mod Firsts

@@ -1,8 +1,8 @@
 -- The positions that are marked, one mark after the other.
-use Rattle.std.proofs.Common.{◌≡◌, ◌↔◌, inl, inr, sym, subst, ◌∙◌, ap, ℕ, ◌+◌, ◌<◌, ◌≤◌, Bool, true, false, List, [], ◌∷◌, ◌++◌, length, get_or, Contains, arith}
+use Rattle.std.proofs.Common.{◌≡◌, ◌↔◌, inl, inr, sym, subst, ◌∙◌, ap, ℕ, ◌+◌, ◌<◌, ◌≤◌, Bool, true, false, List, [], ◌∷◌, ◌++◌, length, take, set, get_or, get_or-set_other, get_or-set_same, Contains, arith}
 use Rattle.std.specs.List.Sorted.{IsStrictlyIncreasing}
 use Rattle.std.proofs.lemmas.Bool.{cases_eq, cases_lt, false≢true}
-use Rattle.std.proofs.lemmas.List.{get_or_append_left, get_or_push, get_or_default, get_or_past, length_push}
+use Rattle.std.proofs.lemmas.List.{get_or_append_left, get_or_push, get_or_default, get_or_past, length_push, take_more}
 use Rattle.std.proofs.lemmas.List.Elements.{Contains-append_left, Contains-push, Contains-push_cases}
 use Rattle.sc_region.specs.Marks.{ArePositions}
 
@@ -69,3 +69,21 @@ positions-all marks at positions past first = record {
     ]),
   );
 }
+
+-- one more of the positions marked
+pub marks-more : (marks : List Bool) (xs : List ℕ) (at : ℕ) → at < length xs → get_or xs at 0 < length marks
+    → ((p : ℕ) → (Contains (take at xs) p ↔ (get_or marks p false ≡ true))) → (p : ℕ) → (Contains (take (at + 1) xs) p ↔ (get_or (set marks (get_or xs at 0) true) p false ≡ true))
+marks-more marks xs at low within before p = elim (cases_eq p (get_or xs at 0)) [
+  | inl same ↦ (
+    (λ among. ap (λ q. get_or (set marks (get_or xs at 0) true) q false) same ∙ get_or-set_same marks (get_or xs at 0) true false within),
+    (λ passes. subst (λ ys. Contains ys p) (sym (take_more xs at 0 low)) (subst (Contains (take at xs ++ get_or xs at 0 ∷ [])) (sym same) (Contains-push (take at xs) (get_or xs at 0)))),
+  )
+  | inr apart ↦ (
+    (λ among. elim (Contains-push_cases (take at xs) (get_or xs at 0) p (subst (λ ys. Contains ys p) (take_more xs at 0 low) among)) [
+      | inl earlier ↦ get_or-set_other marks (get_or xs at 0) p true false apart ∙ (before p).0 earlier
+      | inr same ↦ absurd (apart (sym same))
+    ]),
+    (λ passes. subst (λ ys. Contains ys p) (sym (take_more xs at 0 low))
+        (Contains-append_left (take at xs) (get_or xs at 0 ∷ []) p ((before p).1 (sym (get_or-set_other marks (get_or xs at 0) p true false apart) ∙ passes)))),
+  )
+]

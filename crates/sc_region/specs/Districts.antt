@@ -1,5 +1,6 @@
 -- Districts of schools, which no student's list leaves.
-use Rattle.std.specs.Prelude.{◌≡◌, ℕ, List, [], length, slice_index_or, Contains}
+use Rattle.std.specs.Prelude.{◌≡◌, ℕ, List, [], length, map, slice_index_or, Contains, Vec}
+use Rattle.std.specs.declared.alloc.Global.{Global}
 use Rattle.sc_papers.specs.Market.{Market, choices_of, schools_of, students_of}
 use Rattle.sc_region.specs.Groups.{first_choice, group_of, place_of}
 
@@ -8,6 +9,10 @@ use Rattle.sc_region.specs.Groups.{first_choice, group_of, place_of}
 pub record DistrictsView : Type 0 where
   pub groups : List ℕ
   pub firsts : List (List ℕ)
+
+-- the lists that a list of them holds
+abbrev pub lists_in : List (Vec ℕ Global) → List (List ℕ)
+lists_in lists = map (λ list. list.items) lists
 
 -- the students listed at a school's position
 abbrev pub firsts_at : List (List ℕ) → ℕ → List ℕ

@@ -3,7 +3,7 @@
 ghost use Rattle.std.specs.Prelude.{◌≡◌, ◌<◌, ℕ, true, length, take, Contains, IfOk};
 ghost use Rattle.sc_papers.specs.Market.{choices_of, is_school, schools_of, student_at, students_of};
 ghost use Rattle.sc_papers.specs.WellFormed.{WellFormed};
-ghost use Rattle.sc_region.specs.Groups.{first_choice, joined_choices, joined_list, joined_students, place_of};
+ghost use Rattle.sc_region.specs.Groups.{first_choice, joined_choices, joined_list, joined_students, place_of, students_at};
 
 use crate::school_groups::SchoolGroups;
 use sc_papers::{Papers, SchoolNo};
@@ -84,6 +84,23 @@ pub(crate) fn groups_of(alloc: Global, papers: &Papers) -> Result<SchoolGroups, 
     let mut groups = SchoolGroups::new(alloc, papers.schools_len())?;
     for position in 0..papers.students_len() {
         join_choices(papers, &mut groups, position);
+    }
+    Ok(groups)
+}
+
+/// The groups that the choices of the students at these positions join.
+pub(crate) fn groups_among(
+    alloc: Global,
+    papers: &Papers,
+    positions: &[usize],
+) -> Result<SchoolGroups, AllocError>
+    requires { (p : ℕ) → Contains positions.now p → p < length (students_of papers.now) }
+    ensures joined { IfOk result (λ groups. groups ≡ joined_students papers.now (students_at papers.now positions.now)) }
+    ensures one_each { IfOk result (λ groups. length groups ≡ length (schools_of papers.now)) }
+{
+    let mut groups = SchoolGroups::new(alloc, papers.schools_len())?;
+    for position in positions {
+        join_choices(papers, &mut groups, *position);
     }
     Ok(groups)
 }

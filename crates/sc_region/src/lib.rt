@@ -1,6 +1,8 @@
 //! The region of an amendment: the students whom it may concern.
 #![tactic(auto)]
 
+mod candidates;
+mod districts;
 mod grouping;
 mod marks;
 mod members;
@@ -8,6 +10,7 @@ mod reach;
 mod region_list;
 mod school_groups;
 
+pub use districts::Districts;
 pub use marks::RegionMarks;
 pub use reach::{region, region_marks};
 pub use region_list::RegionList;

@@ -1,6 +1,6 @@
 //! The students of a region, by position.
 
-ghost use Rattle.std.specs.Prelude.{◌≡◌, false, slice_index_or, IfOk};
+ghost use Rattle.std.specs.Prelude.{◌≡◌, ◌↔◌, ◌<◌, ℕ, false, length, slice_index_or, Contains, IsTrue, IfOk};
 ghost use Rattle.sc_region.specs.Marks.{ArePositions};
 
 use std::alloc::{AllocError, Global};
@@ -38,8 +38,21 @@ fn positions_of(alloc: Global, marks: &[bool]) -> Result<Vec<usize>, AllocError>
     Ok(positions)
 }
 
+/// So many marks, where these positions are marked.
+fn marks_at(alloc: Global, count: usize, positions: &[usize]) -> Result<Vec<bool>, AllocError>
+    requires { (position : ℕ) → Contains positions.now position → position < count }
+    ensures count { IfOk result (λ marks. length marks.items ≡ count) }
+    ensures marked { IfOk result (λ marks. (position : ℕ) → (Contains positions.now position ↔ IsTrue (slice_index_or marks.items position false))) }
+{
+    let mut marks = vec![in alloc; false; count]?;
+    for position in positions {
+        marks[*position] = true;
+    }
+    Ok(marks)
+}
+
 impl RegionMarks {
-    ghost use Rattle.std.specs.Prelude.{◌≡◌, ◌↔◌, ℕ, false, slice_index_or, Contains, IsTrue, IfOk};
+    ghost use Rattle.std.specs.Prelude.{◌≡◌, ◌↔◌, ◌<◌, ℕ, false, length, slice_index_or, Contains, IsTrue, IfOk};
     ghost use Rattle.std.specs.List.Sorted.{IsStrictlyIncreasing};
 
     /// These marks. One pass over them; memory is taken for the positions that are marked.
@@ -47,6 +60,17 @@ impl RegionMarks {
         ensures { IfOk result (λ region. region ≡ marks.items) }
     {
         let positions = positions_of(alloc, marks.as_slice())?;
+        Ok(RegionMarks { marks, positions })
+    }
+
+    /// A mark for each of so many students, where these rising positions are marked.
+    pub(crate) fn at(alloc: Global, count: usize, positions: Vec<usize>) -> Result<Self, AllocError>
+        requires rising { IsStrictlyIncreasing positions.items }
+        requires within { (position : ℕ) → Contains positions.items position → position < count }
+        ensures count { IfOk result (λ region. length region ≡ count) }
+        ensures marked { IfOk result (λ region. (position : ℕ) → (Contains positions.items position ↔ IsTrue (slice_index_or region position false))) }
+    {
+        let marks = marks_at(alloc, count, positions.as_slice())?;
         Ok(RegionMarks { marks, positions })
     }
 

@@ -10,7 +10,7 @@ use std::alloc::{AllocError, Global};
 
 /// Whether the first choice of the student at a position is in a group.
 #[tactic(auto, unfolding(crate::specs::Groups::is_member))]
-fn is_member(papers: &Papers, groups: &[usize], group: usize, position: usize) -> bool
+pub(crate) fn is_member(papers: &Papers, groups: &[usize], group: usize, position: usize) -> bool
     requires one_each { length groups.now ≡ length (schools_of papers.now) }
     requires within { position < length (students_of papers.now) }
     ensures { result ≡ is_member papers.now groups.now group (student_at papers.now position) }

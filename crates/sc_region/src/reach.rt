@@ -27,7 +27,7 @@ fn first_choice(papers: &Papers, student: StudentNo) -> SchoolNo
 }
 
 /// A school that the amendment concerns: the amended one, or a choice of the amended student.
-fn start_of(papers: &Papers, amendment: &Amendment) -> SchoolNo
+pub(crate) fn start_of(papers: &Papers, amendment: &Amendment) -> SchoolNo
     requires { verdict papers.now amendment.now ≡ None }
     ensures start { result ≡ start_of papers.now amendment.now }
     ensures known { is_school papers.now result ≡ true }
@@ -42,7 +42,7 @@ fn start_of(papers: &Papers, amendment: &Amendment) -> SchoolNo
 }
 
 /// The choices that come with the amendment.
-fn new_choices(amendment: &Amendment) -> &[SchoolNo]
+pub(crate) fn new_choices(amendment: &Amendment) -> &[SchoolNo]
     ensures { result.now ≡ new_choices amendment.now }
 {
     match amendment {

@@ -105,6 +105,15 @@ impl SchoolGroups {
         self.parents[first.max(second)] = first.min(second);
     }
 
+    /// The same groups once more.
+    pub(crate) fn copy(&self, alloc: Global) -> Result<Self, AllocError>
+        ensures { IfOk result (λ groups. groups ≡ self.now) }
+    {
+        Ok(SchoolGroups {
+            parents: Vec::from_slice(alloc, self.parents.as_slice())?,
+        })
+    }
+
     /// The number of the group at each position. One pass over them.
     pub(crate) fn into_numbers(self) -> Vec<usize>
         ensures { result.items ≡ self }

@@ -3,7 +3,7 @@ use Rattle.std.proofs.Common.{◌≡◌, ◌↔◌, inl, inr, ◌<◌, ap, subst
 use Rattle.std.proofs.lemmas.Bool.{eqb-true, eq-eqb}
 use Rattle.std.proofs.lemmas.Map.Entries.{length-keys_of}
 use Rattle.std.proofs.lemmas.Option.{slice_get_within}
-use Rattle.sc_papers.specs.Market.{Market, choices_of, is_student, student_at, students_of}
+use Rattle.sc_papers.specs.Market.{Market, choices_of, is_student, schools_of, student_at, students_of}
 use Rattle.sc_papers.specs.Verdict.{verdict}
 use Rattle.sc_papers.specs.WellFormed.{WellFormed}
 use Rattle.sc_papers.specs.declared.amendment.Amendment.{Amendment}
@@ -11,11 +11,16 @@ use Rattle.sc_papers.proofs.Choices.{contains-at, place-of}
 use Rattle.sc_papers.proofs.Counting.{contains-cons, contains-head, contains-tail}
 use Rattle.sc_papers.proofs.Hands.{hand-is, hand-student}
 use Rattle.sc_papers.proofs.Positions.{among-student, student-among}
-use Rattle.sc_papers.proofs.Students.{lister-among}
-use Rattle.sc_region.specs.Groups.{first_choice, group_of, is_member, joined_students, positions_in, start_of, students_at, widened}
+use Rattle.sc_papers.proofs.Students.{choice-known, lister-among}
+use Rattle.sc_region.specs.Groups.{first_choice, group_of, is_member, joined_students, place_of, positions_in, start_of, students_at, widened}
+use Rattle.sc_region.specs.Districts.{AreDistricts, DistrictsView, firsts_at}
 use Rattle.sc_region.specs.Region.{InRegion}
+use Rattle.std.specs.List.Sorted.{IsStrictlyIncreasing}
+use Rattle.std.specs.Prelude.{slice_index}
+use Rattle.std.proofs.lemmas.List.Kept.{IsStrictlyIncreasing-filter}
+use Rattle.sc_region.proofs.Choosing.{first-listed}
 use Rattle.sc_region.proofs.Filtering.{filter-among, filter-kept}
-use Rattle.sc_region.proofs.Joining.{AreWhole, joined-partial, joined-together}
+use Rattle.sc_region.proofs.Joining.{AreWhole, place-within, joined-partial, joined-together}
 use Rattle.sc_region.proofs.Reaching.{in-member, member-in}
 
 -- what stands in a list stands, mapped, in the mapped one
@@ -100,3 +105,29 @@ module _ (m : Market) (a : Amendment) (well : WellFormed m) (allowed : verdict m
           filter-kept test positions p (enough p low (subst (InRegion m a) (sym own) inside))
           (ap (λ j. is_member m (widened m a (joined_students m (students_at m positions))) (group_of m (widened m a (joined_students m (students_at m positions))) (start_of m a)) j) own
           ∙ in-candidate m a well allowed (students_at m positions) at-known at-enough i inside known)
+
+-- of the positions of a district's students, those whose first choice is in a group
+pub chosen-rising : (m : Market) (groups : List ℕ) (group : ℕ) (positions : List ℕ) → IsStrictlyIncreasing positions → IsStrictlyIncreasing (positions_in m groups group positions)
+unfolding positions_in
+chosen-rising m groups group positions rising = IsStrictlyIncreasing-filter (λ p. is_member m groups group (student_at m p)) positions rising
+
+pub chosen-among : (m : Market) (groups : List ℕ) (group : ℕ) (positions : List ℕ) (p : ℕ) → Contains (positions_in m groups group positions) p → Contains positions p
+unfolding positions_in
+chosen-among m groups group positions p among = (filter-among (λ q. is_member m groups group (student_at m q)) positions p among).0
+
+-- the students who are listed in the widened district have all of the region
+pub district-enough : (m : Market) (a : Amendment) → WellFormed m → verdict m a ≡ None → (d : DistrictsView) → AreDistricts m d
+    → (groups : List ℕ) → groups ≡ widened m a d.groups → length groups ≡ length (schools_of m) → (group : ℕ) → group ≡ group_of m groups (start_of m a)
+    → (positions : List ℕ)
+    → ((place p : ℕ) → place < length groups → slice_index groups place ≡ group → p < length (students_of m) → Contains (firsts_at d.firsts place) (student_at m p) → Contains positions p)
+    → (p : ℕ) → p < length (students_of m) → InRegion m a (student_at m p) → Contains positions p
+unfolding is_member
+district-enough m a well allowed d districts groups are one_each group its positions listed p low inside =
+    let known = hand-student m p (omega (arith, low, length-keys_of m.students)) in
+    let first = first_choice m (student_at m p) in
+    let near : group_of m (widened m a d.groups) first ≡ group_of m (widened m a d.groups) (start_of m a) =
+    eqb-true _ _ (region-near m a well allowed d.groups districts.one_each districts.closed (student_at m p) inside known) in
+    let place = (place-within m first (choice-known m well (student_at m p) first (first-listed m well (student_at m p) known))).0 in
+    listed (place_of m first) p (omega (arith, place, one_each))
+    (ap (λ g. group_of m g first) are ∙ near ∙ sym (its ∙ ap (λ g. group_of m g (start_of m a)) are))
+    low (districts.listed (student_at m p) (student-among m (student_at m p) known))

@@ -1,0 +1,91 @@
+-- The positions of the students whom lists name.
+use Rattle.std.proofs.Common.{◌≡◌, ◌⊎◌, inl, inr, ◌<◌, ◌+◌, ap, sym, subst, ◌∙◌, ℕ, List, [], ◌∷◌, ◌++◌, length, take, get_or, nat_eq, Some, None, Contains, position, arith}
+use Rattle.std.proofs.lemmas.List.{take_more}
+use Rattle.std.proofs.lemmas.List.Elements.{Contains-append_left, Contains-push, Contains-push_cases}
+use Rattle.std.proofs.lemmas.Map.Entries.{length-keys_of}
+use Rattle.std.proofs.lemmas.Bool.{cases_eq}
+use Rattle.sc_papers.specs.Market.{Market, student_at, students_of}
+use Rattle.sc_papers.specs.WellFormed.{WellFormed}
+use Rattle.sc_papers.proofs.Hands.{hand-position, position-low}
+use Rattle.sc_region.specs.Districts.{firsts_at}
+use Rattle.std.specs.Prelude.{slice_index}
+
+-- what the first of a list and one more have
+pub taken-cases : (xs : List ℕ) (at d x : ℕ) → at < length xs → Contains (take (at + 1) xs) x → Contains (take at xs) x ⊎ (get_or xs at d ≡ x)
+taken-cases xs at d x low among = Contains-push_cases (take at xs) (get_or xs at d) x (subst (λ ys. Contains ys x) (take_more xs at d low) among)
+
+-- a list of positions that has the old ones, and that of each of these students who is in the papers
+pub record HasPositions (m : Market) (students old new : List ℕ) : Type 0 where
+  pub within : (p : ℕ) → Contains new p → p < length (students_of m)
+  pub kept : (p : ℕ) → Contains old p → Contains new p
+  pub all : (p : ℕ) → p < length (students_of m) → Contains students (student_at m p) → Contains new p
+
+pub positions-begun : (m : Market) (students old : List ℕ) → ((p : ℕ) → Contains old p → p < length (students_of m)) → HasPositions m (take 0 students) old old
+positions-begun m students old within = record {
+  within = within;
+  kept = λ p among. among;
+  all = λ p low (k, below, at). absurd (omega (arith, below));
+}
+
+-- one more of the students, who is in the papers or is not
+module _ (m : Market) (well : WellFormed m) (students old new : List ℕ) (at i : ℕ) (low : at < length students) (here : i ≡ get_or students at i) (before : HasPositions m (take at students) old new) where
+  own-position : (q : ℕ) → q < length (students_of m) → student_at m q ≡ i → position (nat_eq i) (students_of m) ≡ Some q
+  own-position q q_low is = subst (λ j. position (nat_eq j) (students_of m) ≡ Some q) is (hand-position m well q (omega (arith, q_low, length-keys_of m.students)))
+
+  pub positions-found : (p : ℕ) → position (nat_eq i) (students_of m) ≡ Some p → HasPositions m (take (at + 1) students) old (new ++ p ∷ [])
+  positions-found p found = record {
+    within = λ q among. elim (Contains-push_cases new p q among) [
+      | inl earlier ↦ before.within q earlier
+      | inr same ↦ omega (arith, same, position-low m i p found, length-keys_of m.students)
+    ];
+    kept = λ q among. Contains-append_left new (p ∷ []) q (before.kept q among);
+    all = λ q q_low among. elim (taken-cases students at i (student_at m q) low among) [
+      | inl earlier ↦ Contains-append_left new (p ∷ []) q (before.all q q_low earlier)
+      | inr same ↦
+          let one : Some p ≡ Some q = sym found ∙ own-position q q_low (sym (here ∙ same)) in
+          let is : p ≡ q = cc in
+          subst (Contains (new ++ p ∷ [])) is (Contains-push new p)
+    ];
+  }
+
+  pub positions-absent : position (nat_eq i) (students_of m) ≡ None → HasPositions m (take (at + 1) students) old new
+  positions-absent none = record {
+    within = before.within;
+    kept = before.kept;
+    all = λ q q_low among. elim (taken-cases students at i (student_at m q) low among) [
+      | inl earlier ↦ before.all q q_low earlier
+      | inr same ↦ let no : None ≡ Some q = sym none ∙ own-position q q_low (sym (here ∙ same)) in cc
+    ];
+  }
+
+-- a list of positions that has those of the students who are listed at the first schools of a group
+pub record HasListed (m : Market) (firsts : List (List ℕ)) (groups : List ℕ) (group bound : ℕ) (positions : List ℕ) : Type 0 where
+  pub within : (p : ℕ) → Contains positions p → p < length (students_of m)
+  pub all : (place p : ℕ) → place < bound → slice_index groups place ≡ group → p < length (students_of m) → Contains (firsts_at firsts place) (student_at m p) → Contains positions p
+
+pub listed-begun : (m : Market) (firsts : List (List ℕ)) (groups : List ℕ) (group : ℕ) → HasListed m firsts groups group 0 []
+listed-begun m firsts groups group = record {
+  within = λ p (k, below, at). absurd (omega (arith, below));
+  all = λ place p low is p_low among. absurd (omega (arith, low));
+}
+
+-- one school more, which is in the group or is not
+pub listed-more : (m : Market) (firsts : List (List ℕ)) (groups : List ℕ) (group at : ℕ) (old new : List ℕ) → HasListed m firsts groups group at old
+    → HasPositions m (firsts_at firsts at) old new → HasListed m firsts groups group (at + 1) new
+listed-more m firsts groups group at old new before more = record {
+  within = more.within;
+  all = λ place p low is p_low among. elim (cases_eq place at) [
+    | inl same ↦ more.all p p_low (subst (λ q. Contains (firsts_at firsts q) (student_at m p)) same among)
+    | inr apart ↦ more.kept p (before.all place p (omega (arith, low, apart)) is p_low among)
+  ];
+}
+
+pub listed-same : (m : Market) (firsts : List (List ℕ)) (groups : List ℕ) (group at : ℕ) (old : List ℕ) → HasListed m firsts groups group at old
+    → (slice_index groups at ≡ group → ⊥) → HasListed m firsts groups group (at + 1) old
+listed-same m firsts groups group at old before other = record {
+  within = before.within;
+  all = λ place p low is p_low among. elim (cases_eq place at) [
+    | inl same ↦ absurd (other (ap (slice_index groups) (sym same) ∙ is))
+    | inr apart ↦ before.all place p (omega (arith, low, apart)) is p_low among
+  ];
+}

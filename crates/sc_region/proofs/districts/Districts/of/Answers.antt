@@ -1,0 +1,16 @@
+use Rattle.std.proofs.Common.{◌≡◌, ◌∙◌, sym, subst, ℕ, List, Vec, Global}
+use Rattle.std.proofs.lemmas.List.{length-map}
+use Rattle.sc_region.specs.Groups.{first_choice, group_of}
+use Rattle.sc_region.proofs.Joining.{grouped-together}
+use Rattle.sc_region.proofs.districts.Districts.of.Goals as goal
+
+pub returns : goal.returns
+returns c =
+    let m = c.args.papers.now in
+    record {
+      one_each = c.in_ok-groups.ensures.one_each;
+      closed = λ i s listed.
+          subst (λ (gs : List ℕ). group_of m gs s ≡ group_of m gs (first_choice m i)) (sym c.in_ok-groups.ensures.joined) (grouped-together m c.students_len.ensures.well_formed i s listed);
+      firsts_each = length-map c.in_ok-firsts.firsts.items (λ (v : Vec ℕ Global). v.items) ∙ c.in_ok-firsts.ensures.one_each;
+      listed = c.in_ok-firsts.ensures.listed;
+    }

@@ -1,0 +1,188 @@
+//! The districts of the schools, kept beside the papers.
+
+ghost use Rattle.std.specs.Prelude.{◌≡◌, ◌<◌, ℕ, length, Contains, IfOk, OnOk};
+ghost use Rattle.sc_papers.specs.Market.{schools_of, students_of};
+ghost use Rattle.sc_region.specs.Districts.{firsts_at, lists_in};
+ghost use Rattle.sc_region.specs.Groups.{first_choice, place_of};
+
+use crate::candidates::{count_in, joined_positions, listed_in, rising};
+use crate::grouping::{first_place_at, groups_of, join_list, place_of};
+use crate::marks::RegionMarks;
+use crate::reach::{new_choices, region_marks, start_of};
+use crate::school_groups::SchoolGroups;
+use sc_papers::{Amendment, MOST_STUDENTS, Papers, Refusal, SchoolNo, StudentNo};
+use std::alloc::{AllocError, Global};
+use std::marker::Model;
+
+// Where more than one in so many students are listed in the district of an amendment, its region is found by a
+// pass over all students, which asks nobody's position by number.
+const WIDE: usize = 8;
+
+/// Which schools lie in one district: a set of schools that no student's list leaves. With it come the students
+/// of each district, at their first choices. From it the region of an amendment is found in its district alone.
+///
+/// The districts are those of some papers, and are kept in step with them. They may come to be wider than they
+/// need be: lists that have gone leave joined what they joined.
+#[derive(Drop)]
+pub struct Districts {
+    groups: SchoolGroups,
+    // By the school's position, the students whose first choice it is.
+    firsts: Vec<Vec<StudentNo>>,
+}
+
+impl Model for Districts {
+    ghost use Rattle.sc_region.specs.Districts.{lists_in, DistrictsView};
+
+    ghost Value = { DistrictsView };
+
+    ghost view = { λ d. record { groups = d.groups; firsts = lists_in d.firsts.items } };
+}
+
+/// So many empty lists.
+fn empty_lists(alloc: Global, count: usize) -> Result<Vec<Vec<StudentNo>>, AllocError>
+    ensures { IfOk result (λ lists. length lists.items ≡ count) }
+{
+    let mut lists = Vec::with_capacity(alloc, count)?;
+    for _i in 0..count {
+        lists.push(Vec::new(alloc))?;
+    }
+    Ok(lists)
+}
+
+/// Puts a student into the list of the school at a position.
+fn put(firsts: &mut Vec<Vec<StudentNo>>, place: usize, student: StudentNo) -> Result<(), AllocError>
+    requires { place < length firsts.old.items }
+    ensures has { OnOk result (Contains (firsts_at (lists_in firsts.new.items) place) student) }
+    ensures keeps { OnOk result ((p i : ℕ) → Contains (firsts_at (lists_in firsts.old.items) p) i → Contains (firsts_at (lists_in firsts.new.items) p) i) }
+    ensures one_each { OnOk result (length firsts.new.items ≡ length firsts.old.items) }
+{
+    firsts[place].push(student)?;
+    Ok(())
+}
+
+/// For each school, the students whose first choice it is.
+fn firsts_of(alloc: Global, papers: &Papers) -> Result<Vec<Vec<StudentNo>>, AllocError>
+    ensures one_each { IfOk result (λ firsts. length firsts.items ≡ length (schools_of papers.now)) }
+    ensures listed { IfOk result (λ firsts. (i : ℕ) → Contains (students_of papers.now) i → Contains (firsts_at (lists_in firsts.items) (place_of papers.now (first_choice papers.now i))) i) }
+{
+    let mut firsts = empty_lists(alloc, papers.schools_len())?;
+    for position in 0..papers.students_len() {
+        let Some(student) = papers.student_at(position) else {
+            unreachable!()
+        };
+        put(&mut firsts, first_place_at(papers, position), student)?;
+    }
+    Ok(firsts)
+}
+
+impl Districts {
+    ghost use Rattle.std.specs.Prelude.{◌≡◌, ◌↔◌, ℕ, None, Some, false, true, length, slice_get, slice_index_or, Contains, IsTrue, IfErr, IfOk, OnOk};
+    ghost use Rattle.std.specs.List.Sorted.{IsStrictlyIncreasing};
+    ghost use Rattle.sc_papers.specs.Market.{is_school, schools_of, students_of};
+    ghost use Rattle.sc_papers.specs.Verdict.{verdict, IsRefusal};
+    ghost use Rattle.sc_region.specs.Districts.{AreDistricts};
+    ghost use Rattle.sc_region.specs.Groups.{group_of, start_of, widened};
+    ghost use Rattle.sc_region.specs.Region.{InRegion};
+
+    /// The districts of the papers. The only error is want of memory.
+    ///
+    /// The cost is one pass over all choices, by their positions. Memory is taken for each school and each
+    /// student.
+    pub fn of(alloc: Global, papers: &Papers) -> Result<Self, AllocError>
+        ensures { IfOk result (AreDistricts papers.now) }
+    {
+        let groups = groups_of(alloc, papers)?;
+        let firsts = firsts_of(alloc, papers)?;
+        // This call tells that the papers are well-formed.
+        prove!(papers.students_len() <= MOST_STUDENTS);
+        Ok(Districts { groups, firsts })
+    }
+
+    /// The number of each school's district, with those joined that the new choices join.
+    fn widened(
+        &self,
+        alloc: Global,
+        papers: &Papers,
+        amendment: &Amendment,
+        start: SchoolNo,
+    ) -> Result<Vec<usize>, AllocError>
+        requires districts { AreDistricts papers.now self.now }
+        requires allowed { verdict papers.now amendment.now ≡ None }
+        requires start { start ≡ start_of papers.now amendment.now }
+        requires known { is_school papers.now start ≡ true }
+        ensures joined { IfOk result (λ groups. groups.items ≡ widened papers.now amendment.now self.now.groups) }
+        ensures one_each { IfOk result (λ groups. length groups.items ≡ length (schools_of papers.now)) }
+    {
+        let mut groups = self.groups.copy(alloc)?;
+        join_list(papers, &mut groups, start, new_choices(amendment));
+        Ok(groups.into_numbers())
+    }
+
+    /// The positions of the region's students, rising, by the number of each school's district and that of the
+    /// district to begin with.
+    fn region_positions(
+        &self,
+        alloc: Global,
+        papers: &Papers,
+        amendment: &Amendment,
+        start: SchoolNo,
+        groups: &[usize],
+        group: usize,
+    ) -> Result<Vec<usize>, AllocError>
+        requires districts { AreDistricts papers.now self.now }
+        requires allowed { verdict papers.now amendment.now ≡ None }
+        requires start { start ≡ start_of papers.now amendment.now }
+        requires known { is_school papers.now start ≡ true }
+        requires groups { groups.now ≡ widened papers.now amendment.now self.now.groups }
+        requires one_each { length groups.now ≡ length (schools_of papers.now) }
+        requires group { group ≡ group_of papers.now groups.now (start_of papers.now amendment.now) }
+        ensures rising { IfOk result (λ positions. IsStrictlyIncreasing positions.items) }
+        ensures region { IfOk result (λ positions. (p i : ℕ) → slice_get (students_of papers.now) p ≡ Some i → (Contains positions.items p ↔ InRegion papers.now amendment.now i)) }
+        ensures within { IfOk result (λ positions. (p : ℕ) → Contains positions.items p → p < length papers.now.students) }
+    {
+        let listed = listed_in(alloc, papers, &self.firsts, groups, group)?;
+        let candidates = rising(listed);
+        // This call tells that the papers are well-formed.
+        prove!(papers.students_len() <= MOST_STUDENTS);
+        let positions = joined_positions(alloc, papers, amendment, start, candidates.as_slice())?;
+        Ok(positions)
+    }
+
+    /// What `region_marks` gives, and its errors, found in the district of the amendment alone: that of the
+    /// amended school or of the amended student's choices.
+    ///
+    /// The cost is one pass over the choices of the district's students, with a look-up by number for each and
+    /// a sort, and one over the schools, for each of which memory is taken, as for each student of the
+    /// district. Where the district has a good part of all students, it is that of `region_marks`.
+    pub fn region(
+        &self,
+        alloc: Global,
+        papers: &Papers,
+        amendment: &Amendment,
+    ) -> Result<RegionMarks, Refusal>
+        requires { AreDistricts papers.now self.now }
+        ensures allowed { OnOk result (verdict papers.now amendment.now ≡ None) }
+        ensures one_each { IfOk result (λ marks. length marks ≡ length papers.now.students) }
+        ensures region { IfOk result (λ marks. (position i : ℕ) → slice_get (students_of papers.now) position ≡ Some i → (IsTrue (slice_index_or marks position false) ↔ InRegion papers.now amendment.now i)) }
+        ensures refused { IfErr result (IsRefusal (verdict papers.now amendment.now)) }
+    {
+        papers.check(amendment)?;
+        let start = start_of(papers, amendment);
+        let groups = self.widened(alloc, papers, amendment, start)?;
+        let group = groups[place_of(papers, start)];
+        let listed = count_in(&self.firsts, groups.as_slice(), group);
+        if listed > papers.students_len() / WIDE {
+            return region_marks(alloc, papers, amendment);
+        }
+        let positions = self.region_positions(
+            alloc,
+            papers,
+            amendment,
+            start,
+            groups.as_slice(),
+            group,
+        )?;
+        let region = RegionMarks::at(alloc, papers.students_len(), positions)?;
+        Ok(region)
+    }
+}
