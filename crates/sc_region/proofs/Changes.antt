@@ -37,12 +37,12 @@ listed-found m i s listed = go (student_of m i) refl listed
     go None is (k, low, at) = absurd (omega (arith, low))
     go (Some student) is among = (student, is, among)
 
-found-listed : (m : Market) (i s : ℕ) (student : Student) → student_of m i ≡ Some student → Contains student.choices s → Contains (choices_of m i) s
+pub found-listed : (m : Market) (i s : ℕ) (student : Student) → student_of m i ≡ Some student → Contains student.choices s → Contains (choices_of m i) s
 unfolding choices_of
 found-listed m i s student found among = subst (λ o. Contains (option_map_or (λ student. student.choices) o []) s) (sym found) among
 
 -- a look-up with one more entry at the end
-push-found : (es : List (ℕ × Student)) (j : ℕ) (new : Student) (i : ℕ) (student : Student) → lookup (nat_eq i) (es ++ (j, new) ∷ []) ≡ Some student
+pub push-found : (es : List (ℕ × Student)) (j : ℕ) (new : Student) (i : ℕ) (student : Student) → lookup (nat_eq i) (es ++ (j, new) ∷ []) ≡ Some student
     → (lookup (nat_eq i) es ≡ Some student) ⊎ ((j ≡ i) × (new ≡ student))
 push-found [] j new i student found = elim (cases_Bool (nat_eq i j)) [
   | inl same ↦ let one : Some new ≡ Some student = rw same at found in inr (sym (eqb-true i j same), cc)
@@ -55,18 +55,18 @@ push-found (e ∷ es) j new i student found = elim (cases_Bool (nat_eq i e.0)) [
       rw other (push-found es j new i student rest)
 ]
 
-push-own : (es : List (ℕ × Student)) (j : ℕ) (new : Student) → lookup (nat_eq j) es ≡ None → lookup (nat_eq j) (es ++ (j, new) ∷ []) ≡ Some new
+pub push-own : (es : List (ℕ × Student)) (j : ℕ) (new : Student) → lookup (nat_eq j) es ≡ None → lookup (nat_eq j) (es ++ (j, new) ∷ []) ≡ Some new
 push-own [] j new none = rw (eq-eqb j j refl) refl
 push-own (e ∷ es) j new none = elim (cases_Bool (nat_eq j e.0)) [
   | inl same ↦ let some : Some e.1 ≡ None = rw same at none in absurd (none-some e.1 (sym some))
   | inr other ↦ let rest : lookup (nat_eq j) es ≡ None = rw other at none in rw other (push-own es j new rest)
 ]
 
-one-key : (j x y : ℕ) → nat_eq j x ≡ true → nat_eq j y ≡ nat_eq x y
+pub one-key : (j x y : ℕ) → nat_eq j x ≡ true → nat_eq j y ≡ nat_eq x y
 one-key j x y same = ap (λ k. nat_eq k y) (eqb-true j x same)
 
 -- a look-up after a removal
-removed-found : (m : Market) → WellFormed m → (j i : ℕ) (student : Student) → student_of (without_student m j) i ≡ Some student → student_of m i ≡ Some student
+pub removed-found : (m : Market) → WellFormed m → (j i : ℕ) (student : Student) → student_of (without_student m j) i ≡ Some student → student_of m i ≡ Some student
 removed-found m well j i student found =
     let step : student_of (without_student m j) i ≡ cond (nat_eq j i) None (student_of m i) =
     lookup-remove_entry nat_eq_equiv (nat_eq j) (one-key j) i m.students well.students_differ in
@@ -77,12 +77,12 @@ removed-found m well j i student found =
 
 -- a look-up after a change of what the papers hold of a student whom they hold
 module _ (m : Market) (j : ℕ) (change : Student → Student) (old : Student) (held : student_of m j ≡ Some old) where
-  changed-step : (i : ℕ) → student_of (changed_student m j change) i ≡ cond (nat_eq j i) (Some (change old)) (student_of m i)
+  pub changed-step : (i : ℕ) → student_of (changed_student m j change) i ≡ cond (nat_eq j i) (Some (change old)) (student_of m i)
   changed-step i =
       rw held
       (lookup-set_value nat_eq_equiv (nat_eq j) (one-key j) i (change old) m.students (subst IsSome (sym held) refl))
 
-  changed-found : (i : ℕ) (student : Student) → student_of (changed_student m j change) i ≡ Some student → (student_of m i ≡ Some student) ⊎ ((j ≡ i) × (change old ≡ student))
+  pub changed-found : (i : ℕ) (student : Student) → student_of (changed_student m j change) i ≡ Some student → (student_of m i ≡ Some student) ⊎ ((j ≡ i) × (change old ≡ student))
   changed-found i student found = elim (cases_Bool (nat_eq j i)) [
     | inl same ↦
         let one : Some (change old) ≡ Some student = sym (changed-step i ∙ cond-true (nat_eq j i) (Some (change old)) (student_of m i) same) ∙ found in
@@ -90,11 +90,11 @@ module _ (m : Market) (j : ℕ) (change : Student → Student) (old : Student) (
     | inr other ↦ inl (sym (changed-step i ∙ cond-false (nat_eq j i) (Some (change old)) (student_of m i) other) ∙ found)
   ]
 
-  changed-own : student_of (changed_student m j change) j ≡ Some (change old)
+  pub changed-own : student_of (changed_student m j change) j ≡ Some (change old)
   changed-own = changed-step j ∙ cond-true (nat_eq j j) (Some (change old)) (student_of m j) (eq-eqb j j refl)
 
 -- whom an amendment names, the papers hold, unless the student enters
-is-held : (m : Market) (i : ℕ) → is_student m i ≡ true → (student : Student) × (student_of m i ≡ Some student)
+pub is-held : (m : Market) (i : ℕ) → is_student m i ≡ true → (student : Student) × (student_of m i ≡ Some student)
 is-held m i known = go (student_of m i) refl known
   where
     go : (found : Option Student) → student_of m i ≡ found → is_some found ≡ true → (student : Student) × (student_of m i ≡ Some student)
@@ -105,16 +105,16 @@ not-false : (b : Bool) → not b ≡ false → b ≡ true
 not-false true e = refl
 not-false false e = absurd (false≢true (sym e))
 
-withdraw-known : (m : Market) (i : ℕ) → verdict m (Withdraw i) ≡ None → is_student m i ≡ true
+pub withdraw-known : (m : Market) (i : ℕ) → verdict m (Withdraw i) ≡ None → is_student m i ≡ true
 withdraw-known m i allowed = not-false (is_student m i) (refuse_if-none (not (is_student m i)) UnknownStudent (first_of-none (objections_to_withdraw m i) allowed).0)
 
-rerank-known : (m : Market) (i : ℕ) (choices : List ℕ) → verdict m (Rerank i choices) ≡ None → is_student m i ≡ true
+pub rerank-known : (m : Market) (i : ℕ) (choices : List ℕ) → verdict m (Rerank i choices) ≡ None → is_student m i ≡ true
 rerank-known m i choices allowed = not-false (is_student m i) (refuse_if-none (not (is_student m i)) UnknownStudent (first_of-none (objections_to_rerank m i choices) allowed).0)
 
-correct-known : (m : Market) (i zone : ℕ) (siblings : List ℕ) (continuing : Option ℕ) → verdict m (Correct i zone siblings continuing) ≡ None → is_student m i ≡ true
+pub correct-known : (m : Market) (i zone : ℕ) (siblings : List ℕ) (continuing : Option ℕ) → verdict m (Correct i zone siblings continuing) ≡ None → is_student m i ≡ true
 correct-known m i zone siblings continuing allowed = not-false (is_student m i) (refuse_if-none (not (is_student m i)) UnknownStudent (first_of-none (objections_to_correct m i siblings continuing) allowed).0)
 
-enter-may : (m : Market) (i zone : ℕ) (siblings choices : List ℕ) (continuing : Option ℕ) → verdict m (Enter i zone siblings choices continuing) ≡ None → MayEnter m i (record { zone = zone; siblings = siblings; choices = choices; continuing = continuing })
+pub enter-may : (m : Market) (i zone : ℕ) (siblings choices : List ℕ) (continuing : Option ℕ) → verdict m (Enter i zone siblings choices continuing) ≡ None → MayEnter m i (record { zone = zone; siblings = siblings; choices = choices; continuing = continuing })
 enter-may m i zone siblings choices continuing allowed = MayEnter-allowed m i (record { zone = zone; siblings = siblings; choices = choices; continuing = continuing }) allowed
 
 -- a change of a school changes no list

@@ -11,3 +11,4 @@ pub mod Having
 mod MarkedPositions
 pub mod Listed
 pub mod Firsts
+pub mod Following

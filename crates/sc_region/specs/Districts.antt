@@ -1,8 +1,10 @@
 -- Districts of schools, which no student's list leaves.
-use Rattle.std.specs.Prelude.{◌≡◌, ℕ, List, [], length, map, slice_index_or, Contains, Vec}
+use Rattle.std.specs.Prelude.{◌≡◌, ℕ, List, [], Option, None, Some, length, map, slice_index, slice_index_or, Contains, Vec}
 use Rattle.std.specs.declared.alloc.Global.{Global}
 use Rattle.sc_papers.specs.Market.{Market, choices_of, schools_of, students_of}
-use Rattle.sc_region.specs.Groups.{first_choice, group_of, place_of}
+use Rattle.sc_papers.specs.declared.amendment.Amendment.{Amendment}
+use Rattle.sc_papers.specs.declared.amendment.Amendment.TheVariants.{Enter, Withdraw, Rerank, Add, Close, Correct}
+use Rattle.sc_region.specs.Groups.{first_choice, group_of, new_choices, place_of}
 
 -- a number for each school's district, and for each school a list of students, both by the school's
 -- position in the order of entry
@@ -25,3 +27,25 @@ pub record AreDistricts (m : Market) (d : DistrictsView) : Type 0 where
   pub closed : (i s : ℕ) → Contains (choices_of m i) s → group_of m d.groups s ≡ group_of m d.groups (first_choice m i)
   pub firsts_each : length d.firsts ≡ length (schools_of m)
   pub listed : (i : ℕ) → Contains (students_of m) i → Contains (firsts_at d.firsts (place_of m (first_choice m i))) i
+
+-- who is no longer listed at the first choice that they had
+abbrev pub leaver : Amendment → Option ℕ
+leaver (Enter i zone siblings choices continuing) = None
+leaver (Withdraw i) = Some i
+leaver (Rerank i choices) = Some i
+leaver (Add s count) = None
+leaver (Close s count) = None
+leaver (Correct i zone siblings continuing) = None
+
+-- who comes to be listed at the first of the new choices
+abbrev pub comer : Amendment → Option ℕ
+comer (Enter i zone siblings choices continuing) = Some i
+comer (Withdraw i) = None
+comer (Rerank i choices) = Some i
+comer (Add s count) = None
+comer (Close s count) = None
+comer (Correct i zone siblings continuing) = None
+
+-- the first of the new choices
+abbrev pub new_first : Amendment → ℕ
+new_first a = slice_index (new_choices a) 0

@@ -1,14 +1,15 @@
 //! The districts of the schools, kept beside the papers.
 
-ghost use Rattle.std.specs.Prelude.{◌≡◌, ◌<◌, ℕ, length, Contains, IfOk, OnOk};
+ghost use Rattle.std.specs.Prelude.{◌≡◌, ◌<◌, ◌==◌, ℕ, None, Some, filter, length, not, Contains, IfOk, OnOk};
 ghost use Rattle.sc_papers.specs.Market.{schools_of, students_of};
-ghost use Rattle.sc_region.specs.Districts.{firsts_at, lists_in};
+ghost use Rattle.sc_papers.specs.Verdict.{verdict};
+ghost use Rattle.sc_region.specs.Districts.{comer, firsts_at, leaver, lists_in, new_first};
 ghost use Rattle.sc_region.specs.Groups.{first_choice, place_of};
 
 use crate::candidates::{count_in, joined_positions, listed_in, rising};
 use crate::grouping::{first_place_at, groups_of, join_list, place_of};
 use crate::marks::RegionMarks;
-use crate::reach::{new_choices, region_marks, start_of};
+use crate::reach::{first_choice, new_choices, region_marks, start_of};
 use crate::school_groups::SchoolGroups;
 use sc_papers::{Amendment, MOST_STUDENTS, Papers, Refusal, SchoolNo, StudentNo};
 use std::alloc::{AllocError, Global};
@@ -75,11 +76,82 @@ fn firsts_of(alloc: Global, papers: &Papers) -> Result<Vec<Vec<StudentNo>>, Allo
     Ok(firsts)
 }
 
+/// Takes a student out of a list.
+fn strike(list: &mut Vec<StudentNo>, student: StudentNo)
+    ensures { list.new.items ≡ filter (λ i. not (i == student)) list.old.items }
+{
+    list.retain(|other| *other != student);
+}
+
+/// Takes a student out of the list of the school at a position.
+fn take_out(firsts: &mut Vec<Vec<StudentNo>>, place: usize, student: StudentNo)
+    requires { place < length firsts.old.items }
+    ensures others { (p i : ℕ) → (i ≡ student → ⊥) → Contains (firsts_at (lists_in firsts.old.items) p) i → Contains (firsts_at (lists_in firsts.new.items) p) i }
+    ensures one_each { length firsts.new.items ≡ length firsts.old.items }
+{
+    strike(&mut firsts[place], student);
+}
+
+/// Who is no longer listed at their first choice, once the amendment is made.
+fn leaver(amendment: &Amendment) -> Option<StudentNo>
+    ensures { result ≡ leaver amendment.now }
+{
+    match amendment {
+        Amendment::Withdraw { student } | Amendment::Rerank { student, .. } => Some(*student),
+        _ => None,
+    }
+}
+
+/// Who comes to be listed at the first of the amendment's choices.
+fn comer(amendment: &Amendment) -> Option<StudentNo>
+    ensures { result ≡ comer amendment.now }
+{
+    match amendment {
+        Amendment::Enter { student, .. } | Amendment::Rerank { student, .. } => Some(*student),
+        _ => None,
+    }
+}
+
+/// Takes out whoever the amendment takes from their first choice.
+fn let_leave(firsts: &mut Vec<Vec<StudentNo>>, papers: &Papers, amendment: &Amendment)
+    requires allowed { verdict papers.now amendment.now ≡ None }
+    requires one_each { length firsts.old.items ≡ length (schools_of papers.now) }
+    ensures others { (p i : ℕ) → (leaver amendment.now ≡ Some i → ⊥) → Contains (firsts_at (lists_in firsts.old.items) p) i → Contains (firsts_at (lists_in firsts.new.items) p) i }
+    ensures one_each { length firsts.new.items ≡ length firsts.old.items }
+{
+    if let Some(student) = leaver(amendment) {
+        take_out(
+            firsts,
+            place_of(papers, first_choice(papers, student)),
+            student,
+        );
+    }
+}
+
+/// Puts whoever comes with new choices into the list of the first of them.
+fn let_come(
+    firsts: &mut Vec<Vec<StudentNo>>,
+    papers: &Papers,
+    amendment: &Amendment,
+) -> Result<(), AllocError>
+    requires allowed { verdict papers.now amendment.now ≡ None }
+    requires one_each { length firsts.old.items ≡ length (schools_of papers.now) }
+    ensures keeps { OnOk result ((p i : ℕ) → Contains (firsts_at (lists_in firsts.old.items) p) i → Contains (firsts_at (lists_in firsts.new.items) p) i) }
+    ensures moved { OnOk result ((i : ℕ) → comer amendment.now ≡ Some i → Contains (firsts_at (lists_in firsts.new.items) (place_of papers.now (new_first amendment.now))) i) }
+    ensures one_each { OnOk result (length firsts.new.items ≡ length firsts.old.items) }
+{
+    if let Some(student) = comer(amendment) {
+        let first = new_choices(amendment)[0];
+        put(firsts, place_of(papers, first), student)?;
+    }
+    Ok(())
+}
+
 impl Districts {
     ghost use Rattle.std.specs.Prelude.{◌≡◌, ◌↔◌, ℕ, None, Some, false, true, length, slice_get, slice_index_or, Contains, IsTrue, IfErr, IfOk, OnOk};
     ghost use Rattle.std.specs.List.Sorted.{IsStrictlyIncreasing};
     ghost use Rattle.sc_papers.specs.Market.{is_school, schools_of, students_of};
-    ghost use Rattle.sc_papers.specs.Verdict.{verdict, IsRefusal};
+    ghost use Rattle.sc_papers.specs.Verdict.{after, verdict, IsRefusal};
     ghost use Rattle.sc_region.specs.Districts.{AreDistricts};
     ghost use Rattle.sc_region.specs.Groups.{group_of, start_of, widened};
     ghost use Rattle.sc_region.specs.Region.{InRegion};
@@ -184,5 +256,26 @@ impl Districts {
         )?;
         let region = RegionMarks::at(alloc, papers.students_len(), positions)?;
         Ok(region)
+    }
+
+    /// Brings the districts in step with an amendment of their papers that is not refused, before it is made:
+    /// they come to be those of the papers after it. Districts that the new choices join become one, and stay
+    /// so. The only error is want of memory, after which these are the districts of no papers, and to be
+    /// given up.
+    ///
+    /// The cost is a look at each of the new choices, and one at each student who has the first choice of one
+    /// who withdraws or comes with other choices.
+    pub fn amend(&mut self, papers: &Papers, amendment: &Amendment) -> Result<(), AllocError>
+        requires districts { AreDistricts papers.now self.old }
+        requires allowed { verdict papers.now amendment.now ≡ None }
+        ensures { OnOk result (AreDistricts (after papers.now amendment.now) self.new) }
+    {
+        // This call tells that the papers are well-formed.
+        prove!(papers.students_len() <= MOST_STUDENTS);
+        let start = start_of(papers, amendment);
+        join_list(papers, &mut self.groups, start, new_choices(amendment));
+        let_leave(&mut self.firsts, papers, amendment);
+        let_come(&mut self.firsts, papers, amendment)?;
+        Ok(())
     }
 }

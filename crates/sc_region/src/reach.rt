@@ -15,7 +15,7 @@ use sc_papers::{Amendment, MOST_STUDENTS, Papers, Refusal, SchoolNo, StudentNo};
 use std::alloc::{AllocError, Global};
 
 /// The first choice of a student of the papers.
-fn first_choice(papers: &Papers, student: StudentNo) -> SchoolNo
+pub(crate) fn first_choice(papers: &Papers, student: StudentNo) -> SchoolNo
     requires { is_student papers.now student ≡ true }
     ensures first { result ≡ first_choice papers.now student }
     ensures known { is_school papers.now result ≡ true }
