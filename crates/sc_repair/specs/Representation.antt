@@ -5,6 +5,7 @@ use Rattle.sc_checkpoint.specs.Chains.{logs_in, students_in, Chain}
 use Rattle.sc_engine.specs.Round.{is_spent, view_of}
 use Rattle.sc_engine.specs.declared.round.Round.{Round}
 use Rattle.sc_seats.specs.Roll.{RollView}
+use Rattle.sc_region.specs.Districts.{AreDistricts}
 use Rattle.sc_repair.specs.Newcomer.{StandsAfter}
 use Rattle.sc_repair.specs.Standing.{Standing, IsCertified}
 use Rattle.sc_repair.specs.declared.settlement.Settlement.TheInside.{Inside}
@@ -18,8 +19,9 @@ abbrev pub IsKept : Market → List Chain → Round RollView → Type 0
 IsKept m chains round = (is_spent round ≡ false) × StandsAfter m chains (view_of (λ roll. roll.keys) (λ roll. roll.seats) round)
 
 -- what is true of the fields: the standing is certified, each segment is its student's, and where a round
--- is kept, everybody stands in it where the log leaves them
+-- is kept, everybody stands in it where the log leaves them; districts that are kept are those of the papers
 pub record IsSound (c : Inside) : Type 0 where
   pub certified : IsCertified (standing_of c)
   pub theirs : students_in c.segments ≡ students_of c.papers
   pub round : IfSome c.round (IsKept c.papers c.segments)
+  pub districts : IfSome c.districts (AreDistricts c.papers)

@@ -3,6 +3,7 @@
 #![tactic(auto)]
 
 mod clearing;
+mod districts;
 mod entering;
 mod entry_order;
 mod open_refused;

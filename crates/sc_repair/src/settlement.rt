@@ -16,6 +16,7 @@ use crate::settling::settle_on;
 use sc_checkpoint::Segments;
 use sc_engine::Round;
 use sc_papers::{Assignment, MOST_STUDENTS, Papers, Rejection, SchoolNo, StudentNo};
+use sc_region::Districts;
 use sc_seats::HeapRoll;
 use std::alloc::{AllocError, Global};
 use std::marker::Model;
@@ -33,6 +34,9 @@ pub(crate) struct Settlement {
     // Where there is one, the round in which everybody stands: it is kept from newcomer to newcomer, and made
     // again when it is wanted.
     round: Option<Round<HeapRoll>>,
+    // Where there are some, the districts of the papers, from which the region of an amendment is found: they are
+    // kept from amendment to amendment, and made again when they are wanted.
+    districts: Option<Districts>,
 }
 
 impl Model for Settlement {
@@ -77,6 +81,7 @@ impl Settlement {
                 segments,
                 proposals: placed.proposals,
                 round: None,
+                districts: None,
             }),
             Err(_) => Err(OpenRefused { papers }),
         }

@@ -8,10 +8,10 @@ ghost use Rattle.sc_repair.specs.Rewinding.{rewind_point};
 ghost use Rattle.sc_repair.specs.Standing.{CountsRegion, IsCertified, KeepsOthers};
 
 use super::Settlement;
+use crate::districts::{exchange, give_up, reach};
 use crate::resettling::resettle;
 use crate::rewind::rewind_point;
 use sc_papers::{Amendment, Refusal};
-use sc_region::region_marks;
 use sc_seats::HeapRoll;
 
 impl Settlement {
@@ -31,8 +31,8 @@ impl Settlement {
         ensures unchanged { OnErr result (self.new ≡ self.old) }
     {
         let point = rewind_point(&self.papers, &amendment)?;
-        let region = region_marks(self.alloc, &self.papers, &amendment)?;
-        let back = self.papers.exchange(amendment)?;
+        let region = reach(self.alloc, &mut self.districts, &self.papers, &amendment)?;
+        let back = exchange(&mut self.papers, &mut self.districts, amendment)?;
         let end = self.papers.students_len();
         let settled = resettle::<HeapRoll>(
             self.alloc,
@@ -52,6 +52,7 @@ impl Settlement {
             }
             Err(_) => {
                 self.papers.take_back(back);
+                give_up(&mut self.districts);
                 Err(Refusal::OutOfMemory)
             }
         }

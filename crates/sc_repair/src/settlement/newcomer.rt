@@ -7,6 +7,7 @@ ghost use Rattle.sc_repair.specs.Rewinding.{rewind_point};
 ghost use Rattle.sc_repair.specs.Standing.{CountsRegion, IsCertified, KeepsOthers};
 
 use super::Settlement;
+use crate::districts::{exchange, give_up};
 use crate::entering::enter_newcomer;
 use sc_papers::{Amendment, Refusal, StudentNo};
 
@@ -26,7 +27,7 @@ impl Settlement {
         ensures refused { IfErr result (IsRefusal (verdict self.old.papers amendment)) }
         ensures unchanged { OnErr result (self.new ≡ self.old) }
     {
-        let back = self.papers.exchange(amendment)?;
+        let back = exchange(&mut self.papers, &mut self.districts, amendment)?;
         let entered = enter_newcomer(
             self.alloc,
             &mut self.round,
@@ -44,6 +45,7 @@ impl Settlement {
             }
             Err(_) => {
                 self.papers.take_back(back);
+                give_up(&mut self.districts);
                 Err(Refusal::OutOfMemory)
             }
         }

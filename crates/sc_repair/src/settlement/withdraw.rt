@@ -8,10 +8,10 @@ ghost use Rattle.sc_repair.specs.Rewinding.{rewind_point};
 ghost use Rattle.sc_repair.specs.Standing.{CountsRegion, IsCertified, KeepsOthers};
 
 use super::Settlement;
+use crate::districts::{follow, give_up, reach};
 use crate::resettling::resettle;
 use crate::rewind::rewind_point;
 use sc_papers::{Amendment, Refusal, StudentNo};
-use sc_region::region_marks;
 use sc_seats::HeapRoll;
 
 /// The student who withdraws by the amendment.
@@ -47,9 +47,10 @@ impl Settlement {
     {
         // The rewind point of one who withdraws is their own position.
         let point = rewind_point(&self.papers, &amendment)?;
-        let region = region_marks(self.alloc, &self.papers, &amendment)?;
+        let region = reach(self.alloc, &mut self.districts, &self.papers, &amendment)?;
         let student = leaver(&amendment);
         let last = self.papers.students_len() - 1;
+        follow(&mut self.districts, &self.papers, &amendment);
         self.papers.move_student(point, last);
         // All but the last student are settled.
         let settled = resettle::<HeapRoll>(
@@ -70,6 +71,7 @@ impl Settlement {
             }
             Err(_) => {
                 self.papers.move_student(last, point);
+                give_up(&mut self.districts);
                 Err(Refusal::OutOfMemory)
             }
         }

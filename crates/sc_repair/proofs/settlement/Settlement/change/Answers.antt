@@ -4,6 +4,7 @@ use Rattle.sc_checkpoint.specs.Chains.{logs_in, students_in, Chain}
 use Rattle.sc_region.specs.Marks.{marked}
 use Rattle.sc_repair.specs.Changed.{standing_of}
 use Rattle.sc_repair.specs.Locality.{is_among, marked_in, TellsRegion}
+use Rattle.sc_region.specs.Districts.{AreDistricts}
 use Rattle.sc_repair.specs.Representation.{IsKept}
 use Rattle.sc_repair.specs.Rewinding.{rewind_point}
 use Rattle.sc_repair.specs.Standing.{Standing, CountsInside, CountsRegion, IsCertified, KeepsOthers}
@@ -20,7 +21,7 @@ resettle-settled-requires c =
     subst (λ is. TellsRegion m c.args.amendment (is_among (marked c.in_ok-region.region is))) (sym c.self.invariant.theirs)
     (marks-tell m c.args.amendment c.in_ok-region.region c.self.invariant.certified.well_formed c.in_ok-point.ensures.allowed c.requires.no_entry c.in_ok-region.ensures.region) in
     record {
-      changed = in-place-changed m c.exchange.new.self c.args.amendment c.in_ok-point.point c.students_len-end.result c.self.invariant.certified.well_formed c.in_ok-point.ensures.allowed c.requires.no_entry
+      changed = in-place-changed m c.exchange.new.papers c.args.amendment c.in_ok-point.point c.students_len-end.result c.self.invariant.certified.well_formed c.in_ok-point.ensures.allowed c.requires.no_entry
           c.requires.no_withdrawal c.in_ok-back.ensures.accepted c.in_ok-point.ensures.point c.students_len-end.ensures.count c.self.inside.places c.self.inside.segments test (record {
             well_formed = c.self.invariant.certified.well_formed;
             theirs = c.self.invariant.theirs;
@@ -32,9 +33,10 @@ resettle-settled-requires c =
 
 pub invariant_of-self-in-Ok : goal.invariant_of-self-in-Ok
 invariant_of-self-in-Ok c = record {
-  certified = subst (λ n. IsCertified (standing_of n c.resettle-settled.new.places c.resettle-settled.new.segments c.in-Ok.proposals)) (whole-cut-of c.exchange.new.self c.students_len-end.result c.students_len-end.ensures.count) c.in-Ok.ensures.certified;
-  theirs = c.in-Ok.ensures.theirs ∙ ap students_of (whole-cut-of c.exchange.new.self c.students_len-end.result c.students_len-end.ensures.count);
+  certified = subst (λ n. IsCertified (standing_of n c.resettle-settled.new.places c.resettle-settled.new.segments c.in-Ok.proposals)) (whole-cut-of c.exchange.new.papers c.students_len-end.result c.students_len-end.ensures.count) c.in-Ok.ensures.certified;
+  theirs = c.in-Ok.ensures.theirs ∙ ap students_of (whole-cut-of c.exchange.new.papers c.students_len-end.result c.students_len-end.ensures.count);
   round = tt;
+  districts = c.in_ok-back.ensures.districts;
 }
 
 pub invariant_of-self-in-Err : goal.invariant_of-self-in-Err
@@ -45,6 +47,7 @@ invariant_of-self-in-Err c =
           papers c.in-Err.ensures.places_unchanged c.in-Err.ensures.segments_unchanged c.self.invariant.certified;
       theirs = ap students_in c.in-Err.ensures.segments_unchanged ∙ c.self.invariant.theirs ∙ ap students_of (sym papers);
       round = subst₂ (λ m chains. IfSome c.self.inside.round (IsKept m chains)) (sym papers) (sym c.in-Err.ensures.segments_unchanged) c.self.invariant.round;
+      districts = subst (λ o. IfSome o (AreDistricts c.take_back.new.self)) (sym c.give_up.ensures) tt;
     }
 
 pub returns-clause-certified : goal.returns-clause-certified
@@ -54,7 +57,7 @@ returns-clause-certified c =
 
 pub returns-in-Ok-clause-certified : goal.returns-in-Ok-clause-certified
 returns-in-Ok-clause-certified c =
-    subst (λ n. IsCertified (standing_of n c.resettle-settled.new.places c.resettle-settled.new.segments c.in-Ok.proposals)) (whole-cut-of c.exchange.new.self c.students_len-end.result c.students_len-end.ensures.count) c.in-Ok.ensures.certified
+    subst (λ n. IsCertified (standing_of n c.resettle-settled.new.places c.resettle-settled.new.segments c.in-Ok.proposals)) (whole-cut-of c.exchange.new.papers c.students_len-end.result c.students_len-end.ensures.count) c.in-Ok.ensures.certified
 
 pub returns-in-Ok-clause-stays : goal.returns-in-Ok-clause-stays
 returns-in-Ok-clause-stays c =
@@ -69,7 +72,7 @@ returns-in-Ok-clause-others c =
     subst (λ is. TellsRegion m c.args.amendment (is_among (marked c.in_ok-region.region is))) (sym c.self.invariant.theirs)
     (marks-tell m c.args.amendment c.in_ok-region.region c.self.invariant.certified.well_formed c.in_ok-point.ensures.allowed c.requires.no_entry c.in_ok-region.ensures.region) in
     let old : Standing = record { papers = m; places = c.self.inside.places; segments = logs_in c.self.inside.segments; proposals = c.self.inside.proposals } in
-    let new : Standing = record { papers = c.exchange.new.self; places = c.resettle-settled.new.places; segments = logs_in c.resettle-settled.new.segments; proposals = c.in-Ok.proposals } in
+    let new : Standing = record { papers = c.exchange.new.papers; places = c.resettle-settled.new.places; segments = logs_in c.resettle-settled.new.segments; proposals = c.in-Ok.proposals } in
     subst (λ (s : Standing). KeepsOthers s c.args.amendment new) c.self.view_is
     (keeps-others old new c.args.amendment (marked_in c.in_ok-region.region c.self.inside.segments) tells c.in_ok-back.ensures.accepted c.in-Ok.ensures.others)
 
@@ -80,11 +83,11 @@ returns-in-Ok-clause-proposals c =
     let tells : TellsRegion m c.args.amendment test =
     subst (λ is. TellsRegion m c.args.amendment (is_among (marked c.in_ok-region.region is))) (sym c.self.invariant.theirs)
     (marks-tell m c.args.amendment c.in_ok-region.region c.self.invariant.certified.well_formed c.in_ok-point.ensures.allowed c.requires.no_entry c.in_ok-region.ensures.region) in
-    let new : Standing = record { papers = c.exchange.new.self; places = c.resettle-settled.new.places; segments = logs_in c.resettle-settled.new.segments; proposals = c.in-Ok.proposals } in
+    let new : Standing = record { papers = c.exchange.new.papers; places = c.resettle-settled.new.places; segments = logs_in c.resettle-settled.new.segments; proposals = c.in-Ok.proposals } in
     subst (λ (s : Standing). CountsRegion s.papers c.args.amendment new) c.self.view_is
     (counts-region m c.args.amendment (marked_in c.in_ok-region.region c.self.inside.segments) new tells
     (subst (λ k. CountsInside test k new) c.in_ok-point.ensures.point
-    (subst (λ n. CountsInside test c.in_ok-point.point (standing_of n c.resettle-settled.new.places c.resettle-settled.new.segments c.in-Ok.proposals)) (whole-cut-of c.exchange.new.self c.students_len-end.result c.students_len-end.ensures.count) c.in-Ok.ensures.proposals)))
+    (subst (λ n. CountsInside test c.in_ok-point.point (standing_of n c.resettle-settled.new.places c.resettle-settled.new.segments c.in-Ok.proposals)) (whole-cut-of c.exchange.new.papers c.students_len-end.result c.students_len-end.ensures.count) c.in-Ok.ensures.proposals)))
 
 pub returns-clause-unchanged : goal.returns-clause-unchanged
 returns-clause-unchanged c =

@@ -6,6 +6,7 @@ use Rattle.sc_checkpoint.specs.Chains.{logs_in, students_in, Chain}
 use Rattle.sc_region.specs.Marks.{marked}
 use Rattle.sc_repair.specs.Changed.{standing_of}
 use Rattle.sc_repair.specs.Locality.{is_among, marked_in, TellsRegion}
+use Rattle.sc_region.specs.Districts.{AreDistricts}
 use Rattle.sc_repair.specs.Representation.{IsKept}
 use Rattle.sc_repair.specs.Standing.{Standing, CountsInside, CountsRegion, IsCertified, KeepsOthers}
 use Rattle.sc_repair.proofs.Admitted.{still-certified}
@@ -36,8 +37,8 @@ resettle-settled-requires c =
       one_each = marks-count m c.in_ok-region.region c.self.inside.segments c.in_ok-region.ensures.one_each c.self.invariant.theirs;
     }
 
-pub invariant_of-self : goal.invariant_of-self
-invariant_of-self c =
+pub invariant_of-self-in-Ok : goal.invariant_of-self-in-Ok
+invariant_of-self-in-Ok c =
     let papers : c.withdraw.new.self ≡ after c.self.inside.papers c.args.amendment =
     c.withdraw.ensures ∙ leaver-gone c.self.inside.papers c.move_student.new.self c.args.amendment c.leaver-student.result c.in_ok-point.point (c.students_len-last.result - 1) c.self.invariant.certified.well_formed c.in_ok-point.ensures.allowed c.leaver-student.ensures c.in_ok-point.ensures.point (ap (λ n. n - 1) c.students_len-last.ensures.count) c.move_student.ensures in
     let same : cut c.move_student.new.self (c.students_len-last.result - 1) ≡ c.withdraw.new.self =
@@ -46,6 +47,7 @@ invariant_of-self c =
       certified = subst (λ n. IsCertified (standing_of n c.resettle-settled.new.places c.resettle-settled.new.segments c.in-Ok.proposals)) same c.in-Ok.ensures.certified;
       theirs = c.in-Ok.ensures.theirs ∙ ap students_of same;
       round = tt;
+      districts = subst (λ m. IfSome c.follow.new.districts (AreDistricts m)) (sym papers) c.follow.ensures;
     }
 
 pub returns-in-Ok-clause-accepted : goal.returns-in-Ok-clause-accepted
@@ -106,6 +108,7 @@ invariant_of-self-in-Err c =
           papers c.in-Err.ensures.places_unchanged c.in-Err.ensures.segments_unchanged c.self.invariant.certified;
       theirs = ap students_in c.in-Err.ensures.segments_unchanged ∙ c.self.invariant.theirs ∙ ap students_of (sym papers);
       round = subst₂ (λ m chains. IfSome c.self.inside.round (IsKept m chains)) (sym papers) (sym c.in-Err.ensures.segments_unchanged) c.self.invariant.round;
+      districts = subst (λ o. IfSome o (AreDistricts c.move_student-in-Err.new.self)) (sym c.give_up.ensures) tt;
     }
 
 pub returns-clause-certified : goal.returns-clause-certified
