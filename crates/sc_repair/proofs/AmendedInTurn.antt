@@ -1,13 +1,12 @@
 -- An amendment of papers and stamps that stand in an order of their own, seen in order of turn.
-use Rattle.std.proofs.Common.{◌≡◌, refl, sym, ap, subst, ◌∙◌, ℕ, zero, suc, ◌+◌, ◌-◌, ◌<◌, ◌≤◌, nat_eq, Bool, true, false, List, [], ◌∷◌, ◌++◌, length, map, position, remove, take, slice_get, slice_set, swap, Option, Some, None, IfSome, inl, inr, ◌⊎◌, arith}
-use Rattle.std.specs.Map.{keys_of, lookup, remove_entry, set_value}
-use Rattle.std.specs.Option.{option_map_or}
+use Rattle.std.proofs.Common.{◌≡◌, refl, sym, ap, subst, ◌∙◌, ℕ, zero, suc, ◌+◌, ◌-◌, ◌<◌, nat_eq, List, [], ◌∷◌, ◌++◌, length, position, remove, take, slice_get, swap, Option, Some, None, IfSome, arith}
+use Rattle.std.specs.Map.{remove_entry, set_value}
 use Rattle.std.proofs.lemmas.List.{length-append, length-take}
 use Rattle.std.proofs.lemmas.List.Edits.{length-remove, length-swap}
 use Rattle.std.proofs.lemmas.Option.{none-some, same_Some, slice_get_within}
 use Rattle.sc_papers.specs.EntryOrder.{with_swapped_students}
 use Rattle.sc_papers.specs.Market.{Market, school_of, schools_of, seats_of, student_of, students_of}
-use Rattle.sc_papers.specs.Verdict.{after, changed_school, changed_student, objections_to_withdraw, verdict, with_student, without_student}
+use Rattle.sc_papers.specs.Verdict.{after, changed_school, changed_student, objections_to_withdraw, verdict, without_student}
 use Rattle.sc_papers.specs.WellFormed.{WellFormed}
 use Rattle.sc_papers.specs.declared.amendment.Amendment.{Amendment}
 use Rattle.sc_papers.specs.declared.amendment.Amendment.TheVariants.{Enter, Withdraw, Rerank, Add, Close, Correct}
@@ -23,10 +22,10 @@ use Rattle.sc_stamps.proofs.Places.{length-put}
 use Rattle.sc_stamps.proofs.Step.{in-step-after}
 use Rattle.sc_stamps.specs.declared.marking.Marking.{Marking}
 use Rattle.sc_stamps.specs.declared.marking.Marking.TheVariants.{Newcomer, StudentLeaves, StudentStays, School as OfSchool}
-use Rattle.sc_repair.specs.Turns.{AreInTurn, AreTurns, TurnsOfEntry, begun_turns, entered, finished_turns, first_turns, in_turn, last_papers, last_stamps, last_turns, leaver, left, papers_in_turn, stamped_in_turn, stamps_in_turn, swapped}
-use Rattle.sc_repair.proofs.EntryTurns.{AreTurns-first, AreTurns-entered, AreTurns-left, AreTurns-swapped, exchanged-first, turn-alone, turn-of, turns-avoid}
-use Rattle.sc_repair.proofs.InTurn.{Alone, Avoids, earlier, earlier-same, in_turn-entered, in_turn-set, in_turn-swapped, swapped-there}
-use Rattle.sc_repair.proofs.StampedInTurn.{each, entry-at, known-in_turn, lookup-in_turn, nobody-in_turn, own-turn, place-in_turn, position-at, remove-in_turn, remove-plain, set_value-in_turn, unknown-at, verdict-in_turn}
+use Rattle.sc_repair.specs.Turns.{AreInTurn, AreTurns, TurnsOfEntry, begun_turns, entered, finished_turns, first_turns, in_turn, last_papers, last_stamps, last_turns, leaver, left, papers_in_turn, stamped_in_turn, swapped}
+use Rattle.sc_repair.proofs.EntryTurns.{AreTurns-first, AreTurns-entered, AreTurns-left, AreTurns-swapped, exchanged-first, turn-alone, turns-avoid}
+use Rattle.sc_repair.proofs.InTurn.{Avoids, earlier, earlier-same, in_turn-entered, in_turn-set, in_turn-swapped, swapped-there}
+use Rattle.sc_repair.proofs.StampedInTurn.{each, entry-at, known-in_turn, nobody-in_turn, own-turn, place-in_turn, position-at, remove-in_turn, remove-plain, set_value-in_turn, unknown-at, verdict-in_turn}
 
 abbrev student_with : ℕ → List ℕ → List ℕ → Option ℕ → Student
 student_with zone siblings choices continuing = record { zone = zone; siblings = siblings; choices = choices; continuing = continuing }

@@ -1,8 +1,8 @@
 -- Students who are put in order of turn, one turn after the other.
-use Rattle.std.proofs.Common.{◌≡◌, refl, sym, ap, subst, ◌∙◌, ℕ, zero, suc, ◌+◌, ◌-◌, ◌<◌, ◌≤◌, List, [], ◌∷◌, ◌++◌, length, map, take, slice_get, Option, Some, None, inl, inr, ◌⊎◌, arith}
+use Rattle.std.proofs.Common.{◌≡◌, refl, sym, ap, subst, ◌∙◌, ℕ, zero, suc, ◌+◌, ◌<◌, ◌≤◌, List, [], ◌∷◌, ◌++◌, length, map, take, slice_get, Option, Some, None, arith}
 use Rattle.std.specs.Prelude.{filter_map}
 use Rattle.std.specs.List.{cons_option, range_with_len}
-use Rattle.std.specs.Option.{option_and_then, option_map}
+use Rattle.std.specs.Option.{option_map}
 use Rattle.std.proofs.lemmas.List.{append-nil, length-append, length-map, take-map, take_all}
 use native.Mathlib.Decide.{dec_lt}
 use Rattle.std.proofs.lemmas.List.Elements.{filter_map-append}
@@ -14,7 +14,7 @@ use Rattle.sc_stamps.specs.Verdict.{StampedPapers}
 use Rattle.sc_repair.specs.Turns.{AreInTurn, AreTurns, TurnsOfEntry, exchanged, first_turns, in_turn, stamped_in_turn, swapped}
 use Rattle.sc_repair.proofs.AmendedInTurn.{kept-swapped, swapped-in_turn}
 use Rattle.sc_repair.proofs.EntryTurns.{exchanged-second, turn-of}
-use Rattle.sc_repair.proofs.InTurn.{exchanged-other, slice_get_none, take-there}
+use Rattle.sc_repair.proofs.InTurn.{exchanged-other, take-there}
 
 -- the positions of those who stand, in order of turn
 abbrev pub standing : List (Option ℕ) → List ℕ

@@ -1,17 +1,14 @@
 -- Items in order of turn, and what becomes of them where items change places, are put last, go, or are replaced.
-use Rattle.std.proofs.Common.{◌≡◌, refl, sym, ap, subst, ◌∙◌, ℕ, zero, suc, ◌+◌, ◌-◌, ◌<◌, ◌≤◌, ◌==◌, if◌then◌else◌, cond, Bool, true, false, List, [], ◌∷◌, ◌++◌, length, map, take, drop, remove, slice_get, slice_set, get_or, swap, Option, Some, None, IsPermutation, inl, inr, arith, length-append}
-use Rattle.std.specs.Prelude.{filter_map}
+use Rattle.std.proofs.Common.{◌≡◌, refl, sym, ap, subst, ◌∙◌, ℕ, zero, suc, ◌+◌, ◌<◌, ◌≤◌, ◌==◌, cond, List, [], ◌∷◌, ◌++◌, length, map, take, drop, remove, slice_get, slice_set, get_or, swap, Option, Some, None, IsPermutation, inl, inr, arith}
 use Rattle.std.specs.List.{cons_option}
 use Rattle.std.specs.Option.{option_and_then, option_map}
 use Rattle.std.proofs.lemmas.Bool.{cases_Bool, eqb-true}
 use Rattle.std.proofs.lemmas.Bool.Decides.{nat_tests}
 use Rattle.std.proofs.Math.Seq.{set-append_seam}
-use Rattle.std.proofs.lemmas.List.{get_or_append_left, length-set, length-take}
-use Rattle.std.proofs.lemmas.List.Edits.{length-swap, remove-append_right}
+use Rattle.std.proofs.lemmas.List.Edits.{length-swap}
 use Rattle.std.proofs.lemmas.List.Elements.{filter_map-append}
 use Rattle.std.proofs.lemmas.List.Sorted.{IsPermutation-cons, IsPermutation-middle, IsPermutation-refl, IsPermutation-sym, IsPermutation-to_front, IsPermutation-trans}
 use Rattle.std.proofs.lemmas.Option.{get_or_from_slice_get, none-some, same_Some, slice_get-get_or, slice_get_past, slice_get_within, slice_get-map}
-use Rattle.indexmap.proofs.MapLemmas.{split_last}
 use Rattle.indexmap.proofs.ReorderLemmas.{exchange-twice, exchange-within, get_or-swap}
 use Rattle.sc_repair.specs.Turns.{exchanged, in_turn, unless_at}
 

@@ -1,38 +1,34 @@
 -- Papers and stamps in order of turn: what the rules say of them, and what an amendment makes of them.
-use Rattle.std.proofs.Common.{◌≡◌, refl, sym, ap, subst, ◌∙◌, ℕ, zero, suc, ◌+◌, ◌-◌, ◌<◌, ◌≤◌, nat_eq, Bool, true, false, List, [], ◌∷◌, ◌++◌, length, map, take, remove, position, slice_get, slice_set, slice_index_or, Option, Some, None, IsPermutation, inl, inr, ◌⊎◌, arith}
+use Rattle.std.proofs.Common.{◌≡◌, refl, sym, ap, subst, ◌∙◌, ℕ, ◌-◌, ◌<◌, nat_eq, List, [], ◌∷◌, length, map, remove, position, slice_get, slice_set, slice_index_or, Option, Some, None, arith}
 use Rattle.std.specs.Prelude.{is_some, nat_le, not}
 use Rattle.std.specs.List.{IsDistinct}
 use Rattle.std.specs.Map.{keys_of, lookup, remove_entry, set_value}
-use Rattle.std.specs.Option.{option_and_then, option_map, option_map_or}
+use Rattle.std.specs.Option.{option_and_then}
 use Rattle.std.proofs.lemmas.Cmp.{nat_eq_equiv}
 use Rattle.std.proofs.lemmas.Bool.{false≢true}
-use Rattle.std.proofs.lemmas.List.{append-nil, length-map, length-set, map-id}
+use Rattle.std.proofs.lemmas.List.{append-nil, map-id}
 use Rattle.std.proofs.lemmas.List.Sorted.{IsPermutation-map, length_permutation}
 use Rattle.std.proofs.lemmas.Map.Keys.{IsDistinct-IsPermutation}
-use Rattle.std.proofs.lemmas.Option.{get_or_from_slice_get, none-some, same_Some, slice_get-get_or, slice_get_within}
+use Rattle.std.proofs.lemmas.Option.{get_or_from_slice_get, slice_get-get_or, slice_get_within}
 use Rattle.indexmap.proofs.MapLemmas.{Found-position, index-first, lookup_permutation, some_index}
 use Rattle.indexmap.proofs.RemoveLemmas.{own_first}
-use Rattle.sc_papers.specs.Market.{Market, is_school, is_student, school_of, schools_of, seats_of, student_of, students_of}
-use Rattle.sc_papers.specs.Verdict.{after, changed_school, changed_student, first_of, no_choices, objections_to_list, refuse_if, too_long, twice_in, unknown_in, unknown_school, verdict}
-use Rattle.sc_papers.specs.WellFormed.{WellFormed}
+use Rattle.sc_papers.specs.Market.{Market, seats_of, student_of, students_of}
+use Rattle.sc_papers.specs.Verdict.{first_of, no_choices, objections_to_list, refuse_if, too_long, twice_in, unknown_in, unknown_school, verdict}
 use Rattle.sc_papers.proofs.Changing.{remove-found, set-found}
 use Rattle.sc_papers.proofs.EntryOrder.{entry-there}
 use Rattle.sc_papers.specs.declared.amendment.Amendment.{Amendment}
 use Rattle.sc_papers.specs.declared.amendment.Amendment.TheVariants.{Enter, Withdraw, Rerank, Add, Close, Correct}
 use Rattle.sc_papers.specs.declared.amendment.Refusal.TheVariants.{RosterFull, StudentExists, UnknownStudent}
-use Rattle.sc_papers.specs.declared.amendment.Refusal.{Refusal}
 use Rattle.sc_papers.specs.declared.amendment.Stamped.{Stamped}
 use Rattle.sc_papers.specs.declared.limits.TheConstants.{MOST_STUDENTS}
-use Rattle.sc_papers.specs.declared.records.School.{School}
-use Rattle.sc_papers.specs.declared.records.Student.{Student}
 use Rattle.sc_stamps.specs.Record.{record_of}
-use Rattle.sc_stamps.specs.Stamps.{IsInStep, Stamps, stamp_at, stamp_of, stamps_after, with_stamp}
-use Rattle.sc_stamps.specs.Verdict.{stamp_verdict, stamped_after, stamped_verdict}
+use Rattle.sc_stamps.specs.Stamps.{IsInStep, Stamps, stamp_at, stamp_of}
+use Rattle.sc_stamps.specs.Verdict.{stamp_verdict, stamped_verdict}
 use Rattle.sc_stamps.specs.declared.record.Record.{Record}
 use Rattle.sc_stamps.specs.declared.record.Record.TheVariants.{OfStudent, OfSchool}
-use Rattle.sc_repair.specs.Turns.{AreInTurn, AreTurns, TurnsOfEntry, entered, unless_at, in_turn, left, papers_in_turn, stamped_in_turn, stamps_in_turn}
+use Rattle.sc_repair.specs.Turns.{AreInTurn, AreTurns, TurnsOfEntry, unless_at, in_turn, left, papers_in_turn, stamped_in_turn, stamps_in_turn}
 use Rattle.sc_repair.proofs.EntryTurns.{turn-alone, turn-of, turns-each}
-use Rattle.sc_repair.proofs.InTurn.{Alone, Each, earlier, earlier-same, in_turn-left, in_turn-length, in_turn-permutes, in_turn-set, last-apart, map-in_turn, remove-seam, turn-there}
+use Rattle.sc_repair.proofs.InTurn.{Alone, Each, earlier, earlier-same, in_turn-left, in_turn-length, in_turn-permutes, in_turn-set, last-apart, remove-seam, turn-there}
 
 -- what stands at the position of a number
 pub entry-at : {X : Type 0} (i p : ℕ) (es : List (ℕ × X)) → position (nat_eq i) (keys_of es) ≡ Some p → (v : X) × (lookup (nat_eq i) es ≡ Some v) × (slice_get es p ≡ Some (i, v))

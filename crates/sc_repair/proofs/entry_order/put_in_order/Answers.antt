@@ -1,8 +1,6 @@
 use Rattle.std.proofs.Common.{◌+◌, ap, ◌∙◌, arith, rules}
-use Rattle.sc_papers.specs.Market.{Market}
-use Rattle.sc_stamps.specs.Stamps.{Stamps}
 use Rattle.sc_stamps.specs.Verdict.{StampedPapers}
-use Rattle.sc_repair.specs.Turns.{TurnsOfEntry, stamped_in_turn}
+use Rattle.sc_repair.specs.Turns.{stamped_in_turn}
 use Rattle.sc_repair.proofs.InOrder.{ordering-at, ordering-begun, ordering-done, ordering-next, ordering-passed, ordering-within}
 use Rattle.sc_repair.proofs.entry_order.put_in_order.Goals as goal
 use Rattle.sc_repair.proofs.entry_order.put_in_order.Goals.{in-Some, in_default}

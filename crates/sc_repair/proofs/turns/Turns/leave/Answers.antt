@@ -1,5 +1,4 @@
-use Rattle.std.proofs.Common.{◌≡◌, ◌++◌, ◌∷◌, ◌-◌, List, [], ℕ, Some, None, length, take, slice_get, ap, sym, subst, ◌∙◌, arith}
-use Rattle.std.specs.Option.{option_to_list}
+use Rattle.std.proofs.Common.{◌≡◌, ◌-◌, ℕ, Some, length, take, slice_get, ap, sym, subst, ◌∙◌, arith}
 use Rattle.sc_repair.specs.Turns.{AreTurns, TurnsOfEntry, left}
 use Rattle.sc_repair.proofs.EntryTurns.{last-own, left-made, left-nobody, turn-within}
 use Rattle.sc_repair.proofs.turns.Turns.leave.Goals as goal

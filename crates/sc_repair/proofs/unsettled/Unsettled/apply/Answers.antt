@@ -1,11 +1,9 @@
-use Rattle.std.proofs.Common.{◌≡◌, ℕ, Option, None, Some, OnErr, Result, Ok, Err, inl, inr, ◌⊎◌, ap, subst, sym, ◌∙◌}
-use Rattle.sc_papers.specs.Market.{Market}
+use Rattle.std.proofs.Common.{◌≡◌, OnErr, Result, Ok, Err, inl, inr, ap, subst, sym, ◌∙◌}
 use Rattle.sc_papers.specs.Verdict.{verdict}
-use Rattle.sc_stamps.specs.Stamps.{marking_of}
 use Rattle.sc_stamps.specs.Verdict.{StampedPapers, stamped_after}
 use Rattle.sc_stamps.specs.declared.marking.Marking.{Marking}
 use Rattle.sc_repair.specs.Turns.{AreInTurn, AreTurns, TurnsOfEntry, begun_turns, finished_turns, leaver, stamped_in_turn}
-use Rattle.sc_repair.proofs.AmendedInTurn.{done-in_turn, done-kept, kept-along, leaver-within, ready-accepted, ready-kept, ready-same, ready-verdict, turns-begun}
+use Rattle.sc_repair.proofs.AmendedInTurn.{done-in_turn, done-kept, kept-along, ready-kept, ready-same, ready-verdict, turns-begun}
 use Rattle.sc_repair.proofs.unsettled.Unsettled.apply.Goals as goal
 
 -- what holds in any case holds after an error
