@@ -145,8 +145,6 @@ fn expect_copies(rt: &impl Abort, segments: &Segments)
     assert_eq!(rt; log.as_slice(), last_chain(rt).as_slice());
     let prefix = segments.prefix(2).expect(rt, "memory");
     assert_eq!(rt; prefix.len(), 0);
-    let prefix = segments.prefix(3).expect(rt, "memory");
-    assert_eq!(rt; prefix.as_slice(), last_chain(rt).as_slice());
     let mut rewound = segments.copy_prefix(2).expect(rt, "memory");
     push_one(rt, &mut rewound);
     drop(rewound);
