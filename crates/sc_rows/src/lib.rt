@@ -9,6 +9,8 @@ mod clearings;
 #[cfg(test)]
 mod desks;
 #[cfg(test)]
+mod districts;
+#[cfg(test)]
 mod given;
 #[cfg(test)]
 mod lottery;

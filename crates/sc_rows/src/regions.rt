@@ -10,11 +10,11 @@ use sc_region::{RegionList, region};
 use std::alloc::{AllocError, Global};
 use std::process::Abort;
 
-fn student(rt: &impl Abort, number: u32) -> StudentNo {
+pub(super) fn student(rt: &impl Abort, number: u32) -> StudentNo {
     StudentNo::new(number).expect(rt, "a student's number")
 }
 
-fn school(rt: &impl Abort, number: u32) -> SchoolNo {
+pub(super) fn school(rt: &impl Abort, number: u32) -> SchoolNo {
     SchoolNo::new(number).expect(rt, "a school's number")
 }
 
@@ -28,7 +28,7 @@ fn list_of(rt: &impl Abort, alloc: Global, numbers: &[u32]) -> Result<SchoolList
 }
 
 /// A student of no zone, with no siblings, who continues nowhere, enters.
-fn entry(
+pub(super) fn entry(
     rt: &impl Abort,
     alloc: Global,
     number: u32,
@@ -43,7 +43,7 @@ fn entry(
     })
 }
 
-fn rerank(
+pub(super) fn rerank(
     rt: &impl Abort,
     alloc: Global,
     number: u32,
@@ -75,7 +75,7 @@ fn add_schools(rt: &impl Abort, papers: &mut Papers) -> Result<(), SchoolRefusal
     Ok(())
 }
 
-fn enter(
+pub(super) fn enter(
     rt: &impl Abort,
     alloc: Global,
     papers: &mut Papers,
@@ -103,7 +103,7 @@ fn fill(rt: &impl Abort, alloc: Global, papers: &mut Papers) -> Result<(), Refus
     Ok(())
 }
 
-fn no_papers(rt: &impl Abort, alloc: Global) -> Papers {
+pub(super) fn no_papers(rt: &impl Abort, alloc: Global) -> Papers {
     let seed = Seed::from_hex(&[b'0'; 64]).ok().expect(rt, "a seed");
     Papers::new(alloc, seed)
 }
