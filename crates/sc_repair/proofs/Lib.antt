@@ -29,3 +29,4 @@ pub mod Positioned
 pub mod Renewing
 pub mod Picked
 pub mod Regions
+pub mod FirstAmong

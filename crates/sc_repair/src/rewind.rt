@@ -1,13 +1,16 @@
 //! From where on an amendment may change anything.
 
-ghost use Rattle.std.specs.Prelude.{◌≡◌, ◌≤◌, ◌<◌, List, None, Some, length, slice_index, take, IfErr, IfOk, OnOk};
+ghost use Rattle.std.specs.Prelude.{◌≡◌, ◌≤◌, ◌<◌, ◌↔◌, ℕ, List, None, Some, true, false, length, slice_get, slice_index, slice_index_or, take, Contains, IfErr, IfOk, IsTrue, OnOk};
+ghost use Rattle.std.specs.List.Sorted.{IsStrictlyIncreasing};
 ghost use Rattle.sc_papers.specs.Market.{students_of};
 ghost use Rattle.sc_papers.specs.Restriction.{cut, IsSegmented};
 ghost use Rattle.sc_papers.specs.Verdict.{after, verdict};
 ghost use Rattle.sc_papers.specs.declared.rejection.Rejection.{Rejection};
+ghost use Rattle.sc_region.specs.Region.{InRegion};
 ghost use Rattle.sc_repair.specs.Rewinding.{first_to_list, lists, position_of, rewind_point};
 
 use sc_papers::{Amendment, Papers, Refusal, SchoolNo, StudentNo};
+use sc_region::RegionMarks;
 
 /// Whether the student at the position lists the school.
 fn lists(papers: &Papers, school: SchoolNo, position: usize) -> bool
@@ -28,6 +31,32 @@ fn first_to_list(papers: &Papers, school: SchoolNo) -> usize
         }
     }
     papers.students_len()
+}
+
+/// The first of these rising positions at which a student lists the school, where whoever lists it stands at one of
+/// them; the number of students where none does.
+fn first_among(papers: &Papers, school: SchoolNo, positions: &[usize]) -> usize
+    requires rising { IsStrictlyIncreasing positions.now }
+    requires within { (p : ℕ) → Contains positions.now p → p < length papers.now.students }
+    requires all { (p : ℕ) → p < length papers.now.students → lists papers.now school (slice_index (students_of papers.now) p) ≡ true → Contains positions.now p }
+    ensures { result ≡ first_to_list papers.now school }
+{
+    for position in positions {
+        if lists(papers, school, *position) {
+            return *position;
+        }
+    }
+    papers.students_len()
+}
+
+/// The position of the first student who lists the school, where whoever lists it is marked; the number of students
+/// where none does.
+fn first_marked(papers: &Papers, school: SchoolNo, region: &RegionMarks) -> usize
+    requires one_each { length region.now ≡ length papers.now.students }
+    requires marked { (p : ℕ) → p < length papers.now.students → lists papers.now school (slice_index (students_of papers.now) p) ≡ true → IsTrue (slice_index_or region.now p false) }
+    ensures { result ≡ first_to_list papers.now school }
+{
+    first_among(papers, school, region.positions())
 }
 
 /// The position of the student, or the number of students for one who is not in the papers.
@@ -71,4 +100,24 @@ pub fn rewind_point(papers: &Papers, amendment: &Amendment) -> Result<usize, Ref
 {
     papers.check(amendment)?;
     Ok(first_changed(papers, amendment))
+}
+
+/// What `rewind_point` answers of an amendment that is not refused and whose region is marked.
+///
+/// It takes no memory. It takes constant time, and for an `Add` or a `Close` a look at the choices of the region's students up
+/// to that position.
+pub(crate) fn point_in(papers: &Papers, region: &RegionMarks, amendment: &Amendment) -> usize
+    requires allowed { verdict papers.now amendment.now ≡ None }
+    requires one_each { length region.now ≡ length papers.now.students }
+    requires region { (position i : ℕ) → slice_get (students_of papers.now) position ≡ Some i → (IsTrue (slice_index_or region.now position false) ↔ InRegion papers.now amendment.now i) }
+    ensures { result ≡ rewind_point papers.now amendment.now }
+{
+    match amendment {
+        Amendment::Add { school, .. } => first_marked(papers, *school, region),
+        Amendment::Close { school, .. } => first_marked(papers, *school, region),
+        Amendment::Enter { .. }
+        | Amendment::Withdraw { .. }
+        | Amendment::Rerank { .. }
+        | Amendment::Correct { .. } => first_changed(papers, amendment),
+    }
 }

@@ -10,7 +10,7 @@ ghost use Rattle.sc_repair.specs.Standing.{CountsRegion, IsCertified, KeepsOther
 use super::Settlement;
 use crate::districts::{exchange, give_up, reach};
 use crate::resettling::resettle;
-use crate::rewind::rewind_point;
+use crate::rewind::point_in;
 use sc_papers::{Amendment, Refusal};
 use sc_seats::HeapRoll;
 
@@ -30,8 +30,8 @@ impl Settlement {
         ensures refused { IfErr result (IsRefusal (verdict self.old.papers amendment)) }
         ensures unchanged { OnErr result (self.new ≡ self.old) }
     {
-        let point = rewind_point(&self.papers, &amendment)?;
         let region = reach(self.alloc, &mut self.districts, &self.papers, &amendment)?;
+        let point = point_in(&self.papers, &region, &amendment);
         let back = exchange(&mut self.papers, &mut self.districts, amendment)?;
         let end = self.papers.students_len();
         let settled = resettle::<HeapRoll>(

@@ -19,10 +19,10 @@ resettle-settled-requires c =
     let test = is_among (marked_in c.in_ok-region.region c.self.inside.segments) in
     let tells : TellsRegion m c.args.amendment test =
     subst (λ is. TellsRegion m c.args.amendment (is_among (marked c.in_ok-region.region is))) (sym c.self.invariant.theirs)
-    (marks-tell m c.args.amendment c.in_ok-region.region c.self.invariant.certified.well_formed c.in_ok-point.ensures.allowed c.requires.no_entry c.in_ok-region.ensures.region) in
+    (marks-tell m c.args.amendment c.in_ok-region.region c.self.invariant.certified.well_formed c.in_ok-region.ensures.allowed c.requires.no_entry c.in_ok-region.ensures.region) in
     record {
-      changed = in-place-changed m c.exchange.new.papers c.args.amendment c.in_ok-point.point c.students_len-end.result c.self.invariant.certified.well_formed c.in_ok-point.ensures.allowed c.requires.no_entry
-          c.requires.no_withdrawal c.in_ok-back.ensures.accepted c.in_ok-point.ensures.point c.students_len-end.ensures.count c.self.inside.places c.self.inside.segments test (record {
+      changed = in-place-changed m c.exchange.new.papers c.args.amendment c.point_in-point.result c.students_len-end.result c.self.invariant.certified.well_formed c.in_ok-region.ensures.allowed c.requires.no_entry
+          c.requires.no_withdrawal c.in_ok-back.ensures.accepted c.point_in-point.ensures c.students_len-end.ensures.count c.self.inside.places c.self.inside.segments test (record {
             well_formed = c.self.invariant.certified.well_formed;
             theirs = c.self.invariant.theirs;
             segmented = c.self.invariant.certified.segmented;
@@ -62,7 +62,7 @@ returns-in-Ok-clause-certified c =
 pub returns-in-Ok-clause-stays : goal.returns-in-Ok-clause-stays
 returns-in-Ok-clause-stays c =
     subst (λ (s : Standing). take (rewind_point s.papers c.args.amendment) (logs_in c.resettle-settled.new.segments) ≡ take (rewind_point s.papers c.args.amendment) s.segments) c.self.view_is
-    (subst (λ k. take k (logs_in c.resettle-settled.new.segments) ≡ take k (logs_in c.self.inside.segments)) c.in_ok-point.ensures.point c.in-Ok.ensures.stays)
+    (subst (λ k. take k (logs_in c.resettle-settled.new.segments) ≡ take k (logs_in c.self.inside.segments)) c.point_in-point.ensures c.in-Ok.ensures.stays)
 
 pub returns-in-Ok-clause-others : goal.returns-in-Ok-clause-others
 returns-in-Ok-clause-others c =
@@ -70,7 +70,7 @@ returns-in-Ok-clause-others c =
     let test = is_among (marked_in c.in_ok-region.region c.self.inside.segments) in
     let tells : TellsRegion m c.args.amendment test =
     subst (λ is. TellsRegion m c.args.amendment (is_among (marked c.in_ok-region.region is))) (sym c.self.invariant.theirs)
-    (marks-tell m c.args.amendment c.in_ok-region.region c.self.invariant.certified.well_formed c.in_ok-point.ensures.allowed c.requires.no_entry c.in_ok-region.ensures.region) in
+    (marks-tell m c.args.amendment c.in_ok-region.region c.self.invariant.certified.well_formed c.in_ok-region.ensures.allowed c.requires.no_entry c.in_ok-region.ensures.region) in
     let old : Standing = record { papers = m; places = c.self.inside.places; segments = logs_in c.self.inside.segments; proposals = c.self.inside.proposals } in
     let new : Standing = record { papers = c.exchange.new.papers; places = c.resettle-settled.new.places; segments = logs_in c.resettle-settled.new.segments; proposals = c.in-Ok.proposals } in
     subst (λ (s : Standing). KeepsOthers s c.args.amendment new) c.self.view_is
@@ -82,12 +82,12 @@ returns-in-Ok-clause-proposals c =
     let test = is_among (marked_in c.in_ok-region.region c.self.inside.segments) in
     let tells : TellsRegion m c.args.amendment test =
     subst (λ is. TellsRegion m c.args.amendment (is_among (marked c.in_ok-region.region is))) (sym c.self.invariant.theirs)
-    (marks-tell m c.args.amendment c.in_ok-region.region c.self.invariant.certified.well_formed c.in_ok-point.ensures.allowed c.requires.no_entry c.in_ok-region.ensures.region) in
+    (marks-tell m c.args.amendment c.in_ok-region.region c.self.invariant.certified.well_formed c.in_ok-region.ensures.allowed c.requires.no_entry c.in_ok-region.ensures.region) in
     let new : Standing = record { papers = c.exchange.new.papers; places = c.resettle-settled.new.places; segments = logs_in c.resettle-settled.new.segments; proposals = c.in-Ok.proposals } in
     subst (λ (s : Standing). CountsRegion s.papers c.args.amendment new) c.self.view_is
     (counts-region m c.args.amendment (marked_in c.in_ok-region.region c.self.inside.segments) new tells
-    (subst (λ k. CountsInside test k new) c.in_ok-point.ensures.point
-    (subst (λ n. CountsInside test c.in_ok-point.point (standing_of n c.resettle-settled.new.places c.resettle-settled.new.segments c.in-Ok.proposals)) (whole-cut-of c.exchange.new.papers c.students_len-end.result c.students_len-end.ensures.count) c.in-Ok.ensures.proposals)))
+    (subst (λ k. CountsInside test k new) c.point_in-point.ensures
+    (subst (λ n. CountsInside test c.point_in-point.result (standing_of n c.resettle-settled.new.places c.resettle-settled.new.segments c.in-Ok.proposals)) (whole-cut-of c.exchange.new.papers c.students_len-end.result c.students_len-end.ensures.count) c.in-Ok.ensures.proposals)))
 
 pub returns-clause-unchanged : goal.returns-clause-unchanged
 returns-clause-unchanged c =
