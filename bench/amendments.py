@@ -3,10 +3,10 @@
 
     amendments.py [--students N,N,..] [--times N] [--folder FOLDER] [--program PATH]
 
-Each market is made twice by generate.py: as one city whose students' lists connect all schools, and as districts that share
-none. A run with the script is timed beside one with an empty script, `--times` times each; the difference of the least
-processor times, divided by the number of amendments, is what one costs. So the opening, the reading and the report do not
-count. The last column is the run with the empty script, whole.
+Each market is made three times by generate.py: as one city whose students' lists connect all schools, as 200 districts that
+share none, and as a market that is one such district alone. A run with the script is timed beside one with an empty script,
+`--times` times each; the difference of the least processor times, divided by the number of amendments, is what one costs. So
+the opening, the reading and the report do not count. The last column is the run with the empty script, whole.
 """
 import argparse
 import os
@@ -19,14 +19,23 @@ HERE = os.path.dirname(os.path.abspath(__file__))
 PROGRAM = os.path.join(HERE, "..", "crates", "clearinghouse", "out", "clearinghouse")
 SCHOOLS = {20_000: 200, 80_000: 700, 200_000: 2_000}
 CHOICES = 12
-KINDS = {"newcomer": 1_000, "withdrawal of the last": 20, "withdrawal of a random one": 20, "rerank": 20, "correction": 20,
-         "a seat more": 20, "a seat less": 20}
+DISTRICTS = 200
+KINDS = ("newcomer", "withdrawal of the last", "withdrawal of a random one", "rerank", "correction", "a seat more", "a seat less")
+
+
+def count_of(kind, students, districts):
+    """How many amendments of a kind stand behind a figure: as many as take about a second, for a figure that is told closely."""
+    if kind == "newcomer":
+        return 5_000
+    if districts > 1:
+        return 1_000
+    return max(20, min(students // 4, 1_000_000 // students))
 
 
 def market(folder, students, districts):
     target = os.path.join(folder, f"{students}-{districts}")
     if not os.path.isdir(target):
-        schools = SCHOOLS.get(students, max(students // 100, districts))
+        schools = SCHOOLS.get(students, max(students // 100, 1))
         subprocess.run([sys.executable, os.path.join(HERE, "generate.py"), target, "--students", str(students), "--schools", str(schools),
                         "--choices", str(CHOICES), "--seats", str(students // schools), "--districts", str(districts)], check=True)
     return target
@@ -44,10 +53,11 @@ def script_of(kind, folder, districts, count):
     roster = rows(folder, "roster")
     schools = [row[0] for row in rows(folder, "schools")]
     near = [schools[first::districts] for first in range(districts)]
-    some = source.sample(roster, count)
+    leaving = source.sample(roster, min(count, len(roster)))
     stamps = {}
     for turn in range(count):
-        student, zone, siblings = some[turn]
+        student, zone, siblings = source.choice(roster)
+        stamp = stamps.get(student, 0)
         if kind == "newcomer":
             district = near[turn % districts]
             choices = source.sample(district, min(CHOICES, len(district)))
@@ -55,13 +65,15 @@ def script_of(kind, folder, districts, count):
         elif kind == "withdrawal of the last":
             yield f"0,withdraw,{roster[-1 - turn][0]}"
         elif kind == "withdrawal of a random one":
-            yield f"0,withdraw,{student}"
+            yield f"0,withdraw,{leaving[turn][0]}"
         elif kind == "rerank":
             choices = lists[student].split(" ")
             source.shuffle(choices)
-            yield f"0,rerank,{student},{' '.join(choices)}"
+            yield f"{stamp},rerank,{student},{' '.join(choices)}"
+            stamps[student] = turn + 1
         elif kind == "correction":
-            yield f"0,correct,{student},{(int(zone) + 1) % 20},{siblings}"
+            yield f"{stamp},correct,{student},{source.randrange(20)},{siblings}"
+            stamps[student] = turn + 1
         else:
             word = "add" if kind == "a seat more" else "close"
             school = source.choice(schools)
@@ -89,8 +101,9 @@ def main():
     print("| students | " + " | ".join(f"{kind}, ms" for kind in KINDS) + " | the whole opening, ms |")
     print("|---" * (len(KINDS) + 2) + "|")
     for students in map(int, given.students.split(",")):
-        for districts, name in ((1, "one city"), (200, "200 districts")):
-            folder = market(given.folder, students, min(districts, students // 100))
+        for whole, districts, name in ((students, 1, "one city"), (students, DISTRICTS, f"{DISTRICTS} districts"),
+                                       (students // DISTRICTS, 1, "one of these districts alone")):
+            folder = market(given.folder, whole, districts)
             with open(os.path.join(folder, "seed")) as file:
                 opening = ["--seed", file.read()]
             for file in ("schools", "roster", "lists"):
@@ -103,8 +116,9 @@ def main():
                 return min(processor([given.program, "run", *opening, "--script", script, "--journal", journal]) for _ in range(given.times))
 
             empty = run([])
-            costs = [(run(script_of(kind, folder, min(districts, students // 100), count)) - empty) / count for kind, count in KINDS.items()]
-            print(f"| {students:,}, {name} | " + " | ".join(f"{max(cost, 0):.2f}" for cost in costs) + f" | {empty:.0f} |", flush=True)
+            counts = [count_of(kind, whole, districts) for kind in KINDS]
+            costs = [(run(script_of(kind, folder, districts, count)) - empty) / count for kind, count in zip(KINDS, counts)]
+            print(f"| {whole:,}, {name} | " + " | ".join(f"{max(cost, 0):.3f}" for cost in costs) + f" | {empty:.0f} |", flush=True)
 
 
 if __name__ == "__main__":
