@@ -4,7 +4,7 @@ use Rattle.std.specs.Prelude.{position, remove, slice_set}
 use Rattle.std.specs.Map.{keys_of, remove_entry, set_value}
 use Rattle.std.proofs.lemmas.Map.{keys-set_value}
 use Rattle.sc_lottery.specs.Draw.{draw}
-use Rattle.sc_papers.specs.Representation.{IsSound, market_of, rows_of}
+use Rattle.sc_papers.specs.Representation.{IsSound, market_of}
 use Rattle.sc_papers.specs.StudentRow.{row_of}
 use Rattle.sc_papers.specs.Verdict.{without_student}
 use Rattle.sc_papers.specs.WellFormed.{IsProper, IsShort}
@@ -28,7 +28,7 @@ IsSound-withdrawn old new i place sound seed schools positions left found remove
       rows =
           let before = sound.rows in
           removed ∙ ap (λ rows. remove rows place) before
-          ∙ remove-found (λ e. row_of old.positions (draw old.lottery e.0) e.1) (nat_eq i) old.students.entries place found
+          ∙ remove-found (λ e. row_of old.positions e.0 (draw old.lottery e.0) e.1) (nat_eq i) old.students.entries place found
           ∙ rw (seed, positions, left) refl;
     }
 
@@ -36,7 +36,7 @@ IsSound-withdrawn old new i place sound seed schools positions left found remove
 pub IsSound-put_student : (old new : Inside) (i place : ℕ) (student : Student) → IsSound old → IsProper (market_of old) student → IsShort student
     → new.lottery ≡ old.lottery → new.schools ≡ old.schools → new.positions ≡ old.positions → new.students.entries ≡ set_value (nat_eq i) old.students.entries student
     → Some place ≡ position (nat_eq i) (keys_of old.students.entries)
-    → new.rows.items ≡ slice_set old.rows.items place (row_of old.positions (draw old.lottery i) student)
+    → new.rows.items ≡ slice_set old.rows.items place (row_of old.positions i (draw old.lottery i) student)
     → IsSound new
 IsSound-put_student old new i place student sound proper short seed schools positions put found set =
     let after : market_of new ≡ put_student (market_of old) i student = rw (seed, schools, put) refl in
@@ -46,8 +46,8 @@ IsSound-put_student old new i place student sound proper short seed schools posi
       positions = rw (positions, schools) sound.positions;
       rows =
           let before = sound.rows in
-          set ∙ ap (λ rows. slice_set rows place (row_of old.positions (draw old.lottery i) student)) before
-          ∙ set-found (λ k w. row_of old.positions (draw old.lottery k) w) i old.students.entries student place found
+          set ∙ ap (λ rows. slice_set rows place (row_of old.positions i (draw old.lottery i) student)) before
+          ∙ set-found (λ k w. row_of old.positions k (draw old.lottery k) w) i old.students.entries student place found
           ∙ rw (seed, positions, put) refl;
     }
 

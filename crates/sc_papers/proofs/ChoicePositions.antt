@@ -1,23 +1,24 @@
 -- The positions of a student's choices.
-use Rattle.std.proofs.Common.{◌≡◌, refl, ap, sym, ◌∙◌, ℕ, ◌<◌, nat_eq, true, List, [], ◌∷◌, get_or, Option, Some, None, All, length, map, position, slice_get}
+use Rattle.std.proofs.Common.{◌≡◌, inl, inr, refl, ap, sym, ◌∙◌, ℕ, ◌+◌, ◌<◌, ◌==◌, nat_eq, true, not, cond, false, List, [], ◌∷◌, get_or, Option, Some, None, All, length, map, position, slice_get, arith}
 use Rattle.std.specs.Prelude.{nat_lt, slice_index_or, unwrap_or}
-use Rattle.std.specs.List.{AllPass}
+use Rattle.std.specs.List.{position_or_len}
 use Rattle.std.specs.Map.{lookup}
 use Rattle.std.specs.Option.{option_and_then, option_map, option_map_or}
-use Rattle.std.proofs.lemmas.Bool.{ltb-true}
+use Rattle.std.proofs.lemmas.Bool.{cases_eq, cond-false, cond-true, eq-eqb, le-ltb, ltb-true, ne_eqb}
 use Rattle.std.proofs.lemmas.Cmp.{nat_eq_equiv}
+use Rattle.std.proofs.lemmas.List.{length-map}
 use Rattle.std.proofs.lemmas.List.Elements.{All-head, All-tail}
 use Rattle.std.proofs.lemmas.Map.Entries.{lookup_from_place}
 use Rattle.std.proofs.lemmas.Option.{none-some, same_Some, slice_get-map, slice_get_read}
-use Rattle.sc_papers.specs.Market.{Market, choices_of, is_school, school_of, schools_of, student_at, student_of, students_of}
+use Rattle.sc_papers.specs.Market.{Market, choices_of, is_school, schools_of, student_at, student_of}
 use Rattle.sc_papers.specs.Representation.{rows_of}
-use Rattle.sc_papers.specs.StudentRow.{Row, positions_in, row_of}
+use Rattle.sc_papers.specs.StudentRow.{Row, positions_in}
 use Rattle.sc_papers.specs.WellFormed.{WellFormed, IsProper}
 use Rattle.sc_papers.specs.declared.records.Student.{Student}
 use Rattle.sc_papers.proofs.Changing.{All-found}
 use Rattle.sc_papers.proofs.Hands.{hand-there}
 use Rattle.sc_papers.proofs.Keys.{found-by_position, row-there}
-use Rattle.sc_papers.proofs.Positions.{position-there}
+use Rattle.sc_papers.proofs.Positions.{position-one, position-there}
 
 -- a school's position in the order of entry
 abbrev place : Market → ℕ → Option ℕ
@@ -34,7 +35,7 @@ known-place m table tabled s known =
     go (Some at) found = ap (λ o. Some (unwrap_or o 0)) (tabled s ∙ found) ∙ sym found
 
 -- and so each school of a list
-known-places : (m : Market) (table : List (Option ℕ)) → ((s : ℕ) → slice_index_or table s None ≡ place m s)
+pub known-places : (m : Market) (table : List (Option ℕ)) → ((s : ℕ) → slice_index_or table s None ≡ place m s)
     → (schools : List ℕ) → All (λ s. is_school m s ≡ true) schools → map Some (positions_in table schools) ≡ map (place m) schools
 known-places m table tabled [] known = refl
 known-places m table tabled (s ∷ schools) known =
@@ -96,3 +97,47 @@ school-at_place m choices places rank at are here none =
     go : (q : Option ℕ) → Some (Some at) ≡ option_map (place m) q → ⊥
     go None same = cc
     go (Some t) same = none-some t (none ∙ position-there (schools_of m) t at (sym (same_Some (Some at) (place m t) same)))
+
+-- a choice stands at a place where its school is the school of that place
+choice-same : (m : Market) (c p s at : ℕ) → Some p ≡ place m c → place m s ≡ Some at → (p == at) ≡ (c == s)
+choice-same m c p s at here found =
+    elim (cases_eq c s) [
+      | inl same ↦ eq-eqb p at (same_Some p at (here ∙ ap (place m) same ∙ found)) ∙ sym (eq-eqb c s same)
+      | inr apart ↦ ne_eqb p at (λ is. apart (position-one (schools_of m) s c at found (sym here ∙ ap Some is))) ∙ sym (ne_eqb c s apart)
+    ]
+
+-- so the first of the places that is a school's stands at the rank of the school
+first-same : (m : Market) (choices places : List ℕ) (s at : ℕ) → map Some places ≡ map (place m) choices → place m s ≡ Some at
+    → position_or_len (λ p. p == at) places ≡ position_or_len (λ c. c == s) choices
+first-same m [] [] s at are found = refl
+first-same m [] (p ∷ places) s at are found = cc
+first-same m (c ∷ choices) [] s at are found = cc
+first-same m (c ∷ choices) (p ∷ places) s at are found =
+    let here : Some p ≡ place m c = cc in
+    let rest : map Some places ≡ map (place m) choices = cc in
+    λ t. cond (not (choice-same m c p s at here found t)) (1 + first-same m choices places s at rest found t) 0
+
+pub choice-rank : (m : Market) (choices places : List ℕ) (s at : ℕ) → map Some places ≡ map (place m) choices → place m s ≡ Some at
+    → position (λ p. p == at) places ≡ position (λ c. c == s) choices
+choice-rank m choices places s at are found =
+    let first = first-same m choices places s at are found in
+    let long : length places ≡ length choices = sym (length-map places Some) ∙ ap length are ∙ length-map choices (place m) in
+    λ t. cond (nat_lt (first t) (long t)) (Some (first t)) None
+
+-- a school without a place is not among the choices
+none-first : (m : Market) (choices places : List ℕ) (s : ℕ) → map Some places ≡ map (place m) choices → place m s ≡ None
+    → position_or_len (λ c. c == s) choices ≡ length choices
+none-first m [] places s are none = refl
+none-first m (c ∷ choices) [] s are none = cc
+none-first m (c ∷ choices) (p ∷ places) s are none =
+    let here : Some p ≡ place m c = cc in
+    let rest : map Some places ≡ map (place m) choices = cc in
+    let other : (c == s) ≡ false = ne_eqb c s (λ same. none-some p (sym none ∙ ap (place m) (sym same) ∙ sym here)) in
+    cond-true (not (c == s)) (1 + position_or_len (λ t. t == s) choices) 0 (ap not other) ∙ omega (arith, none-first m choices places s rest none)
+
+pub no-rank : (m : Market) (choices places : List ℕ) (s : ℕ) → map Some places ≡ map (place m) choices → place m s ≡ None
+    → position (λ c. c == s) choices ≡ None
+no-rank m choices places s are none =
+    let past = none-first m choices places s are none in
+    cond-false (nat_lt (position_or_len (λ c. c == s) choices) (length choices)) (Some (position_or_len (λ c. c == s) choices)) None
+    (le-ltb (position_or_len (λ c. c == s) choices) (length choices) (omega (arith, past)))

@@ -98,7 +98,7 @@ IsSound-moved old new from to sound seed schools positions students rows =
       rows =
           let before = sound.rows in
           rows ∙ ap (λ rs. move_index rs from to) before
-          ∙ sym (map-move (λ (e : ℕ × Student). row_of old.positions (draw old.lottery e.0) e.1) old.students.entries from to)
+          ∙ sym (map-move (λ (e : ℕ × Student). row_of old.positions e.0 (draw old.lottery e.0) e.1) old.students.entries from to)
           ∙ rw (seed, positions, students) refl;
     }
 
@@ -122,7 +122,7 @@ IsSound-swapped old new a b low high sound seed schools positions students rows 
       rows =
           let before = sound.rows in
           rows ∙ ap (λ rs. swap rs a b) before
-          ∙ sym (map-swap (λ (e : ℕ × Student). row_of old.positions (draw old.lottery e.0) e.1) old.students.entries a b)
+          ∙ sym (map-swap (λ (e : ℕ × Student). row_of old.positions e.0 (draw old.lottery e.0) e.1) old.students.entries a b)
           ∙ rw (seed, positions, students) refl;
     }
 

@@ -1,5 +1,5 @@
 -- How many pairs of an assignment have a school, where one student's place changes.
-use Rattle.std.proofs.Common.{◌≡◌, ℕ, ◌+◌, ◌<◌, ◌==◌, nat_eq, cond, List, [], ◌∷◌, Option, None, Some, length, get_or, position, swap_remove, slice_get, sum_by, refl, ◌∙◌, ap, sym, arith, inl, inr, zero, suc}
+use Rattle.std.proofs.Common.{◌≡◌, ℕ, ◌+◌, ◌<◌, ◌==◌, nat_eq, cond, List, [], ◌∷◌, Option, None, Some, length, get_or, position, slice_get, refl, ◌∙◌, arith, inl, inr, zero, suc}
 use Rattle.std.specs.Map.{keys_of, set_value, values_of}
 use Rattle.std.proofs.lemmas.Bool.{cases_Bool, cond-true, eq-eqb}
 use Rattle.std.proofs.lemmas.List.Sums.{sum_by-cons, sum_by-swap_remove}

@@ -1,19 +1,22 @@
 -- What look-ups in the papers' tables give.
-use Rattle.std.proofs.Common.{◌≡◌, ℕ, nat_eq, List, get_or, Option, Some, None, refl, sym, ap, ◌∙◌, cond, false, is_some, position}
-use Rattle.std.specs.Prelude.{◌==◌, ◌&&◌}
+use Rattle.std.proofs.Common.{◌≡◌, ℕ, ◌<◌, nat_eq, Bool, List, [], get_or, length, Option, Some, None, refl, sym, ap, ◌∙◌, cond, false, true, is_some, position}
+use Rattle.std.specs.Prelude.{◌==◌, ◌&&◌, nat_lt}
 use Rattle.std.specs.List.{slice_get, list_any}
 use Rattle.sc_lottery.specs.Draw.{draw}
-use Rattle.sc_papers.specs.Key.{class_by, same_zone, key_of, key_at}
-use Rattle.sc_papers.specs.Market.{Market, student_of, students_of, school_of, schools_of, is_student, is_school}
+use Rattle.sc_papers.specs.Key.{class_by, has_sibling_at, same_zone, key_of, key_at}
+use Rattle.sc_papers.specs.Market.{Market, siblings_of, student_at, student_of, students_of, school_of, schools_of, is_student, is_school}
 use Rattle.sc_papers.specs.Representation.{rows_of}
 use Rattle.sc_papers.specs.StudentRow.{Row, row_of}
+use Rattle.sc_papers.specs.WellFormed.{WellFormed}
 use Rattle.sc_papers.specs.declared.records.School.{School}
 use Rattle.sc_papers.specs.declared.records.Student.{Student}
 use Rattle.std.specs.Map.{keys_of, lookup}
-use Rattle.std.specs.Option.{option_map, option_and_then, option_eq}
-use Rattle.std.proofs.lemmas.Bool.{and_right}
+use Rattle.std.specs.Option.{option_map, option_map_or, option_and_then, option_eq}
+use Rattle.std.proofs.lemmas.Bool.{and_right, ltb-true}
+use Rattle.std.proofs.lemmas.Cmp.{nat_eq_equiv}
+use Rattle.std.proofs.lemmas.Map.Entries.{lookup_from_place}
 use Rattle.indexmap.proofs.MapLemmas.{some_index}
-use Rattle.std.proofs.lemmas.Option.{same_Some, slice_get-map, get_or_from_slice_get}
+use Rattle.std.proofs.lemmas.Option.{same_Some, slice_get-map, slice_get_read, slice_get_within, get_or_from_slice_get}
 use Rattle.sc_papers.proofs.Positions.{position-there}
 
 -- the number of the entry at a place
@@ -22,11 +25,11 @@ key-there es place k x entry = slice_get-map (λ e. e.0) es place ∙ ap (option
 
 -- the row that stands at the place of an entry is its student's row
 pub row-there : (seed : List ℕ) (table : List (Option ℕ)) (es : List (ℕ × Student)) (rows : List Row) (place k : ℕ) (student : Student) (row : Row)
-    → rows ≡ rows_of seed table es → slice_get es place ≡ Some (k, student) → row ≡ get_or rows place row → row ≡ row_of table (draw seed k) student
+    → rows ≡ rows_of seed table es → slice_get es place ≡ Some (k, student) → row ≡ get_or rows place row → row ≡ row_of table k (draw seed k) student
 row-there seed table es rows place k student row are entry at =
-    let own = row_of table (draw seed k) student in
+    let own = row_of table k (draw seed k) student in
     let here : slice_get (rows_of seed table es) place ≡ Some own =
-    slice_get-map (λ e. row_of table (draw seed e.0) e.1) es place ∙ ap (option_map (λ e. row_of table (draw seed e.0) e.1)) entry in
+    slice_get-map (λ e. row_of table e.0 (draw seed e.0) e.1) es place ∙ ap (option_map (λ e. row_of table e.0 (draw seed e.0) e.1)) entry in
     let there : get_or (rows_of seed table es) place row ≡ own = get_or_from_slice_get (rows_of seed table es) place own row here in
     at ∙ rw are there
 
@@ -47,7 +50,7 @@ pub record-there : (m : Market) (place i : ℕ) (student : Student) → slice_ge
 record-there m place i student entry known = sym (ap (option_and_then (student_of m)) (key-there m.students place i student entry) ∙ known)
 
 -- the key that is put together from what stands at two places
-pub key-of_places : (m : Market) (place at i s class d : ℕ) (student : Student) (school : School)
+key-of_places : (m : Market) (place at i s class d : ℕ) (student : Student) (school : School)
     → slice_get m.students place ≡ Some (i, student) → slice_get m.schools at ≡ Some (s, school)
     → student_of m i ≡ Some student → school_of m s ≡ Some school
     → class ≡ class_by (option_eq nat_eq student.continuing (Some s)) (list_any (λ t. t == s) student.siblings) (same_zone student.zone school.zone)
@@ -56,6 +59,64 @@ pub key-of_places : (m : Market) (place at i s class d : ℕ) (student : Student
 unfolding key_of
 key-of_places m place at i s class d student school entry entry' known known' class_is draw_is =
     rw (key-there m.students place i student entry, key-there m.schools at s school entry', known, known', class_is, draw_is) refl
+
+-- what a read of the rows gives
+pub row-read : (rows : List Row) (place : ℕ) (row : Row) → true ≡ nat_lt place (length rows) → row ≡ get_or rows place row → slice_get rows place ≡ Some row
+row-read rows place row within is = slice_get_read rows (length rows) place row refl (ltb-true place (length rows) (sym within)) is
+
+-- the numbers of the rows are the students', in their order
+pub number-there : (m : Market) (table : List (Option ℕ)) (rows : List Row) (place : ℕ) → rows ≡ rows_of m.seed table m.students
+    → option_map (λ (r : Row). r.number) (slice_get rows place) ≡ slice_get (students_of m) place
+number-there m table rows place are =
+    ap (λ rs. option_map (λ (r : Row). r.number) (slice_get rs place)) are
+    ∙ ap (option_map (λ (r : Row). r.number)) (slice_get-map (λ e. row_of table e.0 (draw m.seed e.0) e.1) m.students place)
+    ∙ go (slice_get m.students place)
+    ∙ sym (slice_get-map (λ e. e.0) m.students place)
+  where
+    go : (o : Option (ℕ × Student)) → option_map (λ (r : Row). r.number) (option_map (λ e. row_of table e.0 (draw m.seed e.0) e.1) o) ≡ option_map (λ e. e.0) o
+    go None = refl
+    go (Some e) = refl
+
+-- a row at a place, and the student whose row it is
+module _ (m : Market) (table : List (Option ℕ)) (rows : List Row) (place : ℕ) (row : Row) (well : WellFormed m) (are : rows ≡ rows_of m.seed table m.students) (here : slice_get rows place ≡ Some row) where
+  whose : (e : ℕ × Student) × (slice_get m.students place ≡ Some e) × (row ≡ row_of table e.0 (draw m.seed e.0) e.1)
+  whose =
+      go (slice_get m.students place) refl (sym (slice_get-map (λ e. row_of table e.0 (draw m.seed e.0) e.1) m.students place) ∙ ap (λ rs. slice_get rs place) (sym are) ∙ here)
+    where
+      go : (o : Option (ℕ × Student)) → slice_get m.students place ≡ o → option_map (λ e. row_of table e.0 (draw m.seed e.0) e.1) o ≡ Some row
+          → (e : ℕ × Student) × (slice_get m.students place ≡ Some e) × (row ≡ row_of table e.0 (draw m.seed e.0) e.1)
+      go None there same = cc
+      go (Some e) there same = (e, there, sym (same_Some (row_of table e.0 (draw m.seed e.0) e.1) row same))
+
+  theirs : student_of m (student_at m place) ≡ Some whose.0.1
+  theirs =
+      ap (student_of m) (get_or_from_slice_get (students_of m) place whose.0.0 0 (key-there m.students place whose.0.0 whose.0.1 whose.1))
+      ∙ lookup_from_place nat_eq_equiv m.students place whose.0.0 whose.0.1 well.students_differ whose.1
+
+  pub row-within : place < length m.students
+  row-within = slice_get_within m.students place whose.0 whose.1
+
+  -- the row tells whether there are siblings
+  pub row-siblings : row.siblings ≡ nat_lt 0 (length (siblings_of m (student_at m place)))
+  row-siblings =
+      ap (λ (r : Row). r.siblings) whose.2
+      ∙ ap (λ o. nat_lt 0 (length (option_map_or (λ (student : Student). student.siblings) o []))) (sym theirs)
+
+  -- and a key is put together from it
+  pub key-of_row : (at s class : ℕ) (sibling : Bool) (school : School) → slice_get m.schools at ≡ Some (s, school) → school_of m s ≡ Some school
+      → sibling ≡ has_sibling_at m (student_at m place) s
+      → class ≡ class_by (option_eq nat_eq row.continuing (Some s)) sibling (same_zone row.zone school.zone)
+      → Some (record { class = class; draw = row.draw; student = row.number }) ≡ key_at m place at
+  key-of_row at s class sibling school entry known sibling_is class_is =
+      let student = whose.0.1 in
+      let is = whose.2 in
+      let siblings : sibling ≡ list_any (λ t. t == s) student.siblings =
+      sibling_is ∙ ap (λ o. list_any (λ t. t == s) (option_map_or (λ (d : Student). d.siblings) o [])) theirs in
+      let own : class ≡ class_by (option_eq nat_eq student.continuing (Some s)) (list_any (λ t. t == s) student.siblings) (same_zone student.zone school.zone) =
+      class_is ∙ (λ t. class_by (option_eq nat_eq (is t).continuing (Some s)) (siblings t) (same_zone (is t).zone school.zone)) in
+      (λ t. Some (record { class = class; draw = row.draw; student = (is t).number }))
+      ∙ key-of_places m place at whose.0.0 s class row.draw student school whose.1 entry
+      (lookup_from_place nat_eq_equiv m.students place whose.0.0 student well.students_differ whose.1) known own (ap (λ (r : Row). r.draw) is)
 
 -- a number with a position is found, and one without is not
 pub found-by_position : {X : Type 0} (es : List (ℕ × X)) (i : ℕ) (place : Option ℕ) → position (nat_eq i) (keys_of es) ≡ place → is_some (lookup (nat_eq i) es) ≡ is_some place

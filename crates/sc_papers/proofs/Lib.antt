@@ -6,9 +6,11 @@ pub mod Keys
 pub mod Positions
 pub mod Hands
 pub mod ChoicePositions
+pub mod PlacedOnce
 pub mod Objections
 pub mod Entering
 pub mod EnteringRepresentation
+pub mod EnteringAt
 pub mod Opening
 pub mod Changing
 pub mod ChangingRepresentation

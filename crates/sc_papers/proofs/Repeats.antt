@@ -9,6 +9,7 @@ use Rattle.std.specs.List.{list_any}
 use Rattle.std.proofs.Math.Seq.{drop-cons, take-suc}
 use Rattle.sc_papers.specs.Marks.{AreMarked}
 use Rattle.sc_papers.specs.Verdict.{first_repeat}
+use Rattle.sc_papers.specs.declared.marks.TheConstants.{MARKS}
 
 -- one place more has been passed
 pub first_repeat-at : (xs : List ℕ) (i : ℕ) → i < length xs
@@ -40,14 +41,14 @@ apart a b either same = elim either [ inl below ↦ absurd (omega (arith, same, 
 
 -- the mark of one school more
 pub marked-more : (xs : List ℕ) (i x : ℕ) (marked : List Bool) (mark : ℕ) → i < length xs → x ≡ get_or xs i x
-    → mark ≡ x % 128 → mark < length marked → AreMarked marked (take i xs) → AreMarked (slice_set marked mark true) (take (i + 1) xs)
+    → mark ≡ x % MARKS → mark < length marked → AreMarked marked (take i xs) → AreMarked (slice_set marked mark true) (take (i + 1) xs)
 marked-more xs i x marked mark h at is within earlier s among =
-    elim (cases_order (s % 128) mark) [
-      | inl same ↦ get_or-set_at marked mark (s % 128) true false same within
+    elim (cases_order (s % MARKS) mark) [
+      | inl same ↦ get_or-set_at marked mark (s % MARKS) true false same within
       | inr other ↦
-          get_or-set_other marked mark (s % 128) true false (apart (s % 128) mark other)
+          get_or-set_other marked mark (s % MARKS) true false (apart (s % MARKS) mark other)
           ∙ earlier s (elim (or_cases (list_any (λ t. t == s) (take i xs)) (get_or xs i x == s) (sym (list_any_more (λ t. t == s) xs i x h) ∙ among)) [
             | inl before ↦ before
-            | inr here ↦ absurd (apart (s % 128) mark other (ap (λ t. t % 128) (sym (eqb-true (get_or xs i x) s here) ∙ sym at) ∙ sym is))
+            | inr here ↦ absurd (apart (s % MARKS) mark other (ap (λ t. t % MARKS) (sym (eqb-true (get_or xs i x) s here) ∙ sym at) ∙ sym is))
           ])
     ]

@@ -7,6 +7,7 @@ pub mod TakingBack
 pub mod Marks
 pub mod WellFormed
 pub mod StudentRow
+pub mod Entry
 pub mod Representation
 pub mod Assignment
 pub mod Matching

@@ -13,7 +13,7 @@ market_of p = record { seed = p.lottery; schools = p.schools.entries; students =
 
 -- the rows of students with the draws under a seed
 abbrev pub rows_of : List ℕ → List (Option ℕ) → List (ℕ × Student) → List Row
-rows_of seed table entries = map (λ entry. row_of table (draw seed entry.0) entry.1) entries
+rows_of seed table entries = map (λ entry. row_of table entry.0 (draw seed entry.0) entry.1) entries
 
 -- what is true of the fields: the papers are well-formed and within the limits, the table of positions
 -- says where each school stands in the order of entry, and the rows are the students', with their draws

@@ -1,24 +1,30 @@
 -- What the papers keep of a student in one row, beside the student's record.
-use Rattle.std.specs.Prelude.{ℕ, Bool, nat_lt, List, Option, None, length, map, take, slice_index_or, unwrap_or}
+use Rattle.std.specs.Prelude.{ℕ, ◌==◌, Bool, nat_lt, List, Option, None, Some, length, map, take, slice_index_or, unwrap_or, if◌then◌else◌}
 use Rattle.sc_papers.specs.declared.records.Student.{Student}
 use Rattle.sc_papers.specs.declared.student_row.StudentRow.TheInside.{Inside}
 
--- the draw, the zone, whether there are siblings, the school at which the student continues, and the positions
--- of the choices' schools, best first
+-- the draw, the student's number, the zone, whether there are siblings, the school at which the student continues,
+-- and the positions of the choices' schools, best first
 pub record Row : Type 0 where
   pub draw : ℕ
+  pub number : ℕ
   pub zone : ℕ
   pub siblings : Bool
   pub continuing : Option ℕ
   pub choices : List ℕ
 
+-- the school of a number, where 0 is none
+abbrev pub school_in : ℕ → Option ℕ
+school_in number = if number == 0 then None else Some number
+
 -- the row that the fields hold
 abbrev pub row_in : Inside → Row
 row_in r = record {
   draw = r.draw;
+  number = r.number;
   zone = r.zone;
   siblings = r.siblings;
-  continuing = r.continuing;
+  continuing = school_in r.continuing;
   choices = take r.count r.positions;
 }
 
@@ -26,12 +32,17 @@ row_in r = record {
 abbrev pub positions_in : List (Option ℕ) → List ℕ → List ℕ
 positions_in table schools = map (λ s. unwrap_or (slice_index_or table s None) 0) schools
 
--- the row of a student with this draw
-abbrev pub row_of : List (Option ℕ) → ℕ → Student → Row
-row_of table draw student = record {
+-- the row of a student with this number and this draw, whose choices' schools stand at these positions
+abbrev pub row_at : List ℕ → ℕ → ℕ → Student → Row
+row_at positions number draw student = record {
   draw = draw;
+  number = number;
   zone = student.zone;
   siblings = nat_lt 0 (length student.siblings);
   continuing = student.continuing;
-  choices = positions_in table student.choices;
+  choices = positions;
 }
+
+-- the row of a student with this number and this draw, whose choices' schools stand where the table says
+abbrev pub row_of : List (Option ℕ) → ℕ → ℕ → Student → Row
+row_of table number draw student = row_at (positions_in table student.choices) number draw student

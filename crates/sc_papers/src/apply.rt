@@ -4,6 +4,7 @@ ghost use Rattle.std.specs.Prelude.{◌≡◌, None, OnOk, OnErr, IfErr};
 ghost use Rattle.sc_papers.specs.Verdict.{after, IsRefusal, verdict};
 
 use crate::amendment::{Amendment, Refusal};
+use crate::check::check_withdraw;
 use crate::papers::Papers;
 use crate::records::Student;
 
@@ -19,7 +20,6 @@ impl Papers {
         ensures refused { IfErr result (IsRefusal (verdict self.old amendment)) }
         ensures unchanged { OnErr result (self.new ≡ self.old) }
     {
-        self.check(&amendment)?;
         match amendment {
             Amendment::Enter {
                 student,
@@ -34,23 +34,17 @@ impl Papers {
                     choices,
                     continuing,
                 };
-                self.enter(student, record)?;
+                self.admit(student, record)
             }
-            Amendment::Withdraw { student } => self.withdraw(student),
-            Amendment::Rerank { student, choices } => {
-                let _ = self.rerank(student, choices);
+            Amendment::Withdraw { student } => {
+                check_withdraw(self, student)?;
+                self.withdraw(student);
+                Ok(())
             }
-            Amendment::Add { school, count } => self.add_seats(school, count),
-            Amendment::Close { school, count } => self.close_seats(school, count),
-            Amendment::Correct {
-                student,
-                zone,
-                siblings,
-                continuing,
-            } => {
-                let _ = self.correct(student, zone, siblings, continuing);
+            other => {
+                let _ = self.exchange(other)?;
+                Ok(())
             }
         }
-        Ok(())
     }
 }

@@ -1,38 +1,18 @@
 //! What can be said against an amendment.
 
-ghost use Rattle.std.specs.Prelude.{◌≡◌, ◌%◌, ◌<◌, ◌==◌, [], not, find};
-ghost use Rattle.std.specs.List.{list_any};
+ghost use Rattle.std.specs.Prelude.{◌≡◌, [], not, None, find};
+ghost use Rattle.std.specs.Bool.{OnTrue};
 ghost use Rattle.sc_papers.specs.Market.{is_school, seats_of};
-ghost use Rattle.sc_papers.specs.Marks.{AreMarked};
 ghost use Rattle.sc_papers.specs.Verdict.{first_of, first_repeat, no_choices, objections_to_add, objections_to_close, objections_to_correct, objections_to_enter, objections_to_list, objections_to_rerank, objections_to_withdraw, too_long, twice_in, unknown_in, unknown_school, unknown_student, unless_refused, verdict};
 
 use crate::amendment::{Amendment, Refusal};
 use crate::count::Count;
 use crate::limits::{LONGEST_LIST, MOST_STUDENTS};
+use crate::marks::{MARKS, has_come, mark_of};
 use crate::papers::Papers;
 use crate::school_no::SchoolNo;
 use crate::seats::Seats;
 use sc_lottery::StudentNumber;
-
-/// How many marks there are.
-const MARKS: usize = 128;
-
-/// The mark of a school: two schools whose marks differ are different schools.
-fn mark_of(school: SchoolNo) -> usize
-    ensures mark { result ≡ school % 128 }
-    ensures within { result < 128 }
-{
-    school.get() as usize % MARKS
-}
-
-/// Whether the school is one of those before it, each of whose marks is set: where its own is not, the list is not
-/// looked through.
-fn has_come(before: &[SchoolNo], marked: &[bool; MARKS], school: SchoolNo) -> bool
-    requires { AreMarked marked.now before.now }
-    ensures { result ≡ list_any (λ t. t == school) before.now }
-{
-    marked[mark_of(school)] && before.contains(&school)
-}
 
 /// The first school of the list that equals an earlier one.
 fn find_repeat(list: &[SchoolNo]) -> Option<SchoolNo>
@@ -92,7 +72,7 @@ fn check_known(papers: &Papers, list: &[SchoolNo]) -> Result<(), Refusal>
 }
 
 /// The test of a school that comes alone, if there is one.
-fn check_school(papers: &Papers, school: Option<SchoolNo>) -> Result<(), Refusal>
+pub(crate) fn check_school(papers: &Papers, school: Option<SchoolNo>) -> Result<(), Refusal>
     ensures { result ≡ unless_refused (unknown_school papers.now school) }
 {
     match school {
@@ -129,8 +109,15 @@ fn check_list(papers: &Papers, list: &[SchoolNo]) -> Result<(), Refusal>
     Ok(())
 }
 
+/// Whether nothing can be said against a list that comes alone.
+pub(crate) fn may_be_named(papers: &Papers, list: &[SchoolNo]) -> bool
+    ensures { OnTrue result (first_of (objections_to_list papers.now list.now) ≡ None) }
+{
+    list.is_empty() || check_list(papers, list).is_ok()
+}
+
 /// The tests of an `Enter`, in the order of the refusals' codes.
-fn check_enter(
+pub(crate) fn check_enter(
     papers: &Papers,
     student: StudentNumber,
     siblings: &[SchoolNo],
@@ -157,7 +144,7 @@ fn check_enter(
 }
 
 /// The tests of a `Withdraw`.
-fn check_withdraw(papers: &Papers, student: StudentNumber) -> Result<(), Refusal>
+pub(crate) fn check_withdraw(papers: &Papers, student: StudentNumber) -> Result<(), Refusal>
     ensures { result ≡ unless_refused (first_of (objections_to_withdraw papers.now student)) }
 {
     check_student(papers, student)?;
@@ -165,7 +152,7 @@ fn check_withdraw(papers: &Papers, student: StudentNumber) -> Result<(), Refusal
 }
 
 /// The tests of a `Rerank`, in the order of the refusals' codes.
-fn check_rerank(
+pub(crate) fn check_rerank(
     papers: &Papers,
     student: StudentNumber,
     choices: &[SchoolNo],
@@ -180,7 +167,7 @@ fn check_rerank(
 
 /// The tests of an `Add`, in the order of the refusals' codes.
 #[tactic(auto, unfolding(crate::specs::Market::seats_of))]
-fn check_add(papers: &Papers, school: SchoolNo, count: Count) -> Result<(), Refusal>
+pub(crate) fn check_add(papers: &Papers, school: SchoolNo, count: Count) -> Result<(), Refusal>
     ensures { result ≡ unless_refused (first_of (objections_to_add papers.now school count)) }
 {
     let Some(found) = papers.school(school) else {
@@ -194,7 +181,7 @@ fn check_add(papers: &Papers, school: SchoolNo, count: Count) -> Result<(), Refu
 
 /// The tests of a `Close`, in the order of the refusals' codes.
 #[tactic(auto, unfolding(crate::specs::Market::seats_of))]
-fn check_close(papers: &Papers, school: SchoolNo, count: Count) -> Result<(), Refusal>
+pub(crate) fn check_close(papers: &Papers, school: SchoolNo, count: Count) -> Result<(), Refusal>
     ensures { result ≡ unless_refused (first_of (objections_to_close papers.now school count)) }
 {
     let Some(found) = papers.school(school) else {
@@ -207,7 +194,7 @@ fn check_close(papers: &Papers, school: SchoolNo, count: Count) -> Result<(), Re
 }
 
 /// The tests of a `Correct`, in the order of the refusals' codes.
-fn check_correct(
+pub(crate) fn check_correct(
     papers: &Papers,
     student: StudentNumber,
     siblings: &[SchoolNo],

@@ -1,12 +1,14 @@
-ghost use Rattle.std.specs.Prelude.{◌≡◌, ℕ, ◌+◌, ◌<◌, ◌≤◌, ◌↔◌, [], ◌∷◌, ◌++◌, length, slice_get, position, nat_eq, nat_lt, swap, ◌==◌, ◌&&◌, if◌then◌else◌, OnOk, OnErr, IfErr, IfOk};
+ghost use Rattle.std.specs.Prelude.{◌≡◌, ℕ, ◌+◌, ◌<◌, ◌≤◌, ◌↔◌, [], ◌∷◌, ◌++◌, length, slice_get, position, nat_eq, nat_lt, swap, ◌&&◌, if◌then◌else◌, OnOk, OnErr, IfErr, IfOk};
 ghost use Rattle.std.specs.Option.{option_copied};
-ghost use Rattle.std.specs.List.{list_any};
 ghost use Rattle.indexmap.specs.IndexMap.{move_index};
 ghost use Rattle.sc_papers.specs.Key.{class_by, same_zone};
 
+use crate::amendment::Refusal;
+use crate::check::{check_enter, check_school, may_be_named};
 use crate::count::Count;
 use crate::key::Key;
-use crate::limits::MOST_SCHOOLS;
+use crate::limits::{MOST_SCHOOLS, MOST_STUDENTS};
+use crate::places::place_once;
 use crate::records::{School, Student};
 use crate::school_list::SchoolList;
 use crate::school_no::SchoolNo;
@@ -14,7 +16,7 @@ use crate::school_positions::SchoolPositions;
 use crate::school_refusal::SchoolRefusal;
 use crate::seats::Seats;
 use crate::seeded_hash::SeededHash;
-use crate::student_row::StudentRow;
+use crate::student_row::{StudentRow, fill_positions};
 use crate::zone::Zone;
 use indexmap::IndexMap;
 use sc_lottery::{Draws, Seed, StudentNumber};
@@ -33,8 +35,8 @@ pub struct Papers {
     // Where each school stands in `schools`, so that a look-up by number hashes nothing.
     positions: SchoolPositions,
     students: IndexMap<StudentNumber, Student, SeededHash>,
-    // What a proposal reads of each student, in order of entry: so a key costs no block of the cipher, and a
-    // choice no look-up.
+    // What a proposal reads of each student, in order of entry: so a key costs no block of the cipher, nor a read
+    // of `students` where there are no siblings, and a choice no look-up.
     rows: Vec<StudentRow>,
 }
 
@@ -48,14 +50,6 @@ impl Model for Papers {
     ghost view = { market_of };
 
     ghost invariant = { IsSound };
-}
-
-/// Whether a sibling of the student is at the school. One whose row tells of no siblings is not looked up.
-fn has_sibling_at(row: &StudentRow, student: &Student, school: SchoolNo) -> bool
-    requires { row.now.siblings ≡ nat_lt 0 (length student.now.siblings) }
-    ensures { result ≡ list_any (λ t. t == school) student.now.siblings }
-{
-    row.has_siblings() && student.siblings.as_slice().contains(&school)
 }
 
 /// The priority class at a school of a student who continues there or not, has a sibling there or not, and
@@ -119,12 +113,14 @@ fn swap_rows(rows: &mut Vec<StudentRow>, a: usize, b: usize)
 
 impl Papers {
     ghost use Rattle.std.specs.Prelude.{◌≡◌, ℕ, ◌+◌, ◌-◌, ◌<◌, ◌≤◌, ◌↔◌, [], ◌∷◌, ◌++◌, length, map, slice_get, position, nat_eq, ◌&&◌, Some, None, if◌then◌else◌, OnOk, OnErr, IfErr, IfOk};
-    ghost use Rattle.std.specs.Option.{option_and_then, option_copied};
+    ghost use Rattle.std.specs.Option.{IfSome, option_and_then, option_copied, option_map};
+    ghost use Rattle.sc_lottery.specs.Draw.{draw};
     ghost use Rattle.sc_papers.specs.Market.{Market, choices_of, school_of, student_at, student_of, schools_of, students_of, seats_of, siblings_of, zone_of, continuing_of, is_school, is_student};
     ghost use Rattle.sc_papers.specs.EntryOrder.{with_moved_student, with_swapped_students};
-    ghost use Rattle.sc_papers.specs.Key.{key_at, key_of};
+    ghost use Rattle.sc_papers.specs.Key.{has_sibling_at, key_at, key_of};
+    ghost use Rattle.sc_papers.specs.Entry.{MayEnterAt};
     ghost use Rattle.sc_papers.specs.WellFormed.{WellFormed, WithinLimits};
-    ghost use Rattle.sc_papers.specs.Verdict.{first_of, objections_to_add, objections_to_close, objections_to_correct, objections_to_enter, objections_to_rerank, with_choices, with_circumstances, with_seats, with_student, without_student, school_verdict, with_school, IsSchoolRefusal};
+    ghost use Rattle.sc_papers.specs.Verdict.{IsRefusal, first_of, objections_to_add, objections_to_close, objections_to_correct, objections_to_enter, objections_to_rerank, with_choices, with_circumstances, with_seats, with_student, without_student, school_verdict, with_school, IsSchoolRefusal};
 
     /// Papers with this seed, no schools and no students. It takes no memory.
     pub fn new(alloc: Global, seed: Seed) -> Self
@@ -263,9 +259,17 @@ impl Papers {
     pub fn student_at(&self, position: usize) -> Option<StudentNumber>
         ensures { result ≡ slice_get (students_of self.now) position }
     {
-        self.students
-            .get_index(position)
-            .map(|(student, _)| *student)
+        let row = self.rows.get(position)?;
+        Some(row.number())
+    }
+
+    /// The draw of the student at a position of the order of entry, from 0, or `None` past the last one. In constant
+    /// time, without a look-up by number; no draw is made, since the papers keep it.
+    pub fn draw_at(&self, position: usize) -> Option<u64>
+        ensures { result ≡ option_map (draw self.now.seed) (slice_get (students_of self.now) position) }
+    {
+        let row = self.rows.get(position)?;
+        Some(row.draw())
     }
 
     /// What the papers hold of the student at a position of the order of entry, from 0, or `None` past
@@ -290,7 +294,7 @@ impl Papers {
     pub fn school_position(&self, school: SchoolNo) -> Option<usize>
         ensures { result ≡ position (nat_eq school) (schools_of self.now) }
     {
-        self.positions.get(school)
+        self.positions.get(school).map(usize::from)
     }
 
     /// A student's position in the order of entry. In constant time.
@@ -318,17 +322,38 @@ impl Papers {
     pub fn key_at(&self, student: usize, school: usize) -> Option<Key>
         ensures { result ≡ key_at self.now student school }
     {
-        let (number, record) = self.students.get_index(student)?;
+        let row = self.rows.get(student)?;
         let (name, entry) = self.schools.get_index(school)?;
-        let row = &self.rows[student];
-        let continuing = row.continuing() == Some(*name);
-        let sibling = has_sibling_at(row, record, *name);
+        let continuing = row.continues_at(*name);
+        let sibling = self.has_sibling_at(row, student, *name);
         let class = class_of(continuing, sibling, row.zone(), *entry);
         Some(Key {
             class,
             draw: row.draw(),
-            student: *number,
+            student: row.number(),
         })
+    }
+
+    /// The schools of the siblings of the student at a position of the order of entry, from 0.
+    fn siblings_at(&self, student: usize) -> &[SchoolNo]
+        requires { student < length self.now.students }
+        ensures { result.now ≡ siblings_of self.now (student_at self.now student) }
+    {
+        let Some(record) = self.record_at(student) else {
+            unreachable!()
+        };
+        record.siblings.as_slice()
+    }
+
+    /// Whether a sibling of the student at a position of the order of entry, from 0, is at the school. The record
+    /// is read only where the student's row tells of siblings.
+    #[inline]
+    fn has_sibling_at(&self, row: &StudentRow, student: usize, school: SchoolNo) -> bool
+        requires student { student < length self.now.students }
+        requires row { row.now.siblings ≡ nat_lt 0 (length (siblings_of self.now (student_at self.now student))) }
+        ensures { result ≡ has_sibling_at self.now (student_at self.now student) school }
+    {
+        row.has_siblings() && self.siblings_at(student).contains(&school)
     }
 
     /// Makes room for so many more students, so that none of them takes memory as they enter, but for their lists. Nothing
@@ -341,8 +366,51 @@ impl Papers {
         Ok(())
     }
 
-    /// Puts a student who may enter last in the order of entry, with the one draw that it ever makes.
-    /// Both growths come first, so a refused one leaves the papers as they were.
+    /// The positions of the choices' schools, and zeros after the last, of a student against whose entering nothing can
+    /// be said; found in one pass over the choices. `None` says nothing of the student: `check` tells what can be said.
+    fn positions_to_enter(&self, number: StudentNumber, student: &Student) -> Option<[u16; 20]>
+        ensures { IfSome result (λ positions. MayEnterAt self.now number student.now positions) }
+    {
+        if self.student(number).is_some() {
+            return None;
+        }
+        if self.students_len() >= MOST_STUDENTS {
+            return None;
+        }
+        if student.choices.as_slice().is_empty() {
+            return None;
+        }
+        if !may_be_named(self, student.siblings.as_slice()) {
+            return None;
+        }
+        check_school(self, student.continuing).ok()?;
+        place_once(&self.positions, student.choices.as_slice())
+    }
+
+    /// Tests a student as `check` does, and puts them last in the order of entry, or answers the first refusal that
+    /// applies, or else want of memory. After a refusal the papers are as before.
+    pub(crate) fn admit(&mut self, number: StudentNumber, student: Student) -> Result<(), Refusal>
+        ensures allowed { OnOk result (first_of (objections_to_enter self.old number student.siblings student.choices student.continuing) ≡ None) }
+        ensures entered { OnOk result (self.new ≡ with_student self.old number student) }
+        ensures refused { IfErr result (IsRefusal (first_of (objections_to_enter self.old number student.siblings student.choices student.continuing))) }
+        ensures unchanged { OnErr result (self.new ≡ self.old) }
+    {
+        if let Some(positions) = self.positions_to_enter(number, &student) {
+            self.put_last(number, student, positions)?;
+            return Ok(());
+        }
+        check_enter(
+            self,
+            number,
+            student.siblings.as_slice(),
+            student.choices.as_slice(),
+            student.continuing,
+        )?;
+        self.enter(number, student)?;
+        Ok(())
+    }
+
+    /// Puts a student who may enter last in the order of entry. A refused growth leaves the papers as they were.
     pub(crate) fn enter(
         &mut self,
         number: StudentNumber,
@@ -352,9 +420,26 @@ impl Papers {
         ensures entered { OnOk result (self.new ≡ with_student self.old number student) }
         ensures unchanged { OnErr result (self.new ≡ self.old) }
     {
+        let positions = fill_positions(&self.positions, student.choices.as_slice());
+        self.put_last(number, student, positions)
+    }
+
+    /// Puts a student who may enter, whose choices' schools stand at the first of these positions, last in the order of
+    /// entry, with the one draw that it ever makes. Both growths come first, so a refused one leaves the papers as they
+    /// were.
+    fn put_last(
+        &mut self,
+        number: StudentNumber,
+        student: Student,
+        positions: [u16; 20],
+    ) -> Result<(), AllocError>
+        requires { MayEnterAt self.old number student positions }
+        ensures entered { OnOk result (self.new ≡ with_student self.old number student) }
+        ensures unchanged { OnErr result (self.new ≡ self.old) }
+    {
         self.rows.reserve(1)?;
         let draw = self.lottery.draw(number);
-        let row = StudentRow::new(draw, &self.positions, &student);
+        let row = StudentRow::with_positions(number, draw, positions, &student);
         let _ = self.students.insert(number, student)?;
         self.rows.push_reserved(row);
         Ok(())
@@ -407,7 +492,7 @@ impl Papers {
             unreachable!()
         };
         let before = mem::replace(&mut student.choices, choices);
-        self.rows[position] = StudentRow::new(draw, &self.positions, student);
+        self.rows[position] = StudentRow::new(number, draw, &self.positions, student);
         before
     }
 
@@ -438,7 +523,7 @@ impl Papers {
         );
         student.zone = zone;
         student.continuing = continuing;
-        self.rows[position] = StudentRow::new(draw, &self.positions, student);
+        self.rows[position] = StudentRow::new(number, draw, &self.positions, student);
         before
     }
 

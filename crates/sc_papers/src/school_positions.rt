@@ -31,7 +31,7 @@ fn make_room(by_number: &mut Vec<Option<u16>>, number: usize) -> Result<(), Allo
 }
 
 impl SchoolPositions {
-    ghost use Rattle.std.specs.Prelude.{◌≡◌, ℕ, ◌<◌, [], None, Some, length, nat_eq, slice_index_or, unwrap_or, if◌then◌else◌, IfOk, OnOk};
+    ghost use Rattle.std.specs.Prelude.{◌≡◌, ℕ, ◌<◌, [], None, Some, length, nat_eq, slice_index_or, if◌then◌else◌, IfOk, OnOk};
 
     /// No school has a position. It takes no memory.
     pub(crate) fn new(alloc: Global) -> Self
@@ -52,22 +52,12 @@ impl SchoolPositions {
     }
 
     /// The position of a school.
-    pub(crate) fn get(&self, school: SchoolNo) -> Option<usize>
+    pub(crate) fn get(&self, school: SchoolNo) -> Option<u16>
         ensures { result ≡ slice_index_or self.now school None }
     {
         match self.by_number.get(school.get() as usize) {
-            Some(position) => position.map(usize::from),
+            Some(position) => *position,
             None => None,
-        }
-    }
-
-    /// The position of a school that has one; 0 for any other.
-    pub(crate) fn place(&self, school: SchoolNo) -> u16
-        ensures { result ≡ unwrap_or (slice_index_or self.now school None) 0 }
-    {
-        match self.by_number.get(school.get() as usize) {
-            Some(Some(position)) => *position,
-            _ => 0,
         }
     }
 

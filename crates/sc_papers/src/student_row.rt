@@ -1,21 +1,25 @@
-ghost use Rattle.std.specs.Prelude.{◌≡◌, ◌≤◌, length, take};
-ghost use Rattle.sc_papers.specs.StudentRow.{positions_in, row_of};
+ghost use Rattle.std.specs.Prelude.{◌≡◌, ◌≤◌, Some, length, nat_eq, take};
+ghost use Rattle.std.specs.Option.{option_eq};
+ghost use Rattle.sc_papers.specs.StudentRow.{positions_in, row_at, row_of, school_in};
 
 use crate::limits::LONGEST_LIST;
 use crate::records::Student;
 use crate::school_no::SchoolNo;
 use crate::school_positions::SchoolPositions;
 use crate::zone::Zone;
+use sc_lottery::StudentNumber;
 use std::alloc::AllocError;
 use std::marker::Model;
 
-/// What a proposal reads of a student, in one piece of memory.
+/// What a proposal reads of a student, in one piece of memory: all but the schools of siblings.
 #[derive(Drop)]
 pub(crate) struct StudentRow {
     // Fields are laid out in this order, which fills 64 bytes.
     draw: u64,
+    number: StudentNumber,
     zone: Zone,
-    continuing: Option<SchoolNo>,
+    // The school's number, or 0 where there is none: an `Option<SchoolNo>` takes 8 bytes, and the row would not fit.
+    continuing: u32,
     siblings: bool,
     // How many choices there are.
     count: u8,
@@ -34,31 +38,60 @@ impl Model for StudentRow {
 }
 
 /// The positions of the schools, and zeros after the last of them.
-fn fill_positions(table: &SchoolPositions, schools: &[SchoolNo]) -> [u16; 20]
+pub(crate) fn fill_positions(table: &SchoolPositions, schools: &[SchoolNo]) -> [u16; 20]
     requires { length schools.now ≤ LONGEST_LIST }
     ensures { take (length schools.now) result ≡ positions_in table.now schools.now }
 {
     let mut positions = [0; 20];
     for (rank, school) in schools.iter().enumerate() {
-        positions[rank] = table.place(*school);
+        positions[rank] = table.get(*school).unwrap_or(0);
     }
     positions
 }
 
+/// The number of a school, or 0 for none.
+fn number_or_zero(school: Option<SchoolNo>) -> u32
+    ensures { school_in result ≡ school }
+{
+    match school {
+        Some(school) => school.get(),
+        None => 0,
+    }
+}
+
 impl StudentRow {
-    /// The row of a student with this draw.
-    pub(crate) fn new(draw: u64, table: &SchoolPositions, student: &Student) -> Self
+    /// The row of a student with this number and this draw.
+    pub(crate) fn new(
+        number: StudentNumber,
+        draw: u64,
+        table: &SchoolPositions,
+        student: &Student,
+    ) -> Self
         requires { length student.now.choices ≤ LONGEST_LIST }
-        ensures { result ≡ row_of table.now draw student.now }
+        ensures { result ≡ row_of table.now number draw student.now }
     {
-        let choices = student.choices.as_slice();
+        let positions = fill_positions(table, student.choices.as_slice());
+        Self::with_positions(number, draw, positions, student)
+    }
+
+    /// The row of a student with this number and this draw, whose choices' schools stand at the first of these positions.
+    pub(crate) fn with_positions(
+        number: StudentNumber,
+        draw: u64,
+        positions: [u16; 20],
+        student: &Student,
+    ) -> Self
+        requires { length student.now.choices ≤ LONGEST_LIST }
+        ensures { result ≡ row_at (take (length student.now.choices) positions) number draw student.now }
+    {
         StudentRow {
             draw,
+            number,
             zone: student.zone,
             siblings: !student.siblings.as_slice().is_empty(),
-            continuing: student.continuing,
-            count: choices.len() as u8,
-            positions: fill_positions(table, choices),
+            continuing: number_or_zero(student.continuing),
+            count: student.choices.as_slice().len() as u8,
+            positions,
         }
     }
 
@@ -66,6 +99,13 @@ impl StudentRow {
         ensures { result ≡ self.now.draw }
     {
         self.draw
+    }
+
+    /// The student's number.
+    pub(crate) fn number(&self) -> StudentNumber
+        ensures { result ≡ self.now.number }
+    {
+        self.number
     }
 
     pub(crate) fn zone(&self) -> Zone
@@ -81,11 +121,12 @@ impl StudentRow {
         self.siblings
     }
 
-    /// The school at which the student continues, if there is one.
-    pub(crate) fn continuing(&self) -> Option<SchoolNo>
-        ensures { result ≡ self.now.continuing }
+    /// Whether the student continues at this school.
+    pub(crate) fn continues_at(&self, school: SchoolNo) -> bool
+        ensures { result ≡ option_eq nat_eq self.now.continuing (Some school) }
     {
-        self.continuing
+        // No school has the number 0, which stands for none.
+        self.continuing == school.get()
     }
 
     /// The positions of the choices' schools, best first.
@@ -102,6 +143,7 @@ impl Clone for StudentRow {
     fn clone(&self) -> Result<Self, AllocError> {
         Ok(StudentRow {
             draw: self.draw,
+            number: self.number,
             zone: self.zone,
             siblings: self.siblings,
             continuing: self.continuing,

@@ -1,26 +1,16 @@
-use Rattle.std.proofs.Common.{◌≡◌, ℕ, Option, None, List, ◌∷◌, [], ◌++◌, ap, sym, ◌∙◌, take, length, ◌<◌, ◌+◌, suc, arith, slice_set}
-use Rattle.std.proofs.Math.Seq.{take-suc-set}
-use Rattle.std.proofs.lemmas.List.{length-set, map-append, take_more}
-use Rattle.std.specs.Prelude.{slice_index_or, unwrap_or}
-use Rattle.sc_papers.specs.StudentRow.{positions_in}
+use Rattle.std.proofs.Common.{◌<◌, ap, ◌∙◌, length, arith}
+use Rattle.std.proofs.lemmas.List.{length-set}
+use Rattle.std.specs.Prelude.{unwrap_or}
+use Rattle.sc_papers.proofs.PlacedOnce.{filled-more}
 use Rattle.sc_papers.proofs.student_row.fill_positions.Goals as goal
 
 pub loop-rank-preserved : goal.loop-rank-preserved
 loop-rank-preserved c =
-    let table = c.args.table.now in
-    let schools = c.args.schools.now in
     let rank = c.loop-rank.rank in
-    let place : ℕ → ℕ = λ s. unwrap_or (slice_index_or table s None) 0 in
-    let school = c.index-schools-rank.result in
-    let within : rank < length c.loop-rank.positions = omega (arith, c.loop-rank.invariant.room, c.loop-rank-test.true, c.requires) in
-    let next : rank + 1 ≡ suc rank = omega arith in
+    let so_far = c.loop-rank.invariant in
+    let within : rank < length c.loop-rank.positions = omega (arith, so_far.room, c.loop-rank-test.true, c.requires) in
     record {
-      filled =
-          ap (λ (n : ℕ). take n (slice_set c.loop-rank.positions rank c.place.result)) next
-          ∙ take-suc-set c.loop-rank.positions rank c.place.result within
-          ∙ ap (λ (ps : List ℕ). ps ++ c.place.result ∷ []) c.loop-rank.invariant.filled
-          ∙ ap (λ (p : ℕ). positions_in table (take rank schools) ++ p ∷ []) c.place.ensures
-          ∙ sym (map-append place (take rank schools) (school ∷ []))
-          ∙ sym (ap (positions_in table) (take_more schools rank school c.loop-rank-test.true ∙ ap (λ (s : ℕ). take rank schools ++ s ∷ []) (sym c.index-schools-rank.is)));
-      room = length-set c.loop-rank.positions rank c.place.result ∙ c.loop-rank.invariant.room;
+      filled = filled-more c.args.table.now c.args.schools.now c.loop-rank.positions rank c.index-schools-rank.result c.unwrap_or.result c.loop-rank-test.true within c.index-schools-rank.is
+          (c.unwrap_or.ensures ∙ ap (λ o. unwrap_or o 0) c.get.ensures) so_far.filled;
+      room = length-set c.loop-rank.positions rank c.unwrap_or.result ∙ so_far.room;
     }

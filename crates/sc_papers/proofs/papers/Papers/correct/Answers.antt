@@ -25,7 +25,7 @@ invariant_of-self c =
     let put = (c.get_mut.follows.holds student).0 in
     let drawn = draw-there c.self.inside.lottery c.self.inside.positions c.self.inside.students.entries c.self.inside.rows.items c.in-Some.position c.args.number c.index.result.now
     c.self.invariant.rows c.in-Some.ensures.index c.index.ensures in
-    let row = c.new.ensures ∙ ap (λ (d : ℕ). row_of c.self.inside.positions d student) (c.draw-draw.ensures ∙ drawn) in
+    let row = c.new.ensures ∙ ap (λ (d : ℕ). row_of c.self.inside.positions c.args.number d student) (c.draw-draw.ensures ∙ drawn) in
     IsSound-put_student c.self.inside _ c.args.number c.in-Some.position student c.self.invariant
     (IsProper-corrected m c.args.number before c.args.zone c.replace.new.dest c.args.continuing allowed proper)
     (IsShort-corrected m c.args.number before c.args.zone c.replace.new.dest c.args.continuing allowed short) refl refl refl put c.in-Some.ensures.index

@@ -1,32 +1,41 @@
-use Rattle.std.proofs.Common.{sym, ◌∙◌, ap, ℕ, nat_eq, Option, Some}
-use Rattle.std.specs.Option.{option_eq}
+use Rattle.std.proofs.Common.{◌<◌, Some, length, sym, ◌∙◌, ap, subst}
+use Rattle.std.specs.Prelude.{nat_lt}
 use Rattle.sc_papers.specs.Representation.{market_of}
-use Rattle.sc_papers.specs.StudentRow.{Row}
-use Rattle.sc_papers.specs.Key.{class_by, key_at, same_zone}
-use Rattle.sc_papers.specs.Market.{Market}
-use Rattle.sc_papers.proofs.Keys.{key-of_places, row-there}
+use Rattle.sc_papers.specs.Key.{class_by, has_sibling_at, key_at, same_zone}
+use Rattle.sc_papers.specs.Market.{Market, siblings_of, student_at}
+use Rattle.sc_papers.proofs.Keys.{key-of_row, row-read, row-siblings, row-within}
 use Rattle.sc_papers.proofs.papers.Papers.key_at.Goals as goal
 
 pub returns : goal.returns
 returns c =
-    let student = c.in_ok-number.ensures in
+    let m = market_of c.self.inside in
+    let rows = c.deref.result.now in
+    let row = c.in_ok-row.row.now in
+    let read = c.in_ok-row.ensures.lookup in
+    let here = row-read rows c.args.student row read.0 read.1 in
     let school = c.in_ok-name.ensures in
-    let record_there = c.in_ok-number.record.now in
-    let row = row-there c.self.inside.lottery c.self.inside.positions c.self.inside.students.entries c.self.inside.rows.items c.args.student _ record_there c.index-row.result.now
-    c.self.invariant.rows (sym student.entry) c.index-row.ensures in
     let name = c.in_ok-name.name.now in
     let zone = c.in_ok-name.entry.now.zone in
-    let continues = c.eq-continuing.ensures ∙ ap (λ (s : Option ℕ). option_eq nat_eq s (Some name)) (c.continuing.ensures ∙ ap (λ (r : Row). r.continuing) row) in
-    let sibling = c.has_sibling_at-sibling.ensures in
-    let lives = c.zone.ensures ∙ ap (λ (r : Row). r.zone) row in
-    let class_is = c.class_of-class.ensures ∙ (λ t. class_by (continues t) (sibling t) (same_zone (lives t) zone)) in
-    let drawn = c.draw.ensures ∙ ap (λ (r : Row). r.draw) row in
-    key-of_places (market_of c.self.inside) c.args.student c.args.school _ _ _ _ record_there c.in_ok-name.entry.now
-    (sym student.entry) (sym school.entry) student.value school.value class_is drawn
-    ∙ ap (λ (m : Market). key_at m c.args.student c.args.school) c.self.view_is
+    let continues = c.continues_at-continuing.ensures in
+    let sibling = c.has_sibling_at-sibling.ensures ∙ sym (ap (λ (n : Market). has_sibling_at n (student_at n c.args.student) name) c.self.view_is) in
+    let class_is = c.class_of-class.ensures ∙ (λ t. class_by (continues t) c.has_sibling_at-sibling.result (same_zone (c.zone.ensures t) zone)) in
+    (λ t. Some (record { class = c.class_of-class.result; draw = c.draw.ensures t; student = c.number.ensures t }))
+    ∙ key-of_row m c.self.inside.positions rows c.args.student row c.self.invariant.well_formed (c.deref.ensures.value ∙ c.self.invariant.rows) here
+    c.args.school name c.class_of-class.result c.has_sibling_at-sibling.result c.in_ok-name.entry.now (sym school.entry) school.value sibling class_is
+    ∙ ap (λ (n : Market). key_at n c.args.student c.args.school) c.self.view_is
 
-pub has_sibling_at-sibling-requires : goal.has_sibling_at-sibling-requires
-has_sibling_at-sibling-requires c =
-    let student = c.in_ok-number.ensures in
-    ap (λ (r : Row). r.siblings) (row-there c.self.inside.lottery c.self.inside.positions c.self.inside.students.entries c.self.inside.rows.items c.args.student _ c.in_ok-number.record.now c.index-row.result.now
-    c.self.invariant.rows (sym student.entry) c.index-row.ensures)
+pub has_sibling_at-sibling-requires-clause-student : goal.has_sibling_at-sibling-requires-clause-student
+has_sibling_at-sibling-requires-clause-student c =
+    let m = market_of c.self.inside in
+    let read = c.in_ok-row.ensures.lookup in
+    let here = row-read c.deref.result.now c.args.student c.in_ok-row.row.now read.0 read.1 in
+    subst (λ (n : Market). c.args.student < length n.students) c.self.view_is
+    (row-within m c.self.inside.positions c.deref.result.now c.args.student c.in_ok-row.row.now c.self.invariant.well_formed (c.deref.ensures.value ∙ c.self.invariant.rows) here)
+
+pub has_sibling_at-sibling-requires-clause-row : goal.has_sibling_at-sibling-requires-clause-row
+has_sibling_at-sibling-requires-clause-row c =
+    let m = market_of c.self.inside in
+    let read = c.in_ok-row.ensures.lookup in
+    let here = row-read c.deref.result.now c.args.student c.in_ok-row.row.now read.0 read.1 in
+    row-siblings m c.self.inside.positions c.deref.result.now c.args.student c.in_ok-row.row.now c.self.invariant.well_formed (c.deref.ensures.value ∙ c.self.invariant.rows) here
+    ∙ ap (λ (n : Market). nat_lt 0 (length (siblings_of n (student_at n c.args.student)))) c.self.view_is
