@@ -1,11 +1,11 @@
 -- The first choice whose rank is not in a set, and where students stand.
-use Rattle.std.proofs.Common.{◌≡◌, ap, sym, ◌∙◌, ℕ, ◌<◌, ◌≤◌, Bool, true, false, not, List, [], ◌∷◌, ◌++◌, ◌+◌, length, take, Option, Some, None, find, slice_get, arith}
+use Rattle.std.proofs.Common.{◌≡◌, refl, ap, sym, ◌∙◌, ℕ, ◌<◌, ◌≤◌, Bool, true, false, not, List, [], ◌∷◌, ◌++◌, ◌+◌, length, take, Option, Some, None, find, slice_get, arith}
 use Rattle.std.proofs.lemmas.List.{take_more, map_push}
 use Rattle.std.proofs.lemmas.Option.{slice_get_within, get_or_from_slice_get}
 use Rattle.sc_papers.specs.Log.{is_rejected, next_choice}
 use Rattle.sc_papers.specs.Market.{choices_of, Market}
 use Rattle.sc_papers.specs.declared.rejection.Rejection.{Rejection}
-use Rattle.sc_papers.proofs.Choices.{found-is, found-none}
+use Rattle.sc_papers.proofs.Choices.{found-is, found-none, places-end}
 use Rattle.sc_checkpoint.specs.Ranks.{has_rank, AreRejectedRanks}
 use Rattle.sc_checkpoint.specs.NextChoices.{next_choices_after}
 use Rattle.sc_checkpoint.specs.declared.next_choice.NextChoice.{NextChoice}
@@ -15,7 +15,7 @@ use Rattle.sc_checkpoint.specs.declared.rank_set.RankSet.{RankSet}
 pub record AllBelow (set : RankSet) (end : ℕ) : Type 0 where
   pub within : (rank : ℕ) → rank < end → has_rank set rank ≡ true
 
-pub outside-found : (set : RankSet) (choices : List ℕ) (rank s : ℕ) (test : ℕ → Bool) → ((k t : ℕ) → slice_get choices k ≡ Some t → has_rank set k ≡ test t) → AllBelow set rank → slice_get choices rank ≡ Some s → has_rank set rank ≡ false → find (λ t. not (test t)) choices ≡ Some s
+outside-found : (set : RankSet) (choices : List ℕ) (rank s : ℕ) (test : ℕ → Bool) → ((k t : ℕ) → slice_get choices k ≡ Some t → has_rank set k ≡ test t) → AllBelow set rank → slice_get choices rank ≡ Some s → has_rank set rank ≡ false → find (λ t. not (test t)) choices ≡ Some s
 outside-found set choices rank s test agree below here outside =
     found-is (λ t. not (test t)) choices rank s here (ap not (sym (agree rank s here) ∙ outside))
     (λ k t low at. ap not (sym (agree k t at) ∙ below.within k low))
@@ -24,6 +24,15 @@ pub outside-none : (set : RankSet) (choices : List ℕ) (end : ℕ) (test : ℕ 
 outside-none set choices end test agree below past =
     found-none (λ t. not (test t)) choices
     (λ k t at. ap not (sym (agree k t at) ∙ below.within k (omega (arith, past, slice_get_within choices k t at))))
+
+-- so the first choice whose rank is not in the set stands at the first rank that is not
+pub outside-at : (set : RankSet) (choices : List ℕ) (rank : ℕ) (test : ℕ → Bool) → ((k t : ℕ) → slice_get choices k ≡ Some t → has_rank set k ≡ test t) → AllBelow set rank → has_rank set rank ≡ false → find (λ t. not (test t)) choices ≡ slice_get choices rank
+outside-at set choices rank test agree below outside =
+    go (slice_get choices rank) refl
+  where
+    go : (o : Option ℕ) → slice_get choices rank ≡ o → find (λ t. not (test t)) choices ≡ o
+    go None past = outside-none set choices rank test agree below (places-end choices rank past)
+    go (Some s) here = outside-found set choices rank s test agree below here outside
 
 -- one more student who stands
 pub standings-more : (m : Market) (log : List Rejection) (students : List ℕ) (at i : ℕ) (choice : NextChoice) → slice_get students at ≡ Some i → choice ≡ record { student = i; next = next_choice m log i } → next_choices_after m log (take at students) ++ choice ∷ [] ≡ next_choices_after m log (take (at + 1) students)

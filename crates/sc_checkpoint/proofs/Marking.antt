@@ -8,13 +8,13 @@ use Rattle.std.proofs.lemmas.List.Quantifiers.{position-Some}
 use Rattle.std.proofs.lemmas.List.Sums.{fails_before_first}
 use Rattle.std.proofs.lemmas.Option.{none-some, same_Some, slice_get_within, slice_get-get_or, get_or_from_slice_get}
 use Rattle.sc_papers.specs.Market.{Market, student_of, students_of, choices_of}
-use Rattle.sc_papers.specs.WellFormed.{WellFormed}
+use Rattle.sc_papers.specs.WellFormed.{WellFormed, WithinLimits}
 use Rattle.sc_papers.specs.Log.{is_rejected}
 use Rattle.sc_papers.specs.declared.records.Student.{Student}
 use Rattle.sc_papers.specs.declared.rejection.Rejection.{Rejection}
 use Rattle.sc_papers.proofs.Choices.{one-place}
 use Rattle.sc_papers.proofs.Rejections.{is_of, rejected-push}
-use Rattle.sc_papers.proofs.Students.{choices-differ}
+use Rattle.sc_papers.proofs.Students.{choices-differ, choices-short}
 use Rattle.sc_checkpoint.specs.Ranks.{has_rank, AreTabled}
 use Rattle.sc_checkpoint.specs.declared.rank_set.RankSet.{RankSet}
 
@@ -89,6 +89,10 @@ school-here : (m : Market) (i s rank : ℕ) → position (λ t. t == s) (choices
 school-here m i s rank found =
     let here = position-here (λ t. t == s) (choices_of m i) rank found in
     here.1 ∙ ap Some (eqb-true here.0 s here.2)
+
+-- a set has room for the rank of a choice
+pub rank-low : (m : Market) (i s rank : ℕ) → WithinLimits m → position (λ t. t == s) (choices_of m i) ≡ Some rank → rank < 32
+rank-low m i s rank limits found = omega (arith, (position-Some (λ t. t == s) (choices_of m i) rank 0 found).0, choices-short m limits i)
 
 -- an entry of a student past the table
 pub table-past : (m : Market) (log : List Rejection) (e : Rejection) (table : List RankSet) (position_of : ℕ) → WellFormed m → position (nat_eq e.student) (students_of m) ≡ Some position_of → length table ≤ position_of → AreTabled m (students_of m) log table → AreTabled m (students_of m) (log ++ e ∷ []) table

@@ -10,41 +10,49 @@ ghost use Rattle.sc_checkpoint.specs.NextChoices.{next_choices_after};
 ghost use Rattle.sc_checkpoint.specs.Ranks.{AreTabled};
 
 use crate::next_choice::NextChoice;
-use crate::next_choices::{first_outside, rank_in};
+use crate::next_choices::first_outside;
 use crate::rank_set::RankSet;
 use crate::segments::Segments;
 use sc_papers::{Papers, Rejection};
 use std::alloc::{AllocError, Global};
 
 /// Puts the entry's school among the ranks of the entry's student, where the student stands at one of the
-/// positions and lists the school.
-fn mark_at(papers: &Papers, positions: &[usize], table: &mut Vec<RankSet>, entry: Rejection)
+/// positions and lists the school. A student who stands at the guess is not looked up by number.
+fn mark_at(
+    papers: &Papers,
+    positions: &[usize],
+    table: &mut Vec<RankSet>,
+    guess: usize,
+    entry: Rejection,
+)
     requires rising { IsStrictlyIncreasing positions.now }
     requires within { (k : ℕ) → k < length positions.now → slice_index positions.now k < length (students_of papers.now) }
     requires one_each { length table.old.items ≡ length positions.now }
     ensures tabled { (log : List Rejection) → AreTabled papers.now (map (student_at papers.now) positions.now) log table.old.items → AreTabled papers.now (map (student_at papers.now) positions.now) (log ++ entry ∷ []) table.new.items }
     ensures same_length { length table.new.items ≡ length table.old.items }
 {
-    let Some(position) = papers.student_position(entry.student) else {
+    let Some(position) = papers.student_position_near(entry.student, guess) else {
         return;
     };
-    // This call tells that the papers are well-formed: no number and no choice stands twice.
+    // This call tells that the papers are well-formed and within their limits: no number and no choice stands
+    // twice, and a set has room for each rank.
     prove!(position < papers.students_len());
     let Ok(place) = positions.binary_search(&position) else {
         return;
     };
-    let Some(rank) = rank_in(papers.choices_at(position), entry.school) else {
+    let Some(rank) = papers.choice_rank_at(position, entry.school) else {
         return;
     };
     table[place] = table[place].with(rank);
 }
 
 /// Puts each entry's school among the ranks of the entry's student, where the student stands at one of the
-/// positions.
+/// positions. The students who stand at the guess are not looked up by number.
 fn mark_all_at(
     papers: &Papers,
     positions: &[usize],
     table: &mut Vec<RankSet>,
+    guess: usize,
     entries: &[Rejection],
 )
     requires rising { IsStrictlyIncreasing positions.now }
@@ -54,7 +62,7 @@ fn mark_all_at(
     ensures same_length { length table.new.items ≡ length table.old.items }
 {
     for entry in entries {
-        mark_at(papers, positions, table, *entry);
+        mark_at(papers, positions, table, guess, *entry);
     }
 }
 
@@ -74,7 +82,14 @@ fn rejected_ranks_at(
 {
     let mut table = vec![in alloc; RankSet::new(); positions.len()]?;
     for position in positions {
-        mark_all_at(papers, positions, &mut table, segments.segment(*position));
+        // Most rejections of a segment are those of its own student.
+        mark_all_at(
+            papers,
+            positions,
+            &mut table,
+            *position,
+            segments.segment(*position),
+        );
     }
     Ok(table)
 }
@@ -98,7 +113,7 @@ pub(crate) fn next_choices_at_positions(
         let Some(student) = papers.student_at(*position) else {
             unreachable!()
         };
-        let next = first_outside(papers.choices_at(*position), rejected[place]);
+        let next = first_outside(papers, *position, rejected[place]);
         next_choices.push_reserved(NextChoice { student, next });
     }
     Ok(next_choices)

@@ -1,8 +1,8 @@
 //! The next choices of the first students of the papers after any log.
 
-ghost use Rattle.std.specs.Prelude.{◌≡◌, ℕ, ◌<◌, ◌≤◌, ◌==◌, ◌++◌, ◌∷◌, [], List, Bool, filter, length, take, find, not, position, slice_get, Some, IfOk, IfSome};
+ghost use Rattle.std.specs.Prelude.{◌≡◌, ℕ, ◌<◌, ◌≤◌, ◌++◌, ◌∷◌, [], List, Bool, filter, length, take, find, not, slice_get, Some, IfOk, IfSome};
 ghost use Rattle.sc_papers.specs.Log.{next_choice};
-ghost use Rattle.sc_papers.specs.Market.{students_of, choices_of};
+ghost use Rattle.sc_papers.specs.Market.{choices_of, student_at, students_of};
 ghost use Rattle.sc_papers.specs.Restriction.{joined};
 ghost use Rattle.sc_papers.specs.declared.rejection.Rejection.{Rejection};
 ghost use Rattle.sc_checkpoint.specs.Chains.{logs_in};
@@ -19,7 +19,8 @@ use std::alloc::{AllocError, Global};
 /// a refused growth.
 ///
 /// One pass over the log marks, for each student, which of its choices rejected it, and one over the
-/// students finds the first that did not. An entry costs a look-up and its student's choices.
+/// students finds the first that did not. An entry costs a pass over its student's row in the papers, and a
+/// look-up by number where that student's segment is another one.
 pub(crate) fn next_choices_of_first(
     alloc: Global,
     papers: &Papers,
@@ -36,7 +37,7 @@ pub(crate) fn next_choices_of_first(
         let Some(student) = papers.student_at(position) else {
             unreachable!()
         };
-        let next = first_outside(papers.choices_at(position), rejected[position]);
+        let next = first_outside(papers, position, rejected[position]);
         next_choices.push_reserved(NextChoice { student, next });
     }
     Ok(next_choices)
@@ -55,54 +56,53 @@ fn rejected_ranks(
 {
     let mut table = vec![in alloc; RankSet::new(); k]?;
     for position in 0..k {
-        mark_all(papers, &mut table, segments.segment(position));
+        // Most rejections of a segment are those of its own student.
+        mark_all(papers, &mut table, position, segments.segment(position));
     }
     Ok(table)
 }
 
 /// Puts the entry's school among the ranks of the entry's student, where the student is in the table
-/// and lists the school.
-fn mark(papers: &Papers, table: &mut [RankSet], entry: Rejection)
+/// and lists the school. A student who stands at the guess is not looked up by number.
+fn mark(papers: &Papers, table: &mut [RankSet], guess: usize, entry: Rejection)
     ensures { (log : List Rejection) → AreTabled papers.now (students_of papers.now) log table.old → AreTabled papers.now (students_of papers.now) (log ++ entry ∷ []) table.new }
 {
-    let Some(position) = papers.student_position(entry.student) else {
+    let Some(position) = papers.student_position_near(entry.student, guess) else {
         return;
     };
-    let Some(rank) = rank_in(papers.choices_at(position), entry.school) else {
-        return;
-    };
-    // This call tells that the papers are well-formed: no number and no choice stands twice.
+    // This call tells that the papers are well-formed and within their limits: no number and no choice stands
+    // twice, and a set has room for each rank.
     prove!(position < papers.students_len());
+    let Some(rank) = papers.choice_rank_at(position, entry.school) else {
+        return;
+    };
     if position < table.len() {
         table[position] = table[position].with(rank);
     }
 }
 
-/// Puts each entry's school among the ranks of the entry's student.
-fn mark_all(papers: &Papers, table: &mut Vec<RankSet>, entries: &[Rejection])
+/// Puts each entry's school among the ranks of the entry's student. The students who stand at the guess are
+/// not looked up by number.
+fn mark_all(papers: &Papers, table: &mut Vec<RankSet>, guess: usize, entries: &[Rejection])
     ensures tabled { (log : List Rejection) → AreTabled papers.now (students_of papers.now) log table.old.items → AreTabled papers.now (students_of papers.now) (log ++ entries.now) table.new.items }
     ensures same_length { length table.new.items ≡ length table.old.items }
 {
     for entry in entries {
-        mark(papers, table, *entry);
+        mark(papers, table, guess, *entry);
     }
 }
 
-/// The school's rank among the choices.
-pub(crate) fn rank_in(choices: &[SchoolNo], school: SchoolNo) -> Option<usize>
-    ensures { result ≡ position (λ s. s == school) choices.now }
+/// The first choice, of the student at a position of the papers, whose rank is not in the set. It costs a look at
+/// the set, and at one choice in the student's row.
+pub(crate) fn first_outside(papers: &Papers, position: usize, ranks: RankSet) -> Option<SchoolNo>
+    requires { position < length papers.now.students }
+    ensures { (test : ℕ → Bool) → ((rank s : ℕ) → slice_get (choices_of papers.now (student_at papers.now position)) rank ≡ Some s → has_rank ranks rank ≡ test s) → result ≡ find (λ s. not (test s)) (choices_of papers.now (student_at papers.now position)) }
 {
-    choices.iter().position(|choice| *choice == school)
-}
-
-/// The first of the choices whose rank is not in the set.
-pub(crate) fn first_outside(choices: &[SchoolNo], ranks: RankSet) -> Option<SchoolNo>
-    requires { length choices.now ≤ LONGEST_LIST }
-    ensures { (test : ℕ → Bool) → ((rank s : ℕ) → slice_get choices.now rank ≡ Some s → has_rank ranks rank ≡ test s) → result ≡ find (λ s. not (test s)) choices.now }
-{
-    for (rank, school) in choices.iter().enumerate() {
+    // This call tells that the papers are within their limits, and so are their lists.
+    prove!(position < papers.students_len());
+    for rank in 0..LONGEST_LIST {
         if !ranks.contains(rank) {
-            return Some(*school);
+            return papers.choice_at(position, rank);
         }
     }
     None

@@ -136,8 +136,9 @@ impl Segments {
     /// next choice, the first that has not rejected it, whatever the log says. The only error is a
     /// refused growth.
     ///
-    /// The cost is a look-up and a pass over one list of choices for each entry of that log, and such a
-    /// pass for each of the `k` students. Memory is taken for the `k` alone.
+    /// The cost is a pass over one student's row in the papers for each entry of that log, with a look-up by number
+    /// where the entry is not of the segment's own student, and a look at one row for each of the `k` students.
+    /// Memory is taken for the `k` alone.
     pub fn next_choices_at(&self, papers: &Papers, k: usize) -> Result<Vec<NextChoice>, AllocError>
         requires within { k ≤ length self.now }
         requires students { take k (students_in self.now) ≡ take k (students_of papers.now) }
@@ -149,8 +150,9 @@ impl Segments {
     /// Where the students at some positions of the papers stand after the log of the segments there alone. The
     /// only error is a refused growth.
     ///
-    /// The cost is, for each entry of these segments, a look-up, a binary search among the positions and a pass over
-    /// one list of choices, and such a pass for each position. Memory is taken for the positions alone.
+    /// The cost is, for each entry of these segments, a binary search among the positions and a pass over one
+    /// student's row in the papers, with a look-up by number where the entry is not of the segment's own student; and
+    /// a look at one row for each position. Memory is taken for the positions alone.
     pub fn next_choices_of(
         &self,
         papers: &Papers,

@@ -10,6 +10,7 @@ pub mod Beginning
 pub mod Starting
 pub mod CountingLaws
 pub mod Settling
+pub mod Everybody
 pub mod Putting
 pub mod Resuming
 pub mod Growing

@@ -1,11 +1,13 @@
--- All students enter, in order of entry.
+-- All students enter, in whatever order.
 use Rattle.std.proofs.Common.{◌≡◌, inl, inr, refl, ap, sym, subst, ◌∙◌, ℕ, zero, suc, ◌+◌, ◌<◌, ◌≤◌, ◌==◌, nat_eq, Bool, true, false, cond, not, ◌&&◌, ◌||◌, List, [], ◌∷◌, ◌++◌, length, get_or, take, filter, Option, Some, None, Contains, is_some, slice_get, add-one, arith}
 use Rattle.std.specs.List.{list_any, IsDistinct}
+use Rattle.std.specs.List.Sorted.{IsPermutation}
 use Rattle.std.specs.Map.{keys_of}
 use Rattle.std.proofs.lemmas.Bool.{cases_Bool, eqb-true, eq-eqb, false≢true, cond-true, cond-false, or_right, false_from_ne_true}
 use Rattle.std.proofs.lemmas.Option.{slice_get_within, get_or_from_slice_get}
 use Rattle.std.proofs.lemmas.List.Folds.{list_any_none}
 use Rattle.std.proofs.lemmas.List.{get_or-take, get_or_default}
+use Rattle.std.proofs.lemmas.List.Sorted.{list_any-IsPermutation}
 use Rattle.std.proofs.Math.Seq.{take-suc}
 use Rattle.std.proofs.lemmas.Map.Keys.{apart_from_distinct}
 use Rattle.sc_papers.specs.Assignment.{assigned}
@@ -20,7 +22,7 @@ use Rattle.sc_papers.proofs.Counting.{contains-head, contains-tail}
 use Rattle.sc_papers.proofs.Optimality.{settled-optimal}
 use Rattle.sc_papers.proofs.Rejections.{any-push}
 use Rattle.sc_papers.proofs.Students.{how_many-agree}
-use Rattle.sc_engine.specs.RoundView.{RoundView, next_of, has_entered, Fits, standing_but, entered_papers, Continues, Enters, SettlesFirst}
+use Rattle.sc_engine.specs.RoundView.{RoundView, next_of, has_entered, Fits, standing_but, entered_papers, Continues, Enters, SettlesFirst, SettlesThese}
 use Rattle.sc_engine.proofs.Tables.{next-among, length-mapped}
 use Rattle.sc_papers.proofs.Positions.{any-among}
 use Rattle.sc_engine.proofs.CountingLaws.{exact-none}
@@ -39,12 +41,15 @@ take-all : (xs : List ℕ) → take (length xs) xs ≡ xs
 take-all [] = refl
 take-all (x ∷ xs) = ap (λ ys. x ∷ ys) (take-all xs)
 
+-- one more
+pub take-next : (xs : List ℕ) (k i : ℕ) → slice_get xs k ≡ Some i → take (k + 1) xs ≡ take k xs ++ i ∷ []
+take-next xs k i here =
+    ap (λ n. take n xs) (add-one k) ∙ take-suc xs k i (slice_get_within xs k i here)
+    ∙ ap (λ x. take k xs ++ x ∷ []) (get_or_from_slice_get xs k i i here)
+
 -- among one more
 pub first-more : (xs : List ℕ) (k i : ℕ) → slice_get xs k ≡ Some i → (j : ℕ) → among_first xs (k + 1) j ≡ (among_first xs k j || j == i)
-first-more xs k i here j =
-    ap (λ n. among_first xs n j) (add-one k)
-    ∙ ap (list_any (nat_eq j)) (take-suc xs k i (slice_get_within xs k i here) ∙ ap (λ x. take k xs ++ x ∷ []) (get_or_from_slice_get xs k i i here))
-    ∙ any-push (nat_eq j) (take k xs) i
+first-more xs k i here j = ap (list_any (nat_eq j)) (take-next xs k i here) ∙ any-push (nat_eq j) (take k xs) i
 
 -- the next one is not among them
 pub first-apart : (xs : List ℕ) (k i : ℕ) → IsDistinct nat_eq xs → slice_get xs k ≡ Some i → among_first xs k i ≡ false
@@ -60,14 +65,36 @@ first-apart xs k i distinct here =
 pub first-all : (xs : List ℕ) (j : ℕ) → Contains xs j → among_first xs (length xs) j ≡ true
 first-all xs j among = ap (list_any (nat_eq j)) (take-all xs) ∙ any-among xs j among
 
--- one more student has entered
-pub settles-more : (m : Market) (old new : RoundView) (k i : ℕ) → slice_get (students_of m) k ≡ Some i → SettlesFirst m old k → Enters m old new i → SettlesFirst m new (k + 1)
-settles-more m old new k i here before enters = record {
+-- one more student of a list has entered
+pub settles-next : (m : Market) (old new : RoundView) (xs : List ℕ) (k i : ℕ) → slice_get xs k ≡ Some i → SettlesThese m old (take k xs) → Enters m old new i → SettlesThese m new (take (k + 1) xs)
+settles-next m old new xs k i here before enters = record {
   fits = enters.fits;
-  entered = λ j. enters.entered j ∙ ap (λ b. b || j == i) (before.entered j) ∙ sym (first-more (students_of m) k i here j);
+  entered = λ j. enters.entered j ∙ ap (λ b. b || j == i) (before.entered j) ∙ sym (first-more xs k i here j);
   settled = enters.continues [] before.settled;
   counted = omega (arith, before.counted, enters.counted);
 }
+
+-- one more student has entered, in order of entry
+pub settles-more : (m : Market) (old new : RoundView) (k i : ℕ) → slice_get (students_of m) k ≡ Some i → SettlesFirst m old k → Enters m old new i → SettlesFirst m new (k + 1)
+settles-more m old new = settles-next m old new (students_of m)
+
+-- the same students in another order
+settles-permuted : (m : Market) (r : RoundView) (xs ys : List ℕ) → IsPermutation xs ys → SettlesThese m r ys → SettlesThese m r xs
+settles-permuted m r xs ys moved these = record {
+  fits = these.fits;
+  entered = λ i. these.entered i ∙ sym (list_any-IsPermutation (nat_eq i) xs ys moved);
+  settled = these.settled;
+  counted = these.counted;
+}
+
+-- all have entered, in order of entry or in another one
+pub settles-in_order : (m : Market) (r : RoundView) → SettlesFirst m r (length m.students) → SettlesThese m r (students_of m)
+settles-in_order m r first =
+    subst (SettlesThese m r) (ap (λ n. take n (students_of m)) (sym (length-mapped (λ (e : ℕ × Student). e.0) m.students)) ∙ take-all (students_of m)) first
+
+pub settles-everybody : (m : Market) (r : RoundView) (xs : List ℕ) (n : ℕ) → n ≡ length xs → IsPermutation (students_of m) xs → SettlesThese m r (take n xs) → SettlesThese m r (students_of m)
+settles-everybody m r xs n is moved these =
+    settles-permuted m r (students_of m) xs moved (subst (SettlesThese m r) (ap (λ k. take k xs) is ∙ take-all xs) these)
 
 -- nobody stands at a choice where nobody has entered
 pub settles-none : (m : Market) (r : RoundView) → Fits m r → ((i : ℕ) → has_entered m r.ranks i ≡ false) → Continues m [] r → r.log ≡ [] → r.proposals ≡ 0 → SettlesFirst m r 0
@@ -89,22 +116,22 @@ restricted-all : (m : Market) (test : ℕ → Bool) → ((i : ℕ) → Contains 
 unfolding restricted
 restricted-all m test all = λ t. record m { students = filter-all test m.students all t }
 
-pub papers-all : (m : Market) (r : RoundView) → SettlesFirst m r (length m.students) → entered_papers m r.ranks ≡ m
-papers-all m r all = restricted-all m (has_entered m r.ranks) (λ i among. all.entered i ∙ ap (λ n. among_first (students_of m) n i) (sym (length-mapped (λ (e : ℕ × Student). e.0) m.students)) ∙ first-all (students_of m) i among)
+pub papers-all : (m : Market) (r : RoundView) → SettlesThese m r (students_of m) → entered_papers m r.ranks ≡ m
+papers-all m r all = restricted-all m (has_entered m r.ranks) (λ i among. all.entered i ∙ any-among (students_of m) i among)
 
 -- the log is settled, and the students stand at their next choices
-pub settled-all : (m : Market) (r : RoundView) → SettlesFirst m r (length m.students) → IsSettled m r.log
+pub settled-all : (m : Market) (r : RoundView) → SettlesThese m r (students_of m) → IsSettled m r.log
 settled-all m r all = subst (λ n. IsSettled n r.log) (papers-all m r all) all.settled.settled
 
-pub next-all : (m : Market) (r : RoundView) → SettlesFirst m r (length m.students) → (i : ℕ) → next_of m r.ranks i ≡ next_choice m r.log i
+pub next-all : (m : Market) (r : RoundView) → SettlesThese m r (students_of m) → (i : ℕ) → next_of m r.ranks i ≡ next_choice m r.log i
 next-all m r all i = sym (all.settled.next i) ∙ ap (λ n. next_choice n r.log i) (papers-all m r all)
 
-pub optimal-all : (m : Market) (r : RoundView) (given : Matching) → SettlesFirst m r (length m.students) → ((i : ℕ) → given i ≡ next_of m r.ranks i) → IsStudentOptimal m given
+pub optimal-all : (m : Market) (r : RoundView) (given : Matching) → SettlesThese m r (students_of m) → ((i : ℕ) → given i ≡ next_of m r.ranks i) → IsStudentOptimal m given
 optimal-all m r given all is =
     let same : matching_of m r.log ≡ given = λ t i. (sym (is i ∙ next-all m r all i)) t in
     subst (IsStudentOptimal m) same (settled-optimal m all.fits.well_formed r.log (settled-all m r all))
 
-pub placed-all : (m : Market) (r : RoundView) (given : Matching) → SettlesFirst m r (length m.students) → ((i : ℕ) → given i ≡ next_of m r.ranks i) → r.proposals ≡ length r.log + placed m given
+pub placed-all : (m : Market) (r : RoundView) (given : Matching) → SettlesThese m r (students_of m) → ((i : ℕ) → given i ≡ next_of m r.ranks i) → r.proposals ≡ length r.log + placed m given
 unfolding standing_but
 placed-all m r given all is =
     let same : how_many m (λ i. is_some (next_of m r.ranks i) && not false) ≡ placed m given =

@@ -2,3 +2,4 @@ pub mod RoundView
 pub mod Rolls
 pub mod Round
 pub mod Counting
+pub mod Entrants

@@ -166,13 +166,17 @@ pub record Enters (m : Market) (old new : RoundView) (i : ℕ) : Type 0 where
   pub extends : Extends old.log new.log
   pub counted : CountsProposals m old nobody new nobody
 
--- the first k students, in order of entry, and they alone have entered; the log is settled for them,
--- and every proposal ended in an entry of the log or in a place
-pub record SettlesFirst (m : Market) (r : RoundView) (k : ℕ) : Type 0 where
+-- these students, and they alone, have entered; the log is settled for them, and every proposal ended in
+-- an entry of the log or in a place
+pub record SettlesThese (m : Market) (r : RoundView) (students : List ℕ) : Type 0 where
   pub fits : Fits m r
-  pub entered : (i : ℕ) → has_entered m r.ranks i ≡ list_any (nat_eq i) (take k (students_of m))
+  pub entered : (i : ℕ) → has_entered m r.ranks i ≡ list_any (nat_eq i) students
   pub settled : Continues m [] r
   pub counted : r.proposals ≡ length r.log + standing_but m r.ranks nobody
+
+-- the first k students, in order of entry, have entered
+abbrev pub SettlesFirst : Market → RoundView → ℕ → Type 0
+SettlesFirst m r k = SettlesThese m r (take k (students_of m))
 
 -- one more student has entered and stands at this choice, which is no proposal
 pub record StandsToo (m : Market) (old new : RoundView) (i : ℕ) (choice : Option ℕ) : Type 0 where

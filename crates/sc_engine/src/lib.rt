@@ -3,10 +3,11 @@
 //! (McVitie and Wilson 1971).
 #![tactic(auto)]
 
+mod entrants;
 mod hints;
 pub mod laws;
 mod round;
 mod settled;
 
 pub use round::Round;
-pub use settled::{Settled, settle};
+pub use settled::{Settled, settle, settle_by_draws};

@@ -96,7 +96,10 @@ fn make_room(ranks: &mut Vec<Option<u8>>, at: usize) -> Result<(), AllocError>
     ensures same { OnOk result ((k : ℕ) → slice_index_or ranks.new.items k None ≡ slice_index_or ranks.old.items k None) }
     ensures within { OnOk result ((n : ℕ) → at < n → length ranks.old.items ≤ n → length ranks.new.items ≤ n) }
 {
-    while ranks.len() <= at {
+    if ranks.len() < at {
+        ranks.resize(at, None)?;
+    }
+    if ranks.len() == at {
         ranks.push(None)?;
     }
     Ok(())
@@ -107,8 +110,8 @@ fn choice_at(ranks: &[Option<u8>], papers: &Papers, at: usize) -> Option<SchoolN
     requires { at < length papers.now.students }
     ensures { (i : ℕ) → position (nat_eq i) (students_of papers.now) ≡ Some at → result ≡ next_of papers.now ranks.now i }
 {
-    let rank = rank_at(ranks, at)?;
-    papers.choices_at(at).get(rank).copied()
+    let proposal = proposal_of(ranks, papers, at)?;
+    Some(proposal.school)
 }
 
 /// The choice at which the student at the position stands, with its position and the student's key there.
@@ -238,7 +241,12 @@ impl<R: Roll> Round<R> {
         };
         let school = proposal.school;
         let student = out.student;
-        let guess = self.hints.guess(student);
+        // Most often the school has no seat for the proposer, whose position is known.
+        let guess = if student == proposal.key.student {
+            proposer
+        } else {
+            self.hints.guess(student)
+        };
         let next = position_near(papers, student, guess);
         self.reject(next, Rejection { student, school })?;
         Ok(Some(next))
@@ -258,14 +266,13 @@ impl<R: Roll> Round<R> {
         Ok(())
     }
 
-    /// The student goes to its first choice, and its chain follows.
-    fn enter(&mut self, papers: &Papers, student: StudentNo) -> Result<(), AllocError>
+    /// The student at the position goes to its first choice, and its chain follows.
+    fn enter(&mut self, papers: &Papers, student: StudentNo, at: usize) -> Result<(), AllocError>
         requires fits { Fits papers.now (view_of R.keys R.seats self.old) }
-        requires student { is_student papers.now student ≡ true }
+        requires stands { position (nat_eq student) (students_of papers.now) ≡ Some at }
         requires absent { has_entered papers.now self.old.ranks.items student ≡ false }
         ensures { OnOk result (Enters papers.now (view_of R.keys R.seats self.old) (view_of R.keys R.seats self.new) student) }
     {
-        let at = position_near(papers, student, self.ranks.len());
         self.hints.note(student, at);
         make_room(&mut self.ranks, at)?;
         self.ranks[at] = Some(0);
@@ -273,9 +280,12 @@ impl<R: Roll> Round<R> {
         Ok(())
     }
 
-    /// A round in which nobody has entered, or the error of a refused growth. It takes memory for each
-    /// student and each school; the rolls take theirs by the offers.
-    pub fn start(alloc: Global, papers: &Papers) -> Result<Self, AllocError>
+    /// A round in which nobody has entered, with room for guesses at where so many students stand.
+    pub(crate) fn with_room(
+        alloc: Global,
+        papers: &Papers,
+        students: usize,
+    ) -> Result<Self, AllocError>
         ensures fits { IfOk result (λ round. Fits papers.now (view_of R.keys R.seats round)) }
         ensures nobody { IfOk result (λ round. (i : ℕ) → has_entered papers.now (view_of R.keys R.seats round).ranks i ≡ false) }
         ensures settled { IfOk result (λ round. Continues papers.now [] (view_of R.keys R.seats round)) }
@@ -290,8 +300,21 @@ impl<R: Roll> Round<R> {
             log: Vec::new(alloc),
             proposals: 0,
             spent: false,
-            hints: Hints::with_room(alloc, papers.students_len())?,
+            hints: Hints::with_room(alloc, students)?,
         })
+    }
+
+    /// A round in which nobody has entered, or the error of a refused growth. It takes memory for each
+    /// student and each school; the rolls take theirs by the offers.
+    pub fn start(alloc: Global, papers: &Papers) -> Result<Self, AllocError>
+        ensures fits { IfOk result (λ round. Fits papers.now (view_of R.keys R.seats round)) }
+        ensures nobody { IfOk result (λ round. (i : ℕ) → has_entered papers.now (view_of R.keys R.seats round).ranks i ≡ false) }
+        ensures settled { IfOk result (λ round. Continues papers.now [] (view_of R.keys R.seats round)) }
+        ensures log { IfOk result (λ round. (view_of R.keys R.seats round).log ≡ []) }
+        ensures proposals { IfOk result (λ round. (view_of R.keys R.seats round).proposals ≡ 0) }
+        ensures ready { IfOk result (λ round. is_spent round ≡ false) }
+    {
+        Round::with_room(alloc, papers, papers.students_len())
     }
 
     /// Enters one more student, by one whole chain: the student proposes, whoever is put out proposes
@@ -316,7 +339,29 @@ impl<R: Roll> Round<R> {
         if self.spent {
             return Err(AllocError);
         }
-        let entered = self.enter(papers, student);
+        let at = position_near(papers, student, self.ranks.len());
+        self.enter_at(papers, student, at)
+    }
+
+    /// Does what `enter_one` does, where it is known at which position of the order of entry the student stands.
+    pub(crate) fn enter_at(
+        &mut self,
+        papers: &Papers,
+        student: StudentNo,
+        at: usize,
+    ) -> Result<(), AllocError>
+        requires fits { is_spent self.old ≡ false → Fits papers.now (view_of R.keys R.seats self.old) }
+        requires stands { is_spent self.old ≡ false → position (nat_eq student) (students_of papers.now) ≡ Some at }
+        requires absent { is_spent self.old ≡ false → has_entered papers.now (view_of R.keys R.seats self.old).ranks student ≡ false }
+        ensures enters { OnOk result (Enters papers.now (view_of R.keys R.seats self.old) (view_of R.keys R.seats self.new) student) }
+        ensures was_ready { OnOk result (is_spent self.old ≡ false) }
+        ensures ready { OnOk result (is_spent self.new ≡ false) }
+        ensures spent { OnErr result (is_spent self.new ≡ true) }
+    {
+        if self.spent {
+            return Err(AllocError);
+        }
+        let entered = self.enter(papers, student, at);
         self.spent = entered.is_err();
         entered
     }

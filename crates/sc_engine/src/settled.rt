@@ -8,8 +8,10 @@ ghost use Rattle.sc_papers.specs.Market.{students_of};
 ghost use Rattle.sc_papers.specs.Matching.{IsStudentOptimal};
 ghost use Rattle.sc_papers.specs.Progress.{placed};
 ghost use Rattle.sc_engine.specs.Round.{view_of, is_spent};
-ghost use Rattle.sc_engine.specs.RoundView.{Fits, next_of, SettlesFirst};
+ghost use Rattle.sc_engine.specs.Entrants.{AreEverybody};
+ghost use Rattle.sc_engine.specs.RoundView.{Fits, next_of, SettlesFirst, SettlesThese};
 
+use crate::entrants::{Entrant, entrants_by_draw};
 use crate::round::Round;
 use sc_papers::{Assignment, Papers, Rejection};
 use sc_seats::{HeapRoll, Roll};
@@ -41,6 +43,22 @@ pub fn settle(alloc: Global, papers: &Papers) -> Result<Settled, AllocError>
     settle_over::<HeapRoll>(alloc, papers)
 }
 
+/// Does what `settle` does, with the same assignment and the same count of proposals, and another log: the students enter
+/// in the order of their draws. So fewer of them are put out again, and most offers are refused while their rows are at
+/// hand. The cost is a sort of the draws more.
+pub fn settle_by_draws(alloc: Global, papers: &Papers) -> Result<Settled, AllocError>
+    ensures settled { IfOk result (λ settled. IsSettled papers.now settled.log.items) }
+    ensures matching { IfOk result (λ settled. (i : ℕ) → assigned settled.assignment i ≡ next_choice papers.now settled.log.items i) }
+    ensures optimal { IfOk result (λ settled. IsStudentOptimal papers.now (assigned settled.assignment)) }
+    ensures proposals { IfOk result (λ settled. settled.proposals ≡ length settled.log.items + placed papers.now (assigned settled.assignment)) }
+{
+    let mut round: Round<HeapRoll> = Round::start(alloc, papers)?;
+    let entrants = entrants_by_draw(alloc, papers)?;
+    enter_each(&mut round, papers, entrants.as_slice())?;
+    let settled = come_to(round, papers)?;
+    Ok(settled)
+}
+
 /// As `settle`, over a kind of roll.
 pub(crate) fn settle_over<R: Roll>(alloc: Global, papers: &Papers) -> Result<Settled, AllocError>
     ensures settled { IfOk result (λ settled. IsSettled papers.now settled.log.items) }
@@ -50,6 +68,18 @@ pub(crate) fn settle_over<R: Roll>(alloc: Global, papers: &Papers) -> Result<Set
 {
     let mut round: Round<R> = Round::start(alloc, papers)?;
     enter_all(&mut round, papers)?;
+    let settled = come_to(round, papers)?;
+    Ok(settled)
+}
+
+/// What a round comes to in which all students have entered.
+fn come_to<R: Roll>(round: Round<R>, papers: &Papers) -> Result<Settled, AllocError>
+    requires all { SettlesThese papers.now (view_of R.keys R.seats round) (students_of papers.now) }
+    ensures settled { IfOk result (λ settled. IsSettled papers.now settled.log.items) }
+    ensures matching { IfOk result (λ settled. (i : ℕ) → assigned settled.assignment i ≡ next_choice papers.now settled.log.items i) }
+    ensures optimal { IfOk result (λ settled. IsStudentOptimal papers.now (assigned settled.assignment)) }
+    ensures proposals { IfOk result (λ settled. settled.proposals ≡ length settled.log.items + placed papers.now (assigned settled.assignment)) }
+{
     let settled = round.into_settled(papers)?;
     Ok(settled)
 }
@@ -58,7 +88,7 @@ pub(crate) fn settle_over<R: Roll>(alloc: Global, papers: &Papers) -> Result<Set
 fn enter_all<R: Roll>(round: &mut Round<R>, papers: &Papers) -> Result<(), AllocError>
     requires first { SettlesFirst papers.now (view_of R.keys R.seats round.old) 0 }
     requires ready { is_spent round.old ≡ false }
-    ensures all { OnOk result (SettlesFirst papers.now (view_of R.keys R.seats round.new) (length papers.now.students)) }
+    ensures all { OnOk result (SettlesThese papers.now (view_of R.keys R.seats round.new) (students_of papers.now)) }
     ensures ready { OnOk result (is_spent round.new ≡ false) }
 {
     for position in 0..papers.students_len() {
@@ -66,6 +96,24 @@ fn enter_all<R: Roll>(round: &mut Round<R>, papers: &Papers) -> Result<(), Alloc
             unreachable!()
         };
         round.enter_one(papers, student)?;
+    }
+    Ok(())
+}
+
+/// Enters each student of a list, who are all students, into a round in which nobody has entered.
+fn enter_each<R: Roll>(
+    round: &mut Round<R>,
+    papers: &Papers,
+    entrants: &[Entrant],
+) -> Result<(), AllocError>
+    requires first { SettlesThese papers.now (view_of R.keys R.seats round.old) [] }
+    requires ready { is_spent round.old ≡ false }
+    requires everybody { AreEverybody papers.now entrants.now }
+    ensures all { OnOk result (SettlesThese papers.now (view_of R.keys R.seats round.new) (students_of papers.now)) }
+    ensures ready { OnOk result (is_spent round.new ≡ false) }
+{
+    for entrant in entrants {
+        round.enter_at(papers, entrant.student, entrant.position as usize)?;
     }
     Ok(())
 }

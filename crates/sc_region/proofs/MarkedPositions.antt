@@ -1,10 +1,14 @@
 -- The positions that are marked, one mark after the other.
-use Rattle.std.proofs.Common.{◌≡◌, ◌↔◌, inl, inr, sym, subst, ◌∙◌, ap, ℕ, ◌+◌, ◌<◌, ◌≤◌, Bool, true, false, List, [], ◌∷◌, ◌++◌, length, take, set, get_or, get_or-set_other, get_or-set_same, Contains, arith}
+use Rattle.std.proofs.Common.{◌≡◌, ◌↔◌, inl, inr, refl, sym, subst, ◌∙◌, ap, ℕ, ◌+◌, ◌<◌, ◌≤◌, nat_eq, Bool, true, false, List, [], ◌∷◌, ◌++◌, length, get_or, Contains, arith}
+use Rattle.std.specs.List.{list_any}
 use Rattle.std.specs.List.Sorted.{IsStrictlyIncreasing}
-use Rattle.std.proofs.lemmas.Bool.{cases_eq, cases_lt, false≢true}
-use Rattle.std.proofs.lemmas.List.{get_or_append_left, get_or_push, get_or_default, get_or_past, length_push, take_more}
+use Rattle.std.proofs.lemmas.Bool.{cases_eq, cases_lt, eqb-true, false≢true}
+use Rattle.std.proofs.lemmas.Cmp.{nat_eq_equiv}
+use Rattle.std.proofs.lemmas.List.{ext_get_or, get_or_append_left, get_or_push, get_or_default, get_or_past, length_push}
 use Rattle.std.proofs.lemmas.List.Elements.{Contains-append_left, Contains-push, Contains-push_cases}
-use Rattle.sc_region.specs.Marks.{ArePositions}
+use Rattle.std.proofs.lemmas.List.FromFn.{get_or-map-range_with_len, length-map-range_with_len}
+use Rattle.std.proofs.lemmas.Map.Views.{Contains-from_any, list_any-from_Contains}
+use Rattle.sc_region.specs.Marks.{marks_at, ArePositions, AreRisingBelow}
 
 -- the positions before this one that are marked, rising
 pub record AreFirstPositions (marks : List Bool) (at : ℕ) (positions : List ℕ) : Type 0 where
@@ -70,20 +74,44 @@ positions-all marks at positions past first = record {
   );
 }
 
--- one more of the positions marked
-pub marks-more : (marks : List Bool) (xs : List ℕ) (at : ℕ) → at < length xs → get_or xs at 0 < length marks
-    → ((p : ℕ) → (Contains (take at xs) p ↔ (get_or marks p false ≡ true))) → (p : ℕ) → (Contains (take (at + 1) xs) p ↔ (get_or (set marks (get_or xs at 0) true) p false ≡ true))
-marks-more marks xs at low within before p = elim (cases_eq p (get_or xs at 0)) [
-  | inl same ↦ (
-    (λ among. ap (λ q. get_or (set marks (get_or xs at 0) true) q false) same ∙ get_or-set_same marks (get_or xs at 0) true false within),
-    (λ passes. subst (λ ys. Contains ys p) (sym (take_more xs at 0 low)) (subst (Contains (take at xs ++ get_or xs at 0 ∷ [])) (sym same) (Contains-push (take at xs) (get_or xs at 0)))),
-  )
-  | inr apart ↦ (
-    (λ among. elim (Contains-push_cases (take at xs) (get_or xs at 0) p (subst (λ ys. Contains ys p) (take_more xs at 0 low) among)) [
-      | inl earlier ↦ get_or-set_other marks (get_or xs at 0) p true false apart ∙ (before p).0 earlier
-      | inr same ↦ absurd (apart (sym same))
-    ]),
-    (λ passes. subst (λ ys. Contains ys p) (sym (take_more xs at 0 low))
-        (Contains-append_left (take at xs) (get_or xs at 0 ∷ []) p ((before p).1 (sym (get_or-set_other marks (get_or xs at 0) p true false apart) ∙ passes)))),
-  )
+-- a marked position is that of one of those who have marks
+below-marked : (marks : List Bool) (p : ℕ) → get_or marks p false ≡ true → p < length marks
+below-marked marks p its = elim (cases_lt p (length marks)) [
+  | inl low ↦ low
+  | inr over ↦ absurd (false≢true (sym (get_or_past marks p false over) ∙ its))
 ]
+
+-- so positions that are marked are some of so many
+pub rising-below : (marks : List Bool) (positions : List ℕ) → ArePositions marks positions → AreRisingBelow (length marks) positions
+rising-below marks positions are = record {
+  rising = are.rising;
+  below = λ p among. below-marked marks p ((are.marked p).0 among);
+}
+
+-- the mark at a position that comes within the count
+mark-at : (count : ℕ) (positions : List ℕ) (p : ℕ) → p < count → get_or (marks_at count positions) p false ≡ list_any (nat_eq p) positions
+mark-at count positions p low = get_or-map-range_with_len (λ q. list_any (nat_eq q) positions) 0 count p p false low (omega arith)
+
+-- those positions are marked, and no others
+pub marks-say : (count : ℕ) (positions : List ℕ) → AreRisingBelow count positions → (p : ℕ) → (Contains positions p ↔ (get_or (marks_at count positions) p false ≡ true))
+marks-say count positions below p = (
+  (λ among. mark-at count positions p (below.below p among) ∙ list_any-from_Contains nat_eq_equiv p positions among),
+  (λ its.
+      let low : p < length (marks_at count positions) = below-marked (marks_at count positions) p its in
+      Contains-from_any eqb-true p positions (sym (mark-at count positions p (omega (arith, low, length-map-range_with_len (λ q. list_any (nat_eq q) positions) 0 count))) ∙ its)),
+)
+
+-- two truth values that hold together
+together : (a b : Bool) → (a ≡ true → b ≡ true) → (b ≡ true → a ≡ true) → a ≡ b
+together true b there back = sym (there refl)
+together false true there back = back refl
+together false false there back = refl
+
+-- marks are what the positions say that are marked
+pub marks-same : (marks : List Bool) (positions : List ℕ) → ArePositions marks positions → marks_at (length marks) positions ≡ marks
+marks-same marks positions are =
+    let below = rising-below marks positions are in
+    ext_get_or false (marks_at (length marks) positions) marks (length-map-range_with_len (λ q. list_any (nat_eq q) positions) 0 (length marks))
+    (λ p low. together (get_or (marks_at (length marks) positions) p false) (get_or marks p false)
+    (λ its. (are.marked p).0 ((marks-say (length marks) positions below p).1 its))
+    (λ its. (marks-say (length marks) positions below p).0 ((are.marked p).1 its)))

@@ -4,6 +4,7 @@ use Rattle.std.specs.declared.alloc.Global.{Global}
 use Rattle.sc_papers.specs.Market.{Market, choices_of, schools_of, students_of}
 use Rattle.sc_papers.specs.declared.amendment.Amendment.{Amendment}
 use Rattle.sc_papers.specs.declared.amendment.Amendment.TheVariants.{Enter, Withdraw, Rerank, Add, Close, Correct}
+use Rattle.sc_region.specs.declared.first.First.{First}
 use Rattle.sc_region.specs.Groups.{first_choice, group_of, new_choices, place_of}
 
 -- a number for each school's district, and for each school a list of students, both by the school's
@@ -12,9 +13,13 @@ pub record DistrictsView : Type 0 where
   pub groups : List ℕ
   pub firsts : List (List ℕ)
 
--- the lists that a list of them holds
-abbrev pub lists_in : List (Vec ℕ Global) → List (List ℕ)
-lists_in lists = map (λ list. list.items) lists
+-- the students whom a list names
+abbrev pub students_in : List First → List ℕ
+students_in list = map (λ first. first.student) list
+
+-- the lists of students that a list of them holds
+abbrev pub lists_in : List (Vec First Global) → List (List ℕ)
+lists_in lists = map (λ list. students_in list.items) lists
 
 -- the students listed at a school's position
 abbrev pub firsts_at : List (List ℕ) → ℕ → List ℕ

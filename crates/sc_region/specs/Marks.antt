@@ -1,5 +1,6 @@
 -- Marks by position.
-use Rattle.std.specs.Prelude.{◌↔◌, ℕ, Bool, false, List, [], ◌∷◌, Contains, IsTrue, slice_index_or, if◌then◌else◌}
+use Rattle.std.specs.Prelude.{◌↔◌, ◌<◌, ℕ, Bool, false, List, [], ◌∷◌, Contains, IsTrue, map, nat_eq, slice_index_or, if◌then◌else◌}
+use Rattle.std.specs.List.{list_any, range_with_len}
 use Rattle.std.specs.List.Sorted.{IsStrictlyIncreasing}
 
 -- those of a list who are marked, in order: each mark is that of the one at its position
@@ -12,3 +13,12 @@ marked (mark ∷ marks) (x ∷ xs) = if mark then x ∷ marked marks xs else mar
 pub record ArePositions (marks : List Bool) (positions : List ℕ) : Type 0 where
   pub rising : IsStrictlyIncreasing positions
   pub marked : (position : ℕ) → (Contains positions position ↔ IsTrue (slice_index_or marks position false))
+
+-- a mark for each of so many, where these positions are marked
+abbrev pub marks_at : ℕ → List ℕ → List Bool
+marks_at count positions = map (λ position. list_any (nat_eq position) positions) (range_with_len 0 count)
+
+-- positions of some of so many, rising
+pub record AreRisingBelow (count : ℕ) (positions : List ℕ) : Type 0 where
+  pub rising : IsStrictlyIncreasing positions
+  pub below : (position : ℕ) → Contains positions position → position < count

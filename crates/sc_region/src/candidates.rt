@@ -4,30 +4,31 @@ ghost use Rattle.std.specs.Prelude.{◌≡◌, ◌<◌, ◌↔◌, ℕ, None, tr
 ghost use Rattle.std.specs.List.Sorted.{IsStrictlyIncreasing};
 ghost use Rattle.sc_papers.specs.Market.{schools_of, is_school, student_at, students_of};
 ghost use Rattle.sc_papers.specs.Verdict.{verdict};
-ghost use Rattle.sc_region.specs.Districts.{firsts_at, lists_in};
+ghost use Rattle.sc_region.specs.Districts.{firsts_at, lists_in, students_in};
 ghost use Rattle.sc_region.specs.Groups.{group_of, joined_students, positions_in, start_of, students_at, widened};
 
+use crate::first::First;
 use crate::grouping::{groups_among, join_list, place_of};
 use crate::members::is_member;
 use crate::reach::new_choices;
-use sc_papers::{Amendment, MOST_STUDENTS, Papers, SchoolNo, StudentNo};
+use sc_papers::{Amendment, MOST_STUDENTS, Papers, SchoolNo};
 use std::alloc::{AllocError, Global};
 
-/// Puts the positions of these students at the end of a list; whoever is not in the papers has none.
+/// Puts the positions of the students of a list at the end of others; whoever is not in the papers has none.
 fn push_positions(
     papers: &Papers,
-    students: &[StudentNo],
+    firsts: &[First],
     positions: &mut Vec<usize>,
 ) -> Result<(), AllocError>
     requires { (p : ℕ) → Contains positions.old.items p → p < length (students_of papers.now) }
     ensures within { OnOk result ((p : ℕ) → Contains positions.new.items p → p < length (students_of papers.now)) }
     ensures keeps { OnOk result ((p : ℕ) → Contains positions.old.items p → Contains positions.new.items p) }
-    ensures all { OnOk result ((p : ℕ) → p < length (students_of papers.now) → Contains students.now (student_at papers.now p) → Contains positions.new.items p) }
+    ensures all { OnOk result ((p : ℕ) → p < length (students_of papers.now) → Contains (students_in firsts.now) (student_at papers.now p) → Contains positions.new.items p) }
 {
     // This call tells that the papers are well-formed, so that each student has one position.
     prove!(papers.students_len() <= MOST_STUDENTS);
-    for student in students {
-        if let Some(position) = papers.student_position(*student) {
+    for first in firsts {
+        if let Some(position) = papers.student_position_near(first.student, first.guess()) {
             positions.push(position)?;
         }
     }
@@ -38,7 +39,7 @@ fn push_positions(
 pub(crate) fn listed_in(
     alloc: Global,
     papers: &Papers,
-    firsts: &Vec<Vec<StudentNo>>,
+    firsts: &Vec<Vec<First>>,
     groups: &[usize],
     group: usize,
 ) -> Result<Vec<usize>, AllocError>
@@ -56,7 +57,7 @@ pub(crate) fn listed_in(
 }
 
 /// How many students are listed at the schools of a group, or the greatest number where it is more.
-pub(crate) fn count_in(firsts: &Vec<Vec<StudentNo>>, groups: &[usize], group: usize) -> usize
+pub(crate) fn count_in(firsts: &Vec<Vec<First>>, groups: &[usize], group: usize) -> usize
     requires { length groups.now ≡ length firsts.now.items }
 {
     let mut count: usize = 0;

@@ -3,10 +3,11 @@
 ghost use Rattle.std.specs.Prelude.{◌≡◌, ◌<◌, ◌==◌, ℕ, None, Some, filter, length, not, Contains, IfOk, OnOk};
 ghost use Rattle.sc_papers.specs.Market.{schools_of, students_of};
 ghost use Rattle.sc_papers.specs.Verdict.{verdict};
-ghost use Rattle.sc_region.specs.Districts.{comer, firsts_at, leaver, lists_in, new_first};
+ghost use Rattle.sc_region.specs.Districts.{comer, firsts_at, leaver, lists_in, new_first, students_in};
 ghost use Rattle.sc_region.specs.Groups.{first_choice, place_of};
 
 use crate::candidates::{count_in, joined_positions, listed_in, rising};
+use crate::first::First;
 use crate::grouping::{first_place_at, groups_of, join_list, place_of};
 use crate::marks::RegionMarks;
 use crate::reach::{first_choice, new_choices, region_marks, start_of};
@@ -27,8 +28,8 @@ const WIDE: usize = 8;
 #[derive(Drop)]
 pub struct Districts {
     groups: SchoolGroups,
-    // By the school's position, the students whose first choice it is.
-    firsts: Vec<Vec<StudentNo>>,
+    // By the school's position, the students whose first choice it is, each with a guess at where they stand.
+    firsts: Vec<Vec<First>>,
 }
 
 impl Model for Districts {
@@ -40,7 +41,7 @@ impl Model for Districts {
 }
 
 /// So many empty lists.
-fn empty_lists(alloc: Global, count: usize) -> Result<Vec<Vec<StudentNo>>, AllocError>
+fn empty_lists(alloc: Global, count: usize) -> Result<Vec<Vec<First>>, AllocError>
     ensures { IfOk result (λ lists. length lists.items ≡ count) }
 {
     let mut lists = Vec::with_capacity(alloc, count)?;
@@ -51,18 +52,18 @@ fn empty_lists(alloc: Global, count: usize) -> Result<Vec<Vec<StudentNo>>, Alloc
 }
 
 /// Puts a student into the list of the school at a position.
-fn put(firsts: &mut Vec<Vec<StudentNo>>, place: usize, student: StudentNo) -> Result<(), AllocError>
+fn put(firsts: &mut Vec<Vec<First>>, place: usize, first: First) -> Result<(), AllocError>
     requires { place < length firsts.old.items }
-    ensures has { OnOk result (Contains (firsts_at (lists_in firsts.new.items) place) student) }
+    ensures has { OnOk result (Contains (firsts_at (lists_in firsts.new.items) place) first.student) }
     ensures keeps { OnOk result ((p i : ℕ) → Contains (firsts_at (lists_in firsts.old.items) p) i → Contains (firsts_at (lists_in firsts.new.items) p) i) }
     ensures one_each { OnOk result (length firsts.new.items ≡ length firsts.old.items) }
 {
-    firsts[place].push(student)?;
+    firsts[place].push(first)?;
     Ok(())
 }
 
 /// For each school, the students whose first choice it is.
-fn firsts_of(alloc: Global, papers: &Papers) -> Result<Vec<Vec<StudentNo>>, AllocError>
+fn firsts_of(alloc: Global, papers: &Papers) -> Result<Vec<Vec<First>>, AllocError>
     ensures one_each { IfOk result (λ firsts. length firsts.items ≡ length (schools_of papers.now)) }
     ensures listed { IfOk result (λ firsts. (i : ℕ) → Contains (students_of papers.now) i → Contains (firsts_at (lists_in firsts.items) (place_of papers.now (first_choice papers.now i))) i) }
 {
@@ -71,20 +72,24 @@ fn firsts_of(alloc: Global, papers: &Papers) -> Result<Vec<Vec<StudentNo>>, Allo
         let Some(student) = papers.student_at(position) else {
             unreachable!()
         };
-        put(&mut firsts, first_place_at(papers, position), student)?;
+        put(
+            &mut firsts,
+            first_place_at(papers, position),
+            First::new(student, position),
+        )?;
     }
     Ok(firsts)
 }
 
 /// Takes a student out of a list.
-fn strike(list: &mut Vec<StudentNo>, student: StudentNo)
-    ensures { list.new.items ≡ filter (λ i. not (i == student)) list.old.items }
+fn strike(list: &mut Vec<First>, student: StudentNo)
+    ensures { students_in list.new.items ≡ filter (λ i. not (i == student)) (students_in list.old.items) }
 {
-    list.retain(|other| *other != student);
+    list.retain(|other| other.student != student);
 }
 
 /// Takes a student out of the list of the school at a position.
-fn take_out(firsts: &mut Vec<Vec<StudentNo>>, place: usize, student: StudentNo)
+fn take_out(firsts: &mut Vec<Vec<First>>, place: usize, student: StudentNo)
     requires { place < length firsts.old.items }
     ensures others { (p i : ℕ) → (i ≡ student → ⊥) → Contains (firsts_at (lists_in firsts.old.items) p) i → Contains (firsts_at (lists_in firsts.new.items) p) i }
     ensures one_each { length firsts.new.items ≡ length firsts.old.items }
@@ -113,7 +118,7 @@ fn comer(amendment: &Amendment) -> Option<StudentNo>
 }
 
 /// Takes out whoever the amendment takes from their first choice.
-fn let_leave(firsts: &mut Vec<Vec<StudentNo>>, papers: &Papers, amendment: &Amendment)
+fn let_leave(firsts: &mut Vec<Vec<First>>, papers: &Papers, amendment: &Amendment)
     requires allowed { verdict papers.now amendment.now ≡ None }
     requires one_each { length firsts.old.items ≡ length (schools_of papers.now) }
     ensures others { (p i : ℕ) → (leaver amendment.now ≡ Some i → ⊥) → Contains (firsts_at (lists_in firsts.old.items) p) i → Contains (firsts_at (lists_in firsts.new.items) p) i }
@@ -130,7 +135,7 @@ fn let_leave(firsts: &mut Vec<Vec<StudentNo>>, papers: &Papers, amendment: &Amen
 
 /// Puts whoever comes with new choices into the list of the first of them.
 fn let_come(
-    firsts: &mut Vec<Vec<StudentNo>>,
+    firsts: &mut Vec<Vec<First>>,
     papers: &Papers,
     amendment: &Amendment,
 ) -> Result<(), AllocError>
@@ -142,7 +147,15 @@ fn let_come(
 {
     if let Some(student) = comer(amendment) {
         let first = new_choices(amendment)[0];
-        put(firsts, place_of(papers, first), student)?;
+        // Who enters comes last, and whoever is in the papers by now stays where they are.
+        let position = papers
+            .student_position(student)
+            .unwrap_or(papers.students_len());
+        put(
+            firsts,
+            place_of(papers, first),
+            First::new(student, position),
+        )?;
     }
     Ok(())
 }
@@ -223,9 +236,10 @@ impl Districts {
     /// What `region_marks` gives, and its errors, found in the district of the amendment alone: that of the
     /// amended school or of the amended student's choices.
     ///
-    /// The cost is one pass over the choices of the district's students, with a look-up by number for each and
-    /// a sort, and one over the schools, for each of which memory is taken, as for each student of the
-    /// district. Where the district has a good part of all students, it is that of `region_marks`.
+    /// The cost is one pass over the choices of the district's students, with a look-up by number for each who
+    /// no longer stands where they stood when they came to be listed, and a sort, and one over the schools, for
+    /// each of which memory is taken, as for each student of the district. Where the district has a good part
+    /// of all students, it is that of `region_marks`.
     pub fn region(
         &self,
         alloc: Global,
@@ -254,8 +268,7 @@ impl Districts {
             groups.as_slice(),
             group,
         )?;
-        let region = RegionMarks::at(alloc, papers.students_len(), positions)?;
-        Ok(region)
+        Ok(RegionMarks::at(papers.students_len(), positions))
     }
 
     /// Brings the districts in step with an amendment of their papers that is not refused, before it is made:

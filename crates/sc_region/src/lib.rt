@@ -3,6 +3,7 @@
 
 mod candidates;
 mod districts;
+mod first;
 mod grouping;
 mod marks;
 mod members;

@@ -1,28 +1,30 @@
 //! The students of a region, by position.
 
-ghost use Rattle.std.specs.Prelude.{◌≡◌, ◌↔◌, ◌<◌, ℕ, false, length, slice_index_or, Contains, IsTrue, IfOk};
+ghost use Rattle.std.specs.Prelude.{IfOk};
 ghost use Rattle.sc_region.specs.Marks.{ArePositions};
 
 use std::alloc::{AllocError, Global};
 use std::marker::Model;
 
-/// Which students of the papers are in a region: a mark for each of them, in order of entry.
+/// Which students of the papers are in a region: a mark for each of them, in order of entry. What is kept is
+/// where the marked ones stand, so a small region of large papers takes little memory.
 #[derive(Debug, Drop)]
 pub struct RegionMarks {
-    marks: Vec<bool>,
+    // How many students there are.
+    count: usize,
     // The positions that are marked, rising.
     positions: Vec<usize>,
 }
 
 impl Model for RegionMarks {
     ghost use Rattle.std.specs.Prelude.{Bool, List};
-    ghost use Rattle.sc_region.specs.Marks.{ArePositions};
+    ghost use Rattle.sc_region.specs.Marks.{marks_at, AreRisingBelow};
 
     ghost Value = { List Bool };
 
-    ghost view = { λ r. r.marks.items };
+    ghost view = { λ r. marks_at r.count r.positions.items };
 
-    ghost invariant = { λ r. ArePositions r.marks.items r.positions.items };
+    ghost invariant = { λ r. AreRisingBelow r.count r.positions.items };
 }
 
 /// The positions that are marked, rising.
@@ -38,19 +40,6 @@ fn positions_of(alloc: Global, marks: &[bool]) -> Result<Vec<usize>, AllocError>
     Ok(positions)
 }
 
-/// So many marks, where these positions are marked.
-fn marks_at(alloc: Global, count: usize, positions: &[usize]) -> Result<Vec<bool>, AllocError>
-    requires { (position : ℕ) → Contains positions.now position → position < count }
-    ensures count { IfOk result (λ marks. length marks.items ≡ count) }
-    ensures marked { IfOk result (λ marks. (position : ℕ) → (Contains positions.now position ↔ IsTrue (slice_index_or marks.items position false))) }
-{
-    let mut marks = vec![in alloc; false; count]?;
-    for position in positions {
-        marks[*position] = true;
-    }
-    Ok(marks)
-}
-
 impl RegionMarks {
     ghost use Rattle.std.specs.Prelude.{◌≡◌, ◌↔◌, ◌<◌, ℕ, false, length, slice_index_or, Contains, IsTrue, IfOk};
     ghost use Rattle.std.specs.List.Sorted.{IsStrictlyIncreasing};
@@ -60,36 +49,20 @@ impl RegionMarks {
         ensures { IfOk result (λ region. region ≡ marks.items) }
     {
         let positions = positions_of(alloc, marks.as_slice())?;
-        Ok(RegionMarks { marks, positions })
+        Ok(RegionMarks {
+            count: marks.len(),
+            positions,
+        })
     }
 
-    /// A mark for each of so many students, where these rising positions are marked.
-    pub(crate) fn at(alloc: Global, count: usize, positions: Vec<usize>) -> Result<Self, AllocError>
+    /// A mark for each of so many students, where these rising positions are marked. It takes no memory.
+    pub(crate) fn at(count: usize, positions: Vec<usize>) -> Self
         requires rising { IsStrictlyIncreasing positions.items }
         requires within { (position : ℕ) → Contains positions.items position → position < count }
-        ensures count { IfOk result (λ region. length region ≡ count) }
-        ensures marked { IfOk result (λ region. (position : ℕ) → (Contains positions.items position ↔ IsTrue (slice_index_or region position false))) }
+        ensures count { length result ≡ count }
+        ensures marked { (position : ℕ) → (Contains positions.items position ↔ IsTrue (slice_index_or result position false)) }
     {
-        let marks = marks_at(alloc, count, positions.as_slice())?;
-        Ok(RegionMarks { marks, positions })
-    }
-
-    /// Whether the student at a position of the order of entry is marked; past the last mark nobody is. In
-    /// constant time.
-    pub fn is_marked(&self, position: usize) -> bool
-        ensures { result ≡ slice_index_or self.now position false }
-    {
-        match self.marks.get(position) {
-            Some(mark) => *mark,
-            None => false,
-        }
-    }
-
-    /// The marks, in order of entry.
-    pub fn as_slice(&self) -> &[bool]
-        ensures { result.now ≡ self.now }
-    {
-        self.marks.as_slice()
+        RegionMarks { count, positions }
     }
 
     /// The positions of those who are marked, lent, in order of entry: so whoever goes through the region alone

@@ -270,6 +270,16 @@ module _ (m : Market) (test : ℕ → Bool) (old : List Chain) (marks : List Boo
       let (other, here, there, passes) = turn-here n low in
       here ∙ ap Some (same_Some other i (sym there ∙ own))
 
+  pub turn-own : (n i : ℕ) → n < length turns → slice_get (students_of m) (get_or turns n 0 - gap) ≡ Some i → slice_get (students_in old) (get_or turns n 0) ≡ Some i
+  turn-own n i low here =
+      let (other, this, there, passes) = turn-here n low in
+      there ∙ ap Some (same_Some other i (sym this ∙ here))
+
+  pub turn-missing : (n : ℕ) → n < length turns → slice_get (students_of m) (get_or turns n 0 - gap) ≡ None → ⊥
+  turn-missing n low none =
+      let (i, here, there, passes) = turn-here n low in
+      none-some i (sym none ∙ here)
+
   pub turn-absent : (n i : ℕ) (renewed : List Chain) (r : RoundView) → (had : HadTurns m test old point gap end turns n renewed r) → n < length turns → slice_get (students_in old) (get_or turns n 0) ≡ Some i → has_entered m r.ranks i ≡ false
   turn-absent n i renewed r had low own =
       inside-absent m test old point gap r (take (get_or turns n 0 - gap) (without point gap (replaced old (take n turns) renewed))) (get_or turns n 0 - gap) i (turn-student n i low own) (turn-before n renewed r had low)

@@ -53,7 +53,11 @@ fn take_turns<R: Roll>(
     let gap = old.len() - end;
     let turns = positions_from(region, point + gap);
     for position in turns {
-        enter_next(round, papers, renewed, old.student(*position))?;
+        // The row that tells who it is is read for their proposals next; the old segment is not.
+        let Some(student) = papers.student_at(*position - gap) else {
+            unreachable!()
+        };
+        enter_next(round, papers, renewed, student)?;
     }
     Ok(())
 }
@@ -86,7 +90,12 @@ fn settle_region<R: Roll>(
     ensures ready { IfOk result (λ round. is_spent round ≡ false) }
 {
     let next_choices = old.next_choices_of(papers, positions_before(region, point))?;
-    let mut round: Round<R> = Round::resume(alloc, papers, next_choices.as_slice())?;
+    let mut round: Round<R> = Round::resume(
+        alloc,
+        papers,
+        next_choices.as_slice(),
+        region.positions().len(),
+    )?;
     take_turns(&mut round, papers, end, region, point, old, renewed)?;
     Ok(round)
 }

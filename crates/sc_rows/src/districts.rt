@@ -52,7 +52,7 @@ fn expect_positions(
     let region = districts.region(alloc, papers, amendment)?;
     assert!(rt; region.positions() == want);
     for position in 0..papers.students_len() {
-        assert!(rt; region.is_marked(position) == want.contains(&position));
+        assert!(rt; region.positions().contains(&position) == want.contains(&position));
     }
     Ok(())
 }

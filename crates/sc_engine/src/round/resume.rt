@@ -63,11 +63,14 @@ impl<R: Roll> Round<R> {
     ///
     /// It takes memory for each student and each school of the papers and for the seats held. The cost
     /// is a look-up by number, a search among the student's choices and an offer for each of them, and a second
-    /// look-up for one who does not follow the one before in order of entry.
+    /// look-up for one who does not follow the one before in order of entry. `expected` is how many students are
+    /// to stand in the round at last; where it is too small, more of them are looked up by number, and nothing
+    /// else depends on it.
     pub fn resume(
         alloc: Global,
         papers: &Papers,
         next_choices: &[NextChoice],
+        expected: usize,
     ) -> Result<Self, AllocError>
         // Some earlier log is settled for the papers of these students alone, who are different
         // students of the papers, and leaves them these next choices.
@@ -79,7 +82,7 @@ impl<R: Roll> Round<R> {
         ensures proposals { IfOk result (λ round. (view_of R.keys R.seats round).proposals ≡ 0) }
         ensures ready { IfOk result (λ round. is_spent round ≡ false) }
     {
-        let mut round: Self = Round::start(alloc, papers)?;
+        let mut round: Self = Round::with_room(alloc, papers, expected)?;
         for choice in next_choices {
             round.put(papers, *choice)?;
         }

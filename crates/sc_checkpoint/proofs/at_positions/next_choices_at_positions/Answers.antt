@@ -22,8 +22,8 @@ loop-place-preserved c =
     let low : at < length table = omega (arith, c.in_ok-rejected.ensures.count, c.loop-place-test.true) in
     let row : slice_get table at ≡ Some c.index.result.now = slice_get_read table (length table) at c.index.result.now refl low c.index.ensures in
     let next : c.first_outside-next.result ≡ next_choice m log i =
-    next-found m log i c.index.result.now c.choices_at.result.now c.first_outside-next.result
-    (c.choices_at.ensures.choices ∙ ap (choices_of m) (hand-is m (get_or ps at 0) i own)) (c.in_ok-rejected.ensures.tabled.at at i c.index.result.now here row) c.first_outside-next.ensures in (
+    next-found m log i c.index.result.now (choices_of m (student_at m (get_or ps at 0))) c.first_outside-next.result
+    (ap (choices_of m) (hand-is m (get_or ps at 0) i own)) (c.in_ok-rejected.ensures.tabled.at at i c.index.result.now here row) c.first_outside-next.ensures in (
       c.push_reserved.ensures.items
           ∙ ap (λ items. items ++ record { student = i; next = c.first_outside-next.result } ∷ []) c.loop-place.invariant.0
           ∙ standings-more m log (map (student_at m) ps) at i _ here (λ t. record { student = i; next = next t }),

@@ -1,7 +1,7 @@
 use Rattle.std.proofs.Common.{◌≡◌, ◌<◌, ◌++◌, ◌∷◌, [], refl, sym, ◌∙◌, ap, length, take, Some, slice_get, arith}
 use Rattle.std.proofs.lemmas.Option.{slice_get_read}
 use Rattle.sc_papers.specs.Log.{next_choice}
-use Rattle.sc_papers.specs.Market.{choices_of, students_of}
+use Rattle.sc_papers.specs.Market.{choices_of, student_at, students_of}
 use Rattle.sc_papers.specs.Restriction.{joined}
 use Rattle.sc_papers.proofs.Hands.{hand-is}
 use Rattle.sc_checkpoint.specs.Chains.{logs_in}
@@ -19,8 +19,8 @@ loop-position-preserved c =
     let low : at < length table = omega (arith, c.in_ok-rejected.ensures.count) in
     let row : slice_get table at ≡ Some c.index.result.now = slice_get_read table (length table) at c.index.result.now refl low c.index.ensures in
     let next : c.first_outside-next.result ≡ next_choice m log i =
-    next-found m log i c.index.result.now c.choices_at.result.now c.first_outside-next.result
-    (c.choices_at.ensures.choices ∙ ap (choices_of m) (hand-is m at i here)) (c.in_ok-rejected.ensures.tabled.at at i c.index.result.now here row) c.first_outside-next.ensures in (
+    next-found m log i c.index.result.now (choices_of m (student_at m at)) c.first_outside-next.result
+    (ap (choices_of m) (hand-is m at i here)) (c.in_ok-rejected.ensures.tabled.at at i c.index.result.now here row) c.first_outside-next.ensures in (
       c.push_reserved.ensures.items
           ∙ ap (λ items. items ++ record { student = i; next = c.first_outside-next.result } ∷ []) c.loop-position.invariant.0
           ∙ standings-more m log (students_of m) at i _ here (λ t. record { student = i; next = next t }),

@@ -1,5 +1,5 @@
 use Rattle.std.proofs.Common.{◌<◌, ◌+◌, ap, sym, subst, ◌∙◌, length, arith}
-use Rattle.sc_region.specs.Districts.{lists_in}
+use Rattle.sc_region.specs.Districts.{lists_in, students_in}
 use Rattle.sc_region.proofs.Firsts.{list-read}
 use Rattle.sc_region.proofs.Listed.{HasListed, HasPositions, listed-begun, listed-more, listed-same}
 use Rattle.sc_region.proofs.candidates.listed_in.Goals as goal
@@ -22,7 +22,7 @@ loop-place-preserved c =
       | then-groups-place+in_ok-push_positions w ↦
           subst (HasListed m (lists_in lists) numbers c.args.group (at + 1)) (sym (ap (λ (v : _). v.items) w.positions-is))
           (listed-more m (lists_in lists) numbers c.args.group at now w.push_positions.new.positions.items c.loop-place.invariant
-          (subst (λ students. HasPositions m students now w.push_positions.new.positions.items) (w.as_slice.ensures.value ∙ list-read lists at w.index.result.now low w.index.ensures)
+          (subst (λ students. HasPositions m students now w.push_positions.new.positions.items) (ap students_in w.as_slice.ensures.value ∙ list-read lists at w.index.result.now low w.index.ensures)
           (record { within = w.in_ok-push_positions.ensures.within; kept = w.in_ok-push_positions.ensures.keeps; all = w.in_ok-push_positions.ensures.all })))
       | else-groups-place w ↦
           subst (HasListed m (lists_in lists) numbers c.args.group (at + 1)) (sym (ap (λ (v : _). v.items) w.positions-is))

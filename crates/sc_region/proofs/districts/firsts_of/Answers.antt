@@ -13,7 +13,7 @@ loop-position-preserved c =
     let m = c.args.papers.now in
     let at = c.loop-position.position in
     let new = lists_in c.put.new.firsts.items in
-    let own : student_at m at ≡ c.in-Some.student = hand-is m at c.in-Some.student (sym c.student_at.ensures ∙ c.in-Some.is) in
+    let own : student_at m at ≡ c.new.result.student = hand-is m at c.in-Some.student (sym c.student_at.ensures ∙ c.in-Some.is) ∙ sym c.new.ensures in
     let Has : ℕ → Type 0 = λ k. Contains (firsts_at new (place_of m (first_choice m (student_at m k)))) (student_at m k) in (
       c.in_ok-put.ensures.one_each ∙ c.loop-position.invariant.0,
       below_more Has at (λ k low. c.in_ok-put.ensures.keeps (place_of m (first_choice m (student_at m k))) (student_at m k) (c.loop-position.invariant.1 k low))

@@ -15,7 +15,8 @@ returns-in_ok-put-clause-moved c i own =
     let a = c.args.amendment.now in
     let came : comer a ≡ Some c.in-Some.student = sym c.comer.ensures ∙ c.in-Some.is in
     let one : c.in-Some.student ≡ i = same_Some c.in-Some.student i (sym came ∙ own) in
+    let listed : c.new.result.student ≡ i = c.new.ensures ∙ one in
     let first : c.index-new_choices-0.result ≡ new_first a =
     first-read c.new_choices.result.now (new_choices a) c.index-new_choices-0.result (comer-some m a c.requires.allowed i own) c.index-new_choices-0.is c.new_choices.ensures in
     subst (λ q. Contains (firsts_at (lists_in c.put.new.firsts.items) q) i) (c.place_of.ensures.place ∙ ap (place_of m) first)
-    (subst (Contains (firsts_at (lists_in c.put.new.firsts.items) c.place_of.result)) one c.in_ok-put.ensures.has)
+    (subst (Contains (firsts_at (lists_in c.put.new.firsts.items) c.place_of.result)) listed c.in_ok-put.ensures.has)

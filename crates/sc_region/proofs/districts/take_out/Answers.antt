@@ -1,5 +1,6 @@
 use Rattle.std.proofs.Common.{◌≡◌, ◌==◌, ℕ, ap, sym, subst, true, not, Contains, inl, inr}
 use Rattle.std.proofs.lemmas.Bool.{cases_Bool, eqb-true}
+use Rattle.sc_region.specs.Districts.{students_in}
 use Rattle.sc_region.proofs.Filtering.{filter-kept}
 use Rattle.sc_region.proofs.Firsts.{list-read, lists-keep}
 use Rattle.sc_region.proofs.districts.take_out.Goals as goal
@@ -16,4 +17,4 @@ returns-clause-others c p i other =
     let was = c.index_mut.result.now in
     let read = list-read lists c.args.place was c.requires c.index_mut.ensures.value in
     lists-keep lists c.args.place c.strike.new.list i c.requires
-    (λ among. subst (λ xs. Contains xs i) (sym c.strike.ensures) (filter-kept (λ k. not (k == c.args.student)) was.items i (subst (λ xs. Contains xs i) (sym read) among) (other-kept i c.args.student other))) p
+    (λ among. subst (λ xs. Contains xs i) (sym c.strike.ensures) (filter-kept (λ k. not (k == c.args.student)) (students_in was.items) i (subst (λ xs. Contains xs i) (sym read) among) (other-kept i c.args.student other))) p

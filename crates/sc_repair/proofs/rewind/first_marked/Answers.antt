@@ -1,4 +1,4 @@
-use Rattle.std.proofs.Common.{◌≡◌, ◌<◌, ◌≤◌, inl, inr, ℕ, false, true, get_or, length, sym, subst, ◌∙◌, IsTrue, arith}
+use Rattle.std.proofs.Common.{inl, inr, false, length, subst, IsTrue, arith}
 use Rattle.std.proofs.lemmas.Bool.{cases_lt, false≢true}
 use Rattle.std.proofs.lemmas.List.{get_or_past}
 use Rattle.sc_repair.proofs.rewind.first_marked.Goals as goal

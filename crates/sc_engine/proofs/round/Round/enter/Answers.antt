@@ -8,12 +8,12 @@ use Rattle.sc_engine.proofs.round.Round.enter.Goals as goal
 pub chain-requires-clause-fits : goal.chain-requires-clause-fits
 chain-requires-clause-fits g c =
     let old = view_of g.R.Roll.keys g.R.Roll.seats c.args.self.now in
-    subst (λ (i : ℕ). FitsBut c.args.papers.now (moved old c.make_room.new.ranks.items c.position_near-at.result 0) (only i)) (sym (student-there c.args.papers.now c.args.student c.position_near-at.result c.position_near-at.ensures))
-    (fits-begun (begins c.args.papers.now old c.make_room.new.ranks.items c.args.student c.position_near-at.result 0 c.requires.fits c.position_near-at.ensures c.requires.absent c.in_ok-make_room.ensures.room c.in_ok-make_room.ensures.same c.in_ok-make_room.ensures.within))
+    subst (λ (i : ℕ). FitsBut c.args.papers.now (moved old c.make_room.new.ranks.items c.args.at 0) (only i)) (sym (student-there c.args.papers.now c.args.student c.args.at c.requires.stands))
+    (fits-begun (begins c.args.papers.now old c.make_room.new.ranks.items c.args.student c.args.at 0 c.requires.fits c.requires.stands c.requires.absent c.in_ok-make_room.ensures.room c.in_ok-make_room.ensures.same c.in_ok-make_room.ensures.within))
 
 pub returns : goal.returns
 returns g c =
     let old = view_of g.R.Roll.keys g.R.Roll.seats c.args.self.now in
-    enters (begins c.args.papers.now old c.make_room.new.ranks.items c.args.student c.position_near-at.result 0 c.requires.fits c.position_near-at.ensures c.requires.absent c.in_ok-make_room.ensures.room c.in_ok-make_room.ensures.same c.in_ok-make_room.ensures.within)
-    (subst (λ (i : ℕ). ChainEnds c.args.papers.now (moved old c.make_room.new.ranks.items c.position_near-at.result 0) (view_of g.R.Roll.keys g.R.Roll.seats c.chain.new.self) i)
-    (student-there c.args.papers.now c.args.student c.position_near-at.result c.position_near-at.ensures) c.in_ok-chain.ensures)
+    enters (begins c.args.papers.now old c.make_room.new.ranks.items c.args.student c.args.at 0 c.requires.fits c.requires.stands c.requires.absent c.in_ok-make_room.ensures.room c.in_ok-make_room.ensures.same c.in_ok-make_room.ensures.within)
+    (subst (λ (i : ℕ). ChainEnds c.args.papers.now (moved old c.make_room.new.ranks.items c.args.at 0) (view_of g.R.Roll.keys g.R.Roll.seats c.chain.new.self) i)
+    (student-there c.args.papers.now c.args.student c.args.at c.requires.stands) c.in_ok-chain.ensures)

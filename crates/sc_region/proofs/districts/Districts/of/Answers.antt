@@ -1,6 +1,7 @@
-use Rattle.std.proofs.Common.{◌≡◌, ◌∙◌, sym, subst, ℕ, List, Vec, Global}
+use Rattle.std.proofs.Common.{◌≡◌, ◌∙◌, sym, subst, ℕ, List}
 use Rattle.std.proofs.lemmas.List.{length-map}
 use Rattle.sc_region.specs.Groups.{first_choice, group_of}
+use Rattle.sc_region.proofs.Firsts.{names}
 use Rattle.sc_region.proofs.Joining.{grouped-together}
 use Rattle.sc_region.proofs.districts.Districts.of.Goals as goal
 
@@ -11,6 +12,6 @@ returns c =
       one_each = c.in_ok-groups.ensures.one_each;
       closed = λ i s listed.
           subst (λ (gs : List ℕ). group_of m gs s ≡ group_of m gs (first_choice m i)) (sym c.in_ok-groups.ensures.joined) (grouped-together m c.students_len.ensures.well_formed i s listed);
-      firsts_each = length-map c.in_ok-firsts.firsts.items (λ (v : Vec ℕ Global). v.items) ∙ c.in_ok-firsts.ensures.one_each;
+      firsts_each = length-map c.in_ok-firsts.firsts.items names ∙ c.in_ok-firsts.ensures.one_each;
       listed = c.in_ok-firsts.ensures.listed;
     }

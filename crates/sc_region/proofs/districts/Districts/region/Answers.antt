@@ -22,7 +22,7 @@ region_positions-requires-clause-group c =
 pub returns-clause-region : goal.returns-clause-region
 returns-clause-region c position i here =
     let exact = c.in_ok-positions.ensures.region position i here in
-    let marked = c.in_ok-region.ensures.marked position in (
+    let marked = c.at.ensures.marked position in (
       λ passes. exact.0 (marked.1 passes),
       λ inside. marked.0 (exact.1 inside),
     )

@@ -1,5 +1,11 @@
-use Rattle.std.proofs.Common.{subst, Contains}
+use Rattle.std.proofs.Common.{nat_eq}
+use Rattle.std.specs.List.{list_any}
+use Rattle.std.proofs.lemmas.List.FromFn.{length-map-range_with_len}
+use Rattle.sc_region.proofs.MarkedPositions.{marks-say}
 use Rattle.sc_region.proofs.marks.RegionMarks.at.Goals as goal
 
-pub marks_at-requires : goal.marks_at-requires
-marks_at-requires c p among = c.requires.within p (subst (λ xs. Contains xs p) c.as_slice.ensures.value among)
+pub returns-clause-count : goal.returns-clause-count
+returns-clause-count c = length-map-range_with_len (λ q. list_any (nat_eq q) c.args.positions.items) 0 c.args.count
+
+pub returns-clause-marked : goal.returns-clause-marked
+returns-clause-marked c = marks-say c.args.count c.args.positions.items (record { rising = c.requires.rising; below = c.requires.within })

@@ -1,7 +1,7 @@
 use Rattle.std.proofs.Common.{refl, ap, is_some}
 use Rattle.sc_engine.proofs.Offers.{seen_by}
 use Rattle.sc_engine.proofs.Starting.{starts, fits-start, continues-start, no-rank}
-use Rattle.sc_engine.proofs.round.Round.start.Goals as goal
+use Rattle.sc_engine.proofs.round.Round.with_room.Goals as goal
 
 pub returns-clause-fits : goal.returns-clause-fits
 returns-clause-fits g c =

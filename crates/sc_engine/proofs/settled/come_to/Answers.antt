@@ -1,0 +1,27 @@
+use Rattle.std.proofs.Common.{sym, ap, subst, ◌∙◌, ◌+◌, length, List}
+use Rattle.sc_papers.specs.Assignment.{assigned}
+use Rattle.sc_papers.specs.Log.{next_choice, IsSettled}
+use Rattle.sc_papers.specs.Progress.{placed}
+use Rattle.sc_papers.specs.declared.rejection.Rejection.{Rejection}
+use Rattle.sc_engine.specs.Round.{view_of}
+use Rattle.sc_engine.proofs.Settling.{settled-all, next-all, optimal-all, placed-all}
+use Rattle.sc_engine.proofs.settled.come_to.Goals as goal
+
+pub returns-clause-settled : goal.returns-clause-settled
+returns-clause-settled g c =
+    subst (IsSettled c.args.papers.now) (sym c.in_ok-settled.ensures.log) (settled-all c.args.papers.now (view_of g.R.Roll.keys g.R.Roll.seats c.args.round) c.requires.all)
+
+pub returns-clause-matching : goal.returns-clause-matching
+returns-clause-matching g c i =
+    c.in_ok-settled.ensures.given i ∙ next-all c.args.papers.now (view_of g.R.Roll.keys g.R.Roll.seats c.args.round) c.requires.all i
+    ∙ ap (λ log. next_choice c.args.papers.now log i) (sym c.in_ok-settled.ensures.log)
+
+pub returns-clause-optimal : goal.returns-clause-optimal
+returns-clause-optimal g c =
+    optimal-all c.args.papers.now (view_of g.R.Roll.keys g.R.Roll.seats c.args.round) (assigned c.in_ok-settled.settled.assignment) c.requires.all c.in_ok-settled.ensures.given
+
+pub returns-clause-proposals : goal.returns-clause-proposals
+returns-clause-proposals g c =
+    c.in_ok-settled.ensures.proposals
+    ∙ placed-all c.args.papers.now (view_of g.R.Roll.keys g.R.Roll.seats c.args.round) (assigned c.in_ok-settled.settled.assignment) c.requires.all c.in_ok-settled.ensures.given
+    ∙ ap (λ (log : List Rejection). length log + placed c.args.papers.now (assigned c.in_ok-settled.settled.assignment)) (sym c.in_ok-settled.ensures.log)
