@@ -140,10 +140,9 @@ pub(crate) fn push_reason_lines(
     Ok(())
 }
 
-/// How many bytes the reasons take at most: a standing assignment has a line for each rejection.
-pub(crate) fn room_for_reasons(clearing: &Clearing) -> usize {
-    clearing
-        .log_len()
+/// How many bytes the reasons take at most, where so many rejections led to the assignment: it has a line for each.
+pub(crate) fn room_for_reasons(rejections: usize) -> usize {
+    rejections
         .saturating_mul(LONGEST_LINE)
         .saturating_add(HEADER.len())
 }
@@ -158,7 +157,7 @@ pub fn reason_text(alloc: Global, clearing: &Clearing) -> Result<Vec<u8>, AllocE
     let places = clearing.places();
     let entrants = rising_entrants(alloc, papers, places)?;
     let rows = rows_in_order(alloc, papers, places)?;
-    let mut text = Vec::with_capacity(alloc, room_for_reasons(clearing))?;
+    let mut text = Vec::with_capacity(alloc, room_for_reasons(clearing.log_len()))?;
     push_reason_lines(
         &mut text,
         alloc,

@@ -1,10 +1,12 @@
 ghost use Rattle.std.specs.Prelude.{◌≡◌, ◌||◌};
+ghost use Rattle.sc_papers.specs.Assignment.{assigned};
 ghost use Rattle.sc_repair.specs.Standing.{matching_of};
 ghost use Rattle.sc_report.specs.Report.{WritesReport, is_write_fault};
 ghost use Rattle.sc_report.specs.Watched.{device_of, has_failed};
 ghost use Rattle.sc_report.specs.declared.report.ReportFault.TheVariants as fault;
 
-use crate::text::report_text;
+use crate::matched::Matched;
+use crate::text::report_text_of;
 use crate::watched::{DeviceFailed, Watched};
 use crate::whole::write_whole;
 use sc_repair::Clearing;
@@ -39,10 +41,25 @@ impl From<AllocError> for ReportFault {
     }
 }
 
-/// Writes the report text of the standing assignment.
+/// Writes the report text of papers and an assignment, whoever holds them.
 ///
 /// The text is built first: after `OutOfMemory` nothing was written, and after `Write` a prefix of
 /// it was.
+pub fn write_report_of<W: Write>(
+    alloc: Global,
+    matched: Matched<'_>,
+    to: &mut Watched<W>,
+) -> Result<(), ReportFault>
+    ensures bytes { WritesReport matched.entry.papers.now (assigned matched.entry.places.now)
+        (W.contents (device_of to.old)) (W.contents (device_of to.new)) result }
+    ensures failed { has_failed to.new ≡ (has_failed to.old || is_write_fault result) }
+{
+    let text = report_text_of(alloc, matched)?;
+    write_whole(to, text.as_slice())?;
+    Ok(())
+}
+
+/// Writes the report text of the standing assignment, as `write_report_of` does.
 pub fn write_report<W: Write>(
     alloc: Global,
     clearing: &Clearing,
@@ -52,7 +69,5 @@ pub fn write_report<W: Write>(
         (W.contents (device_of to.old)) (W.contents (device_of to.new)) result }
     ensures failed { has_failed to.new ≡ (has_failed to.old || is_write_fault result) }
 {
-    let text = report_text(alloc, clearing)?;
-    write_whole(to, text.as_slice())?;
-    Ok(())
+    write_report_of(alloc, Matched::standing(clearing), to)
 }

@@ -9,6 +9,7 @@ ghost use Rattle.sc_report.specs.Text.{assignment_line, assignment_lines, assign
 use crate::cutoff::{CutoffRow, rising_rows, rows_in_order};
 use crate::cutoff_lines::{push_cutoffs, room_for_cutoffs};
 use crate::entrants::{Entrant, rising_entrants};
+use crate::matched::Matched;
 use crate::reason_lines::{push_reason_lines, room_for_reasons};
 use sc_decimal::push_number;
 use sc_papers::{Assignment, Papers};
@@ -95,23 +96,30 @@ fn push_report(
 }
 
 /// How many bytes the report text takes at most.
-fn room_for_report(clearing: &Clearing) -> usize {
-    let papers = clearing.papers();
-    room_for_assignment(papers)
-        .saturating_add(room_for_cutoffs(papers))
-        .saturating_add(room_for_reasons(clearing))
+fn room_for_report(matched: Matched<'_>) -> usize {
+    room_for_assignment(matched.papers)
+        .saturating_add(room_for_cutoffs(matched.papers))
+        .saturating_add(room_for_reasons(matched.rejections))
 }
 
-/// The report text: the assignment text, the cutoff text and the reason text. The only error is want
-/// of memory. The cost is one pass over the students for the cutoffs, a sort of the students' and the
-/// schools' numbers, and one pass for the lines.
+/// The report text of papers and an assignment, whoever holds them: the assignment text, the cutoff text and the reason
+/// text. The only error is want of memory. The cost is one pass over the students for the cutoffs, a sort of the
+/// students' and the schools' numbers, and one pass for the lines.
+pub fn report_text_of(alloc: Global, matched: Matched<'_>) -> Result<Vec<u8>, AllocError>
+    ensures { IfOk result (λ text. IsReportText matched.entry.papers.now (assigned matched.entry.places.now) text.items) }
+{
+    let papers = matched.papers;
+    let places = matched.places;
+    let rows = rows_in_order(alloc, papers, places)?;
+    let mut text = Vec::with_capacity(alloc, room_for_report(matched))?;
+    push_report(&mut text, alloc, rows.as_slice(), papers, places)?;
+    Ok(text)
+}
+
+/// The report text of the standing assignment, as `report_text_of` makes it.
 pub fn report_text(alloc: Global, clearing: &Clearing) -> Result<Vec<u8>, AllocError>
     ensures { IfOk result (λ text. IsReportText clearing.now.standing.papers (matching_of clearing.now.standing) text.items) }
 {
-    let papers = clearing.papers();
-    let places = clearing.places();
-    let rows = rows_in_order(alloc, papers, places)?;
-    let mut text = Vec::with_capacity(alloc, room_for_report(clearing))?;
-    push_report(&mut text, alloc, rows.as_slice(), papers, places)?;
+    let text = report_text_of(alloc, Matched::standing(clearing))?;
     Ok(text)
 }
