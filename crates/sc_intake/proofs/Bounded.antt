@@ -1,5 +1,5 @@
 -- An input of at most 64 MiB has no more records than bytes, but for one.
-use Rattle.std.proofs.Common.{◌≡◌, ℕ, suc, zero, ◌+◌, ◌≤◌, Bool, true, false, nat_lt, List, [], ◌∷◌, length, Option, Some, None, Ok, Err, Result, cond, refl, sym, ap, arith, ltb-false}
+use Rattle.std.proofs.Common.{◌≡◌, ℕ, suc, zero, ◌+◌, ◌≤◌, Bool, true, false, nat_lt, List, [], ◌∷◌, length, Option, Some, None, Ok, Err, Result, cond, refl, ap, arith, ltb-false}
 use Rattle.csv.specs.Machine.{Read, next_record}
 use Rattle.csv.specs.Reading.{default_config, is_bom, records, records_from, records_next, strip_bom}
 use Rattle.csv.specs.declared.parser.Config.{Config}

@@ -1,24 +1,23 @@
 -- One row more, in judging.
-use Rattle.std.proofs.Common.{◌≡◌, ◌≢◌, ◌⊎◌, ℕ, ◌+◌, ◌<◌, ◌≤◌, Bool, true, false, ◌||◌, nat_eq, List, [], ◌∷◌, ◌++◌, length, map, get_or, take, drop, inl, inr, refl, sym, ap, ◌∙◌, arith, Ok, Err, append_assoc, append-nil}
-use Rattle.std.specs.Prelude.{Result, cond, not, flat_map}
+use Rattle.std.proofs.Common.{◌≡◌, ◌≢◌, ℕ, ◌+◌, ◌<◌, ◌≤◌, Bool, true, false, ◌||◌, nat_eq, List, [], ◌∷◌, ◌++◌, length, map, get_or, take, drop, inl, inr, refl, sym, ap, ◌∙◌, arith, Ok, append_assoc, append-nil}
+use Rattle.std.specs.Prelude.{Result, not, flat_map}
 use Rattle.std.specs.List.{list_any}
-use Rattle.std.proofs.lemmas.Bool.{cases_Bool}
 use Rattle.std.proofs.lemmas.Grind.{flat_map-append}
 use Rattle.std.proofs.lemmas.Bool.Decides.{nat_tests}
 use Rattle.std.proofs.lemmas.List.Folds.{list_any-append}
-use Rattle.std.proofs.lemmas.List.{at_drop_all, at_drop_more, map-append, take_all, take_more}
+use Rattle.std.proofs.lemmas.List.{at_drop_all, at_drop_more, map-append, take_more}
 use Rattle.sc_papers.specs.Market.{Market}
-use Rattle.sc_intake.specs.Checking.{Judged, fault_of, faults_of_list, judged_from, script_faults_from, students_judged, with_row}
+use Rattle.sc_intake.specs.Checking.{Judged, fault_of, judged_from, script_faults_from, students_judged, with_row}
 use Rattle.sc_intake.specs.Fault.{IsFault, fault_at}
 use Rattle.sc_intake.specs.Papers.{entered_by, is_in_roster, list_of}
 use Rattle.sc_intake.specs.Roster.{roster_number}
 use Rattle.sc_intake.specs.Rows.{added, AreNumbers}
 use Rattle.sc_intake.specs.Script.{stamped_of}
 use Rattle.sc_intake.specs.declared.fault.Cause.{Cause}
-use Rattle.sc_intake.specs.declared.fault.Cause.TheVariants.{NotInRoster, OutOfMemory}
+use Rattle.sc_intake.specs.declared.fault.Cause.TheVariants.{OutOfMemory}
 use Rattle.sc_intake.specs.declared.fault.IntakeFault.{IntakeFault}
 use Rattle.sc_intake.specs.declared.fault.Source.{Source}
-use Rattle.sc_intake.specs.declared.fault.Source.TheVariants.{Lists, Roster, Script}
+use Rattle.sc_intake.specs.declared.fault.Source.TheVariants.{Roster, Script}
 use Rattle.sc_intake.specs.declared.lists.ListRow.{ListRow}
 use Rattle.sc_intake.specs.declared.roster.RosterRow.{RosterRow}
 

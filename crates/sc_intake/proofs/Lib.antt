@@ -1,5 +1,7 @@
 pub mod Cutting
 pub mod CursorMoves
+pub mod Lines
+pub mod PlainCutting
 pub mod Bounded
 pub mod Words
 pub mod FirstNumber

@@ -4,8 +4,10 @@ pub mod FaultText
 pub mod Field
 pub mod File
 pub mod Cursor
+pub mod Plain
 pub mod Reading
 pub mod Representation
+pub mod Choice
 pub mod Rows
 pub mod Schools
 pub mod Roster

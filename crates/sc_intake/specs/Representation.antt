@@ -1,18 +1,29 @@
--- How the type `Records` keeps where it stands in a text. Other contracts see the cursor alone.
-use Rattle.std.specs.Prelude.{◌≡◌, true, false, []}
+-- How the readers of records keep where they stand in a text. Other contracts see the cursor alone.
+use Rattle.std.specs.Prelude.{◌≡◌, ℕ, true, false, List, [], map}
+use Rattle.std.specs.Borrow.{Bor}
 use Rattle.csv.specs.Reading.{reader_state}
 use Rattle.csv.specs.Records.{fields_of}
 use Rattle.sc_intake.specs.Cursor.{Cursor}
+use Rattle.sc_intake.specs.Plain.{plain_records}
 use Rattle.sc_intake.specs.Reading.{IsReading, records_of, unread}
-use Rattle.sc_intake.specs.declared.records.Records.TheInside.{Inside}
+use Rattle.sc_intake.specs.declared.plain_records.PlainRecords.TheInside as plain
+use Rattle.sc_intake.specs.declared.quoted_records.QuotedRecords.TheInside as quoted
 
--- the cursor: the record read last, and the records that are left
-abbrev pub cursor_of : Inside → Cursor
-cursor_of i = record {
+-- the cursor of `csv`'s reader: the record read last, and the records that are left
+abbrev pub quoted_cursor_of : quoted.Inside → Cursor
+quoted_cursor_of i = record {
   current = fields_of i.fields;
   left = elim i.stopped [ true ↦ [] | false ↦ records_of (reader_state i.reader) (unread i.reader) ];
 }
 
--- what is true of the fields: a reader that has not stopped reads on
-abbrev pub IsSound : Inside → Type 0
+-- what is true of its fields: a reader that has not stopped reads on
+abbrev pub IsSound : quoted.Inside → Type 0
 IsSound i = i.stopped ≡ false → IsReading i.reader
+
+-- the fields that slices of a text are
+abbrev pub fields_in : List (Bor (List ℕ)) → List (List ℕ)
+fields_in slices = map (λ s. s.now) slices
+
+-- the cursor in a text without a quote
+abbrev pub plain_cursor_of : plain.Inside → Cursor
+plain_cursor_of i = record { current = fields_in i.fields.items; left = plain_records i.rest.now }

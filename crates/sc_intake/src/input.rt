@@ -1,33 +1,15 @@
 //! An input before its first row: its length, its byte order marks, its records.
 
 ghost use Rattle.std.specs.Prelude.{◌≡◌, MatchResult};
-ghost use Rattle.csv.specs.Reading.{strip_bom};
-ghost use Rattle.sc_intake.specs.File.{is_marked, records_in};
+ghost use Rattle.sc_intake.specs.File.{records_in};
 
+use crate::byte_order_mark::{is_marked, without_mark};
 use crate::fault::{Cause, IntakeFault, Source};
 use crate::records::Records;
 use std::alloc::Global;
 
 /// The most bytes that one input may have: 64 MiB.
 pub const MOST_BYTES: usize = 67_108_864;
-
-/// Whether a text begins with the byte order mark of UTF-8.
-fn is_marked(text: &[u8]) -> bool
-    ensures { result ≡ is_marked text.now }
-{
-    match text {
-        [a, b, c, ..] => *a == 0xEF && *b == 0xBB && *c == 0xBF,
-        _ => false,
-    }
-}
-
-/// The text without the byte order mark that it may begin with.
-#[tactic(auto, unfolding(csv::specs::Reading::strip_bom))]
-fn without_mark(text: &[u8]) -> &[u8]
-    ensures { result.now ≡ strip_bom text.now }
-{
-    if is_marked(text) { &text[3..] } else { text }
-}
 
 /// The records of an input. It is refused where it is too long, and where a second byte order mark
 /// follows the first.

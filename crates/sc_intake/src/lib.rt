@@ -6,6 +6,7 @@
 #![tactic(auto)]
 
 mod blanks;
+mod byte_order_mark;
 mod fault;
 mod field;
 mod input;
@@ -13,6 +14,8 @@ mod judging;
 mod lists;
 mod log;
 mod papers;
+mod plain_records;
+mod quoted_records;
 mod ranges;
 mod records;
 mod roster;

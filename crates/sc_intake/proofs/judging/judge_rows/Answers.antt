@@ -1,4 +1,3 @@
-use Rattle.std.proofs.Common.{◌≡◌, ap}
 use Rattle.sc_intake.proofs.Bounded.{length-below_header, length-records_in}
 use Rattle.sc_intake.proofs.judging.judge_rows.Goals as goal
 

@@ -1,0 +1,168 @@
+-- The records of a text without a quote, line by line and field by field.
+use Rattle.std.proofs.Common.{◌≡◌, ℕ, zero, suc, ◌-◌, ◌<◌, ◌≤◌, ◌==◌, ◌||◌, Bool, true, false, nat_lt, List, [], ◌∷◌, ◌++◌, length, map, take, drop, get_or, refl, sym, ap, ◌∙◌, append_assoc, arith, cond, Option, Some, None, unwrap_or, option_map, is_some, IfSome, ltb-false, ltb-true}
+use Rattle.std.specs.Prelude.{slice_index}
+use Rattle.std.specs.Borrow.{Bor}
+use Rattle.std.proofs.lemmas.List.{map-append, take_rest}
+use Rattle.csv.specs.Records.{field_at}
+use Rattle.memchr.specs.Find.{IsFirstByte, Passes, is_byte3}
+use Rattle.std.specs.List.{list_any}
+use Rattle.std.proofs.lemmas.Bool.{false_from_ne_true, or_parts}
+use Rattle.std.proofs.lemmas.List.{append-nil}
+use Rattle.sc_intake.specs.Plain.{EndsField, after_line, ends_field, ends_line, fields_from, first_line, line_of, lines_from, plain_records}
+use Rattle.sc_intake.specs.Representation.{fields_in}
+
+-- the first line, and those after it
+lines-first : (line text : List ℕ) → lines_from line text ≡ line_of (line ++ first_line text) ++ lines_from [] (after_line text)
+unfolding lines_from first_line after_line
+lines-first line [] = ap line_of (sym (append-nil line)) ∙ sym (append-nil (line_of (line ++ [])))
+lines-first line (c ∷ cs) = by (ends_line c) (lines-first (line ++ c ∷ []) cs)
+  where
+    by : (b : Bool) → lines_from (line ++ c ∷ []) cs ≡ line_of ((line ++ c ∷ []) ++ first_line cs) ++ lines_from [] (after_line cs)
+        → cond b (line_of line ++ lines_from [] cs) (lines_from (line ++ c ∷ []) cs)
+        ≡ line_of (line ++ cond b [] (c ∷ first_line cs)) ++ lines_from [] (cond b cs (after_line cs))
+    by true more = ap (λ (l : List ℕ). line_of l ++ lines_from [] cs) (sym (append-nil line))
+    by false more = more ∙ ap (λ (l : List ℕ). line_of l ++ lines_from [] (after_line cs)) (append_assoc line (c ∷ []) (first_line cs))
+
+-- an empty text has no record
+pub records-none : plain_records [] ≡ []
+unfolding plain_records lines_from
+records-none = refl
+
+-- an empty line is no record
+pub records-skip : (c : ℕ) (cs : List ℕ) → ends_line c ≡ true → plain_records (c ∷ cs) ≡ plain_records cs
+unfolding plain_records lines_from
+records-skip c cs end = rw end refl
+
+-- a text that begins with another byte has its first line as a record
+pub records-first : (c : ℕ) (cs : List ℕ) → ends_line c ≡ false
+    → plain_records (c ∷ cs) ≡ fields_from [] (first_line (c ∷ cs)) ∷ plain_records (after_line (c ∷ cs))
+unfolding plain_records first_line after_line
+records-first c cs other =
+    ap (map (fields_from [])) (lines-first [] (c ∷ cs)) ∙ rw other refl
+
+-- a line goes on over bytes that end no field
+pub first_line-more : (piece rest : List ℕ) → list_any ends_field piece ≡ false → first_line (piece ++ rest) ≡ piece ++ first_line rest
+unfolding first_line
+first_line-more [] rest clean = refl
+first_line-more (c ∷ cs) rest clean =
+    let parts = or_parts (ends_field c) (list_any ends_field cs) clean in
+    let line = (or_parts (c == 44) (ends_line c) parts.0).1 in
+    rw (line, first_line-more cs rest parts.1) refl
+
+pub after_line-more : (piece rest : List ℕ) → list_any ends_field piece ≡ false → after_line (piece ++ rest) ≡ after_line rest
+unfolding after_line
+after_line-more [] rest clean = refl
+after_line-more (c ∷ cs) rest clean =
+    let parts = or_parts (ends_field c) (list_any ends_field cs) clean in
+    let line = (or_parts (c == 44) (ends_line c) parts.0).1 in
+    rw line (after_line-more cs rest parts.1)
+
+-- a field goes on over them
+fields-more : (field piece rest : List ℕ) → list_any ends_field piece ≡ false → fields_from field (piece ++ rest) ≡ fields_from (field ++ piece) rest
+unfolding fields_from
+fields-more field [] rest clean = ap (λ (f : List ℕ). fields_from f rest) (sym (append-nil field))
+fields-more field (c ∷ cs) rest clean =
+    let parts = or_parts (ends_field c) (list_any ends_field cs) clean in
+    let comma = (or_parts (c == 44) (ends_line c) parts.0).0 in
+    rw comma (fields-more (field ++ c ∷ []) cs rest parts.1 ∙ ap (λ (f : List ℕ). fields_from f rest) (append_assoc field (c ∷ []) cs))
+
+-- a field that ends at the end of its line
+pub fields-last : (piece : List ℕ) (rest : List ℕ) → list_any ends_field piece ≡ false → first_line rest ≡ [] → fields_from [] (first_line (piece ++ rest)) ≡ piece ∷ []
+unfolding fields_from
+fields-last piece rest clean end =
+    ap (fields_from []) (first_line-more piece rest clean ∙ ap (λ (l : List ℕ). piece ++ l) end) ∙ fields-more [] piece [] clean
+
+-- a field that ends at a comma
+pub fields-next : (piece : List ℕ) (rest : List ℕ) → list_any ends_field piece ≡ false
+    → fields_from [] (first_line (piece ++ 44 ∷ rest)) ≡ piece ∷ fields_from [] (first_line rest)
+unfolding fields_from first_line
+fields-next piece rest clean =
+    ap (fields_from []) (first_line-more piece (44 ∷ rest) clean) ∙ fields-more [] piece (44 ∷ first_line rest) clean
+
+-- the test that a search for three bytes makes
+same-test : (c : ℕ) → is_byte3 44 10 13 c ≡ ends_field c
+same-test c = by (c == 44)
+  where
+    by : (b : Bool) → ((b || (c == 10)) || (c == 13)) ≡ (b || ((c == 10) || (c == 13)))
+    by true = refl
+    by false = refl
+
+-- the bytes before a place end no field, where none of them does
+clean-take : (k : ℕ) (text : List ℕ) → ((j : ℕ) → j < k → ends_field (slice_index text j) ≡ false) → list_any ends_field (take k text) ≡ false
+clean-take zero text none = refl
+clean-take (suc k) [] none = refl
+clean-take (suc k) (c ∷ cs) none = rw (none 0 (omega arith)) (clean-take k cs (λ j below. none (suc j) (omega arith)))
+
+no-end : (text : List ℕ) (j : ℕ) → ¬ (Passes (is_byte3 44 10 13) text j) → ends_field (slice_index text j) ≡ false
+no-end text j passes-not = sym (same-test (slice_index text j)) ∙ false_from_ne_true (is_byte3 44 10 13 (slice_index text j)) passes-not
+
+-- the bytes before the first place that a search finds end no field
+pub clean-before : (text : List ℕ) (found : Option ℕ) → IsFirstByte (is_byte3 44 10 13) text found → list_any ends_field (take (unwrap_or found (length text)) text) ≡ false
+clean-before text None nowhere = clean-take (length text) text (λ j below. no-end text j (nowhere j (omega arith) below))
+clean-before text (Some k) first = clean-take k text (λ j below. no-end text j (first.0.before j (omega arith) below))
+
+-- a field, and what a text is after it
+module _ (text field after : List ℕ) (cut : text ≡ field ++ after) (clean : list_any ends_field field ≡ false) where
+  -- at a comma another field follows
+  pub at-comma : 1 ≤ length after → get_or after 0 0 ≡ 44
+      → (fields_from [] (first_line text) ≡ field ∷ fields_from [] (first_line (take (length after - 1) (drop 1 after))))
+      × (after_line text ≡ after_line (take (length after - 1) (drop 1 after)))
+  unfolding after_line
+  at-comma some comma = rw (cut, take_rest after 1) (by after some comma)
+    where
+      by : (rest : List ℕ) → 1 ≤ length rest → get_or rest 0 0 ≡ 44
+          → (fields_from [] (first_line (field ++ rest)) ≡ field ∷ fields_from [] (first_line (drop 1 rest))) × (after_line (field ++ rest) ≡ after_line (drop 1 rest))
+      by [] some comma = absurd (omega arith)
+      by (c ∷ cs) some comma = rw comma (fields-next field cs clean, after_line-more field (44 ∷ cs) clean)
+
+  -- a line end ends the line
+  pub at-line_end : EndsField after → 1 ≤ length after → (get_or after 0 0 == 44) ≡ false
+      → (fields_from [] (first_line text) ≡ field ∷ []) × (after_line text ≡ take (length after - 1) (drop 1 after))
+  unfolding first_line after_line
+  at-line_end end some other = rw (cut, take_rest after 1) (by after end some other)
+    where
+      by : (rest : List ℕ) → EndsField rest → 1 ≤ length rest → (get_or rest 0 0 == 44) ≡ false
+          → (fields_from [] (first_line (field ++ rest)) ≡ field ∷ []) × (after_line (field ++ rest) ≡ drop 1 rest)
+      by [] end some other = absurd (omega arith)
+      by (c ∷ cs) end some other =
+          let line : ends_line c ≡ true = rw other at end in
+          (fields-last field (c ∷ cs) clean (rw line refl), after_line-more field (c ∷ cs) clean ∙ rw line refl)
+
+  -- so does the end of the text
+  pub at-end : length after < 1 → (fields_from [] (first_line text) ≡ field ∷ []) × (after_line text ≡ after)
+  unfolding first_line after_line
+  at-end none = rw cut (by after none)
+    where
+      by : (rest : List ℕ) → length rest < 1 → (fields_from [] (first_line (field ++ rest)) ≡ field ∷ []) × (after_line (field ++ rest) ≡ rest)
+      by [] none = (fields-last field [] clean refl, after_line-more field [] clean)
+      by (c ∷ cs) none = absurd (omega arith)
+
+-- a field more, as a slice
+pub fields_in-push : (slices : List (Bor (List ℕ))) (slice : Bor (List ℕ)) → fields_in (slices ++ slice ∷ []) ≡ fields_in slices ++ slice.now ∷ []
+fields_in-push slices slice = map-append (λ (s : Bor (List ℕ)). s.now) slices (slice ∷ [])
+
+-- the record, where a text begins with a byte that ends no line
+pub records-line : (text : List ℕ) → (length text == 0) ≡ false → ((c : ℕ) (cs : List ℕ) → text ≡ c ∷ cs → ends_line c ≡ false)
+    → plain_records text ≡ fields_from [] (first_line text) ∷ plain_records (after_line text)
+records-line [] some begins = cc some
+records-line (c ∷ cs) some begins = records-first c cs (begins c cs refl)
+
+field-there : (slices : List (Bor (List ℕ))) (index : ℕ) (d : Bor (List ℕ)) → index < length slices → field_at (fields_in slices) index ≡ Some (get_or slices index d).now
+unfolding field_at
+field-there [] index d within = absurd (omega arith)
+field-there (s ∷ ss) zero d within = refl
+field-there (s ∷ ss) (suc index) d within = field-there ss index d (omega arith)
+
+field-past : (slices : List (Bor (List ℕ))) (index : ℕ) → length slices ≤ index → field_at (fields_in slices) index ≡ None
+unfolding field_at
+field-past [] index past = refl
+field-past (s ∷ ss) zero past = absurd (omega arith)
+field-past (s ∷ ss) (suc index) past = field-past ss index (omega arith)
+
+-- the field at a place is the slice there
+pub field-found : (slices : List (Bor (List ℕ))) (index : ℕ) (found : Option (Bor (Bor (List ℕ)))) → is_some found ≡ nat_lt index (length slices)
+    → IfSome found (λ s. s.now ≡ get_or slices index s.now)
+    → option_map (λ (s : Bor (List ℕ)). s.now) (option_map (λ (s : Bor (Bor (List ℕ))). s.now) found) ≡ field_at (fields_in slices) index
+field-found slices index None within is = sym (field-past slices index (ltb-false index (length slices) (sym within)))
+field-found slices index (Some s) within is =
+    sym (field-there slices index s.now (ltb-true index (length slices) (sym within)) ∙ ap (λ (t : Bor (List ℕ)). Some t.now) (sym is))

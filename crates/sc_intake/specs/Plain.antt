@@ -1,0 +1,44 @@
+-- What a text without a quote is cut into: each line that has a byte is a record, whose fields stand between commas.
+use Rattle.std.specs.Prelude.{◌≡◌, ℕ, ◌==◌, Bool, true, ◌||◌, List, [], ◌∷◌, ◌++◌, map, if◌then◌else◌, ⊤}
+
+-- LF and CR end a line
+abbrev pub ends_line : ℕ → Bool
+ends_line c = c == 10 || c == 13
+
+-- a line, where it has a byte
+abbrev pub line_of : List ℕ → List (List ℕ)
+line_of [] = []
+line_of (c ∷ cs) = (c ∷ cs) ∷ []
+
+-- the lines of a text, after the bytes of a line that has begun
+unfoldable pub lines_from : List ℕ → List ℕ → List (List ℕ)
+lines_from line [] = line_of line
+lines_from line (c ∷ cs) = if ends_line c then line_of line ++ lines_from [] cs else lines_from (line ++ c ∷ []) cs
+
+-- the fields of a line, after the bytes of a field that has begun
+unfoldable pub fields_from : List ℕ → List ℕ → List (List ℕ)
+fields_from field [] = field ∷ []
+fields_from field (c ∷ cs) = if c == 44 then field ∷ fields_from [] cs else fields_from (field ++ c ∷ []) cs
+
+-- the records of a text: the fields of each of its lines
+unfoldable pub plain_records : List ℕ → List (List (List ℕ))
+plain_records text = map (fields_from []) (lines_from [] text)
+
+-- the bytes of a text before its first line end
+unfoldable pub first_line : List ℕ → List ℕ
+first_line [] = []
+first_line (c ∷ cs) = if ends_line c then [] else c ∷ first_line cs
+
+-- the bytes of a text after its first line end
+unfoldable pub after_line : List ℕ → List ℕ
+after_line [] = []
+after_line (c ∷ cs) = if ends_line c then cs else after_line cs
+
+-- a comma and a line end end a field
+abbrev pub ends_field : ℕ → Bool
+ends_field c = c == 44 || ends_line c
+
+-- a text is empty, or begins with a byte that ends a field
+abbrev pub EndsField : List ℕ → Type 0
+EndsField [] = ⊤
+EndsField (c ∷ cs) = ends_field c ≡ true

@@ -1,0 +1,98 @@
+//! The records of a text that may have quotes, as `csv` reads them.
+
+ghost use Rattle.std.specs.Prelude.{◌≡◌, true, [], IfOk, MatchBool};
+ghost use Rattle.csv.specs.Reading.{error_kind, reader_state, stops_reader};
+ghost use Rattle.csv.specs.Records.{fields_of};
+ghost use Rattle.sc_intake.specs.Reading.{IsReading, Moves, records_of, unread};
+
+use csv::{ByteRecord, Reader, ReaderBuilder};
+use std::alloc::{AllocError, Global};
+use std::marker::Model;
+
+/// The records of a text: the one read last, and those that are left. One record is used again and
+/// again, so that the memory does not grow with the text.
+#[derive(Drop)]
+pub(crate) struct QuotedRecords<'a> {
+    reader: Reader<&'a [u8]>,
+    fields: ByteRecord,
+    stopped: bool,
+}
+
+impl<'a> Model for QuotedRecords<'a> {
+    ghost use Rattle.sc_intake.specs.Cursor.{Cursor};
+
+    ghost Value = { Cursor };
+
+    ghost use Rattle.sc_intake.specs.Representation.{quoted_cursor_of, IsSound};
+
+    ghost view = { quoted_cursor_of };
+
+    ghost invariant = { IsSound };
+}
+
+/// The error of a reader that stopped as want of memory: a slice has no errors of its own to give,
+/// though the trait does not say so, and the other errors do not stop a reader.
+fn want_of_memory(error: csv::Error) -> AllocError
+    requires { stops_reader (error_kind error) ≡ true }
+{
+    AllocError
+}
+
+/// Reads the next record of a text, and says whether there was one.
+fn read(reader: &mut Reader<&[u8]>, fields: &mut ByteRecord) -> Result<bool, AllocError>
+    requires { IsReading reader.old }
+    ensures { IfOk result (λ found. MatchBool found (Moves reader.old reader.new (fields_of fields.new)) (records_of (reader_state reader.old) (unread reader.old) ≡ [])) }
+{
+    match reader.read_byte_record(fields) {
+        Ok(found) => Ok(found),
+        Err(error) => Err(want_of_memory(error)),
+    }
+}
+
+impl<'a> QuotedRecords<'a> {
+    ghost use Rattle.std.specs.Prelude.{◌≡◌, [], ◌∷◌, IfOk, MatchBool, length, option_map};
+    ghost use Rattle.csv.specs.Reading.{default_config, records, strip_bom};
+    ghost use Rattle.csv.specs.Records.{field_at};
+
+    /// The records of a text, whose first byte order mark is passed over; none is read yet.
+    pub(crate) fn new(alloc: Global, text: &'a [u8]) -> Self
+        ensures { result.left ≡ records default_config (strip_bom text.now) }
+    {
+        QuotedRecords {
+            reader: ReaderBuilder::new()
+                .has_headers(false)
+                .flexible(true)
+                .from_reader(alloc, text),
+            fields: ByteRecord::new(alloc),
+            stopped: false,
+        }
+    }
+
+    /// Reads the next record, and says whether there was one. The only error is want of memory, after which there are
+    /// no more.
+    pub(crate) fn advance(&mut self) -> Result<bool, AllocError>
+        ensures { IfOk result (λ found. MatchBool found (self.old.left ≡ self.new.current ∷ self.new.left) (self.old.left ≡ [])) }
+    {
+        if self.stopped {
+            return Ok(false);
+        }
+        self.stopped = true;
+        let found = read(&mut self.reader, &mut self.fields)?;
+        self.stopped = !found;
+        Ok(found)
+    }
+
+    /// How many fields the record read last has.
+    pub(crate) fn len(&self) -> usize
+        ensures { result ≡ length self.now.current }
+    {
+        self.fields.len()
+    }
+
+    /// A field of the record read last, if it has so many.
+    pub(crate) fn get(&self, index: usize) -> Option<&[u8]>
+        ensures { option_map (λ f. f.now) result ≡ field_at self.now.current index }
+    {
+        self.fields.get(index)
+    }
+}
