@@ -6,7 +6,7 @@ use Rattle.std.specs.List.{list_all}
 use Rattle.std.proofs.Math.Nat.{pow-le-pow_right, pow-suc}
 use Rattle.std.proofs.lemmas.Bool.{and_parts}
 use Rattle.std.proofs.lemmas.Bool.Decides.{nat_tests}
-use Rattle.std.proofs.lemmas.List.Sums.{AllPass-from_list_all, fold_more}
+use Rattle.std.proofs.lemmas.List.Sums.{fold_more}
 use Rattle.sc_decimal.specs.Number.{is_number, value_of}
 
 -- what makes a text a number
@@ -31,26 +31,17 @@ number-means text number =
       digits = all.1;
     }
 
--- a number has at most 9 digits
-pub is_number-short : (text : List ℕ) → is_number text ≡ true → length text ≤ 9
-is_number-short text number = (number-means text number).short
-
 -- a byte between 48 and 57
 pub record IsDigit (c : ℕ) : Type 0 where
   pub least : 48 ≤ c
   pub greatest : c ≤ 57
 
-is_digit-means : (c : ℕ) → is_ascii_digit c ≡ true → IsDigit c
-is_digit-means c digit =
+pub digit-bounds : (c : ℕ) → is_ascii_digit c ≡ true → IsDigit c
+digit-bounds c digit =
     let both = and_parts (nat_le 48 c) (nat_le c 57) digit in
     let low : nat_le 48 c ≡ true = both.0 in
     let high : nat_le c 57 ≡ true = both.1 in
     record { least = grind (arith, nat_tests); greatest = grind (arith, nat_tests) }
-
--- each byte of a number is a digit
-pub is_number-digit : (text : List ℕ) (i d : ℕ) → is_number text ≡ true → i < length text → IsDigit (get_or text i d)
-is_number-digit text i d number inside =
-    is_digit-means (get_or text i d) (AllPass-from_list_all is_ascii_digit text (number-means text number).digits i d inside)
 
 -- one more digit
 pub value_of-more : (text : List ℕ) (i d : ℕ) → i < length text

@@ -4,5 +4,5 @@
 mod reading;
 mod writing;
 
-pub use reading::{MOST_DIGITS, read_number, read_plain_number};
+pub use reading::{number_at_front, read_number, read_plain_number};
 pub use writing::push_number;

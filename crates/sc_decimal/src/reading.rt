@@ -1,49 +1,62 @@
 //! Numbers read from decimal digits.
 
-ghost use Rattle.std.specs.Prelude.{◌≡◌, ℕ, ◌≤◌, ◌==◌, ◌&&◌, ◌↔◌, Some, decimal, length, nat_lt, slice_index, true};
-ghost use Rattle.std.specs.Char.{is_ascii_digit};
-ghost use Rattle.std.specs.List.{list_all};
-ghost use Rattle.sc_decimal.specs.Number.{has_leading_zero, is_number, read_number, read_plain_number, value_of};
+ghost use Rattle.std.specs.Prelude.{◌≡◌, ℕ, ◌≤◌, ◌==◌, ◌↔◌, None, Some, decimal, if◌then◌else◌};
+ghost use Rattle.sc_decimal.specs.Number.{number_at_front, has_leading_zero, read_number, read_plain_number};
 
 /// The most digits that a number has in a text: nine of them write any number of the papers.
-pub const MOST_DIGITS: usize = 9;
+const MOST_DIGITS: usize = 9;
 
-fn are_digits(text: &[u8]) -> bool
-    ensures { result ≡ list_all is_ascii_digit text.now }
+/// A number with how many digits write it, or `None` where none do.
+fn written(number: u32, digits: usize) -> Option<(u32, usize)>
+    ensures { result ≡ if digits == 0 then None else Some (number, digits) }
 {
-    text.iter().all(|byte| byte.is_ascii_digit())
-}
-
-#[tactic(auto, unfolding(crate::specs::Number::is_number))]
-fn is_number(text: &[u8]) -> bool
-    ensures { result ≡ is_number text.now }
-{
-    let digits = text.len();
-    1 <= digits && digits <= MOST_DIGITS && are_digits(text)
-}
-
-/// The number that 1 to 9 digits write.
-fn value_of(text: &[u8]) -> u32
-    requires { is_number text.now ≡ true }
-    ensures { result ≡ value_of text.now }
-{
-    let mut value = 0;
-    for digit in text {
-        value = value * 10 + u32::from(*digit - b'0');
+    if digits == 0 {
+        return None;
     }
-    value
+    Some((number, digits))
+}
+
+/// The same as `number_at_front`, byte by byte.
+#[inline(always)]
+fn read_digits(text: &[u8]) -> Option<(u32, usize)>
+    ensures { result ≡ number_at_front text.now }
+{
+    let mut number = 0;
+    for index in 0..text.len() {
+        let byte = text[index];
+        if !byte.is_ascii_digit() {
+            return written(number, index);
+        }
+        if index == MOST_DIGITS {
+            return None;
+        }
+        number = number * 10 + u32::from(byte - b'0');
+    }
+    written(number, text.len())
+}
+
+/// The number that a text begins with, and how many digits write it: all those before the first
+/// byte that is none. `None` where they are not 1 to 9. The cost is that of 10 bytes at most.
+#[inline(always)]
+pub fn number_at_front(text: &[u8]) -> Option<(u32, usize)>
+    ensures { result ≡ number_at_front text.now }
+{
+    if text.len() > MOST_DIGITS {
+        // No more decide, and where there are so many no digit is tested for the end of the text.
+        return read_digits(&text[..MOST_DIGITS + 1]);
+    }
+    read_digits(text)
 }
 
 /// The number that a text of 1 to 9 decimal digits writes, whether or not the first of them are
-/// zeros, or `None` where the text is none. The cost is that of 9 digits at most.
-#[tactic(auto, unfolding(crate::specs::Number::read_number))]
+/// zeros, or `None` where the text is none. The cost is that of 10 bytes at most.
 pub fn read_number(text: &[u8]) -> Option<u32>
     ensures { result ≡ read_number text.now }
 {
-    if !is_number(text) {
-        return None;
+    match number_at_front(text) {
+        Some((number, digits)) if digits == text.len() => Some(number),
+        _ => None,
     }
-    Some(value_of(text))
 }
 
 /// Whether a text of several digits begins with a zero.

@@ -1,40 +1,50 @@
--- The number that a text begins with, read digit by digit.
-use Rattle.std.proofs.Common.{◌≡◌, ℕ, ◌+◌, ◌-◌, ◌*◌, ◌^◌, ◌<◌, ◌≤◌, ◌==◌, Bool, true, false, ◌&&◌, List, [], ◌∷◌, ◌++◌, length, get_or, take, drop, refl, sym, ap, ◌∙◌, append_assoc, arith, zero, suc, Ok, Err}
-use Rattle.std.specs.Prelude.{if◌then◌else◌, nat_le}
+-- The number of a text's first word, by the number that stands at the text's front.
+use Rattle.std.proofs.Common.{◌≡◌, ℕ, ◌+◌, ◌<◌, ◌≤◌, ◌==◌, Bool, true, false, List, [], ◌∷◌, ◌++◌, length, get_or, take, drop, refl, sym, ap, ◌∙◌, append_assoc, arith, add-one, zero, suc, Some, None, Ok, Err}
+use Rattle.std.specs.Prelude.{if◌then◌else◌}
 use Rattle.std.specs.Char.{is_ascii_digit}
-use Rattle.std.specs.List.{list_all}
-use Rattle.std.proofs.lemmas.Bool.{and_parts, and_right}
+use Rattle.std.specs.List.{prefix_len, take_while}
 use Rattle.std.proofs.lemmas.Bool.Decides.{nat_tests}
-use Rattle.std.proofs.lemmas.List.{append-nil, at_drop_all, at_drop_more, length-append, length-take, take_more}
-use Rattle.std.proofs.lemmas.List.Folds.{list_all-append, list_all_more}
-use Rattle.sc_decimal.specs.Number.{is_number, read_number, value_of}
-use Rattle.sc_decimal.proofs.Digits.{pow-next, value_of-more}
+use Rattle.std.proofs.lemmas.List.{at_drop_all, at_drop_more, length-append, length-take, take_more}
+use Rattle.std.proofs.lemmas.List.Sums.{prefix_len-le-length, prefix_len_passes, take_while-cons}
+use Rattle.sc_decimal.specs.Number.{number_at_front}
+use Rattle.sc_decimal.proofs.Digits.{digit-bounds}
+use Rattle.sc_decimal.proofs.FirstDigits.{front-count, front-same, read-none, read-part, read-whole}
 use Rattle.sc_intake.specs.declared.fault.Cause.TheVariants.{Number}
 use Rattle.sc_intake.specs.Field.{first_number, first_word, number_of}
-
--- the bytes before an index are the first digits of a number, and write this one
-pub record AreDigits (text : List ℕ) (index number : ℕ) : Type 0 where
-  pub short : index ≤ 9
-  pub digits : list_all is_ascii_digit (take index text) ≡ true
-  pub value : number ≡ value_of (take index text)
-  pub small : number < 10 ^ index
-  pub word : first_word text ≡ take index text ++ first_word (drop index text)
-
-pub no-digits : (text : List ℕ) → AreDigits text 0 0
-unfolding value_of
-no-digits text = record { short = omega arith; digits = refl; value = refl; small = omega arith; word = refl }
-
--- a digit is a byte between 48 and 57
-pub digit-bounds : (c : ℕ) → is_ascii_digit c ≡ true → (48 ≤ c) × (c ≤ 57)
-digit-bounds c digit =
-    let both = and_parts (nat_le 48 c) (nat_le c 57) digit in
-    let low : nat_le 48 c ≡ true = both.0 in
-    let high : nat_le c 57 ≡ true = both.1 in
-    (grind (arith, nat_tests), grind (arith, nat_tests))
+use Rattle.sc_intake.proofs.Words.{first_word-some}
 
 -- a digit is no space
 digit-other : (c : ℕ) → is_ascii_digit c ≡ true → (c == 32) ≡ false
-digit-other c digit = let low = (digit-bounds c digit).0 in grind (arith, nat_tests)
+digit-other c digit = let low = (digit-bounds c digit).least in grind (arith, nat_tests)
+
+-- a space is no digit
+space-other : (c : ℕ) → (c == 32) ≡ true → is_ascii_digit c ≡ false
+space-other c space = let is : c ≡ 32 = grind (arith, nat_tests) in rw is refl
+
+-- a text and its first word begin with the same digits
+word-count : (text : List ℕ) → prefix_len is_ascii_digit (first_word text) ≡ prefix_len is_ascii_digit text
+unfolding first_word
+word-count [] = refl
+word-count (c ∷ cs) = by (c == 32) refl (word-count cs)
+  where
+    by : (s : Bool) → (c == 32) ≡ s → prefix_len is_ascii_digit (first_word cs) ≡ prefix_len is_ascii_digit cs
+        → prefix_len is_ascii_digit (if s then [] else c ∷ first_word cs) ≡ prefix_len is_ascii_digit (c ∷ cs)
+    by true space more = rw (space-other c space) refl
+    by false other more = rw more refl
+
+word-digits : (text : List ℕ) → take_while is_ascii_digit (first_word text) ≡ take_while is_ascii_digit text
+unfolding first_word
+word-digits [] = refl
+word-digits (c ∷ cs) = by (c == 32) refl (word-digits cs)
+  where
+    by : (s : Bool) → (c == 32) ≡ s → take_while is_ascii_digit (first_word cs) ≡ take_while is_ascii_digit cs
+        → take_while is_ascii_digit (if s then [] else c ∷ first_word cs) ≡ take_while is_ascii_digit (c ∷ cs)
+    by true space more = rw (space-other c space) refl
+    by false other more = take_while-cons is_ascii_digit c (first_word cs) ∙ rw more (sym (take_while-cons is_ascii_digit c cs))
+
+-- so the same number stands at the front of both
+word-front : (text : List ℕ) → number_at_front (first_word text) ≡ number_at_front text
+word-front text = front-same (first_word text) text (word-count text) (word-digits text)
 
 -- the first word goes on over a byte that is no space
 word-more : (text : List ℕ) (i d : ℕ) → i < length text → (get_or text i d == 32) ≡ false
@@ -46,76 +56,49 @@ word-more text i d within other word =
     ∙ sym (append_assoc (take i text) (get_or text i d ∷ []) (first_word (drop (i + 1) text)))
     ∙ ap (λ (w : List ℕ). w ++ first_word (drop (i + 1) text)) (sym (take_more text i d within))
 
--- a digit more
-pub digit-more : (text : List ℕ) (i d number : ℕ) → AreDigits text i number → i < length text → is_ascii_digit (get_or text i d) ≡ true → i < 9
-    → AreDigits text (i + 1) (number * 10 + (get_or text i d - 48))
-digit-more text i d number are within digit room =
-    let most = (digit-bounds (get_or text i d) digit).1 in
-    record {
-      short = omega arith;
-      digits = rw (list_all_more is_ascii_digit text i d within, are.digits, digit) refl;
-      value = rw are.value (sym (value_of-more text i d within));
-      small = pow-next number (get_or text i d - 48) i are.small (omega arith);
-      word = word-more text i d within (digit-other (get_or text i d) digit) are.word;
-    }
+-- and so over the digits that the text begins with
+word-over : (text : List ℕ) (i : ℕ) → i ≤ prefix_len is_ascii_digit text → first_word text ≡ take i text ++ first_word (drop i text)
+word-over text zero low = refl
+word-over text (suc i) low =
+    let short = prefix_len-le-length is_ascii_digit text in
+    let digit = prefix_len_passes is_ascii_digit text i 0 (omega arith) in
+    rw (← add-one i) (word-more text i 0 (omega arith) (digit-other (get_or text i 0) digit) (word-over text i (omega arith)))
 
--- digits write a number where there are some
-digits-number : (text : List ℕ) (i number : ℕ) → AreDigits text i number → i ≤ length text → 0 < i → number_of (take i text) ≡ Ok number
-unfolding number_of read_number is_number
-digits-number text i number are within some =
-    let ds = take i text in
-    let size : length ds ≡ i = omega (arith, length-take i text) in
-    let short = are.short in
-    let least : nat_le 1 (length ds) ≡ true = grind (arith, nat_tests) in
-    let most : nat_le (length ds) 9 ≡ true = grind (arith, nat_tests) in
-    rw (least, most, are.digits, are.value) refl
+-- how long it is, by what comes after them
+word-length : (text : List ℕ) (i : ℕ) → i ≡ prefix_len is_ascii_digit text → length (first_word text) ≡ i + length (first_word (drop i text))
+word-length text i is =
+    let short = prefix_len-le-length is_ascii_digit text in
+    rw (word-over text i (omega arith)) (omega (arith, length-append (take i text) (first_word (drop i text)), length-take i text))
 
--- the first word is the digits so far
-word-whole : (text : List ℕ) (i number : ℕ) → AreDigits text i number → i ≤ length text → first_word text ≡ take i text
-    → first_number text ≡ (if i == 0 then Err Number else Ok (number, i))
-unfolding first_number number_of read_number is_number
-word-whole text zero number are within whole = rw whole refl
-word-whole text (suc i) number are within whole =
-    let size : length (take (suc i) text) ≡ suc i = omega (arith, length-take (suc i) text) in
-    let some : (suc i == 0) ≡ false = grind (arith, nat_tests) in
-    rw (whole, digits-number text (suc i) number are within (omega arith), size, some) refl
+-- no number stands at the front
+pub first-none : (text : List ℕ) → number_at_front text ≡ None → first_number text ≡ Err Number
+unfolding first_number number_of
+first-none text front = rw (read-none (first_word text) (word-front text ∙ front)) refl
 
--- a space ends the word
-pub word-at_space : (text : List ℕ) (i d number : ℕ) → AreDigits text i number → i < length text → get_or text i d ≡ 32
-    → first_number text ≡ (if i == 0 then Err Number else Ok (number, i))
+-- a number, and then a space or the end
+first-whole : (text : List ℕ) (n digits : ℕ) → number_at_front text ≡ Some (n, digits) → length (first_word (drop digits text)) ≡ 0
+    → first_number text ≡ Ok (n, digits)
+unfolding first_number number_of
+first-whole text n digits front none =
+    let size : digits ≡ length (first_word text) = omega (arith, word-length text digits (front-count text n digits front)) in
+    rw (read-whole (first_word text) n digits (word-front text ∙ front) size, ← size) refl
+
+pub first-at_space : (text : List ℕ) (n digits d : ℕ) → number_at_front text ≡ Some (n, digits) → digits < length text → get_or text digits d ≡ 32
+    → first_number text ≡ Ok (n, digits)
 unfolding first_word
-word-at_space text i d number are within space =
-    word-whole text i number are (omega arith) (are.word ∙ ap (λ (w : List ℕ). take i text ++ w) (at_drop_more first_word text i d within ∙ rw space refl) ∙ append-nil (take i text))
+first-at_space text n digits d front within space =
+    first-whole text n digits front (at_drop_more (λ (t : List ℕ). length (first_word t)) text digits d within ∙ rw space refl)
 
--- the end of the text ends it
-pub word-at_end : (text : List ℕ) (i number : ℕ) → AreDigits text i number → length text ≡ i
-    → first_number text ≡ (if i == 0 then Err Number else Ok (number, i))
+pub first-at_end : (text : List ℕ) (n digits : ℕ) → number_at_front text ≡ Some (n, digits) → length text ≤ digits → first_number text ≡ Ok (n, digits)
 unfolding first_word
-word-at_end text i number are end =
-    word-whole text i number are (omega arith) (are.word ∙ ap (λ (w : List ℕ). take i text ++ w) (at_drop_all first_word text i (omega arith)) ∙ append-nil (take i text))
+first-at_end text n digits front past =
+    first-whole text n digits front (at_drop_all (λ (t : List ℕ). length (first_word t)) text digits past)
 
--- no number
-first-bad : (text : List ℕ) → is_number (first_word text) ≡ false → first_number text ≡ Err Number
-unfolding first_number number_of read_number
-first-bad text bad = rw bad refl
-
--- a byte that is no digit and no space stands in the word
-pub word-bad : (text : List ℕ) (i d number : ℕ) → AreDigits text i number → i < length text → is_ascii_digit (get_or text i d) ≡ false → (get_or text i d == 32) ≡ false
+-- another byte after the number stands in the word
+pub first-bad : (text : List ℕ) (n digits d : ℕ) → number_at_front text ≡ Some (n, digits) → digits < length text → (get_or text digits d == 32) ≡ false
     → first_number text ≡ Err Number
-unfolding is_number
-word-bad text i d number are within bad other =
-    let word = word-more text i d within other are.word in
-    let front : list_all is_ascii_digit (take (i + 1) text) ≡ false = rw (list_all_more is_ascii_digit text i d within, are.digits, bad) refl in
-    let whole : list_all is_ascii_digit (first_word text) ≡ false =
-    rw (word, list_all-append is_ascii_digit (take (i + 1) text) (first_word (drop (i + 1) text)), front) refl in
-    first-bad text (and_right (nat_le 1 (length (first_word text)) && nat_le (length (first_word text)) 9) (list_all is_ascii_digit (first_word text)) whole)
-
--- a word of ten digits is too long
-pub word-long : (text : List ℕ) (number d : ℕ) → AreDigits text 9 number → 9 < length text → is_ascii_digit (get_or text 9 d) ≡ true
-    → first_number text ≡ Err Number
-unfolding is_number
-word-long text number d are within digit =
-    let word = word-more text 9 d within (digit-other (get_or text 9 d) digit) are.word in
-    let size : length (first_word text) ≡ 10 + length (first_word (drop 10 text)) = rw word (omega (arith, length-append (take 10 text) (first_word (drop 10 text)), length-take 10 text)) in
-    let long : nat_le (length (first_word text)) 9 ≡ false = grind (arith, nat_tests) in
-    first-bad text (rw long (ap (λ (b : Bool). b && list_all is_ascii_digit (first_word text)) (and_right (nat_le 1 (length (first_word text))) false refl)))
+unfolding first_number number_of
+first-bad text n digits d front within other =
+    let some = first_word-some text digits d within other in
+    let size = word-length text digits (front-count text n digits front) in
+    rw (read-part (first_word text) n digits (word-front text ∙ front) (λ all. omega arith)) refl

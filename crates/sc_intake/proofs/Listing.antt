@@ -1,7 +1,7 @@
 -- A list of schools that is read word by word: the numbers so far, and whether each is a school's.
 use Rattle.std.proofs.Common.{◌≡◌, ℕ, ◌≤◌, ◌<◌, Bool, true, false, ◌&&◌, List, [], ◌∷◌, ◌++◌, length, drop, refl, sym, ap, ◌∙◌, Ok, Err}
-use Rattle.std.specs.Bool.{OnTrue}
 use Rattle.std.specs.List.{list_all}
+use Rattle.std.proofs.lemmas.Bool.{and_right}
 use Rattle.std.proofs.lemmas.List.Folds.{list_all-append}
 use Rattle.sc_papers.specs.declared.school_no.TheConstants.SchoolNo.{GREATEST as greatest_school}
 use Rattle.sc_intake.specs.Field.{is_within, list_of, listed, number_of, numbers_after, word_of, words}
@@ -31,28 +31,38 @@ listed-whole text numbers reads all = rw reads (rw all refl)
 pub listed-out : (text numbers : List ℕ) → list_of text ≡ Ok numbers → list_all (is_within 1 greatest_school) numbers ≡ false → listed text ≡ Ok (Err Range)
 listed-out text numbers reads some = rw reads (rw some refl)
 
--- a word that writes a number
-pub SoFar-word : (text : List ℕ) (start next : ℕ) (old new : List ℕ) (in_range is_school : Bool) (piece : List ℕ) (n : ℕ) → SoFar text start old in_range
+-- the reading with a number more
+reading-more : (text : List ℕ) (start next : ℕ) (schools : List ℕ) (in_range : Bool) (piece : List ℕ) (n : ℕ) (so : SoFar text start schools in_range)
     → words (drop start text) ≡ word_of piece ++ words (drop next text) → 0 < length piece → number_of piece ≡ Ok n
-    → is_school ≡ is_within 1 greatest_school n → OnTrue is_school (new ≡ old ++ n ∷ []) → SoFar text next new (in_range && is_school)
-SoFar-word text start next old new in_range is_school piece n so cut some number school pushed = record {
+    → list_of text ≡ numbers_after (so.numbers ++ n ∷ []) (words (drop next text))
+reading-more text start next schools in_range piece n so cut some number =
+    so.reading ∙ ap (numbers_after so.numbers) cut ∙ numbers-word so.numbers piece (words (drop next text)) some ∙ numbers-more so.numbers piece (words (drop next text)) n number
+
+-- a word that writes a school's number
+pub SoFar-school : (text : List ℕ) (start next : ℕ) (old new : List ℕ) (in_range : Bool) (piece : List ℕ) (n : ℕ) → SoFar text start old in_range
+    → words (drop start text) ≡ word_of piece ++ words (drop next text) → 0 < length piece → number_of piece ≡ Ok n
+    → is_within 1 greatest_school n ≡ true → new ≡ old ++ n ∷ [] → SoFar text next new in_range
+SoFar-school text start next old new in_range piece n so cut some number school pushed = record {
   numbers = so.numbers ++ n ∷ [];
-  reading = so.reading ∙ ap (numbers_after so.numbers) cut ∙ numbers-word so.numbers piece (words (drop next text)) some ∙ numbers-more so.numbers piece (words (drop next text)) n number;
-  ranged = list_all-append (is_within 1 greatest_school) so.numbers (n ∷ []) ∙ both so.ranged school;
-  same = by in_range is_school pushed so.same;
+  reading = reading-more text start next old in_range piece n so cut some number;
+  ranged = list_all-append (is_within 1 greatest_school) so.numbers (n ∷ []) ∙ rw (so.ranged, school) (and_true in_range);
+  same = λ all. pushed ∙ ap (λ (ns : List ℕ). ns ++ n ∷ []) (so.same all);
 }
   where
-    both : {a : Bool} → a ≡ in_range → is_school ≡ is_within 1 greatest_school n → (a && (is_within 1 greatest_school n && true)) ≡ (in_range && is_school)
-    both {a = a} ranged school = rw (ranged, school) (ap (λ (b : Bool). in_range && b) (end (is_within 1 greatest_school n)))
-      where
-        end : (b : Bool) → (b && true) ≡ b
-        end true = refl
-        end false = refl
+    and_true : (b : Bool) → (b && true) ≡ b
+    and_true true = refl
+    and_true false = refl
 
-    by : (a b : Bool) → OnTrue b (new ≡ old ++ n ∷ []) → (a ≡ true → old ≡ so.numbers) → (a && b) ≡ true → new ≡ so.numbers ++ n ∷ []
-    by true true pushed same both = pushed ∙ ap (λ (ns : List ℕ). ns ++ n ∷ []) (same refl)
-    by true false pushed same both = cc both
-    by false b pushed same both = cc both
+-- a word that writes another number
+pub SoFar-other : (text : List ℕ) (start next : ℕ) (schools : List ℕ) (in_range : Bool) (piece : List ℕ) (n : ℕ) → SoFar text start schools in_range
+    → words (drop start text) ≡ word_of piece ++ words (drop next text) → 0 < length piece → number_of piece ≡ Ok n
+    → is_within 1 greatest_school n ≡ false → SoFar text next schools false
+SoFar-other text start next schools in_range piece n so cut some number other = record {
+  numbers = so.numbers ++ n ∷ [];
+  reading = reading-more text start next schools in_range piece n so cut some number;
+  ranged = list_all-append (is_within 1 greatest_school) so.numbers (n ∷ []) ∙ rw (so.ranged, other) (and_right in_range false refl);
+  same = λ all. cc all;
+}
 
 -- a space alone
 pub SoFar-space : (text : List ℕ) (start next : ℕ) (schools : List ℕ) (in_range : Bool) → SoFar text start schools in_range

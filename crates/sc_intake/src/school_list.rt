@@ -1,17 +1,15 @@
 //! The fields that are lists of schools.
 
-ghost use Rattle.std.specs.Prelude.{◌≡◌, ◌≤◌, ◌==◌, ◌++◌, ◌∷◌, [], IfOk, length};
-ghost use Rattle.std.specs.Bool.{OnTrue};
+ghost use Rattle.std.specs.Prelude.{◌≡◌, ◌≤◌, ◌==◌, length};
 ghost use Rattle.std.specs.List.{count_by};
 ghost use Rattle.sc_intake.specs.Fault.{Gives};
-ghost use Rattle.sc_intake.specs.Field.{is_within, listed};
+ghost use Rattle.sc_intake.specs.Field.{listed};
 ghost use Rattle.sc_intake.specs.declared.fault.Cause.TheVariants.{OutOfMemory};
-ghost use Rattle.sc_papers.specs.declared.school_no.TheConstants.SchoolNo.{GREATEST as greatest_school};
 
 use crate::fault::Cause;
 use crate::field::first_number;
 use sc_papers::{SchoolList, SchoolNo};
-use std::alloc::{AllocError, Global};
+use std::alloc::Global;
 
 /// How many of at most 255 bytes are spaces.
 fn spaces_in_run(run: &[u8]) -> u8
@@ -37,18 +35,6 @@ fn space_count(text: &[u8]) -> usize
     spaces
 }
 
-/// Adds a number that is a school's, and says whether it is one.
-fn push_school(schools: &mut Vec<SchoolNo>, number: u32) -> Result<bool, AllocError>
-    ensures is_school { IfOk result (λ is_school. is_school ≡ is_within 1 greatest_school number) }
-    ensures pushed { IfOk result (λ is_school. OnTrue is_school (schools.new.items ≡ schools.old.items ++ number ∷ [])) }
-{
-    let Some(school) = SchoolNo::new(number) else {
-        return Ok(false);
-    };
-    schools.push(school)?;
-    Ok(true)
-}
-
 /// The schools of a list: a text without blanks at its ends that is numbers with one or more spaces
 /// between them. `Number` where one of them is no number; where one is no school's, `Range` comes
 /// inside, for the caller to tell after what comes first.
@@ -69,7 +55,10 @@ pub(crate) fn school_list(alloc: Global, text: &[u8]) -> Result<Result<SchoolLis
             start += 1;
         } else {
             let (number, digits) = first_number(&text[start..])?;
-            in_range &= push_school(&mut schools, number)?;
+            match SchoolNo::new(number) {
+                Some(school) => schools.push(school)?,
+                None => in_range = false,
+            }
             start += digits + 1;
         }
     }

@@ -1,10 +1,12 @@
-use Rattle.std.proofs.Common.{◌≡◌, ◌==◌, ◌+◌, false, [], drop, length, get_or, slice_range, arith, rules, refl, Ok, Err}
+use Rattle.std.proofs.Common.{◌≡◌, ◌==◌, ◌+◌, ◌++◌, ◌∷◌, true, false, [], drop, length, get_or, slice_range, arith, rules, refl, Ok, Err}
 use Rattle.std.proofs.lemmas.List.{length-drop}
-use Rattle.sc_intake.specs.Field.{first_number, first_word}
+use Rattle.sc_papers.specs.declared.school_no.TheConstants.SchoolNo.{GREATEST as greatest_school}
+use Rattle.sc_intake.specs.Field.{first_number, first_word, is_within}
 use Rattle.sc_intake.proofs.Giving.{Gives-fault}
-use Rattle.sc_intake.proofs.Listing.{SoFar-bad, SoFar-none, SoFar-out, SoFar-space, SoFar-whole, SoFar-word}
+use Rattle.sc_intake.proofs.Listing.{SoFar-bad, SoFar-none, SoFar-other, SoFar-out, SoFar-school, SoFar-space, SoFar-whole}
 use Rattle.sc_intake.proofs.Words.{first_number-err, first_number-ok, first_word-short, first_word-some, slice_range-rest, words-next, words-space}
 use Rattle.sc_intake.proofs.school_list.school_list.Goals as goal
+use Rattle.sc_intake.proofs.school_list.school_list.Goals.{in-Some+in_ok-push-in-Some, in-None}
 
 pub returns-then-is_empty : goal.returns-then-is_empty
 returns-then-is_empty c =
@@ -57,8 +59,17 @@ loop-start-preserved c =
     let read : first_number (slice_range text start (length text)) ≡ Ok (n, digits) = search rules in
     let first : first_number (drop start text) ≡ Ok (n, digits) = rw (slice_range-rest text start) at read in
     let word = first_number-ok (drop start text) n digits first in
-    SoFar-word text start (start + (digits + 1)) c.loop-start.schools.items c.push_school.new.schools.items c.loop-start.in_range c.in_ok-in_range.field-0 (first_word (drop start text)) n
-    c.loop-start.invariant (words-next text start _ (rw word.1 refl)) (first_word-some text start 0 (omega arith) other) word.0 (search rules) (search rules)
+    let some = first_word-some text start 0 (omega arith) other in
+    let cut = words-next text start (start + (digits + 1)) (rw word.1 refl) in
+    elim c.match-new.branch [
+      | in-Some+in_ok-push-in-Some w ↦
+          let school : is_within 1 greatest_school n ≡ true = search rules in
+          let pushed : w.push.new.self.items ≡ c.loop-start.schools.items ++ n ∷ [] = search rules in
+          rw (w.schools-is, w.in_range-is) (SoFar-school text start (start + (digits + 1)) _ _ _ (first_word (drop start text)) n c.loop-start.invariant cut some word.0 school pushed)
+      | in-None w ↦
+          let out : is_within 1 greatest_school n ≡ false = search rules in
+          rw (w.schools-is, w.in_range-is) (SoFar-other text start (start + (digits + 1)) _ _ (first_word (drop start text)) n c.loop-start.invariant cut some word.0 out)
+    ]
 
 pub returns-then-not-in_range : goal.returns-then-not-in_range
 returns-then-not-in_range c =

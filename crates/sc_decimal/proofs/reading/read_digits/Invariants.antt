@@ -1,5 +1,5 @@
-use Rattle.sc_intake.proofs.FirstNumber.{AreDigits}
-use Rattle.sc_intake.proofs.field.first_number.Given as goal
+use Rattle.sc_decimal.proofs.FirstDigits.{AreDigits}
+use Rattle.sc_decimal.proofs.reading.read_digits.Given as goal
 
 abbrev pub invariant-loop-index : goal.invariant-loop-index
 invariant-loop-index l = AreDigits l.text l.index l.number
