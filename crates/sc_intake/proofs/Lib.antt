@@ -2,6 +2,7 @@ pub mod Cutting
 pub mod CursorMoves
 pub mod Lines
 pub mod PlainCutting
+pub mod Runs
 pub mod Bounded
 pub mod Words
 pub mod FirstNumber

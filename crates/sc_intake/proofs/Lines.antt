@@ -80,7 +80,7 @@ fields-next piece rest clean =
     ap (fields_from []) (first_line-more piece (44 ∷ rest) clean) ∙ fields-more [] piece (44 ∷ first_line rest) clean
 
 -- the test that a search for three bytes makes
-same-test : (c : ℕ) → is_byte3 44 10 13 c ≡ ends_field c
+pub same-test : (c : ℕ) → is_byte3 44 10 13 c ≡ ends_field c
 same-test c = by (c == 44)
   where
     by : (b : Bool) → ((b || (c == 10)) || (c == 13)) ≡ (b || ((c == 10) || (c == 13)))

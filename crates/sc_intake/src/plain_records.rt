@@ -47,13 +47,21 @@ fn without_line_ends(text: &[u8]) -> &[u8]
     &[]
 }
 
-/// How many bytes stand before the first comma or line end of a text, or its length where there is none.
+/// How many bytes stand before the first comma or line end of a text, or its length where there is none. The text is
+/// looked at in runs of 32 bytes, since most fields are short: a search that is to go far costs more to begin.
 fn field_len(text: &[u8]) -> usize
     ensures within { result ≤ length text.now }
     ensures clean { list_any ends_field (take result text.now) ≡ false }
     ensures end { EndsField (drop result text.now) }
 {
-    memchr3(b',', b'\n', b'\r', text).unwrap_or(text.len())
+    let mut len = 0;
+    for run in text.chunks(32) {
+        match memchr3(b',', b'\n', b'\r', run) {
+            Some(index) => return len + index,
+            None => len += run.len(),
+        }
+    }
+    len
 }
 
 /// Adds the fields of a text's first line, and gives the text after it.
