@@ -1,6 +1,7 @@
 mod Tables
 mod Keeping
 mod Entries
+mod Pasts
 mod Offered
 mod Steps
 mod Openings

@@ -1,6 +1,7 @@
 pub mod Over
 pub mod Verdict
 pub mod Offers
+pub mod BestKeys
 pub mod Least
 pub mod AuditView
 pub mod AuditState

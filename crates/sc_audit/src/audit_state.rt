@@ -1,69 +1,72 @@
 //! What the auditor keeps while it reads a log.
-ghost use Rattle.std.specs.Prelude.{◌≡◌, ℕ, ◌<◌, true, All, List, [], length, slice_get, Some, None, IfOk, OnOk, IfSome, IfNone};
-ghost use Rattle.std.specs.BinaryHeap.{heap_items, IsHeap};
+ghost use Rattle.std.specs.Prelude.{◌≡◌, ℕ, ◌<◌, ◌≤◌, All, List, [], length, map, slice_get, None, Some, IfOk, OnOk, IfSome, IfNone};
 ghost use Rattle.sc_papers.specs.Log.{IsValidLog};
-ghost use Rattle.sc_papers.specs.Market.{is_student, students_of, student_at};
+ghost use Rattle.sc_papers.specs.Market.{schools_of, seats_of, students_of, student_at};
 ghost use Rattle.sc_papers.specs.Matching.{WithinSeats};
 ghost use Rattle.sc_papers.specs.declared.rejection.Rejection.{Rejection as Rejected};
-ghost use Rattle.sc_papers.specs.Key.{key_cmp};
+ghost use Rattle.sc_audit.specs.BestKeys.{BestView};
 ghost use Rattle.sc_audit.specs.Over.{IsFirstOver};
 
+use crate::best_keys::BestKeys;
+use crate::guesses::Guesses;
 use crate::least::lesser;
-use crate::offers::offer;
-use crate::stand::Stand;
-use crate::stands::{no_stands, put_aside};
-use sc_papers::{Key, Papers, Rejection, SchoolNo};
+use crate::waiting::Waiting;
+use sc_papers::{Papers, Rejection, SchoolNo, Seats};
 use std::alloc::{AllocError, Global};
-use std::collections::BinaryHeap;
 
 /// Who stands where after the entries so far, and the best keys of each school, as many as it has
-/// seats. Students and schools go by their positions in the papers.
+/// seats: who stands at a school and is not behind them all is kept there. Students and schools go by
+/// their positions in the papers.
 #[derive(Drop)]
 pub(crate) struct AuditState {
-    stands: Vec<Option<Stand>>,
-    kept: Vec<BinaryHeap<Key>>,
+    // The rank in their choices at which each student stands, if they stand anywhere.
+    stands: Vec<Option<u8>>,
+    schools: Vec<BestKeys>,
+    // Where the students stand in the papers, by their numbers.
+    guesses: Guesses,
 }
 
-/// No key is kept at any of so many schools.
-fn no_keys(alloc: Global, count: usize) -> Result<Vec<BinaryHeap<Key>>, AllocError>
-    ensures length { IfOk result (λ kept. length kept.items ≡ count) }
-    ensures empty { IfOk result (λ kept. All (λ keys. heap_items keys ≡ []) kept.items) }
-    ensures heaps { IfOk result (λ kept. All (λ keys. IsHeap key_cmp (heap_items keys)) kept.items) }
+/// The seats of the school at the position.
+fn seats_at(papers: &Papers, position: usize) -> Seats
+    requires { position < length papers.now.schools }
+    ensures { (s : ℕ) → slice_get (schools_of papers.now) position ≡ Some s → result ≡ seats_of papers.now s }
 {
-    let mut kept = Vec::with_capacity(alloc, count)?;
-    for _added in 0..count {
-        kept.push(BinaryHeap::new(alloc))?;
+    let Some(school) = papers.school_at(position) else {
+        unreachable!()
+    };
+    papers.seats_of(school)
+}
+
+/// Each school with its seats, before anything is offered.
+fn no_keys(alloc: Global, papers: &Papers) -> Result<Vec<BestKeys>, AllocError>
+    ensures seats { IfOk result (λ schools. map (λ (best : BestView). best.seats) schools.items ≡ map (seats_of papers.now) (schools_of papers.now)) }
+    ensures empty { IfOk result (λ schools. All (λ (best : BestView). best.keys ≡ []) schools.items) }
+{
+    let mut schools = Vec::with_capacity(alloc, papers.schools_len())?;
+    for position in 0..papers.schools_len() {
+        schools.push(BestKeys::none(alloc, seats_at(papers, position)))?;
     }
-    Ok(kept)
+    Ok(schools)
 }
 
 impl AuditState {
     ghost use Rattle.sc_audit.specs.AuditState.{view_of};
-    ghost use Rattle.sc_audit.specs.AuditView.{stand_of, next_of, waiting_rank, waiting_at, Fits, MovesTo, Follows, Finds};
+    ghost use Rattle.sc_audit.specs.AuditView.{next_of, waiting_rank, waiting_at, waiting_school, Fits, MovesTo, Follows, Finds};
     ghost use Rattle.std.specs.Option.{option_map};
-    ghost use Rattle.std.specs.Prelude.{◌≡◌, ℕ, ◌<◌, List, [], length, nat_eq, position, slice_index_or, Some, None, IfOk, OnOk, IfSome, IfNone};
+    ghost use Rattle.std.specs.Prelude.{◌≡◌, ℕ, ◌<◌, List, [], length, nat_eq, position, Some, None, IfOk, OnOk, IfSome, IfNone};
 
     /// The student at the position moves to the choice of a rank, if there is one of it.
-    fn move_to(&mut self, papers: &Papers, student: usize, rank: usize) -> Result<(), AllocError>
+    fn move_to(&mut self, papers: &Papers, student: usize, rank: u8) -> Result<(), AllocError>
         requires fits { Fits papers.now (view_of self.old) }
         requires within { student < length papers.now.students }
-        requires nowhere { stand_of papers.now self.old.stands.items (student_at papers.now student) ≡ None }
+        requires nowhere { next_of papers.now self.old.stands.items (student_at papers.now student) ≡ None }
         ensures { OnOk result (MovesTo papers.now (view_of self.old) (student_at papers.now student) rank (view_of self.new)) }
     {
-        let Some(proposal) = papers.proposal(student, rank) else {
+        let Some(proposal) = papers.proposal(student, usize::from(rank)) else {
             return Ok(());
         };
-        let school = proposal.school;
-        let seats = papers.seats_of(school);
-        let out = offer(&mut self.kept[proposal.position], seats, proposal.key)?;
-        self.stands[student] = Some(Stand {
-            rank,
-            school,
-            kept: true,
-        });
-        if let Some(last) = out {
-            put_aside(&mut self.stands, papers, last.student);
-        }
+        self.schools[proposal.position].offer(proposal.key)?;
+        self.stands[student] = Some(rank);
         Ok(())
     }
 
@@ -72,10 +75,10 @@ impl AuditState {
     pub(crate) fn start(alloc: Global, papers: &Papers) -> Result<Self, AllocError>
         ensures { IfOk result (λ state. Follows papers.now [] (view_of state)) }
     {
-        let students = papers.students_len();
         let mut state = AuditState {
-            stands: no_stands(alloc, students)?,
-            kept: no_keys(alloc, papers.schools_len())?,
+            stands: Vec::from_elem(alloc, None, papers.students_len())?,
+            schools: no_keys(alloc, papers)?,
+            guesses: Guesses::at_students(alloc, papers)?,
         };
         state.start_all(papers)?;
         Ok(state)
@@ -84,7 +87,7 @@ impl AuditState {
     /// All students, who stand nowhere, move to their first choices.
     fn start_all(&mut self, papers: &Papers) -> Result<(), AllocError>
         requires fits { Fits papers.now (view_of self.old) }
-        requires nowhere { (i : ℕ) → stand_of papers.now self.old.stands.items i ≡ None }
+        requires nowhere { (i : ℕ) → next_of papers.now self.old.stands.items i ≡ None }
         ensures { OnOk result (Follows papers.now [] (view_of self.new)) }
     {
         for position in 0..papers.students_len() {
@@ -94,7 +97,8 @@ impl AuditState {
     }
 
     /// Takes one more entry of a log, if it is valid after those before: the student leaves the school
-    /// and moves to the next choice. The cost is at most two look-ups of a student by number and an offer.
+    /// and moves to the next choice. The cost is an offer, and a look-up of the student by number where the guess
+    /// at where they stand is wrong.
     pub(crate) fn take(&mut self, papers: &Papers, entry: Rejection) -> Result<bool, AllocError>
         requires fits { Fits papers.now (view_of self.old) }
         ensures { IfOk result (λ valid. (log : List Rejected) → IsValidLog papers.now log → Follows papers.now log (view_of self.old) → Finds papers.now log entry valid (view_of self.new)) }
@@ -107,19 +111,20 @@ impl AuditState {
         Ok(true)
     }
 
-    /// The student's position, and the rank in its choices at which it stands at the entry's school
+    /// The student's position, and the rank in their choices at which they stand at the entry's school
     /// without being kept there.
-    fn waiting_rank(&self, papers: &Papers, entry: Rejection) -> Option<(usize, usize)>
-        requires { length self.now.stands.items ≡ length papers.now.students }
+    fn waiting_rank(&self, papers: &Papers, entry: Rejection) -> Option<(usize, u8)>
+        requires { Fits papers.now (view_of self.now) }
         ensures position { IfSome result (λ found. position (nat_eq entry.student) (students_of papers.now) ≡ Some found.0) }
-        ensures rank { option_map (λ found. found.1) result ≡ waiting_rank (stand_of papers.now self.now.stands.items entry.student) entry.school }
+        ensures rank { option_map (λ found. found.1) result ≡ waiting_rank (waiting_at papers.now (view_of self.now) entry.student) entry.school }
     {
-        let student = papers.student_position(entry.student)?;
-        match self.stands[student] {
-            Some(stand) if !stand.kept && stand.school == entry.school => {
-                Some((student, stand.rank))
-            }
-            _ => None,
+        let guess = self.guesses.guess(entry.student);
+        let student = papers.student_position_near(entry.student, guess)?;
+        let waiting = self.waiting_at(papers, student)?;
+        if waiting.school == entry.school {
+            Some((student, waiting.rank))
+        } else {
+            None
         }
     }
 
@@ -131,19 +136,36 @@ impl AuditState {
     {
         let mut least = None;
         for position in 0..papers.students_len() {
-            least = lesser(least, self.waiting_at(position));
+            least = lesser(least, self.waiting_school(papers, position));
         }
         least
     }
 
     /// The school at which the student at the position stands without being kept there.
-    fn waiting_at(&self, position: usize) -> Option<SchoolNo>
-        requires { position < length self.now.stands.items }
-        ensures { result ≡ waiting_at (slice_index_or self.now.stands.items position None) }
+    fn waiting_school(&self, papers: &Papers, student: usize) -> Option<SchoolNo>
+        requires fits { Fits papers.now (view_of self.now) }
+        requires within { student < length papers.now.students }
+        ensures { result ≡ waiting_school papers.now (view_of self.now) (student_at papers.now student) }
     {
-        match self.stands[position] {
-            Some(stand) if !stand.kept => Some(stand.school),
-            _ => None,
+        let waiting = self.waiting_at(papers, student)?;
+        Some(waiting.school)
+    }
+
+    /// Where the student at the position stands without being kept there: all keys that are kept are ahead.
+    fn waiting_at(&self, papers: &Papers, student: usize) -> Option<Waiting>
+        requires fits { Fits papers.now (view_of self.now) }
+        requires within { student < length papers.now.students }
+        ensures { result ≡ waiting_at papers.now (view_of self.now) (student_at papers.now student) }
+    {
+        let rank = self.stands[student]?;
+        let proposal = papers.proposal(student, usize::from(rank))?;
+        if self.schools[proposal.position].are_ahead_of(&proposal.key) {
+            Some(Waiting {
+                rank,
+                school: proposal.school,
+            })
+        } else {
+            None
         }
     }
 }

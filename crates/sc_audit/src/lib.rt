@@ -4,17 +4,17 @@
 
 mod audit_state;
 mod auditor;
+mod best_keys;
 mod blocks;
 mod checker;
+mod guesses;
 pub mod laws;
 mod least;
 mod membership;
-mod offers;
 mod stability;
-mod stand;
-mod stands;
 mod tallies;
 mod verdict;
+mod waiting;
 
 pub use auditor::audit;
 pub use checker::check_stable;

@@ -1,8 +1,8 @@
-use Rattle.std.proofs.Common.{◌≡◌, [], length, All}
-use Rattle.std.specs.BinaryHeap.{heap_items, IsHeap}
-use Rattle.sc_papers.specs.Key.{key_cmp}
+use Rattle.std.proofs.Common.{◌≡◌, [], map, All}
+use Rattle.sc_audit.specs.BestKeys.{BestView}
+use Rattle.sc_audit.proofs.Openings.{SeatsUpTo}
 use Rattle.sc_audit.proofs.audit_state.no_keys.Given as goal
 
-abbrev pub invariant-loop-added : goal.invariant-loop-added
-invariant-loop-added l =
-    (length l.kept.items ≡ l._added) × All (λ keys. heap_items keys ≡ []) l.kept.items × All (λ keys. IsHeap key_cmp (heap_items keys)) l.kept.items
+abbrev pub invariant-loop-position : goal.invariant-loop-position
+invariant-loop-position l =
+    SeatsUpTo l.papers l.position (map (λ (best : BestView). best.seats) l.schools.items) × All (λ (best : BestView). best.keys ≡ []) l.schools.items

@@ -1,23 +1,22 @@
-use Rattle.std.proofs.Common.{◌≤◌, ◌<◌, ◌∙◌, ap, length, arith}
+use Rattle.std.proofs.Common.{◌≤◌, ◌<◌, length, arith}
 use Rattle.sc_papers.specs.Market.{students_of, student_at}
 use Rattle.sc_audit.specs.AuditState.{view_of}
-use Rattle.sc_audit.specs.AuditView.{stand_of, waiting_at}
+use Rattle.sc_audit.specs.AuditView.{waiting_school}
 use Rattle.sc_audit.proofs.Lessers.{least-none, least-more}
 use Rattle.sc_audit.proofs.Over.{least-over, least-within}
-use Rattle.sc_papers.proofs.Hands.{hand-there, hand-position}
-use Rattle.sc_audit.proofs.Tables.{stand-there}
+use Rattle.sc_papers.proofs.Hands.{hand-there}
 use Rattle.sc_audit.proofs.audit_state.AuditState.least_over.Goals as goal
 
 pub loop-position-init : goal.loop-position-init
-loop-position-init c = least-none (students_of c.args.papers.now) (λ i. waiting_at (stand_of c.args.papers.now c.args.self.now.stands.items i))
+loop-position-init c = least-none (students_of c.args.papers.now) (waiting_school c.args.papers.now (view_of c.args.self.now))
 
 pub loop-position-preserved : goal.loop-position-preserved
 loop-position-preserved c =
     let m = c.args.papers.now in
     let k = c.loop-position.position in
     let low : k < length m.students = omega (arith, c.loop-position-test.true, c.students_len-position-end.ensures.count) in
-    least-more (students_of m) (λ i. waiting_at (stand_of m c.args.self.now.stands.items i)) k (student_at m k) c.loop-position.least c.waiting_at.result c.lesser-least.result (hand-there m k low)
-    (c.waiting_at.ensures ∙ ap waiting_at (stand-there m c.args.self.now.stands.items (student_at m k) k c.requires.stands (hand-position m c.requires.well_formed k low))) c.lesser-least.ensures c.loop-position.invariant
+    least-more (students_of m) (waiting_school m (view_of c.args.self.now)) k (student_at m k) c.loop-position.least c.waiting_school.result c.lesser-least.result (hand-there m k low)
+    c.waiting_school.ensures c.lesser-least.ensures c.loop-position.invariant
 
 pub returns-clause-over : goal.returns-clause-over
 returns-clause-over c =

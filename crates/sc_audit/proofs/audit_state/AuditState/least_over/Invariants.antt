@@ -1,7 +1,8 @@
 use Rattle.sc_papers.specs.Market.{students_of}
 use Rattle.sc_audit.specs.Least.{LeastOf}
-use Rattle.sc_audit.specs.AuditView.{stand_of, waiting_at}
+use Rattle.sc_audit.specs.AuditState.{view_of}
+use Rattle.sc_audit.specs.AuditView.{waiting_school}
 use Rattle.sc_audit.proofs.audit_state.AuditState.least_over.Given as goal
 
 abbrev pub invariant-loop-position : goal.invariant-loop-position
-invariant-loop-position l = LeastOf (students_of l.papers) (λ i. waiting_at (stand_of l.papers l.self.stands.items i)) l.position l.least
+invariant-loop-position l = LeastOf (students_of l.papers) (waiting_school l.papers (view_of l.self)) l.position l.least

@@ -1,13 +1,14 @@
 use Rattle.std.proofs.Common.{◌+◌, ◌∙◌, sym, ap, subst, arith, refl, set, None}
 use Rattle.std.proofs.lemmas.List.{length-set}
-use Rattle.sc_audit.specs.AuditState.{view_of}
-use Rattle.sc_audit.specs.AuditView.{AuditView, MovesTo, stand_of}
 use Rattle.std.proofs.lemmas.Option.{slice_get_within}
 use Rattle.sc_papers.specs.Market.{choices_of}
 use Rattle.sc_papers.proofs.Students.{choices-short}
 use Rattle.sc_papers.proofs.Hands.{position-low, student-there}
+use Rattle.sc_audit.specs.AuditState.{view_of}
+use Rattle.sc_audit.specs.AuditView.{AuditView, MovesTo, next_of}
+use Rattle.sc_audit.proofs.Pasts.{Waits, waits-at}
 use Rattle.sc_audit.proofs.Tables.{stand-put}
-use Rattle.sc_audit.proofs.Takings.{waits-from, waits-placed, left-fits, left-next, left-nowhere, taken-valid, taken-follows, not-taken}
+use Rattle.sc_audit.proofs.Takings.{left-fits, left-next, left-nowhere, taken-valid, taken-follows, not-taken}
 use Rattle.sc_audit.proofs.audit_state.AuditState.take.Goals as goal
 
 pub returns-in_default : goal.returns-in_default
@@ -19,17 +20,16 @@ index_mut-requires c = omega (arith, position-low c.args.papers.now c.args.entry
 pub overflow_add-rank : goal.overflow_add-rank
 overflow_add-rank c =
     let m = c.args.papers.now in
-    let listed = slice_get_within (choices_of m c.args.entry.student) c.in-Some.rank c.args.entry.school
-    (waits-placed (waits-from c.args.papers.now (view_of c.args.self.now) c.args.entry.student c.args.entry.school c.in-Some.rank (sym c.in-Some.ensures.rank)) c.requires.fits) in
-    omega (arith, listed, choices-short m c.requires.fits.within_limits c.args.entry.student)
+    let waits : Waits m (view_of c.args.self.now) c.args.entry.student c.args.entry.school c.in-Some.rank = waits-at m (view_of c.args.self.now) c.args.entry.student c.args.entry.school c.in-Some.rank (sym c.in-Some.ensures.rank) in
+    omega (arith, slice_get_within (choices_of m c.args.entry.student) c.in-Some.rank c.args.entry.school waits.at, choices-short m c.requires.fits.within_limits c.args.entry.student)
 
 pub move_to-requires-clause-fits : goal.move_to-requires-clause-fits
 move_to-requires-clause-fits c =
     let m = c.args.papers.now in
     let old = view_of c.args.self.now in
     let stands = c.args.self.now.stands.items in
-    left-fits (waits-from m old c.args.entry.student c.args.entry.school c.in-Some.rank (sym c.in-Some.ensures.rank))
-    (record { stands = set stands c.in-Some.student None; kept = old.kept }) c.requires.fits refl (length-set stands c.in-Some.student None)
+    left-fits (waits-at m old c.args.entry.student c.args.entry.school c.in-Some.rank (sym c.in-Some.ensures.rank))
+    (record { stands = set stands c.in-Some.student None; kept = old.kept; seats = old.seats }) c.requires.fits refl refl (length-set stands c.in-Some.student None)
     (stand-put m stands None c.args.entry.student c.in-Some.student c.requires.fits.stands c.in-Some.ensures.position)
 
 pub move_to-requires-clause-within : goal.move_to-requires-clause-within
@@ -40,9 +40,9 @@ move_to-requires-clause-nowhere c =
     let m = c.args.papers.now in
     let old = view_of c.args.self.now in
     let stands = c.args.self.now.stands.items in
-    ap (stand_of m (set stands c.in-Some.student None)) (student-there m c.args.entry.student c.in-Some.student c.in-Some.ensures.position)
-    ∙ left-nowhere (waits-from m old c.args.entry.student c.args.entry.school c.in-Some.rank (sym c.in-Some.ensures.rank))
-    (record { stands = set stands c.in-Some.student None; kept = old.kept }) c.requires.fits refl (length-set stands c.in-Some.student None)
+    ap (next_of m (set stands c.in-Some.student None)) (student-there m c.args.entry.student c.in-Some.student c.in-Some.ensures.position)
+    ∙ left-nowhere (waits-at m old c.args.entry.student c.args.entry.school c.in-Some.rank (sym c.in-Some.ensures.rank))
+    (record { stands = set stands c.in-Some.student None; kept = old.kept; seats = old.seats }) c.requires.fits refl refl (length-set stands c.in-Some.student None)
     (stand-put m stands None c.args.entry.student c.in-Some.student c.requires.fits.stands c.in-Some.ensures.position)
 
 pub returns : goal.returns
@@ -50,10 +50,10 @@ returns c = λ log valid follows.
     let m = c.args.papers.now in
     let old = view_of c.args.self.now in
     let stands = c.args.self.now.stands.items in
-    let waits = waits-from m old c.args.entry.student c.args.entry.school c.in-Some.rank (sym c.in-Some.ensures.rank) in
-    let mid : AuditView = record { stands = set stands c.in-Some.student None; kept = old.kept } in (
+    let waits : Waits m old c.args.entry.student c.args.entry.school c.in-Some.rank = waits-at m old c.args.entry.student c.args.entry.school c.in-Some.rank (sym c.in-Some.ensures.rank) in
+    let mid : AuditView = record { stands = set stands c.in-Some.student None; kept = old.kept; seats = old.seats } in (
       taken-valid m log old c.args.entry c.in-Some.rank follows waits,
       taken-follows m log old mid (view_of c.move_to.new.self) c.args.entry c.in-Some.rank valid follows waits
-          (left-next waits mid c.requires.fits refl (length-set stands c.in-Some.student None) (stand-put m stands None c.args.entry.student c.in-Some.student c.requires.fits.stands c.in-Some.ensures.position))
+          (left-next waits mid c.requires.fits refl refl (length-set stands c.in-Some.student None) (stand-put m stands None c.args.entry.student c.in-Some.student c.requires.fits.stands c.in-Some.ensures.position))
           (subst (λ i. MovesTo m mid i (c.in-Some.rank + 1) (view_of c.move_to.new.self)) (student-there m c.args.entry.student c.in-Some.student c.in-Some.ensures.position) c.in_ok-move_to.ensures),
     )

@@ -1,0 +1,16 @@
+use Rattle.std.proofs.Common.{◌∷◌, rules, subst, sym}
+use Rattle.std.specs.BinaryHeap.{heap_items}
+use Rattle.std.specs.BinaryHeap.PeekMut.{peek_mut_rest}
+use Rattle.std.specs.List.Sorted.{IsPermutation}
+use Rattle.sc_papers.specs.declared.key.Key.{Key}
+use Rattle.sc_audit.proofs.Offered.{replaced-together}
+use Rattle.sc_audit.proofs.best_keys.replace_last.Goals as goal
+
+pub returns-clause-together : goal.returns-clause-together
+returns-clause-together c =
+    let rest = peek_mut_rest c.in-Some.top in
+    let taken : IsPermutation (heap_items c.args.keys.now) (c.deref-last.result.now ∷ rest) =
+    subst (λ (last : Key). IsPermutation (heap_items c.args.keys.now) (last ∷ rest)) (sym c.deref-last.ensures) c.in-Some.ensures.permutation in
+    let put = c.drop.ensures.permutation (search rules) in
+    let together = replaced-together (heap_items c.args.keys.now) rest _ c.args.key c.deref-last.result.now taken put in
+    search rules

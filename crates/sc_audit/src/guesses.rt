@@ -1,0 +1,49 @@
+//! Guesses at where students stand in the papers.
+
+use sc_papers::{Papers, StudentNo};
+use std::alloc::{AllocError, Global};
+
+/// By students' numbers: the position at which a student of such a number stands. It is a guess, which whoever uses
+/// it has to test. Where numbers are near each other it is right, and spares a look-up.
+#[derive(Drop)]
+pub(crate) struct Guesses {
+    positions: Vec<u32>,
+}
+
+impl Guesses {
+    /// A guess for each student of the papers. The only error is want of memory; the cost is a pass over the students.
+    pub(crate) fn at_students(alloc: Global, papers: &Papers) -> Result<Self, AllocError> {
+        let students = papers.students_len();
+        let mut guesses = Guesses {
+            positions: Vec::from_elem(alloc, 0, students)?,
+        };
+        for position in 0..students {
+            if let Some(student) = papers.student_at(position) {
+                guesses.note(student, position);
+            }
+        }
+        Ok(guesses)
+    }
+
+    /// Where the student's guess is kept: numbers that leave the same remainder share a place.
+    fn place(&self, student: StudentNo) -> Option<usize> {
+        (student.get() as usize).checked_rem(self.positions.len())
+    }
+
+    /// Keeps the student's position.
+    fn note(&mut self, student: StudentNo, position: usize) {
+        if let Some(place) = self.place(student) {
+            if let Some(guess) = self.positions.get_mut(place) {
+                *guess = u32::try_from(position).unwrap_or(0);
+            }
+        }
+    }
+
+    /// Where the student may stand.
+    pub(crate) fn guess(&self, student: StudentNo) -> usize {
+        let guess = self
+            .place(student)
+            .and_then(|place| self.positions.get(place));
+        guess.map_or(0, |position| *position as usize)
+    }
+}
