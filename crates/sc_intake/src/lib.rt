@@ -7,6 +7,7 @@
 
 mod blanks;
 mod byte_order_mark;
+mod counting;
 mod fault;
 mod field;
 mod input;
