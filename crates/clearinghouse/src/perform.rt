@@ -7,7 +7,7 @@ use sc_papers::{Seed, StudentNo};
 use sc_report::{Watched, write_whole};
 use sc_runs::{
     Checked, Ending, Explained, Inputs, Opening, PapersFile, PapersFiles, RunFault, Settling, Tail,
-    Verdict, audit_files, check_files, explain_files, export_files, fault_line, match_standing,
+    Verdict, audit_files, check_files, explain_files, export_files, fault_line, match_settled,
     read_student, replay_files, run, run_bundle, status_of, summary_files,
 };
 use sc_words::{FileWords, OpeningWords, Order, Subcommand, Word, order_of};
@@ -67,9 +67,9 @@ fn match_opening<R: Files + AllocGlobal, W: Write>(
 ) -> Result<Ending, RunFault> {
     keep_memory(rt.alloc());
     let mut opening = open_opening(rt, &words.files)?;
-    let clearing = match_standing(rt.alloc(), seed, &mut opening, show_log, out)?;
-    // The program ends here, so what stands is not taken apart.
-    forget(clearing);
+    let settled = match_settled(rt.alloc(), seed, &mut opening, show_log, out)?;
+    // The program ends here, so the papers are not taken apart.
+    forget(settled);
     Ok(Ending::Done)
 }
 

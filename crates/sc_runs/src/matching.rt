@@ -1,38 +1,62 @@
 //! From three files to an assignment.
 
 ghost use Rattle.std.specs.Prelude.{◌≡◌, ◌||◌, All, IfOk, Ok};
-ghost use Rattle.sc_stamps.specs.Stamps.{no_stamps};
-ghost use Rattle.sc_repair.specs.Standing.{IsCertified};
 ghost use Rattle.sc_report.specs.Watched.{device_of, has_failed};
 ghost use Rattle.sc_runs.specs.Inputs.{opening_turns, texts_of, TakesWithin};
-ghost use Rattle.sc_runs.specs.Opening.{is_output_fault, opening_in, papers_in, ArePapersOf, MatchesFiles, WritesMatch};
+ghost use Rattle.sc_runs.specs.Opening.{is_output_fault, opening_in, papers_in, ArePapersOf, AreSettled, MatchesFiles, WritesMatch};
 
 use crate::fault::RunFault;
 use crate::inputs::{Opening, OpeningSlices, OpeningTexts, read_opening};
-use crate::opening::{open_owned, open_texts};
+use crate::opening::{read_owned, read_papers};
+use crate::settled::{SettledPapers, settle_papers};
 use crate::writing::{write_flushed_report, write_log};
-use sc_papers::Seed;
-use sc_repair::Clearing;
+use sc_papers::{Papers, Seed};
 use sc_report::Watched;
 use std::alloc::Global;
 use std::io::{Read, Write};
 
-/// Writes the report of papers that were opened, or their log, and flushes it.
-fn write_opened<W: Write>(
+/// Writes the report of settled papers, or their log, and flushes it.
+fn write_settled<W: Write>(
     alloc: Global,
-    clearing: &Clearing,
+    settled: &SettledPapers,
     show_log: bool,
     out: &mut Watched<W>,
 ) -> Result<(), RunFault>
-    requires certified { IsCertified clearing.now.standing }
-    ensures bytes { WritesMatch show_log (Ok clearing.now.standing.papers)
+    requires settled { AreSettled settled.now }
+    ensures bytes { WritesMatch show_log (Ok settled.now.papers)
         (W.contents (device_of out.old)) (W.contents (device_of out.new)) result }
     ensures failed { has_failed out.new ≡ (has_failed out.old || is_output_fault result) }
 {
     if show_log {
-        write_log(alloc, clearing, out)
+        write_log(alloc, settled.settled.log.as_slice(), out)
     } else {
-        write_flushed_report(alloc, clearing, out)
+        write_flushed_report(alloc, settled.matched(), out)
+    }
+}
+
+/// Settles papers and writes their report, or their log, and flushes it. It answers the papers, settled.
+fn match_papers<W: Write>(
+    alloc: Global,
+    papers: Papers,
+    show_log: bool,
+    out: &mut Watched<W>,
+) -> Result<SettledPapers, RunFault>
+    ensures bytes { WritesMatch show_log (Ok papers)
+        (W.contents (device_of out.old)) (W.contents (device_of out.new)) result }
+    ensures papers { IfOk result (λ done. done.papers ≡ papers) }
+    ensures settled { IfOk result AreSettled }
+    ensures failed { has_failed out.new ≡ (has_failed out.old || is_output_fault result) }
+{
+    let settled = match settle_papers(alloc, papers, show_log) {
+        Ok(settled) => settled,
+        Err(fault) => return Err(fault),
+    };
+    match write_settled(alloc, &settled, show_log, out) {
+        Ok(()) => Ok(settled),
+        Err(fault) => {
+            drop(settled);
+            Err(fault)
+        }
     }
 }
 
@@ -48,57 +72,53 @@ pub fn match_texts<W: Write>(
         (W.contents (device_of out.old)) (W.contents (device_of out.new)) result }
     ensures failed { has_failed out.new ≡ (has_failed out.old || is_output_fault result) }
 {
-    match open_texts(alloc, seed, texts) {
-        Ok(clearing) => {
-            let written = write_opened(alloc, &clearing, show_log, out);
-            drop(clearing);
-            written
+    let papers = match read_papers(alloc, seed, texts) {
+        Ok(papers) => papers,
+        Err(fault) => return Err(fault),
+    };
+    match match_papers(alloc, papers, show_log, out) {
+        Ok(settled) => {
+            drop(settled);
+            Ok(())
         }
         Err(fault) => Err(fault),
     }
 }
 
-/// Opens the papers that the texts hold and writes their report, or their log, as `match_texts` does. It answers what
-/// stands.
+/// Does what `match_texts` does, and answers the papers, settled. The texts are given up once the papers are read, so
+/// that their memory serves the settling.
 fn match_owned<W: Write>(
     alloc: Global,
     seed: &Seed,
     texts: OpeningTexts,
     show_log: bool,
     out: &mut Watched<W>,
-) -> Result<Clearing, RunFault>
+) -> Result<SettledPapers, RunFault>
     ensures bytes { WritesMatch show_log (opening_in seed.now (texts_of texts))
         (W.contents (device_of out.old)) (W.contents (device_of out.new)) result }
-    ensures papers { IfOk result (λ clearing. opening_in seed.now (texts_of texts) ≡ Ok clearing.standing.papers) }
-    ensures unamended { IfOk result (λ clearing. clearing.stamps ≡ no_stamps clearing.standing.papers) }
+    ensures papers { IfOk result (λ done. opening_in seed.now (texts_of texts) ≡ Ok done.papers) }
+    ensures settled { IfOk result AreSettled }
     ensures failed { has_failed out.new ≡ (has_failed out.old || is_output_fault result) }
 {
-    let clearing = match open_owned(alloc, seed, texts) {
-        Ok(clearing) => clearing,
-        Err(fault) => return Err(fault),
-    };
-    match write_opened(alloc, &clearing, show_log, out) {
-        Ok(()) => Ok(clearing),
-        Err(fault) => {
-            drop(clearing);
-            Err(fault)
-        }
+    match read_owned(alloc, seed, texts) {
+        Ok(papers) => match_papers(alloc, papers, show_log, out),
+        Err(fault) => Err(fault),
     }
 }
 
-/// Does what `match_files` does, and answers what stands, each stamp of it 0, for a caller that goes on
-/// with it.
-pub fn match_standing<R: Read, W: Write>(
+/// Does what `match_files` does, and answers the papers of the files with their assignment, for a caller that goes on
+/// with them.
+pub fn match_settled<R: Read, W: Write>(
     alloc: Global,
     seed: &Seed,
     opening: &mut Opening<R>,
     show_log: bool,
     out: &mut Watched<W>,
-) -> Result<Clearing, RunFault>
+) -> Result<SettledPapers, RunFault>
     ensures bytes { MatchesFiles seed.now show_log (opening_turns R.remaining opening.old opening.new)
         (W.contents (device_of out.old)) (W.contents (device_of out.new)) result }
-    ensures papers { IfOk result (λ clearing. ArePapersOf seed.now (opening_turns R.remaining opening.old opening.new) clearing.standing.papers) }
-    ensures unamended { IfOk result (λ clearing. clearing.stamps ≡ no_stamps clearing.standing.papers) }
+    ensures papers { IfOk result (λ done. ArePapersOf seed.now (opening_turns R.remaining opening.old opening.new) done.papers) }
+    ensures settled { IfOk result AreSettled }
     ensures failed { has_failed out.new ≡ (has_failed out.old || is_output_fault result) }
     ensures limit { All TakesWithin (opening_turns R.remaining opening.old opening.new) }
 {
@@ -129,9 +149,9 @@ pub fn match_files<R: Read, W: Write>(
     ensures failed { has_failed out.new ≡ (has_failed out.old || is_output_fault result) }
     ensures limit { All TakesWithin (opening_turns R.remaining opening.old opening.new) }
 {
-    match match_standing(alloc, seed, opening, show_log, out) {
-        Ok(clearing) => {
-            drop(clearing);
+    match match_settled(alloc, seed, opening, show_log, out) {
+        Ok(settled) => {
+            drop(settled);
             Ok(())
         }
         Err(fault) => Err(fault),

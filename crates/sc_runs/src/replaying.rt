@@ -4,22 +4,42 @@ ghost use Rattle.std.specs.Prelude.{◌≡◌, ◌||◌, ◌++◌, ◌∷◌, []
 ghost use Rattle.sc_intake.specs.declared.fault.Source.TheVariants as input;
 ghost use Rattle.sc_report.specs.Watched.{device_of, has_failed};
 ghost use Rattle.sc_runs.specs.Inputs.{opening_turns, turn_of, TakesWithin};
-ghost use Rattle.sc_runs.specs.Opening.{is_output_fault, papers_in};
+ghost use Rattle.sc_runs.specs.Opening.{is_output_fault, papers_in, IsReport, WritesText};
 ghost use Rattle.sc_runs.specs.Replaying.{ReplaysFiles, WritesReplay};
 
 use crate::fault::RunFault;
 use crate::inputs::{Opening, OpeningSlices, read_inputs};
 use crate::opening::read_papers;
+use crate::settled::settle_papers;
 use crate::writing::write_flushed_report;
 use sc_intake::Source;
-use sc_journal::{Tail, replay};
+use sc_journal::{Tail, replay_papers};
 use sc_papers::{Papers, Seed};
 use sc_report::Watched;
 use std::alloc::Global;
 use std::io::{Read, Write};
 
-/// Replays a journal over papers.
-fn replay_papers<W: Write>(
+/// Settles papers and writes their report, and flushes it.
+fn report_papers<W: Write>(
+    alloc: Global,
+    papers: Papers,
+    out: &mut Watched<W>,
+) -> Result<(), RunFault>
+    ensures bytes { WritesText (IsReport papers) (W.contents (device_of out.old)) (W.contents (device_of out.new)) result }
+    ensures failed { has_failed out.new ≡ (has_failed out.old || is_output_fault result) }
+{
+    match settle_papers(alloc, papers, false) {
+        Ok(settled) => {
+            let written = write_flushed_report(alloc, settled.matched(), out);
+            drop(settled);
+            written
+        }
+        Err(fault) => Err(fault),
+    }
+}
+
+/// Replays a journal over papers, and writes the report of the papers as they then stand.
+fn report_replayed<W: Write>(
     alloc: Global,
     papers: Papers,
     journal: &[u8],
@@ -28,15 +48,11 @@ fn replay_papers<W: Write>(
     ensures report { WritesReplay (Ok papers) journal.now (W.contents (device_of out.old)) (W.contents (device_of out.new)) result }
     ensures failed { has_failed out.new ≡ (has_failed out.old || is_output_fault result) }
 {
-    match replay(alloc, papers, journal) {
-        Ok((clearing, tail)) => {
-            let written = write_flushed_report(alloc, &clearing, out);
-            drop(clearing);
-            match written {
-                Ok(()) => Ok(tail),
-                Err(fault) => Err(fault),
-            }
-        }
+    match replay_papers(alloc, papers, journal) {
+        Ok((amended, tail)) => match report_papers(alloc, amended.into_papers(), out) {
+            Ok(()) => Ok(tail),
+            Err(fault) => Err(fault),
+        },
         Err(fault) => Err(RunFault::from(fault)),
     }
 }
@@ -54,7 +70,7 @@ fn replay_texts<W: Write>(
     ensures failed { has_failed out.new ≡ (has_failed out.old || is_output_fault result) }
 {
     match read_papers(alloc, seed, texts) {
-        Ok(papers) => replay_papers(alloc, papers, journal, out),
+        Ok(papers) => report_replayed(alloc, papers, journal, out),
         Err(fault) => Err(fault),
     }
 }

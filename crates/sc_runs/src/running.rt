@@ -20,7 +20,7 @@ use crate::inputs::{Inputs, OpeningSlices, read_inputs};
 use crate::opening::read_papers;
 use crate::recorder::Recorder;
 use crate::script::Session;
-use crate::writing::{flush_output, write_report_text};
+use crate::writing::{flush_output, write_standing_report};
 use sc_intake::{ScriptRecords, Source};
 use sc_papers::{Papers, Seed};
 use sc_repair::{Clearing, Unsettled};
@@ -50,7 +50,7 @@ fn finish<W: Write, J: Recorder>(
     ensures failed { has_failed out.new ≡ (has_failed out.old || is_output_fault result) }
     ensures journal_failed { J.has_failed journal.new ≡ (J.has_failed journal.old || is_journal_fault result) }
 {
-    if let Err(fault) = write_report_text(alloc, clearing, out) {
+    if let Err(fault) = write_standing_report(alloc, clearing, out) {
         return Err(fault);
     }
     match journal.flush() {

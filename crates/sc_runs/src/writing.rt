@@ -1,17 +1,20 @@
-//! Writing to the output: a line, a text, the report and the log of the standing assignment.
+//! Writing to the output: a line, a text, a report and a log.
 
-ghost use Rattle.std.specs.Prelude.{◌≡◌, ◌||◌, IfErr, IfOk};
+ghost use Rattle.std.specs.Prelude.{◌≡◌, ◌||◌, IfErr};
 ghost use Rattle.std.specs.Io.KnownBytes.{Keeps};
-ghost use Rattle.sc_repair.specs.Standing.{matching_of, IsCertified};
+ghost use Rattle.sc_papers.specs.Assignment.{assigned};
+ghost use Rattle.sc_repair.specs.Standing.{matching_of};
+ghost use Rattle.sc_report.specs.LogText.{log_text};
 ghost use Rattle.sc_report.specs.Text.{IsReportText};
 ghost use Rattle.sc_report.specs.Watched.{device_of, has_failed};
-ghost use Rattle.sc_runs.specs.Opening.{is_output_fault, IsCertificate, WritesExactly, WritesText};
+ghost use Rattle.sc_runs.specs.Opening.{is_output_fault, WritesExactly, WritesText};
 ghost use Rattle.sc_runs.specs.declared.fault.RunFault.TheVariants.{WriteOut};
 
 use crate::fault::RunFault;
+use sc_papers::Rejection;
 use sc_repair::Clearing;
-use sc_report::{ReportFault, Watched, log_text, write_report, write_whole};
-use std::alloc::{AllocError, Global};
+use sc_report::{Matched, ReportFault, Watched, log_text, write_report_of, write_whole};
+use std::alloc::Global;
 use std::io::Write;
 
 /// Writes a line, or any text, and does not flush it.
@@ -48,25 +51,25 @@ pub fn write_text<W: Write>(text: &[u8], out: &mut Watched<W>) -> Result<(), Run
     flush_output(out)
 }
 
-/// Writes the report of the standing assignment, and does not flush it.
+/// Writes the report of papers and an assignment, and does not flush it.
 pub fn write_report_text<W: Write>(
     alloc: Global,
-    clearing: &Clearing,
+    matched: Matched<'_>,
     out: &mut Watched<W>,
 ) -> Result<(), RunFault>
-    ensures bytes { WritesText (IsReportText clearing.now.standing.papers (matching_of clearing.now.standing))
+    ensures bytes { WritesText (IsReportText matched.entry.papers.now (assigned matched.entry.places.now))
         (W.contents (device_of out.old)) (W.contents (device_of out.new)) result }
     ensures failed { has_failed out.new ≡ (has_failed out.old || is_output_fault result) }
 {
-    match write_report(alloc, clearing, out) {
+    match write_report_of(alloc, matched, out) {
         Ok(()) => Ok(()),
         Err(ReportFault::Write) => Err(RunFault::WriteOut),
         Err(ReportFault::OutOfMemory) => Err(RunFault::OutOfMemory),
     }
 }
 
-/// Writes the report of the standing assignment, and flushes it.
-pub fn write_flushed_report<W: Write>(
+/// Writes the report of the standing assignment of a clearing, and does not flush it.
+pub fn write_standing_report<W: Write>(
     alloc: Global,
     clearing: &Clearing,
     out: &mut Watched<W>,
@@ -75,34 +78,36 @@ pub fn write_flushed_report<W: Write>(
         (W.contents (device_of out.old)) (W.contents (device_of out.new)) result }
     ensures failed { has_failed out.new ≡ (has_failed out.old || is_output_fault result) }
 {
-    if let Err(fault) = write_report_text(alloc, clearing, out) {
+    write_report_text(alloc, Matched::standing(clearing), out)
+}
+
+/// Writes the report of papers and an assignment, and flushes it.
+pub fn write_flushed_report<W: Write>(
+    alloc: Global,
+    matched: Matched<'_>,
+    out: &mut Watched<W>,
+) -> Result<(), RunFault>
+    ensures bytes { WritesText (IsReportText matched.entry.papers.now (assigned matched.entry.places.now))
+        (W.contents (device_of out.old)) (W.contents (device_of out.new)) result }
+    ensures failed { has_failed out.new ≡ (has_failed out.old || is_output_fault result) }
+{
+    if let Err(fault) = write_report_text(alloc, matched, out) {
         return Err(fault);
     }
     flush_output(out)
 }
 
-/// The log of rejections that certifies the standing assignment, as a text. The only error is want of memory.
-fn certificate(alloc: Global, clearing: &Clearing) -> Result<Vec<u8>, AllocError>
-    requires certified { IsCertified clearing.now.standing }
-    ensures { IfOk result (λ text. IsCertificate clearing.now.standing.papers text.items) }
-{
-    let log = clearing.log()?;
-    let text = log_text(alloc, log.as_slice())?;
-    Ok(text)
-}
-
-/// Writes the log of rejections that certifies the standing assignment, and flushes it.
+/// Writes a log of rejections, and flushes it.
 pub fn write_log<W: Write>(
     alloc: Global,
-    clearing: &Clearing,
+    log: &[Rejection],
     out: &mut Watched<W>,
 ) -> Result<(), RunFault>
-    requires certified { IsCertified clearing.now.standing }
-    ensures bytes { WritesText (IsCertificate clearing.now.standing.papers)
+    ensures bytes { WritesText (λ text. text ≡ log_text log.now)
         (W.contents (device_of out.old)) (W.contents (device_of out.new)) result }
     ensures failed { has_failed out.new ≡ (has_failed out.old || is_output_fault result) }
 {
-    match certificate(alloc, clearing) {
+    match log_text(alloc, log) {
         Ok(text) => write_text(text.as_slice(), out),
         Err(_) => Err(RunFault::OutOfMemory),
     }

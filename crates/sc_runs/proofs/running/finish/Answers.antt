@@ -20,7 +20,7 @@ pub returns-in-Err-flush-clause-writes : goal.returns-in-Err-flush-clause-writes
 returns-in-Err-flush-clause-writes g c =
     let report = report_text c.args.clearing.now.standing.papers (matching_of c.args.clearing.now.standing) in
     let journal = g.J.Recorder.contents c.args.journal.now in
-    let output = g.W.Write.contents (device_of c.write_report_text.new.out) in
+    let output = g.W.Write.contents (device_of c.write_standing_report.new.out) in
     GrowsByPrefix-flushed (to_output report ∷ [])
     journal (g.J.Recorder.contents c.flush.new.self) (g.W.Write.contents (device_of c.args.out.now)) output output
     (Writes-output report journal _ _ (Ok tt) c.in_default.ensures.bytes) c.flush.ensures.bytes (Keeps-refl output)
@@ -31,5 +31,5 @@ returns-clause-writes g c =
     let journal = g.J.Recorder.contents c.args.journal.now in
     Writes-flushed (to_output report ∷ [])
     journal (g.J.Recorder.contents c.flush.new.self) (g.W.Write.contents (device_of c.args.out.now))
-    (g.W.Write.contents (device_of c.write_report_text.new.out)) (g.W.Write.contents (device_of c.flush_output.new.out)) c.flush_output.result
+    (g.W.Write.contents (device_of c.write_standing_report.new.out)) (g.W.Write.contents (device_of c.flush_output.new.out)) c.flush_output.result
     (Writes-output report journal _ _ (Ok tt) c.in_default.ensures.bytes) c.flush.ensures.bytes c.flush_output.ensures.bytes c.flush_output.ensures.kinds

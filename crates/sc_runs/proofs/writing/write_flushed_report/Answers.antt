@@ -1,4 +1,4 @@
-use Rattle.sc_repair.specs.Standing.{matching_of}
+use Rattle.sc_papers.specs.Assignment.{assigned}
 use Rattle.sc_report.specs.Text.{IsReportText}
 use Rattle.sc_runs.proofs.Openings.{WritesExactly-flushed, WritesText-of}
 use Rattle.sc_runs.proofs.writing.write_flushed_report.Goals as goal
@@ -6,5 +6,5 @@ use Rattle.sc_runs.proofs.writing.write_flushed_report.Goals as goal
 pub returns-clause-bytes : goal.returns-clause-bytes
 returns-clause-bytes g c =
     let (text, is, written) = c.in_default.ensures.bytes in
-    WritesText-of (IsReportText c.args.clearing.now.standing.papers (matching_of c.args.clearing.now.standing)) text _ _ c.flush_output.result is
+    WritesText-of (IsReportText c.args.matched.papers.now (assigned c.args.matched.places.now)) text _ _ c.flush_output.result is
     (WritesExactly-flushed text _ _ _ c.flush_output.result written c.flush_output.ensures.bytes c.flush_output.ensures.kinds)
