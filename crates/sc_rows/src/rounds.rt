@@ -8,24 +8,31 @@ ghost use Rattle.sc_engine.specs.RoundView.{Fits, has_entered, SettlesFirst};
 
 use crate::given::{papers_of, school, student};
 use sc_checkpoint::NextChoice;
-use sc_engine::{Round, Settled, settle};
-use sc_markets::{FIVE_STUDENTS, Files, MARKET_B_AND_NEWCOMER, TWO_STUDENTS, log_text};
+use sc_engine::{Round, Settled, settle, settle_by_draws};
+use sc_markets::{
+    FIVE_STUDENTS, Files, MARKET_A, MARKET_B, MARKET_B_AND_NEWCOMER, TWO_STUDENTS, log_text,
+};
 use sc_papers::{Papers, StudentNo};
 use sc_seats::{HeapRoll, Roll, SortedRoll};
 use std::alloc::{AllocError, Global};
 use std::process::Abort;
 
-/// What the proposals came to, as a text: the log, how many proposals there were, and who has which
-/// school, in order of entry.
-fn settled_text(alloc: Global, settled: &Settled) -> Result<String, AllocError> {
-    let mut text = log_text(alloc, settled.log.as_slice())?;
-    write!(text, " {}:", settled.proposals)?;
+/// How many proposals there were, and who has which school, in order of entry, as a text.
+fn outcome_text(alloc: Global, settled: &Settled) -> Result<String, AllocError> {
+    let mut text = format!(in alloc; "{}:", settled.proposals)?;
     for place in 0..settled.assignment.len() {
         if let Some((student, school)) = settled.assignment.at(place) {
             write!(text, " {} at {}", student.get(), school.get())?;
         }
     }
     Ok(text)
+}
+
+/// What the proposals came to, as a text: the log, and the outcome.
+fn settled_text(alloc: Global, settled: &Settled) -> Result<String, AllocError> {
+    let log = log_text(alloc, settled.log.as_slice())?;
+    let outcome = outcome_text(alloc, settled)?;
+    format!(in alloc; "{log} {outcome}")
 }
 
 /// The proposals came to what is wanted.
@@ -55,6 +62,31 @@ fn a_newcomer(rt: HostRuntime) {
     let want = "(1,10)(2,20)(2,10) 5: 1 at 20 3 at 10";
     expect_settled(&rt, rt.alloc(), settled, want);
     drop(papers);
+}
+
+/// Settles a market by draws, which comes to the same outcome as the order of entry.
+fn expect_outcome_by_draws(rt: &impl Abort, alloc: Global, papers: &Papers, want: &str) {
+    let settled = settle_by_draws(alloc, papers).expect(rt, "memory");
+    let outcome = outcome_text(alloc, &settled).expect(rt, "memory");
+    assert_eq!(rt; outcome.as_str(), want);
+    let settled = settle(alloc, papers).expect(rt, "memory");
+    let outcome = outcome_text(alloc, &settled).expect(rt, "memory");
+    assert_eq!(rt; outcome.as_str(), want);
+}
+
+#[test]
+fn entry_by_draws(rt: HostRuntime) {
+    for (files, want) in [
+        (TWO_STUDENTS, "2: 2 at 1"),
+        (MARKET_A, "2: 1 at 10 2 at 20"),
+        (MARKET_B, "2: 1 at 10 2 at 20"),
+        (MARKET_B_AND_NEWCOMER, "5: 1 at 20 3 at 10"),
+        (FIVE_STUDENTS, "6: 1 at 10 4 at 20 5 at 20"),
+    ] {
+        let papers = papers_of(&rt, rt.alloc(), files);
+        expect_outcome_by_draws(&rt, rt.alloc(), &papers, want);
+        drop(papers);
+    }
 }
 
 /// Where the first two students stand once they alone have entered.
