@@ -16,7 +16,7 @@ fn written(number: u32, digits: usize) -> Option<(u32, usize)>
     Some((number, digits))
 }
 
-/// The same as `number_at_front`, byte by byte.
+/// What `number_at_front` answers, byte by byte.
 #[inline(always)]
 fn read_digits(text: &[u8]) -> Option<(u32, usize)>
     ensures { result ≡ number_at_front text.now }
@@ -42,7 +42,7 @@ pub fn number_at_front(text: &[u8]) -> Option<(u32, usize)>
     ensures { result ≡ number_at_front text.now }
 {
     if text.len() > MOST_DIGITS {
-        // No more decide, and where there are so many no digit is tested for the end of the text.
+        // These decide, and since there are so many, none is tested for the end of the text.
         return read_digits(&text[..MOST_DIGITS + 1]);
     }
     read_digits(text)
