@@ -7,7 +7,6 @@
 
 mod blanks;
 mod byte_order_mark;
-mod counting;
 mod fault;
 mod field;
 mod input;

@@ -1,6 +1,6 @@
 //! The rows of a file that has a header.
 
-ghost use Rattle.std.specs.Prelude.{◌≡◌, ℕ, ◌+◌, ◌≤◌, Bool, List, [], ◌≢◌, length, IfErr, IfOk, OnOk, Ok, Result as Reading};
+ghost use Rattle.std.specs.Prelude.{◌≡◌, ℕ, ◌+◌, ◌≤◌, Bool, List, [], ◌≢◌, length, IfErr, IfOk, OnOk, Result as Reading};
 ghost use Rattle.sc_intake.specs.Fault.{Gives, no_memory};
 ghost use Rattle.sc_intake.specs.File.{after_header, rows_after, rows_in};
 ghost use Rattle.sc_intake.specs.Rows.{added, next_row, next_row_at, AreNumbers, AreRows};
@@ -8,7 +8,6 @@ ghost use Rattle.sc_intake.specs.declared.fault.Cause.{Cause as Why};
 ghost use Rattle.sc_intake.specs.declared.fault.Cause.TheVariants.{OutOfMemory};
 ghost use Rattle.sc_intake.specs.declared.fault.Source.{Source as Input};
 
-use crate::counting::count_of;
 use crate::fault::{Cause, IntakeFault, Source};
 use crate::input::records_in;
 use crate::records::Records;
@@ -145,28 +144,16 @@ pub(crate) fn add_row<R: Row>(
     Ok(())
 }
 
-/// An empty list with room for so many rows.
-fn with_room<R: Row>(alloc: Global, room: usize) -> Result<Vec<R>, IntakeFault>
-    ensures { Gives (λ rows. rows.items) (no_memory R.source) (Ok []) result }
-{
-    match Vec::with_capacity(alloc, room) {
-        Ok(rows) => Ok(rows),
-        Err(_) => Err(IntakeFault::no_memory(R::source())),
-    }
-}
-
-/// The rows after a header of so many fields. There is room for so many from the first on, and more is taken where it
-/// is wanted.
+/// The rows after a header of so many fields.
 fn take_rows<R: Row>(
     alloc: Global,
-    room: usize,
     width: usize,
     records: &mut Records,
 ) -> Result<Vec<R>, IntakeFault>
     ensures gives { Gives (λ rows. rows.items) (no_memory R.source) (rows_after 2 R.source (next_row R.MOST R.number R.reading width) [] records.old.left) result }
     ensures rows { IfOk result (λ rows. AreRows R.number R.MOST rows.items) }
 {
-    let mut rows = with_room(alloc, room)?;
+    let mut rows = Vec::new(alloc);
     let mut seen = SeenNumbers::new(alloc);
     'rows: while records.advance(R::source())? {
         let row = rows.len() as u64 + 2;
@@ -177,14 +164,12 @@ fn take_rows<R: Row>(
     Ok(rows)
 }
 
-/// The rows of a file, or the first fault of the first faulty row. Room for them is taken once, at the number of the
-/// file's line feeds.
+/// The rows of a file, or the first fault of the first faulty row.
 pub(crate) fn read_rows<R: Row>(alloc: Global, bytes: &[u8]) -> Result<Rows<R>, IntakeFault>
     ensures { Gives (λ rows. rows) (no_memory R.source) (rows_in R.source R.is_header (next_row R.MOST R.number R.reading) bytes.now) result }
 {
     let mut records = records_in(alloc, R::source(), bytes)?;
     let width = take_header::<R>(&mut records)?;
-    let room = count_of(b'\n', bytes).min(R::MOST);
-    let rows = take_rows(alloc, room, width, &mut records)?;
+    let rows = take_rows(alloc, width, &mut records)?;
     Ok(Rows { rows })
 }

@@ -5,7 +5,7 @@ use Rattle.sc_intake.proofs.rows.take_rows.Goals as goal
 
 pub rows-init : goal.rows-init
 rows-init g c =
-    let none : c.in_ok-rows.rows.items ≡ [] = search rules in
+    let none : c.new-rows.result.items ≡ [] = search rules in
     record {
       gives = rw none refl;
       rows = rw none (AreRows-none g.R.Numbered.number g.R.Numbered.MOST);
