@@ -65,7 +65,6 @@ fn match_opening<R: Files + AllocGlobal, W: Write>(
     show_log: bool,
     out: &mut Watched<W>,
 ) -> Result<Ending, RunFault> {
-    keep_memory(rt.alloc());
     let mut opening = open_opening(rt, &words.files)?;
     let settled = match_settled(rt.alloc(), seed, &mut opening, show_log, out)?;
     // The program ends here, so the papers are not taken apart.
@@ -300,6 +299,7 @@ fn perform_subcommand<R: Files + AllocGlobal, W: Write>(
         Ok(seed) => seed,
         Err(error) => return Ending::BadSeed(error),
     };
+    keep_memory(rt.alloc());
     match dispatch(rt, &seed, opening, subcommand, out) {
         Ok(ending) => ending,
         Err(fault) => Ending::Fault(fault),

@@ -40,27 +40,25 @@ pub EndsAmong-last : (turns : List Turn) (turn : Turn) (texts : List (List ℕ))
 EndsAmong-last turns turn texts fault read ended = EndsAmong-later turns (turn ∷ []) texts fault read (inl (ended, All-nil IsUntouched))
 
 -- the files and the log were read, and the log was audited
-pub AuditsFiles-read : (seed : List ℕ) (turns : List Turn) (texts : Texts) (log schools roster lists given : List ℕ) (old new : Option (List ℕ)) (result : Result Verdict RunFault)
-    → AreRead turns (in_order texts ++ log ∷ []) → AreTexts texts schools roster lists → given ≡ log
-    → WritesVerdict (claimed_in (papers_in seed schools roster lists) (log_in given)) old new result → AuditsFiles seed turns old new result
-AuditsFiles-read seed turns texts log schools roster lists given old new result read same is wrote = inr (
+pub AuditsFiles-read : (seed : List ℕ) (turns : List Turn) (texts : Texts) (log given : List ℕ) (old new : Option (List ℕ)) (result : Result Verdict RunFault)
+    → AreRead turns (in_order texts ++ log ∷ []) → given ≡ log
+    → WritesVerdict (claimed_in (opening_in seed texts) (log_in given)) old new result → AuditsFiles seed turns old new result
+AuditsFiles-read seed turns texts log given old new result read is wrote = inr (
   texts,
   log,
   read,
-  subst (λ reading. WritesVerdict (claimed_in reading (log_in log)) old new result) (papers_in-texts seed texts schools roster lists same)
-      (subst (λ text. WritesVerdict (claimed_in (papers_in seed schools roster lists) (log_in text)) old new result) is wrote),
+  subst (λ text. WritesVerdict (claimed_in (opening_in seed texts) (log_in text)) old new result) is wrote,
 )
 
 -- the files and the journal were read, and the journal was replayed
-pub ReplaysFiles-read : (seed : List ℕ) (turns : List Turn) (texts : Texts) (journal schools roster lists given : List ℕ) (old new : Option (List ℕ)) (result : Result Tail RunFault)
-    → AreRead turns (in_order texts ++ journal ∷ []) → AreTexts texts schools roster lists → given ≡ journal
-    → WritesReplay (papers_in seed schools roster lists) given old new result → ReplaysFiles seed turns old new result
-ReplaysFiles-read seed turns texts journal schools roster lists given old new result read same is wrote = inr (
+pub ReplaysFiles-read : (seed : List ℕ) (turns : List Turn) (texts : Texts) (journal given : List ℕ) (old new : Option (List ℕ)) (result : Result Tail RunFault)
+    → AreRead turns (in_order texts ++ journal ∷ []) → given ≡ journal
+    → WritesReplay (opening_in seed texts) given old new result → ReplaysFiles seed turns old new result
+ReplaysFiles-read seed turns texts journal given old new result read is wrote = inr (
   texts,
   journal,
   read,
-  subst (λ reading. WritesReplay reading journal old new result) (papers_in-texts seed texts schools roster lists same)
-      (subst (λ text. WritesReplay (papers_in seed schools roster lists) text old new result) is wrote),
+  subst (λ text. WritesReplay (opening_in seed texts) text old new result) is wrote,
 )
 
 -- the files and the script were read, and run

@@ -6,12 +6,12 @@ ghost use Rattle.sc_intake.specs.Log.{log_in};
 ghost use Rattle.sc_intake.specs.declared.fault.Source.TheVariants as input;
 ghost use Rattle.sc_report.specs.Watched.{device_of, has_failed};
 ghost use Rattle.sc_runs.specs.Auditing.{claimed_in, verdict_text, AuditsFiles, WritesVerdictLine, WritesVerdict};
-ghost use Rattle.sc_runs.specs.Inputs.{opening_turns, turn_of, TakesWithin};
-ghost use Rattle.sc_runs.specs.Opening.{is_output_fault, papers_in, IsOpeningFault};
+ghost use Rattle.sc_runs.specs.Inputs.{opening_turns, texts_of, turn_of, TakesWithin};
+ghost use Rattle.sc_runs.specs.Opening.{is_output_fault, opening_in, IsOpeningFault};
 
 use crate::fault::RunFault;
-use crate::inputs::{Opening, OpeningSlices, read_inputs};
-use crate::opening::read_papers;
+use crate::inputs::{Opening, OpeningTexts, read_inputs};
+use crate::opening::read_owned;
 use crate::writing::write_text;
 use sc_audit::{Verdict, audit};
 use sc_decimal::push_number;
@@ -88,19 +88,19 @@ fn audit_papers<W: Write>(
     }
 }
 
-/// Audits a log under the papers that the texts hold.
+/// Audits a log under the papers that the texts hold. The texts are given up once the papers are read.
 fn audit_texts<W: Write>(
     alloc: Global,
     seed: &Seed,
-    texts: OpeningSlices<'_>,
+    texts: OpeningTexts,
     log: &[u8],
     out: &mut Watched<W>,
 ) -> Result<Verdict, RunFault>
-    ensures verdict { WritesVerdict (claimed_in (papers_in seed.now texts.entry.schools.now texts.entry.roster.now texts.entry.lists.now) (log_in log.now))
+    ensures verdict { WritesVerdict (claimed_in (opening_in seed.now (texts_of texts)) (log_in log.now))
         (W.contents (device_of out.old)) (W.contents (device_of out.new)) result }
     ensures failed { has_failed out.new ≡ (has_failed out.old || is_output_fault result) }
 {
-    match read_papers(alloc, seed, texts) {
+    match read_owned(alloc, seed, texts) {
         Ok(papers) => {
             let verdict = audit_papers(alloc, &papers, log, out);
             drop(papers);
@@ -134,11 +134,5 @@ pub fn audit_files<R: Read, W: Write>(
         Ok(texts) => texts,
         Err(fault) => return Err(fault),
     };
-    audit_texts(
-        alloc,
-        seed,
-        texts.opening.as_slices(),
-        texts.last.as_slice(),
-        out,
-    )
+    audit_texts(alloc, seed, texts.opening, texts.last.as_slice(), out)
 }

@@ -3,13 +3,13 @@
 ghost use Rattle.std.specs.Prelude.{◌≡◌, ◌||◌, ◌++◌, ◌∷◌, [], All, Ok};
 ghost use Rattle.sc_intake.specs.declared.fault.Source.TheVariants as input;
 ghost use Rattle.sc_report.specs.Watched.{device_of, has_failed};
-ghost use Rattle.sc_runs.specs.Inputs.{opening_turns, turn_of, TakesWithin};
-ghost use Rattle.sc_runs.specs.Opening.{is_output_fault, papers_in, IsReport, WritesText};
+ghost use Rattle.sc_runs.specs.Inputs.{opening_turns, texts_of, turn_of, TakesWithin};
+ghost use Rattle.sc_runs.specs.Opening.{is_output_fault, opening_in, IsReport, WritesText};
 ghost use Rattle.sc_runs.specs.Replaying.{ReplaysFiles, WritesReplay};
 
 use crate::fault::RunFault;
-use crate::inputs::{Opening, OpeningSlices, read_inputs};
-use crate::opening::read_papers;
+use crate::inputs::{Opening, OpeningTexts, read_inputs};
+use crate::opening::read_owned;
 use crate::settled::settle_papers;
 use crate::writing::write_flushed_report;
 use sc_intake::Source;
@@ -57,19 +57,19 @@ fn report_replayed<W: Write>(
     }
 }
 
-/// Replays a journal over the papers that the texts hold.
+/// Replays a journal over the papers that the texts hold. The texts are given up once the papers are read.
 fn replay_texts<W: Write>(
     alloc: Global,
     seed: &Seed,
-    texts: OpeningSlices<'_>,
+    texts: OpeningTexts,
     journal: &[u8],
     out: &mut Watched<W>,
 ) -> Result<Tail, RunFault>
-    ensures report { WritesReplay (papers_in seed.now texts.entry.schools.now texts.entry.roster.now texts.entry.lists.now) journal.now
+    ensures report { WritesReplay (opening_in seed.now (texts_of texts)) journal.now
         (W.contents (device_of out.old)) (W.contents (device_of out.new)) result }
     ensures failed { has_failed out.new ≡ (has_failed out.old || is_output_fault result) }
 {
-    match read_papers(alloc, seed, texts) {
+    match read_owned(alloc, seed, texts) {
         Ok(papers) => report_replayed(alloc, papers, journal, out),
         Err(fault) => Err(fault),
     }
@@ -100,11 +100,5 @@ pub fn replay_files<R: Read, W: Write>(
         Ok(texts) => texts,
         Err(fault) => return Err(fault),
     };
-    replay_texts(
-        alloc,
-        seed,
-        texts.opening.as_slices(),
-        texts.last.as_slice(),
-        out,
-    )
+    replay_texts(alloc, seed, texts.opening, texts.last.as_slice(), out)
 }

@@ -9,7 +9,7 @@ pub returns-clause-verdict : goal.returns-clause-verdict
 returns-clause-verdict g c =
     let turns = opening_turns g.R.Read.remaining c.args.opening.now c.read_inputs.new.opening ++ turn_of g.R.Read.remaining input.Log c.args.log.now c.read_inputs.new.last ∷ [] in
     AuditsFiles-read c.args.seed.now turns (texts_of c.in-Ok.texts.opening) c.in-Ok.texts.last.items
-    c.as_slices.result.schools.now c.as_slices.result.roster.now c.as_slices.result.lists.now c.as_slice.result.now
+    c.as_slice.result.now
     (g.W.Write.contents (device_of c.args.out.now)) (g.W.Write.contents (device_of c.audit_texts.new.out)) c.audit_texts.result
-    c.in-Ok.ensures.read (record { schools_same = c.as_slices.ensures.schools; roster_same = c.as_slices.ensures.roster; lists_same = c.as_slices.ensures.lists })
+    c.in-Ok.ensures.read
     c.as_slice.ensures.value c.audit_texts.ensures.verdict
