@@ -1,17 +1,17 @@
 -- What an offer does to the keys of a heap.
-use Rattle.std.proofs.Common.{◌≡◌, refl, ap, sym, ◌∙◌, inl, inr, subst, ◌-◌, true, false, List, [], ◌∷◌, length, get_or, Option, Some, None, IfSome, Contains, All, slice_get, arith}
+use Rattle.std.proofs.Common.{◌≡◌, refl, ap, sym, ◌∙◌, inl, inr, subst, ◌-◌, true, false, List, [], ◌∷◌, ◌++◌, ◌<◌, length, get_or, Option, Some, None, IfSome, Contains, All, slice_get, arith}
 use Rattle.std.specs.Prelude.{IfNone}
 use Rattle.std.specs.Option.{option_map_or}
 use Rattle.std.proofs.lemmas.List.{get_or_default}
 use Rattle.std.specs.List.Sorted.{IsPermutation}
 use Rattle.std.proofs.lemmas.Bool.{cases_Bool, false_from_ne_true, true≢false}
 use Rattle.std.proofs.lemmas.Bool.Decides.{nat_tests}
-use Rattle.std.proofs.lemmas.List.Elements.{All-contains}
+use Rattle.std.proofs.lemmas.List.Elements.{All-append, All-cons, All-contains, All-nil, Contains-append_left, Contains-append_right}
 use Rattle.std.proofs.lemmas.List.Sorted.{IsPermutation-swap, IsPermutation-cons, IsPermutation-trans, IsPermutation-sym, All-permutation, Contains-permutation, length_permutation}
 use Rattle.sc_papers.specs.Key.{is_before}
 use Rattle.sc_papers.specs.declared.key.Key.{Key}
-use Rattle.sc_papers.proofs.Counting.{contains-cons, contains-tail}
-use Rattle.sc_seats.specs.Heap.{IsLastOf}
+use Rattle.sc_papers.proofs.Counting.{contains-cons, contains-head, contains-tail}
+use Rattle.sc_seats.specs.Last.{IsLastOf}
 use Rattle.sc_seats.specs.Roll.{IsAscending, in_order}
 use Rattle.sc_papers.proofs.Priority.{before-trans}
 use Rattle.sc_seats.proofs.Ordering.{ties, ties-same, behind-apart, Differ, Differ-ascending, Differ-permutation, Differ-cons, Differ-head, Differ-tail, in_order-permutes, ascending-in_order, last-of}
@@ -108,3 +108,45 @@ behind-all None keys key is behind = subst (All (λ held. is_before key held ≡
 behind-all (Some last) keys key is behind =
     all-from (λ held. is_before key held ≡ false) keys (λ x among. false_from_ne_true (is_before key x)
     (λ ahead. absurd (true≢false (sym (ahead-of_last key x last ahead (All-contains (λ y. is_before last y ≡ false) keys x is.behind among)) ∙ behind))))
+
+-- a heap is made of the keys, and the last leaves it for another
+pub heaped-together : (old heap new : List Key) (key last : Key) → IsPermutation old heap → IsPermutation (key ∷ heap) (last ∷ new) → IsPermutation (key ∷ old) (last ∷ new)
+heaped-together old heap new key last made replaced =
+    IsPermutation-trans (key ∷ old) (key ∷ heap) (last ∷ new) (IsPermutation-cons key old heap made) replaced
+
+pub heaped-last : (old heap : List Key) (last : Key) → IsPermutation old heap → All (λ held. is_before last held ≡ false) heap → All (λ held. is_before last held ≡ false) old
+heaped-last old heap last made = All-permutation (λ held. is_before last held ≡ false) heap old (IsPermutation-sym old heap made)
+
+-- keys that have a last one are some, and so are those in which another stands in its place
+pub some-held : (keys : List Key) (last : Key) → IsLastOf (Some last) keys → 0 < length keys
+some-held keys last is = omega (arith, is.held.1)
+
+pub some-replaced : (old new : List Key) (key out last : Key) → IsLastOf (Some last) old → IsPermutation (key ∷ old) (out ∷ new) → 0 < length new
+some-replaced old new key out last is moved = omega (arith, some-held old last is, length_permutation (key ∷ old) (out ∷ new) moved)
+
+-- no key is ahead of itself
+before-itself : (key : Key) → is_before key key ≡ false
+before-itself key = grind (arith, nat_tests)
+
+only-last : (key : Key) → All (λ other. is_before key other ≡ false) (key ∷ [])
+only-last key = All-cons (λ other. is_before key other ≡ false) key [] (before-itself key) (All-nil (λ other. is_before key other ≡ false))
+
+-- a key that is appended is the last where the last so far is ahead of it
+pub last-renewed : (keys : List Key) (key last : Key) → IsLastOf (Some last) keys → is_before last key ≡ true → IsLastOf (Some key) (keys ++ key ∷ [])
+last-renewed keys key last is ahead = record {
+  held = Contains-append_right keys (key ∷ []) key (contains-head key []);
+  behind = All-append (λ other. is_before key other ≡ false) keys (key ∷ [])
+      (all-from (λ other. is_before key other ≡ false) keys (λ x among. false_from_ne_true (is_before key x)
+      (λ before. absurd (true≢false (sym (before-trans last key x ahead before) ∙ All-contains (λ other. is_before last other ≡ false) keys x is.behind among)))))
+      (only-last key);
+  none = tt;
+}
+
+-- and the last so far stays the last where it is not
+pub last-stays : (keys : List Key) (key last : Key) → IsLastOf (Some last) keys → is_before last key ≡ false → IsLastOf (Some last) (keys ++ key ∷ [])
+last-stays keys key last is behind = record {
+  held = Contains-append_left keys (key ∷ []) last is.held;
+  behind = All-append (λ other. is_before last other ≡ false) keys (key ∷ []) is.behind
+      (All-cons (λ other. is_before last other ≡ false) key [] behind (All-nil (λ other. is_before last other ≡ false)));
+  none = tt;
+}

@@ -1,24 +1,15 @@
--- How a heap keeps a roll. Contracts see the keys in order.
-use Rattle.std.specs.Prelude.{◌≡◌, ◌≤◌, false, List, [], All, Contains, Option, IfNone, IfSome, length}
-use Rattle.std.specs.BinaryHeap.{heap_items, IsHeap}
-use Rattle.sc_papers.specs.Key.{is_before, key_cmp}
-use Rattle.sc_papers.specs.declared.key.Key.{Key}
+-- What a roll that may keep its keys as a heap holds. Contracts see the keys in order.
+use Rattle.std.specs.Prelude.{◌≡◌, ◌≤◌, true, length}
+use Rattle.sc_seats.specs.Held.{keys_of, is_heap}
 use Rattle.sc_seats.specs.Roll.{RollView, IsAscending, in_order}
 use Rattle.sc_seats.specs.declared.heap.HeapRoll.TheInside.{Inside}
 
 -- the keys in order, and the seats
 abbrev pub view_of : Inside → RollView
-view_of r = record { keys = in_order (heap_items r.keys); seats = r.capacity }
+view_of r = record { keys = in_order (keys_of r.held); seats = r.capacity }
 
--- the last of these keys, which is ahead of none of them; none where there are none
-pub record IsLastOf (last : Option Key) (keys : List Key) : Type 0 where
-  pub held : IfSome last (Contains keys)
-  pub behind : IfSome last (λ key. All (λ other. is_before key other ≡ false) keys)
-  pub none : IfNone last (keys ≡ [])
-
--- what is true of the fields: a heap of keys that differ, no more than the seats, and the last of them
+-- what is true of the fields: keys that differ, no more than the seats, and as many as these where they are a heap
 pub record IsKept (r : Inside) : Type 0 where
-  pub heap : IsHeap key_cmp (heap_items r.keys)
-  pub ascending : IsAscending (in_order (heap_items r.keys))
-  pub within : length (heap_items r.keys) ≤ r.capacity
-  pub last : IsLastOf r.last (heap_items r.keys)
+  pub ascending : IsAscending (in_order (keys_of r.held))
+  pub within : length (keys_of r.held) ≤ r.capacity
+  pub full : is_heap r.held ≡ true → length (keys_of r.held) ≡ r.capacity

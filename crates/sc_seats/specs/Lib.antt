@@ -1,2 +1,4 @@
 pub mod Roll
+pub mod Last
+pub mod Held
 pub mod Heap

@@ -1,23 +1,22 @@
-ghost use Rattle.std.specs.Prelude.{◌≡◌, ℕ, ◌+◌, ◌<◌, ◌≤◌, true, false, List, [], ◌∷◌, ◌++◌, length, All, Contains, IfOk, OnOk, OnErr, IfSome, IfNone};
+ghost use Rattle.std.specs.Prelude.{◌≡◌, ℕ, ◌≤◌, true, false, List, [], ◌∷◌, ◌++◌, length, Contains, OnErr};
 ghost use Rattle.std.specs.Option.{option_map_or};
-ghost use Rattle.std.specs.BinaryHeap.{heap_items, heap_len, heap_capacity, IsHeap};
-ghost use Rattle.std.specs.List.Sorted.{IsPermutation};
-ghost use Rattle.sc_papers.specs.Key.{is_before, key_cmp};
+ghost use Rattle.sc_papers.specs.Key.{is_before};
 
+use crate::held::Held;
 use crate::roll::Roll;
 use sc_papers::{Key, Seats};
 use std::alloc::{AllocError, Global};
-use std::collections::BinaryHeap;
 use std::marker::Model;
 
-/// A roll kept as a heap with the last key on top. An offer that puts out another key costs the logarithm of the seats,
-/// one that is refused a comparison, and a full roll takes no memory for an offer.
+/// A roll kept as a list until it puts out a key that it held, and from then on as a heap with the last key on top.
+/// An offer with a free seat costs a comparison and the room of a key, and one that is refused a comparison. One that
+/// puts out another key costs the logarithm of the seats, and the first such one the seats, since it makes the heap.
+/// A full roll takes no memory for an offer.
 #[derive(Drop)]
 pub struct HeapRoll {
-    keys: BinaryHeap<Key>,
+    alloc: Global,
+    held: Held,
     capacity: Seats,
-    // The last of the keys, if there is one, so that an offer that is refused reads no heap.
-    last: Option<Key>,
 }
 
 impl Model for HeapRoll {
@@ -32,30 +31,6 @@ impl Model for HeapRoll {
     ghost invariant = { IsKept };
 }
 
-/// Adds a key. With room it succeeds.
-fn add(keys: &mut BinaryHeap<Key>, key: Key) -> Result<(), AllocError>
-    ensures added { OnOk result (IsPermutation (key ∷ heap_items keys.old) (heap_items keys.new)) }
-    ensures heap { OnOk result (IsHeap key_cmp (heap_items keys.old) → IsHeap key_cmp (heap_items keys.new)) }
-    ensures unchanged { OnErr result (heap_items keys.new ≡ heap_items keys.old) }
-    ensures room { OnErr result (heap_capacity keys.old ≤ heap_len keys.old) }
-{
-    keys.push(key)?;
-    Ok(())
-}
-
-/// The last key of a heap.
-fn last_of(keys: &BinaryHeap<Key>) -> Option<Key>
-    requires { IsHeap key_cmp (heap_items keys.now) }
-    ensures held { IfSome result (λ last. Contains (heap_items keys.now) last) }
-    ensures last { IfSome result (λ last. All (λ held. is_before last held ≡ false) (heap_items keys.now)) }
-    ensures none { IfNone result (heap_items keys.now ≡ []) }
-{
-    match keys.peek() {
-        Some(last) => Some(*last),
-        None => None,
-    }
-}
-
 /// Whether the key is ahead of the last of those held, if there is one.
 fn is_ahead_of_last(last: &Option<Key>, key: &Key) -> bool
     ensures { result ≡ option_map_or (is_before key.now) last.now false }
@@ -66,23 +41,6 @@ fn is_ahead_of_last(last: &Option<Key>, key: &Key) -> bool
     }
 }
 
-/// Takes the last key out of a heap and adds another in its room.
-fn replace_last(keys: &mut BinaryHeap<Key>, key: Key) -> Key
-    requires some { 0 < length (heap_items keys.old) }
-    requires heap { IsHeap key_cmp (heap_items keys.old) }
-    ensures heap { IsHeap key_cmp (heap_items keys.new) }
-    ensures together { IsPermutation (key ∷ heap_items keys.old) (result ∷ heap_items keys.new) }
-    ensures last { All (λ held. is_before result held ≡ false) (heap_items keys.old) }
-{
-    let Some(mut top) = keys.peek_mut() else {
-        unreachable!()
-    };
-    let last = *top;
-    *top = key;
-    drop(top);
-    last
-}
-
 impl Roll for HeapRoll {
     ghost keys = { λ r. r.keys };
 
@@ -90,32 +48,29 @@ impl Roll for HeapRoll {
 
     fn with_capacity(alloc: Global, capacity: Seats) -> Self {
         HeapRoll {
-            keys: BinaryHeap::new(alloc),
+            alloc,
+            held: Held::Nobody,
             capacity,
-            last: None,
         }
     }
 
     fn offer(&mut self, key: Key) -> Result<Option<Key>, AllocError> {
-        if self.keys.len() < self.capacity.get() as usize {
-            add(&mut self.keys, key)?;
-            self.last = last_of(&self.keys);
+        if self.held.len() < self.capacity.get() as usize {
+            self.held.add(self.alloc, key)?;
             return Ok(None);
         }
-        if is_ahead_of_last(&self.last, &key) {
-            let out = replace_last(&mut self.keys, key);
-            self.last = last_of(&self.keys);
-            return Ok(Some(out));
+        if is_ahead_of_last(&self.held.last(), &key) {
+            return Ok(Some(self.held.replace_last(key)));
         }
         Ok(Some(key))
     }
 
     fn worst(&self) -> Option<Key> {
-        self.last
+        self.held.last()
     }
 
     fn len(&self) -> usize {
-        self.keys.len()
+        self.held.len()
     }
 
     fn capacity(&self) -> Seats {
@@ -124,9 +79,9 @@ impl Roll for HeapRoll {
 
     fn copy(&self) -> Result<Self, AllocError> {
         Ok(HeapRoll {
-            keys: self.keys.clone()?,
+            alloc: self.alloc,
+            held: self.held.copy()?,
             capacity: self.capacity,
-            last: self.last,
         })
     }
 }

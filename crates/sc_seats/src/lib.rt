@@ -5,6 +5,9 @@
 #![tactic(auto)]
 
 mod heap;
+mod held;
+mod key_heap;
+mod key_list;
 mod roll;
 mod sorted;
 

@@ -4,7 +4,7 @@ use Rattle.std.specs.BinaryHeap.PeekMut.{peek_mut_rest}
 use Rattle.std.specs.List.Sorted.{IsPermutation}
 use Rattle.sc_papers.specs.declared.key.Key.{Key}
 use Rattle.sc_seats.proofs.Heaps.{replaced-heap}
-use Rattle.sc_seats.proofs.heap.replace_last.Goals as goal
+use Rattle.sc_seats.proofs.key_heap.replace_last.Goals as goal
 
 pub returns-clause-together : goal.returns-clause-together
 returns-clause-together c =

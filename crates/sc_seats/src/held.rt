@@ -1,0 +1,97 @@
+ghost use Rattle.std.specs.Prelude.{◌≡◌, ◌<◌, true, false, List, ◌∷◌, length, All, IfOk, OnOk, OnErr};
+ghost use Rattle.std.specs.List.Sorted.{IsPermutation};
+ghost use Rattle.sc_papers.specs.Key.{is_before};
+ghost use Rattle.sc_seats.specs.Held.{is_heap, keys_of};
+ghost use Rattle.sc_seats.specs.Last.{IsLastOf};
+
+use crate::key_heap::KeyHeap;
+use crate::key_list::KeyList;
+use sc_papers::Key;
+use std::alloc::{AllocError, Global};
+use std::mem;
+
+/// The keys that a roll holds, in no order that anybody sees.
+#[derive(Drop)]
+pub(crate) enum Held {
+    Nobody,
+    /// Until one of them is put out. Most keys come after all those held, and would rise to the top of a heap.
+    Listed(KeyList),
+    /// From then on.
+    Heaped(KeyHeap),
+}
+
+impl Held {
+    /// Adds a key to those of which none was put out yet, at the cost of a comparison. A refused growth changes
+    /// nothing.
+    pub(crate) fn add(&mut self, alloc: Global, key: Key) -> Result<(), AllocError>
+        requires { is_heap self.old ≡ false }
+        ensures added { OnOk result (IsPermutation (key ∷ keys_of self.old) (keys_of self.new)) }
+        ensures listed { is_heap self.new ≡ false }
+        ensures unchanged { OnErr result (self.new ≡ self.old) }
+    {
+        match self {
+            Held::Nobody => *self = Held::Listed(KeyList::of(alloc, key)?),
+            Held::Listed(keys) => keys.append(key)?,
+            Held::Heaped(_) => unreachable!(),
+        }
+        Ok(())
+    }
+
+    /// The keys as a heap. The cost is their number, where they are none yet.
+    fn into_heap(self) -> KeyHeap
+        requires { 0 < length (keys_of self) }
+        ensures { IsPermutation (keys_of self) result }
+    {
+        match self {
+            Held::Nobody => unreachable!(),
+            Held::Listed(keys) => keys.into_heap(),
+            Held::Heaped(keys) => keys,
+        }
+    }
+
+    /// Puts a key in the place of the last one, which it answers. It takes no memory. The cost is the logarithm of
+    /// their number, and the first time their number.
+    pub(crate) fn replace_last(&mut self, key: Key) -> Key
+        requires { 0 < length (keys_of self.old) }
+        ensures together { IsPermutation (key ∷ keys_of self.old) (result ∷ keys_of self.new) }
+        ensures last { All (λ held. is_before result held ≡ false) (keys_of self.old) }
+    {
+        let mut keys = mem::replace(self, Held::Nobody).into_heap();
+        let out = keys.replace_last(key);
+        *self = Held::Heaped(keys);
+        out
+    }
+
+    /// How many keys are held.
+    pub(crate) fn len(&self) -> usize
+        ensures { result ≡ length (keys_of self.now) }
+    {
+        match self {
+            Held::Nobody => 0,
+            Held::Listed(keys) => keys.len(),
+            Held::Heaped(keys) => keys.len(),
+        }
+    }
+
+    /// The last of the keys, or `None` where nobody is held.
+    pub(crate) fn last(&self) -> Option<Key>
+        ensures { IsLastOf result (keys_of self.now) }
+    {
+        match self {
+            Held::Nobody => None,
+            Held::Listed(keys) => Some(keys.last()),
+            Held::Heaped(keys) => Some(keys.last()),
+        }
+    }
+
+    /// The same keys again, or the error of a refused growth. The cost is their number.
+    pub(crate) fn copy(&self) -> Result<Self, AllocError>
+        ensures { IfOk result (λ held. held ≡ self.now) }
+    {
+        Ok(match self {
+            Held::Nobody => Held::Nobody,
+            Held::Listed(keys) => Held::Listed(keys.copy()?),
+            Held::Heaped(keys) => Held::Heaped(keys.copy()?),
+        })
+    }
+}

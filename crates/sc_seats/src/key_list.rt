@@ -1,0 +1,79 @@
+ghost use Rattle.std.specs.Prelude.{◌≡◌, List, [], ◌∷◌, ◌++◌, length, Some, IfOk, OnOk, OnErr};
+ghost use Rattle.std.specs.List.Sorted.{IsPermutation};
+ghost use Rattle.sc_papers.specs.declared.key.Key.{Key as Priority};
+ghost use Rattle.sc_seats.specs.Last.{IsLastOf};
+
+use crate::key_heap::KeyHeap;
+use sc_papers::Key;
+use std::alloc::{AllocError, Global};
+use std::marker::Model;
+
+/// Keys as they came, at least one, and the last of them.
+#[derive(Drop)]
+pub(crate) struct KeyList {
+    keys: Vec<Key>,
+    last: Key,
+}
+
+impl Model for KeyList {
+    ghost Value = { List Priority };
+
+    ghost view = { λ list. list.keys.items };
+
+    ghost invariant = { λ list. IsLastOf (Some list.last) list.keys.items };
+}
+
+impl KeyList {
+    /// The list of one key, or the error of a refused growth.
+    pub(crate) fn of(alloc: Global, key: Key) -> Result<Self, AllocError>
+        ensures { IfOk result (λ list. list ≡ key ∷ []) }
+    {
+        let last = key;
+        let mut keys = Vec::new(alloc);
+        keys.push(key)?;
+        Ok(KeyList { keys, last })
+    }
+
+    /// Appends a key, at the cost of one comparison. A refused growth changes nothing.
+    pub(crate) fn append(&mut self, key: Key) -> Result<(), AllocError>
+        ensures appended { OnOk result (self.new ≡ self.old ++ key ∷ []) }
+        ensures unchanged { OnErr result (self.new ≡ self.old) }
+    {
+        self.keys.push(key)?;
+        if self.last.is_ahead_of(&key) {
+            self.last = key;
+        }
+        Ok(())
+    }
+
+    /// How many keys there are.
+    pub(crate) fn len(&self) -> usize
+        ensures { result ≡ length self.now }
+    {
+        self.keys.len()
+    }
+
+    /// The last of the keys.
+    pub(crate) fn last(&self) -> Key
+        ensures { IsLastOf (Some result) self.now }
+    {
+        self.last
+    }
+
+    /// The keys as a heap, which takes no memory. The cost is their number.
+    pub(crate) fn into_heap(self) -> KeyHeap
+        ensures { IsPermutation self result }
+    {
+        KeyHeap::of(self.keys)
+    }
+
+    /// An equal list, or the error of a refused growth. The cost is its length.
+    pub(crate) fn copy(&self) -> Result<Self, AllocError>
+        ensures { IfOk result (λ list. list ≡ self.now) }
+    {
+        Ok(KeyList {
+            keys: self.keys.clone()?,
+            last: self.last,
+        })
+    }
+}
