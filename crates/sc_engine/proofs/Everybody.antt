@@ -13,8 +13,7 @@ use Rattle.sc_papers.proofs.Positions.{place-position}
 use Rattle.sc_engine.specs.Entrants.{numbers_of, AreEverybody, StandsAt}
 use Rattle.sc_engine.specs.RoundView.{RoundView, Enters, has_entered, SettlesThese}
 use Rattle.sc_engine.specs.declared.entrants.Entrant.{Entrant}
-use Rattle.sc_engine.proofs.Settling.{first-apart, settles-next, settles-everybody, take-next}
-use Rattle.sc_engine.proofs.Tables.{length-mapped}
+use Rattle.sc_engine.proofs.Settling.{first-apart, settles-next, take-next}
 
 -- a student of the list, and the number at the same place
 module _ (entrants : List Entrant) (k : ℕ) (e : Entrant) (low : k < length entrants) (is : e ≡ get_or entrants k e) where
@@ -38,11 +37,6 @@ module _ (entrants : List Entrant) (k : ℕ) (e : Entrant) (low : k < length ent
 
   pub entrant-next : (m : Market) (old new : RoundView) → SettlesThese m old (take k (numbers_of entrants)) → Enters m old new e.student → SettlesThese m new (take (k + 1) (numbers_of entrants))
   entrant-next m old new before enters = settles-next m old new (numbers_of entrants) k e.student number-there before enters
-
--- all have entered
-pub entrants-all : (m : Market) (r : RoundView) (entrants : List Entrant) (n : ℕ) → n ≡ length entrants → AreEverybody m entrants → SettlesThese m r (take n (numbers_of entrants)) → SettlesThese m r (students_of m)
-entrants-all m r entrants n is are these =
-    settles-everybody m r (numbers_of entrants) n (is ∙ sym (length-mapped (λ (e : Entrant). e.student) entrants)) are.numbers these
 
 -- the first students, and one more
 pub numbers-more : (m : Market) (entrants : List Entrant) (k : ℕ) (e : Entrant) → numbers_of entrants ≡ take k (students_of m) → slice_get (students_of m) k ≡ Some e.student

@@ -1,8 +1,7 @@
 -- The next choice of the student at a position.
 use Rattle.std.proofs.Common.{◌≡◌, ap, sym, ◌∙◌, ℕ, nat_eq, List, get_or, Option, Some, None, position, slice_get}
 use Rattle.std.specs.Option.{option_and_then, option_map_or}
-use Rattle.sc_papers.specs.Market.{Market, choices_of, student_at, students_of}
-use Rattle.sc_papers.proofs.Hands.{student-there}
+use Rattle.sc_papers.specs.Market.{Market, choices_of, students_of}
 use Rattle.sc_engine.specs.RoundView.{next_of, rank_of}
 use Rattle.sc_engine.proofs.Tables.{next-none, rank-at}
 
@@ -10,12 +9,6 @@ use Rattle.sc_engine.proofs.Tables.{next-none, rank-at}
 pub next-absent : (m : Market) (ranks : List (Option ℕ)) (i at : ℕ) → position (nat_eq i) (students_of m) ≡ Some at → get_or ranks at None ≡ None → next_of m ranks i ≡ None
 unfolding next_of
 next-absent m ranks i at found absent = ap (option_and_then (λ k. slice_get (choices_of m i) k)) (rank-at m ranks i at found ∙ absent)
-
-pub next-chosen : (m : Market) (ranks : List (Option ℕ)) (i at rank : ℕ) → position (nat_eq i) (students_of m) ≡ Some at → get_or ranks at None ≡ Some rank → next_of m ranks i ≡ slice_get (choices_of m (student_at m at)) rank
-unfolding next_of
-next-chosen m ranks i at rank found here =
-    ap (option_and_then (λ k. slice_get (choices_of m i) k)) (rank-at m ranks i at found ∙ here)
-    ∙ ap (λ j. slice_get (choices_of m j) rank) (sym (student-there m i at found))
 
 -- nor for one who is not in the papers
 pub next-nowhere : (m : Market) (ranks : List (Option ℕ)) (i : ℕ) → None ≡ position (nat_eq i) (students_of m) → next_of m ranks i ≡ None

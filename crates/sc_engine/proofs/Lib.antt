@@ -15,3 +15,5 @@ pub mod Putting
 pub mod Resuming
 pub mod Growing
 pub mod Forgetting
+pub mod Proposing
+pub mod Newcomers

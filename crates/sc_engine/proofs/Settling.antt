@@ -42,7 +42,7 @@ take-all [] = refl
 take-all (x ∷ xs) = ap (λ ys. x ∷ ys) (take-all xs)
 
 -- one more
-pub take-next : (xs : List ℕ) (k i : ℕ) → slice_get xs k ≡ Some i → take (k + 1) xs ≡ take k xs ++ i ∷ []
+pub take-next : {X : Type 0} (xs : List X) (k : ℕ) (i : X) → slice_get xs k ≡ Some i → take (k + 1) xs ≡ take k xs ++ i ∷ []
 take-next xs k i here =
     ap (λ n. take n xs) (add-one k) ∙ take-suc xs k i (slice_get_within xs k i here)
     ∙ ap (λ x. take k xs ++ x ∷ []) (get_or_from_slice_get xs k i i here)
@@ -79,7 +79,7 @@ pub settles-more : (m : Market) (old new : RoundView) (k i : ℕ) → slice_get 
 settles-more m old new = settles-next m old new (students_of m)
 
 -- the same students in another order
-settles-permuted : (m : Market) (r : RoundView) (xs ys : List ℕ) → IsPermutation xs ys → SettlesThese m r ys → SettlesThese m r xs
+pub settles-permuted : (m : Market) (r : RoundView) (xs ys : List ℕ) → IsPermutation xs ys → SettlesThese m r ys → SettlesThese m r xs
 settles-permuted m r xs ys moved these = record {
   fits = these.fits;
   entered = λ i. these.entered i ∙ sym (list_any-IsPermutation (nat_eq i) xs ys moved);
@@ -87,14 +87,10 @@ settles-permuted m r xs ys moved these = record {
   counted = these.counted;
 }
 
--- all have entered, in order of entry or in another one
+-- all have entered, in order of entry
 pub settles-in_order : (m : Market) (r : RoundView) → SettlesFirst m r (length m.students) → SettlesThese m r (students_of m)
 settles-in_order m r first =
     subst (SettlesThese m r) (ap (λ n. take n (students_of m)) (sym (length-mapped (λ (e : ℕ × Student). e.0) m.students)) ∙ take-all (students_of m)) first
-
-pub settles-everybody : (m : Market) (r : RoundView) (xs : List ℕ) (n : ℕ) → n ≡ length xs → IsPermutation (students_of m) xs → SettlesThese m r (take n xs) → SettlesThese m r (students_of m)
-settles-everybody m r xs n is moved these =
-    settles-permuted m r (students_of m) xs moved (subst (SettlesThese m r) (ap (λ k. take k xs) is ∙ take-all xs) these)
 
 -- nobody stands at a choice where nobody has entered
 pub settles-none : (m : Market) (r : RoundView) → Fits m r → ((i : ℕ) → has_entered m r.ranks i ≡ false) → Continues m [] r → r.log ≡ [] → r.proposals ≡ 0 → SettlesFirst m r 0

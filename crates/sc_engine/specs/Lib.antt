@@ -3,3 +3,5 @@ pub mod Rolls
 pub mod Round
 pub mod Counting
 pub mod Entrants
+pub mod Proposals
+pub mod Newcomers

@@ -3,6 +3,7 @@
 //! (McVitie and Wilson 1971).
 #![tactic(auto)]
 
+mod batches;
 mod entrants;
 mod hints;
 pub mod laws;

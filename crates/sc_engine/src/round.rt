@@ -5,6 +5,7 @@ ghost use Rattle.std.specs.Option.{option_map};
 ghost use Rattle.sc_papers.specs.Assignment.{assigned};
 ghost use Rattle.sc_papers.specs.Key.{key_of};
 ghost use Rattle.sc_papers.specs.Market.{choices_of, is_school, is_student, schools_of, seats_of, students_of, student_at};
+ghost use Rattle.sc_engine.specs.Proposals.{IsProposal, first_choice};
 ghost use Rattle.sc_engine.specs.RoundView.{OffersAt, roll_at, next_of, Fits, FitsBut, only, Proposes, ChainEnds, Enters, Continues, has_entered, without_log, AreEmpty};
 ghost use Rattle.sc_engine.specs.Rolls.{rolls_of};
 
@@ -13,8 +14,7 @@ mod resume;
 use crate::hints::Hints;
 use crate::settled::Settled;
 use sc_papers::{
-    Assignment, Key, LONGEST_LIST, MOST_STUDENTS, Papers, Proposal, Rejection, SchoolNo, Seats,
-    StudentNo,
+    Assignment, Key, LONGEST_LIST, Papers, Proposal, Rejection, SchoolNo, Seats, StudentNo,
 };
 use sc_seats::Roll;
 use std::alloc::{AllocError, Global};
@@ -117,9 +117,7 @@ fn choice_at(ranks: &[Option<u8>], papers: &Papers, at: usize) -> Option<SchoolN
 /// The choice at which the student at the position stands, with its position and the student's key there.
 fn proposal_of(ranks: &[Option<u8>], papers: &Papers, at: usize) -> Option<Proposal>
     requires { at < length papers.now.students }
-    ensures school { (i : ℕ) → position (nat_eq i) (students_of papers.now) ≡ Some at → option_map (λ p. p.school) result ≡ next_of papers.now ranks.now i }
-    ensures position { IfSome result (λ p. position (nat_eq p.school) (schools_of papers.now) ≡ Some p.position) }
-    ensures key { IfSome result (λ p. p.key ≡ key_of papers.now (student_at papers.now at) p.school) }
+    ensures { (i : ℕ) → position (nat_eq i) (students_of papers.now) ≡ Some at → IsProposal papers.now i (next_of papers.now ranks.now i) result }
 {
     let rank = rank_at(ranks, at)?;
     papers.proposal(at, rank)
@@ -141,23 +139,7 @@ fn next_near(
 ) -> Option<SchoolNo>
     ensures { result ≡ next_of papers.now ranks.now student }
 {
-    // This call tells that the papers are well-formed: no number stands twice.
-    prove!(papers.students_len() <= MOST_STUDENTS);
-    match papers.student_at(guess) {
-        Some(number) if number == student => choice_at(ranks, papers, guess),
-        _ => next_in(ranks, papers, student),
-    }
-}
-
-/// The position of a student of the papers.
-fn position_of(papers: &Papers, student: StudentNo) -> usize
-    requires { is_student papers.now student ≡ true }
-    ensures { position (nat_eq student) (students_of papers.now) ≡ Some result }
-{
-    let Some(at) = papers.student_position(student) else {
-        unreachable!()
-    };
-    at
+    choice_at(ranks, papers, papers.student_position_near(student, guess)?)
 }
 
 /// The position of a student of the papers, who often stands at the guess: then no number is looked up.
@@ -165,12 +147,10 @@ fn position_near(papers: &Papers, student: StudentNo, guess: usize) -> usize
     requires { is_student papers.now student ≡ true }
     ensures { position (nat_eq student) (students_of papers.now) ≡ Some result }
 {
-    // This call tells that the papers are well-formed: no number stands twice.
-    prove!(papers.students_len() <= MOST_STUDENTS);
-    match papers.student_at(guess) {
-        Some(number) if number == student => guess,
-        _ => position_of(papers, student),
-    }
+    let Some(at) = papers.student_position_near(student, guess) else {
+        unreachable!()
+    };
+    at
 }
 
 /// Offers a seat of the school at the position to the key.
@@ -233,7 +213,25 @@ impl<R: Roll> Round<R> {
         ensures within { IfOk result (λ out. IfSome out (λ next. next < length papers.now.students)) }
         ensures proposes { IfOk result (λ out. Proposes papers.now (view_of R.keys R.seats self.old) (view_of R.keys R.seats self.new) (student_at papers.now proposer) (option_map (student_at papers.now) out)) }
     {
-        let Some(proposal) = proposal_of(self.ranks.as_slice(), papers, proposer) else {
+        let proposal = proposal_of(self.ranks.as_slice(), papers, proposer);
+        let out = self.propose_with(papers, proposer, proposal)?;
+        Ok(out)
+    }
+
+    /// Does what `propose` does, where the proposal that the student is to make is known, or that there is none.
+    fn propose_with(
+        &mut self,
+        papers: &Papers,
+        proposer: usize,
+        proposal: Option<Proposal>,
+    ) -> Result<Option<usize>, AllocError>
+        requires within { proposer < length papers.now.students }
+        requires fits { FitsBut papers.now (view_of R.keys R.seats self.old) (only (student_at papers.now proposer)) }
+        requires next { IsProposal papers.now (student_at papers.now proposer) (next_of papers.now self.old.ranks.items (student_at papers.now proposer)) proposal }
+        ensures within { IfOk result (λ out. IfSome out (λ next. next < length papers.now.students)) }
+        ensures proposes { IfOk result (λ out. Proposes papers.now (view_of R.keys R.seats self.old) (view_of R.keys R.seats self.new) (student_at papers.now proposer) (option_map (student_at papers.now) out)) }
+    {
+        let Some(proposal) = proposal else {
             return Ok(None);
         };
         let Some(out) = self.offer(proposal.position, proposal.key)? else {
@@ -266,17 +264,42 @@ impl<R: Roll> Round<R> {
         Ok(())
     }
 
-    /// The student at the position goes to its first choice, and its chain follows.
-    fn enter(&mut self, papers: &Papers, student: StudentNo, at: usize) -> Result<(), AllocError>
+    /// Does what `chain` does, where the proposal that the student is to make is known, or that there is none.
+    fn chain_with(
+        &mut self,
+        papers: &Papers,
+        first: usize,
+        proposal: Option<Proposal>,
+    ) -> Result<(), AllocError>
+        requires within { first < length papers.now.students }
+        requires fits { FitsBut papers.now (view_of R.keys R.seats self.old) (only (student_at papers.now first)) }
+        requires next { IsProposal papers.now (student_at papers.now first) (next_of papers.now self.old.ranks.items (student_at papers.now first)) proposal }
+        ensures { OnOk result (ChainEnds papers.now (view_of R.keys R.seats self.old) (view_of R.keys R.seats self.new) (student_at papers.now first)) }
+    {
+        if let Some(out) = self.propose_with(papers, first, proposal)? {
+            self.chain(papers, out)?;
+        }
+        Ok(())
+    }
+
+    /// The student at the position goes to their first choice by this proposal, and their chain follows.
+    fn enter(
+        &mut self,
+        papers: &Papers,
+        student: StudentNo,
+        at: usize,
+        first: Option<Proposal>,
+    ) -> Result<(), AllocError>
         requires fits { Fits papers.now (view_of R.keys R.seats self.old) }
         requires stands { position (nat_eq student) (students_of papers.now) ≡ Some at }
         requires absent { has_entered papers.now self.old.ranks.items student ≡ false }
+        requires first { IsProposal papers.now student (first_choice papers.now student) first }
         ensures { OnOk result (Enters papers.now (view_of R.keys R.seats self.old) (view_of R.keys R.seats self.new) student) }
     {
         self.hints.note(student, at);
         make_room(&mut self.ranks, at)?;
         self.ranks[at] = Some(0);
-        self.chain(papers, at)?;
+        self.chain_with(papers, at, first)?;
         Ok(())
     }
 
@@ -340,19 +363,22 @@ impl<R: Roll> Round<R> {
             return Err(AllocError);
         }
         let at = position_near(papers, student, self.ranks.len());
-        self.enter_at(papers, student, at)
+        self.enter_with(papers, student, at, papers.proposal(at, 0))
     }
 
-    /// Does what `enter_one` does, where it is known at which position of the order of entry the student stands.
-    pub(crate) fn enter_at(
+    /// Does what `enter_one` does, where it is known at which position of the order of entry the student stands
+    /// and what they propose first.
+    pub(crate) fn enter_with(
         &mut self,
         papers: &Papers,
         student: StudentNo,
         at: usize,
+        first: Option<Proposal>,
     ) -> Result<(), AllocError>
         requires fits { is_spent self.old ≡ false → Fits papers.now (view_of R.keys R.seats self.old) }
         requires stands { is_spent self.old ≡ false → position (nat_eq student) (students_of papers.now) ≡ Some at }
         requires absent { is_spent self.old ≡ false → has_entered papers.now (view_of R.keys R.seats self.old).ranks student ≡ false }
+        requires first { is_spent self.old ≡ false → IsProposal papers.now student (first_choice papers.now student) first }
         ensures enters { OnOk result (Enters papers.now (view_of R.keys R.seats self.old) (view_of R.keys R.seats self.new) student) }
         ensures was_ready { OnOk result (is_spent self.old ≡ false) }
         ensures ready { OnOk result (is_spent self.new ≡ false) }
@@ -361,7 +387,7 @@ impl<R: Roll> Round<R> {
         if self.spent {
             return Err(AllocError);
         }
-        let entered = self.enter(papers, student, at);
+        let entered = self.enter(papers, student, at, first);
         self.spent = entered.is_err();
         entered
     }

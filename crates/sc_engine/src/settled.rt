@@ -8,10 +8,10 @@ ghost use Rattle.sc_papers.specs.Market.{students_of};
 ghost use Rattle.sc_papers.specs.Matching.{IsStudentOptimal};
 ghost use Rattle.sc_papers.specs.Progress.{placed};
 ghost use Rattle.sc_engine.specs.Round.{view_of, is_spent};
-ghost use Rattle.sc_engine.specs.Entrants.{AreEverybody};
 ghost use Rattle.sc_engine.specs.RoundView.{Fits, next_of, SettlesFirst, SettlesThese};
 
-use crate::entrants::{Entrant, entrants_by_draw};
+use crate::batches::enter_in_batches;
+use crate::entrants::entrants_by_draw;
 use crate::round::Round;
 use sc_papers::{Assignment, Papers, Rejection};
 use sc_seats::{HeapRoll, Roll};
@@ -54,7 +54,7 @@ pub fn settle_by_draws(alloc: Global, papers: &Papers) -> Result<Settled, AllocE
 {
     let mut round: Round<HeapRoll> = Round::start(alloc, papers)?;
     let entrants = entrants_by_draw(alloc, papers)?;
-    enter_each(&mut round, papers, entrants.as_slice())?;
+    enter_in_batches(alloc, &mut round, papers, entrants.as_slice())?;
     let settled = come_to(round, papers)?;
     Ok(settled)
 }
@@ -96,24 +96,6 @@ fn enter_all<R: Roll>(round: &mut Round<R>, papers: &Papers) -> Result<(), Alloc
             unreachable!()
         };
         round.enter_one(papers, student)?;
-    }
-    Ok(())
-}
-
-/// Enters each student of a list, who are all students, into a round in which nobody has entered.
-fn enter_each<R: Roll>(
-    round: &mut Round<R>,
-    papers: &Papers,
-    entrants: &[Entrant],
-) -> Result<(), AllocError>
-    requires first { SettlesThese papers.now (view_of R.keys R.seats round.old) [] }
-    requires ready { is_spent round.old ≡ false }
-    requires everybody { AreEverybody papers.now entrants.now }
-    ensures all { OnOk result (SettlesThese papers.now (view_of R.keys R.seats round.new) (students_of papers.now)) }
-    ensures ready { OnOk result (is_spent round.new ≡ false) }
-{
-    for entrant in entrants {
-        round.enter_at(papers, entrant.student, entrant.position as usize)?;
     }
     Ok(())
 }

@@ -1,14 +1,5 @@
-use Rattle.std.proofs.Common.{◌≡◌, true, nat_eq, Some, sym, ap, ◌∙◌, arith}
-use Rattle.std.specs.Prelude.{slice_get}
-use Rattle.std.proofs.lemmas.Bool.Decides.{nat_tests}
-use Rattle.sc_papers.specs.Market.{students_of}
-use Rattle.sc_papers.proofs.Positions.{place-position}
+use Rattle.sc_papers.proofs.Hands.{has-position}
 use Rattle.sc_engine.proofs.round.position_near.Goals as goal
 
-pub returns-in-Some : goal.returns-in-Some
-returns-in-Some c =
-    let equal : nat_eq c.in-Some.number c.args.student ≡ true = sym c.eq.ensures ∙ c.if-eq.true in
-    let same : c.in-Some.number ≡ c.args.student = grind (arith, nat_tests) in
-    let here : slice_get (students_of c.args.papers.now) c.args.guess ≡ Some c.args.student =
-    sym c.student_at.ensures ∙ c.in-Some.is ∙ ap Some same in
-    place-position c.args.papers.now c.students_len.ensures.well_formed c.args.guess c.args.student here
+pub unreachable-requires : goal.unreachable-requires
+unreachable-requires c = has-position c.args.papers.now c.args.student c.requires c.in_default.ensures

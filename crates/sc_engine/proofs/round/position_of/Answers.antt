@@ -1,5 +1,0 @@
-use Rattle.sc_papers.proofs.Hands.{has-position}
-use Rattle.sc_engine.proofs.round.position_of.Goals as goal
-
-pub unreachable-requires : goal.unreachable-requires
-unreachable-requires c = has-position c.args.papers.now c.args.student c.requires c.in_default.ensures
