@@ -1,6 +1,6 @@
 mod Joining
 mod Bits
-mod Marking
+pub mod Marking
 mod Finding
 mod Passing
 pub mod Rising

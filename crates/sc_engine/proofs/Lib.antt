@@ -12,6 +12,8 @@ pub mod CountingLaws
 pub mod Settling
 pub mod Everybody
 pub mod Putting
+pub mod Ranks
+pub mod Renewing
 pub mod Resuming
 pub mod Growing
 pub mod Forgetting

@@ -1,8 +1,7 @@
 -- A round before anybody has entered.
-use Rattle.std.proofs.Common.{◌≡◌, inl, inr, refl, ap, sym, subst, ◌∙◌, ℕ, suc, zero, ◌+◌, ◌<◌, nat_eq, false, not, ◌&&◌, List, [], ◌∷◌, ◌++◌, length, get_or, map, Option, Some, None, is_some, position, slice_get, arith}
+use Rattle.std.proofs.Common.{◌≡◌, inl, inr, refl, ap, sym, subst, ◌∙◌, ℕ, ◌≤◌, nat_eq, false, not, ◌&&◌, List, [], length, get_or, map, Option, Some, None, is_some, position, arith}
 use Rattle.std.specs.Option.{option_map_or}
-use Rattle.std.proofs.lemmas.Bool.{cases_lt, cases_Bool, and_left, and_right, false≢true, true≢false}
-use Rattle.std.proofs.lemmas.List.{get_or_append_left, get_or_push, length_push}
+use Rattle.std.proofs.lemmas.Bool.{cases_Bool, and_left, and_right, false≢true, true≢false}
 use Rattle.std.proofs.lemmas.Option.{slice_get-get_or}
 use Rattle.sc_papers.specs.Market.{Market, students_of, schools_of, seats_of, school_of, is_school}
 use Rattle.sc_papers.specs.Matching.{has}
@@ -13,8 +12,8 @@ use Rattle.sc_papers.specs.declared.records.School.{School}
 use Rattle.sc_papers.proofs.Restriction.{restricted-restricts, next-dropped}
 use Rattle.sc_papers.proofs.Students.{how_many-none}
 use Rattle.sc_seats.specs.Roll.{RollView}
-use Rattle.sc_engine.specs.RoundView.{RoundView, rank_of, next_of, has_entered, roll_of, roll_at, no_roll, RollFits, Fits, nobody, Continues, AreEmpty, standing_but, entered_papers}
-use Rattle.sc_engine.proofs.Tables.{next-none, roll-at, length-mapped, get_or-mapped}
+use Rattle.sc_engine.specs.RoundView.{RoundView, rank_of, next_of, has_entered, roll_of, roll_at, no_roll, RollFits, Fits, nobody, Continues, AreEmpty, standing_but, entered_papers, StandNowhere}
+use Rattle.sc_engine.proofs.Tables.{next-none, roll-at, length-mapped}
 use Rattle.sc_papers.proofs.Positions.{position-at, school-position}
 use Rattle.sc_engine.proofs.Papers.{school-at}
 use Rattle.sc_engine.proofs.Proposals.{has-none}
@@ -23,25 +22,21 @@ use Rattle.sc_engine.proofs.Proposals.{has-none}
 pub record IsStart (m : Market) (r : RoundView) : Type 0 where
   pub well_formed : WellFormed m
   pub within_limits : WithinLimits m
-  pub ranks : r.ranks ≡ []
+  pub within : length r.ranks ≤ length m.students
+  pub nobody : StandNowhere r.ranks
   pub rolls : length r.rolls ≡ length m.schools
   pub empty : AreEmpty m r.rolls (length m.schools)
   pub log : r.log ≡ []
   pub proposals : r.proposals ≡ 0
 
 -- nobody has a rank
-pub no-rank : (m : Market) (ranks : List (Option ℕ)) → ranks ≡ [] → (i : ℕ) → rank_of m ranks i ≡ None
+pub no-rank : (m : Market) (ranks : List (Option ℕ)) → StandNowhere ranks → (i : ℕ) → rank_of m ranks i ≡ None
 unfolding rank_of
 no-rank m ranks nobody i = go (position (nat_eq i) (students_of m))
   where
-    empty : (old : List (Option ℕ)) (at : ℕ) → old ≡ [] → get_or old at None ≡ None
-    empty [] zero none = refl
-    empty [] (suc at) none = refl
-    empty (rank ∷ old) at none = absurd (omega (arith, ap length none))
-
     go : (o : Option ℕ) → option_map_or (λ at. get_or ranks at None) o None ≡ None
     go None = refl
-    go (Some at) = empty ranks at nobody
+    go (Some at) = nobody at
 
 -- an unknown school has no seats
 no-seats : (m : Market) (s : ℕ) → is_school m s ≡ false → seats_of m s ≡ 0
@@ -73,28 +68,12 @@ roll-empty m rolls empty s = elim (cases_Bool (is_school m s)) [
   | inr unknown ↦ roll-unknown m rolls s unknown ∙ ap (λ n. let r : RollView = record { keys = []; seats = n } in r) (sym (no-seats m s unknown))
 ]
 
--- the first rolls and one more
-pub are-empty_more : {R : Type 0} (see : R → RollView) (m : Market) (rolls : List R) (k : ℕ) (roll : R) → length rolls ≡ k → AreEmpty m (map see rolls) k → (see roll).keys ≡ [] → ((s : ℕ) → slice_get (schools_of m) k ≡ Some s → (see roll).seats ≡ seats_of m s) → AreEmpty m (map see (rolls ++ roll ∷ [])) (k + 1)
-are-empty_more see m rolls k roll long empty no_keys seats at s low found =
-    let more : at < length (rolls ++ roll ∷ []) = omega (arith, low, long, length_push rolls roll) in
-    let read = get_or-mapped see (rolls ++ roll ∷ []) at roll no_roll more in
-    elim (cases_lt at k) [
-      | inl below ↦
-          let within : at < length rolls = omega (arith, below, long) in
-          read ∙ ap see (get_or_append_left rolls (roll ∷ []) roll at within) ∙ sym (get_or-mapped see rolls at roll no_roll within) ∙ empty at s below found
-      | inr past ↦
-          let here : at ≡ k = omega (arith, past, low) in
-          let of_school : (see roll).seats ≡ seats_of m s = seats s (ap (slice_get (schools_of m)) (sym here) ∙ found) in
-          read ∙ ap see (get_or_push rolls roll roll at (long ∙ sym here))
-          ∙ (λ t. let seen : RollView = record { keys = no_keys t; seats = of_school t } in seen)
-    ]
-
 -- the round fits
 pub fits-start : (m : Market) (r : RoundView) → IsStart m r → Fits m r
 fits-start m r start = record {
   well_formed = start.well_formed;
   within_limits = start.within_limits;
-  ranks = omega (arith, ap length start.ranks);
+  ranks = start.within;
   rolls = start.rolls;
   each = λ s. subst (RollFits m (next_of m r.ranks) nobody s) (sym (roll-empty m r.rolls start.empty s)) (record {
     seats = refl;
@@ -107,19 +86,19 @@ fits-start m r start = record {
 }
   where
     nowhere : (j : ℕ) → next_of m r.ranks j ≡ None
-    nowhere j = next-none m r.ranks j (no-rank m r.ranks start.ranks j)
+    nowhere j = next-none m r.ranks j (no-rank m r.ranks start.nobody j)
 
 -- nobody stands at a choice
 pub none-standing : (m : Market) (r : RoundView) → IsStart m r → standing_but m r.ranks nobody ≡ 0
 unfolding standing_but
 none-standing m r start =
     how_many-none m (λ j. is_some (next_of m r.ranks j) && not false)
-    (λ j among. and_left (is_some (next_of m r.ranks j)) (not false) (ap is_some (next-none m r.ranks j (no-rank m r.ranks start.ranks j))))
+    (λ j among. and_left (is_some (next_of m r.ranks j)) (not false) (ap is_some (next-none m r.ranks j (no-rank m r.ranks start.nobody j))))
 
 -- and the empty log is settled for nobody
 pub continues-start : (m : Market) (r : RoundView) → IsStart m r → Continues m [] r
 continues-start m r start =
-    let absent : (j : ℕ) → has_entered m r.ranks j ≡ false = λ j. ap is_some (no-rank m r.ranks start.ranks j) in
+    let absent : (j : ℕ) → has_entered m r.ranks j ≡ false = λ j. ap is_some (no-rank m r.ranks start.nobody j) in
     let none : (j : ℕ) → next_choice (entered_papers m r.ranks) [] j ≡ None = λ j. next-dropped (restricted-restricts m (has_entered m r.ranks)) [] j (absent j) in
     let settled : IsSettled (entered_papers m r.ranks) [] = record {
       valid = tt;
@@ -127,15 +106,16 @@ continues-start m r start =
     } in
     record {
       settled = subst (IsSettled (entered_papers m r.ranks)) (sym start.log) settled;
-      next = λ j. ap (λ log. next_choice (entered_papers m r.ranks) log j) start.log ∙ none j ∙ sym (next-none m r.ranks j (no-rank m r.ranks start.ranks j));
+      next = λ j. ap (λ log. next_choice (entered_papers m r.ranks) log j) start.log ∙ none j ∙ sym (next-none m r.ranks j (no-rank m r.ranks start.nobody j));
     }
 
 -- the round that the code starts with
-pub starts : {R : Type 0} (m : Market) (ranks : List (Option ℕ)) (rolls : List R) (see : R → RollView) (log : List Rejection) (proposals : ℕ) → WellFormed m → WithinLimits m → ranks ≡ [] → length rolls ≡ length m.schools → AreEmpty m (map see rolls) (length m.schools) → log ≡ [] → proposals ≡ 0 → IsStart m (record { ranks = ranks; rolls = map see rolls; log = log; proposals = proposals })
-starts m ranks rolls see log proposals well within nobody_yet as_many empty no_log none = record {
+pub starts : {R : Type 0} (m : Market) (ranks : List (Option ℕ)) (rolls : List R) (see : R → RollView) (log : List Rejection) (proposals : ℕ) → WellFormed m → WithinLimits m → length ranks ≤ length m.students → StandNowhere ranks → length rolls ≡ length m.schools → AreEmpty m (map see rolls) (length m.schools) → log ≡ [] → proposals ≡ 0 → IsStart m (record { ranks = ranks; rolls = map see rolls; log = log; proposals = proposals })
+starts m ranks rolls see log proposals well within few nobody_yet as_many empty no_log none = record {
   well_formed = well;
   within_limits = within;
-  ranks = nobody_yet;
+  within = few;
+  nobody = nobody_yet;
   rolls = length-mapped see rolls ∙ as_many;
   empty = empty;
   log = no_log;

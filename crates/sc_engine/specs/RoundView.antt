@@ -35,6 +35,10 @@ has_entered m ranks i = is_some (rank_of m ranks i)
 unfoldable pub next_of : Market → List (Option ℕ) → ℕ → Option ℕ
 next_of m ranks i = option_and_then (λ rank. slice_get (choices_of m i) rank) (rank_of m ranks i)
 
+-- nobody has entered, so far as these ranks go
+abbrev pub StandNowhere : List (Option ℕ) → Type 0
+StandNowhere ranks = (at : ℕ) → slice_index_or ranks at None ≡ None
+
 -- a roll without keys or seats
 abbrev pub no_roll : RollView
 no_roll = record { keys = []; seats = 0 }

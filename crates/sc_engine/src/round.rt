@@ -6,7 +6,7 @@ ghost use Rattle.sc_papers.specs.Assignment.{assigned};
 ghost use Rattle.sc_papers.specs.Key.{key_of};
 ghost use Rattle.sc_papers.specs.Market.{choices_of, is_school, is_student, schools_of, seats_of, students_of, student_at};
 ghost use Rattle.sc_engine.specs.Proposals.{IsProposal, first_choice};
-ghost use Rattle.sc_engine.specs.RoundView.{OffersAt, roll_at, next_of, Fits, FitsBut, only, Proposes, ChainEnds, Enters, Continues, has_entered, without_log, AreEmpty};
+ghost use Rattle.sc_engine.specs.RoundView.{OffersAt, roll_at, next_of, Fits, FitsBut, only, Proposes, ChainEnds, Enters, Continues, has_entered, without_log, AreEmpty, StandNowhere};
 ghost use Rattle.sc_engine.specs.Rolls.{rolls_of};
 
 mod resume;
@@ -14,7 +14,8 @@ mod resume;
 use crate::hints::Hints;
 use crate::settled::Settled;
 use sc_papers::{
-    Assignment, Key, LONGEST_LIST, Papers, Proposal, Rejection, SchoolNo, Seats, StudentNo,
+    Assignment, Key, LONGEST_LIST, MOST_STUDENTS, Papers, Proposal, Rejection, SchoolNo, Seats,
+    StudentNo,
 };
 use sc_seats::Roll;
 use std::alloc::{AllocError, Global};
@@ -49,15 +50,60 @@ fn seats_at(papers: &Papers, position: usize) -> Seats
     papers.seats_of(number)
 }
 
+/// Empties a roll, and gives it these seats. One that is so already stays as it is.
+fn renew_roll<R: Roll>(alloc: Global, roll: &mut R, seats: Seats)
+    ensures keys { R.keys roll.new ≡ [] }
+    ensures seats { R.seats roll.new ≡ seats }
+{
+    if roll.len() > 0 || roll.capacity() != seats {
+        *roll = R::with_capacity(alloc, seats);
+    }
+}
+
+/// Makes the roll at a position one with these seats on which nobody is; where there is none yet, it comes last.
+fn put_empty_roll<R: Roll>(
+    alloc: Global,
+    rolls: &mut Vec<R>,
+    at: usize,
+    seats: Seats,
+) -> Result<(), AllocError>
+    requires { at ≤ length rolls.old.items }
+    ensures own { OnOk result (roll_at (rolls_of R.keys R.seats rolls.new.items) at ≡ record { keys = []; seats = seats }) }
+    ensures others { OnOk result ((k : ℕ) → k < at → roll_at (rolls_of R.keys R.seats rolls.new.items) k ≡ roll_at (rolls_of R.keys R.seats rolls.old.items) k) }
+    ensures longer { OnOk result (at < length rolls.new.items) }
+    ensures within { OnOk result ((n : ℕ) → at < n → length rolls.old.items ≤ n → length rolls.new.items ≤ n) }
+{
+    if at < rolls.len() {
+        renew_roll(alloc, &mut rolls[at], seats);
+        return Ok(());
+    }
+    rolls.push(R::with_capacity(alloc, seats))?;
+    Ok(())
+}
+
+/// Makes these rolls one of its capacity for each school, on which nobody is, in the memory that they have.
+fn renew_rolls<R: Roll>(
+    alloc: Global,
+    rolls: &mut Vec<R>,
+    papers: &Papers,
+) -> Result<(), AllocError>
+    ensures length { OnOk result (length rolls.new.items ≡ length papers.now.schools) }
+    ensures empty { OnOk result (AreEmpty papers.now (rolls_of R.keys R.seats rolls.new.items) (length papers.now.schools)) }
+{
+    rolls.truncate(papers.schools_len());
+    for position in 0..papers.schools_len() {
+        put_empty_roll(alloc, rolls, position, seats_at(papers, position))?;
+    }
+    Ok(())
+}
+
 /// A roll of its capacity for each school, on which nobody is.
 fn empty_rolls<R: Roll>(alloc: Global, papers: &Papers) -> Result<Vec<R>, AllocError>
     ensures length { IfOk result (λ rolls. length rolls.items ≡ length papers.now.schools) }
     ensures empty { IfOk result (λ rolls. AreEmpty papers.now (rolls_of R.keys R.seats rolls.items) (length papers.now.schools)) }
 {
     let mut rolls = Vec::with_capacity(alloc, papers.schools_len())?;
-    for position in 0..papers.schools_len() {
-        rolls.push(R::with_capacity(alloc, seats_at(papers, position)))?;
-    }
+    renew_rolls(alloc, &mut rolls, papers)?;
     Ok(rolls)
 }
 
@@ -103,6 +149,14 @@ fn make_room(ranks: &mut Vec<Option<u8>>, at: usize) -> Result<(), AllocError>
         ranks.push(None)?;
     }
     Ok(())
+}
+
+/// Makes nobody stand at any position.
+fn stand_nowhere(ranks: &mut Vec<Option<u8>>)
+    ensures nobody { StandNowhere ranks.new.items }
+    ensures length { length ranks.new.items ≡ length ranks.old.items }
+{
+    ranks.as_mut_slice().fill(None);
 }
 
 /// The choice at which the student at the position stands.
@@ -303,6 +357,40 @@ impl<R: Roll> Round<R> {
         Ok(())
     }
 
+    /// A round of these parts, in which nobody has entered.
+    fn of_parts(
+        papers: &Papers,
+        alloc: Global,
+        ranks: Vec<Option<u8>>,
+        rolls: Vec<R>,
+        log: Vec<Rejection>,
+        hints: Hints,
+    ) -> Self
+        requires within { length ranks.items ≤ length papers.now.students }
+        requires nobody { StandNowhere ranks.items }
+        requires length { length rolls.items ≡ length papers.now.schools }
+        requires empty { AreEmpty papers.now (rolls_of R.keys R.seats rolls.items) (length papers.now.schools) }
+        requires log { log.items ≡ [] }
+        ensures fits { Fits papers.now (view_of R.keys R.seats result) }
+        ensures nobody { (i : ℕ) → has_entered papers.now (view_of R.keys R.seats result).ranks i ≡ false }
+        ensures settled { Continues papers.now [] (view_of R.keys R.seats result) }
+        ensures log { (view_of R.keys R.seats result).log ≡ [] }
+        ensures proposals { (view_of R.keys R.seats result).proposals ≡ 0 }
+        ensures ready { is_spent result ≡ false }
+    {
+        // This call tells that the papers are well-formed and within their limits.
+        prove!(papers.students_len() <= MOST_STUDENTS);
+        Round {
+            alloc,
+            ranks,
+            rolls,
+            log,
+            proposals: 0,
+            spent: false,
+            hints,
+        }
+    }
+
     /// A round in which nobody has entered, with room for guesses at where so many students stand.
     pub(crate) fn with_room(
         alloc: Global,
@@ -316,15 +404,31 @@ impl<R: Roll> Round<R> {
         ensures proposals { IfOk result (λ round. (view_of R.keys R.seats round).proposals ≡ 0) }
         ensures ready { IfOk result (λ round. is_spent round ≡ false) }
     {
-        Ok(Round {
-            alloc,
-            ranks: Vec::with_capacity(alloc, papers.students_len())?,
-            rolls: empty_rolls(alloc, papers)?,
-            log: Vec::new(alloc),
-            proposals: 0,
-            spent: false,
-            hints: Hints::with_room(alloc, students)?,
-        })
+        let ranks = Vec::with_capacity(alloc, papers.students_len())?;
+        let rolls = empty_rolls(alloc, papers)?;
+        let hints = Hints::with_room(alloc, students)?;
+        Ok(Round::of_parts(papers, alloc, ranks, rolls, Vec::new(alloc), hints))
+    }
+
+    /// What `with_room` gives, in the memory of a round that is done with, whatever papers it was of and whether or not
+    /// it is spent.
+    pub(crate) fn again(self, papers: &Papers, students: usize) -> Result<Self, AllocError>
+        ensures fits { IfOk result (λ round. Fits papers.now (view_of R.keys R.seats round)) }
+        ensures nobody { IfOk result (λ round. (i : ℕ) → has_entered papers.now (view_of R.keys R.seats round).ranks i ≡ false) }
+        ensures settled { IfOk result (λ round. Continues papers.now [] (view_of R.keys R.seats round)) }
+        ensures log { IfOk result (λ round. (view_of R.keys R.seats round).log ≡ []) }
+        ensures proposals { IfOk result (λ round. (view_of R.keys R.seats round).proposals ≡ 0) }
+        ensures ready { IfOk result (λ round. is_spent round ≡ false) }
+    {
+        let mut ranks = self.ranks;
+        ranks.truncate(papers.students_len());
+        stand_nowhere(&mut ranks);
+        let mut rolls = self.rolls;
+        renew_rolls(self.alloc, &mut rolls, papers)?;
+        let mut log = self.log;
+        log.clear();
+        let hints = Hints::with_room(self.alloc, students)?;
+        Ok(Round::of_parts(papers, self.alloc, ranks, rolls, log, hints))
     }
 
     /// A round in which nobody has entered, or the error of a refused growth. It takes memory for each
@@ -359,10 +463,31 @@ impl<R: Roll> Round<R> {
         ensures ready { OnOk result (is_spent self.new ≡ false) }
         ensures spent { OnErr result (is_spent self.new ≡ true) }
     {
+        // Mostly the students enter in order.
+        let guess = self.ranks.len();
+        self.enter_near(papers, student, guess)
+    }
+
+    /// Does what `enter_one` does. A student who stands at the guessed position of the order of entry is not looked up
+    /// by number.
+    pub fn enter_near(
+        &mut self,
+        papers: &Papers,
+        student: StudentNo,
+        guess: usize,
+    ) -> Result<(), AllocError>
+        requires fits { is_spent self.old ≡ false → Fits papers.now (view_of R.keys R.seats self.old) }
+        requires student { is_spent self.old ≡ false → is_student papers.now student ≡ true }
+        requires absent { is_spent self.old ≡ false → has_entered papers.now (view_of R.keys R.seats self.old).ranks student ≡ false }
+        ensures enters { OnOk result (Enters papers.now (view_of R.keys R.seats self.old) (view_of R.keys R.seats self.new) student) }
+        ensures was_ready { OnOk result (is_spent self.old ≡ false) }
+        ensures ready { OnOk result (is_spent self.new ≡ false) }
+        ensures spent { OnErr result (is_spent self.new ≡ true) }
+    {
         if self.spent {
             return Err(AllocError);
         }
-        let at = position_near(papers, student, self.ranks.len());
+        let at = position_near(papers, student, guess);
         self.enter_with(papers, student, at, papers.proposal(at, 0))
     }
 

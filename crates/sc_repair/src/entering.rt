@@ -50,6 +50,7 @@ fn standing<R: Roll>(
         alloc,
         papers,
         next_choices.as_slice(),
+        &[],
         papers.students_len(),
     )?;
     Ok(round)

@@ -1,13 +1,16 @@
 //! Settling the students of a region anew, while all others stay.
 
-ghost use Rattle.std.specs.Prelude.{◌≡◌, ◌≤◌, ◌<◌, ◌+◌, ◌-◌, ℕ, Some, [], nat_eq, false, length, slice_get, take, drop, ◌++◌, IfOk, OnErr, OnOk};
+ghost use Rattle.std.specs.Prelude.{◌≡◌, ◌≤◌, ◌<◌, ◌+◌, ◌-◌, ℕ, List, Some, [], nat_eq, false, length, slice_get, take, drop, ◌++◌, IfOk, OnErr, OnOk};
 ghost use Rattle.std.specs.List.{IsDistinct};
 ghost use Rattle.sc_papers.specs.Assignment.{assigned};
 ghost use Rattle.sc_papers.specs.Market.{students_of};
 ghost use Rattle.sc_papers.specs.Restriction.{cut, outside, AreApart, IsSegmented};
 ghost use Rattle.sc_papers.specs.WellFormed.{WellFormed};
 ghost use Rattle.sc_checkpoint.specs.Chains.{logs_in, students_in};
+ghost use Rattle.sc_checkpoint.specs.NextChoices.{stands, AreNextChoices};
+ghost use Rattle.sc_papers.specs.declared.rejection.Rejection.{Rejection};
 ghost use Rattle.sc_engine.specs.Round.{is_spent, view_of};
+ghost use Rattle.sc_engine.specs.RoundView.{has_entered, Continues, Fits};
 ghost use Rattle.sc_repair.specs.Changed.{standing_of, HaveChanged};
 ghost use Rattle.sc_repair.specs.Course.{GoesOnInside};
 ghost use Rattle.sc_repair.specs.Locality.{chains_of, is_among, marked_in};
@@ -18,7 +21,7 @@ use crate::places::Places;
 use crate::placing::place_inside;
 use crate::region_positions::{positions_before, positions_from};
 use crate::settling::enter_next;
-use sc_checkpoint::Segments;
+use sc_checkpoint::{NextChoice, Segments};
 use sc_engine::Round;
 use sc_papers::Papers;
 use sc_region::RegionMarks;
@@ -54,17 +57,43 @@ fn take_turns<R: Roll>(
     let turns = positions_from(region, point + gap);
     for position in turns {
         // The row that tells who it is is read for their proposals next; the old segment is not.
-        let Some(student) = papers.student_at(*position - gap) else {
+        let place = *position - gap;
+        let Some(student) = papers.student_at(place) else {
             unreachable!()
         };
-        enter_next(round, papers, renewed, student)?;
+        enter_next(round, papers, renewed, student, place)?;
     }
     Ok(())
+}
+
+/// A round in which students stand at their next choices, as `Round::resume` makes it: in the memory of one that is done
+/// with, if there is one.
+fn resumed<R: Roll>(
+    spare: Option<Round<R>>,
+    alloc: Global,
+    papers: &Papers,
+    next_choices: &[NextChoice],
+    near: &[usize],
+    expected: usize,
+) -> Result<Round<R>, AllocError>
+    requires { (earlier : List Rejection) × AreNextChoices papers.now earlier next_choices.now }
+    ensures fits { IfOk result (λ round. Fits papers.now (view_of R.keys R.seats round)) }
+    ensures entered { IfOk result (λ round. (i : ℕ) → has_entered papers.now (view_of R.keys R.seats round).ranks i ≡ stands next_choices.now i) }
+    ensures continues { IfOk result (λ round. (earlier : List Rejection) → AreNextChoices papers.now earlier next_choices.now → Continues papers.now earlier (view_of R.keys R.seats round)) }
+    ensures log { IfOk result (λ round. (view_of R.keys R.seats round).log ≡ []) }
+    ensures proposals { IfOk result (λ round. (view_of R.keys R.seats round).proposals ≡ 0) }
+    ensures ready { IfOk result (λ round. is_spent round ≡ false) }
+{
+    match spare {
+        Some(round) => round.resume_in(papers, next_choices, near, expected),
+        None => Round::resume(alloc, papers, next_choices, near, expected),
+    }
 }
 
 /// A round in which the students of the region stand settled, of whom those before the point made no proposal:
 /// they stood at their next choices. A renewed chain is made for each of them from the point on.
 fn settle_region<R: Roll>(
+    spare: Option<Round<R>>,
     alloc: Global,
     papers: &Papers,
     end: usize,
@@ -89,11 +118,14 @@ fn settle_region<R: Roll>(
     ensures one_each { OnOk result (length renewed.new ≡ length (marked_from region.now (point + (length old.now - end)))) }
     ensures ready { IfOk result (λ round. is_spent round ≡ false) }
 {
-    let next_choices = old.next_choices_of(papers, positions_before(region, point))?;
-    let mut round: Round<R> = Round::resume(
+    let positions = positions_before(region, point);
+    let next_choices = old.next_choices_of(papers, positions)?;
+    let mut round = resumed(
+        spare,
         alloc,
         papers,
         next_choices.as_slice(),
+        positions,
         region.positions().len(),
     )?;
     take_turns(&mut round, papers, end, region, point, old, renewed)?;
@@ -125,8 +157,11 @@ fn renew(segments: &mut Segments, region: &RegionMarks, point: usize, gap: usize
 ///
 /// The cost is that of a round of the region's students: a look at the segments of those before the point, an offer
 /// for each proposal of the others, and some look-ups for each; and where a student leaves, whoever stands behind
-/// moves up by one. Nobody outside the region is looked at, and nothing of theirs is copied.
+/// moves up by one. Nobody outside the region is looked at, and nothing of theirs is copied. The spare round lends its
+/// memory, if there is one, so that of other schools it takes a look at each, and the round that was made is the spare one
+/// afterwards. What it holds changes nothing.
 pub(crate) fn resettle<R: Roll>(
+    spare: &mut Option<Round<R>>,
     alloc: Global,
     papers: &Papers,
     end: usize,
@@ -148,9 +183,19 @@ pub(crate) fn resettle<R: Roll>(
     // Where a student leaves, the segments of those behind stand one position further back.
     let gap = segments.len() - end;
     let mut renewed = Segments::new(alloc);
-    let round: Round<R> = settle_region(alloc, papers, end, region, point, segments, &mut renewed)?;
+    let round = settle_region(
+        spare.take(),
+        alloc,
+        papers,
+        end,
+        region,
+        point,
+        segments,
+        &mut renewed,
+    )?;
     place_inside(&round, papers, region, segments, places)?;
     let proposals = round.proposals();
     renew(segments, region, point, gap, renewed);
+    *spare = Some(round);
     Ok(proposals)
 }

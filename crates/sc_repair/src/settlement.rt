@@ -34,6 +34,8 @@ pub(crate) struct Settlement {
     // Where there is one, the round in which everybody stands: it is kept from newcomer to newcomer, and made
     // again when it is wanted.
     round: Option<Round<HeapRoll>>,
+    // Where there is one, a round that is done with, whose memory serves the next amendment but an entry.
+    spare: Option<Round<HeapRoll>>,
     // Where there are some, the districts of the papers, from which the region of an amendment is found: they are
     // kept from amendment to amendment, and made again when they are wanted.
     districts: Option<Districts>,
@@ -81,6 +83,7 @@ impl Settlement {
                 segments,
                 proposals: placed.proposals,
                 round: None,
+                spare: None,
                 districts: None,
             }),
             Err(_) => Err(OpenRefused { papers }),

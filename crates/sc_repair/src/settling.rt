@@ -20,12 +20,13 @@ use sc_papers::{Papers, StudentNo};
 use sc_seats::Roll;
 use std::alloc::{AllocError, Global};
 
-/// Enters a student into a round, and puts the rejections of its chain at the end of the segments.
+/// Enters a student, who often stands at the guessed position, into a round, and puts the rejections of its chain at the end of the segments.
 pub(crate) fn enter_next<R: Roll>(
     round: &mut Round<R>,
     papers: &Papers,
     segments: &mut Segments,
     student: StudentNo,
+    guess: usize,
 ) -> Result<(), AllocError>
     requires fits { Fits papers.now (view_of R.keys R.seats round.old) }
     requires student { is_student papers.now student ≡ true }
@@ -36,7 +37,7 @@ pub(crate) fn enter_next<R: Roll>(
     ensures ready { OnOk result (is_spent round.new ≡ false) }
 {
     let before = round.log().len();
-    round.enter_one(papers, student)?;
+    round.enter_near(papers, student, guess)?;
     segments.push(student, &round.log()[before..])?;
     Ok(())
 }
@@ -56,7 +57,7 @@ fn enter_rest<R: Roll>(
         let Some(student) = papers.student_at(position) else {
             unreachable!()
         };
-        enter_next(round, papers, segments, student)?;
+        enter_next(round, papers, segments, student, position)?;
     }
     Ok(())
 }
@@ -92,6 +93,7 @@ pub(crate) fn settle_on<R: Roll>(
         alloc,
         papers,
         next_choices.as_slice(),
+        &[],
         papers.students_len(),
     )?;
     enter_rest(&mut round, papers, segments)?;

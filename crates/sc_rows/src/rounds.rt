@@ -126,7 +126,13 @@ fn resume_with_the_third<R: Roll>(alloc: Global, papers: &Papers) -> Result<Sett
         return Err(AllocError);
     };
     let next_choices = first_two_stand::<R>(alloc, papers, one, two)?;
-    let mut round: Round<R> = Round::resume(alloc, papers, &next_choices, papers.students_len())?;
+    let mut round: Round<R> = Round::resume(
+        alloc,
+        papers,
+        &next_choices,
+        &[],
+        papers.students_len(),
+    )?;
     round.enter_one(papers, three)?;
     round.into_settled(papers)
 }

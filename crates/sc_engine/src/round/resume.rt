@@ -1,7 +1,7 @@
 //! Rounds that go on from where students stand.
 
 ghost use Rattle.std.specs.Prelude.{◌≡◌, ℕ, ◌<◌, ◌≤◌, length, true, false, List, [], Contains, Option, slice_get, IfOk, OnOk, IfSome};
-ghost use Rattle.sc_papers.specs.Market.{choices_of, is_student, seats_of};
+ghost use Rattle.sc_papers.specs.Market.{choices_of, is_student, seats_of, student_at};
 ghost use Rattle.sc_papers.specs.Matching.{held};
 ghost use Rattle.sc_papers.specs.declared.rejection.Rejection.{Rejection};
 ghost use Rattle.sc_checkpoint.specs.NextChoices.{stands, AreNextChoices};
@@ -9,23 +9,32 @@ ghost use Rattle.sc_engine.specs.RoundView.{Fits, Continues, StandsToo, has_ente
 
 use super::{Round, make_room, offer_to, position_near};
 use sc_checkpoint::NextChoice;
-use sc_papers::{Papers, SchoolNo};
+use sc_papers::{LONGEST_LIST, Papers, SchoolNo};
 use sc_seats::Roll;
 use std::alloc::{AllocError, Global};
 
-/// The rank of the school among the choices, or the rank after the last where there is no school.
-fn rank_in(choices: &[SchoolNo], school: Option<SchoolNo>) -> usize
-    requires { IfSome school (λ s. Contains choices.now s) }
-    ensures rank { slice_get choices.now result ≡ school }
-    ensures within { result ≤ length choices.now }
+/// The rank of the school among the choices of the student at the position, or the rank after the last where there is no
+/// school. The student's row is read, and no record.
+fn rank_in(papers: &Papers, at: usize, school: Option<SchoolNo>) -> usize
+    requires student { at < length papers.now.students }
+    requires listed { IfSome school (λ s. Contains (choices_of papers.now (student_at papers.now at)) s) }
+    ensures rank { slice_get (choices_of papers.now (student_at papers.now at)) result ≡ school }
+    ensures within { result ≤ LONGEST_LIST }
 {
+    // This call tells that the choices are few enough.
+    prove!(papers.choices_at(at).len() <= LONGEST_LIST);
     let Some(school) = school else {
-        return choices.len();
+        return papers.choice_positions_at(at).len();
     };
-    let Some(rank) = choices.iter().position(|choice| *choice == school) else {
+    let Some(rank) = papers.choice_rank_at(at, school) else {
         unreachable!()
     };
     rank
+}
+
+/// Where the student of one of the next choices may stand: at the position that is told, if there is one.
+fn guess_of(near: &[usize], turn: usize, otherwise: usize) -> usize {
+    near.get(turn).copied().unwrap_or(otherwise)
 }
 
 impl<R: Roll> Round<R> {
@@ -33,7 +42,7 @@ impl<R: Roll> Round<R> {
 
     /// Puts the student at its next choice, and on the roll of that school, which has room. That is no
     /// proposal: it was made before.
-    fn put(&mut self, papers: &Papers, choice: NextChoice) -> Result<(), AllocError>
+    fn put(&mut self, papers: &Papers, choice: NextChoice, guess: usize) -> Result<(), AllocError>
         requires fits { Fits papers.now (view_of R.keys R.seats self.old) }
         requires student { is_student papers.now choice.student ≡ true }
         requires absent { has_entered papers.now self.old.ranks.items choice.student ≡ false }
@@ -42,10 +51,10 @@ impl<R: Roll> Round<R> {
         ensures stands { OnOk result (StandsToo papers.now (view_of R.keys R.seats self.old) (view_of R.keys R.seats self.new) choice.student choice.next) }
         ensures spent { is_spent self.new ≡ is_spent self.old }
     {
-        let at = position_near(papers, choice.student, self.ranks.len());
+        let at = position_near(papers, choice.student, guess);
         self.hints.note(choice.student, at);
         make_room(&mut self.ranks, at)?;
-        self.ranks[at] = Some(rank_in(papers.choices_at(at), choice.next) as u8);
+        self.ranks[at] = Some(rank_in(papers, at, choice.next) as u8);
         let Some(school) = choice.next else {
             return Ok(());
         };
@@ -62,14 +71,16 @@ impl<R: Roll> Round<R> {
     /// log that leaves them there the round goes on as if it had made that log itself.
     ///
     /// It takes memory for each student and each school of the papers and for the seats held. The cost
-    /// is a look-up by number, a search among the student's choices and an offer for each of them, and a second
-    /// look-up for one who does not follow the one before in order of entry. `expected` is how many students are
-    /// to stand in the round at last; where it is too small, more of them are looked up by number, and nothing
-    /// else depends on it.
+    /// is a look-up of a school by number, a search among the student's choices and an offer for each of them. `near` may
+    /// tell, for each next choice in turn, at which position of the order of entry its student stands; where it tells
+    /// nothing, that is taken to be right after the student before, and a student who stands elsewhere is looked up by
+    /// number. `expected` is how many students are to stand in the round at last; where it is too small, more of them are
+    /// looked up by number. Nothing else depends on either.
     pub fn resume(
         alloc: Global,
         papers: &Papers,
         next_choices: &[NextChoice],
+        near: &[usize],
         expected: usize,
     ) -> Result<Self, AllocError>
         // Some earlier log is settled for the papers of these students alone, who are different
@@ -82,9 +93,56 @@ impl<R: Roll> Round<R> {
         ensures proposals { IfOk result (λ round. (view_of R.keys R.seats round).proposals ≡ 0) }
         ensures ready { IfOk result (λ round. is_spent round ≡ false) }
     {
-        let mut round: Self = Round::with_room(alloc, papers, expected)?;
-        for choice in next_choices {
-            round.put(papers, *choice)?;
+        Round::with_room(alloc, papers, expected)?.stand(papers, next_choices, near)
+    }
+
+    /// Does what `resume` does, in the memory of a round that is done with, whatever papers it was of and whether or
+    /// not it is spent.
+    ///
+    /// The cost is a look at each school, and for each student what it is in `resume`.
+    pub fn resume_in(
+        self,
+        papers: &Papers,
+        next_choices: &[NextChoice],
+        near: &[usize],
+        expected: usize,
+    ) -> Result<Self, AllocError>
+        requires { (earlier : List Rejection) × AreNextChoices papers.now earlier next_choices.now }
+        ensures fits { IfOk result (λ round. Fits papers.now (view_of R.keys R.seats round)) }
+        ensures entered { IfOk result (λ round. (i : ℕ) → has_entered papers.now (view_of R.keys R.seats round).ranks i ≡ stands next_choices.now i) }
+        ensures continues { IfOk result (λ round. (earlier : List Rejection) → AreNextChoices papers.now earlier next_choices.now → Continues papers.now earlier (view_of R.keys R.seats round)) }
+        ensures log { IfOk result (λ round. (view_of R.keys R.seats round).log ≡ []) }
+        ensures proposals { IfOk result (λ round. (view_of R.keys R.seats round).proposals ≡ 0) }
+        ensures ready { IfOk result (λ round. is_spent round ≡ false) }
+    {
+        self.again(papers, expected)?
+            .stand(papers, next_choices, near)
+    }
+
+    /// Puts each student of these next choices at theirs, in a round in which nobody has entered.
+    fn stand(
+        self,
+        papers: &Papers,
+        next_choices: &[NextChoice],
+        near: &[usize],
+    ) -> Result<Self, AllocError>
+        requires after { (earlier : List Rejection) × AreNextChoices papers.now earlier next_choices.now }
+        requires fits { Fits papers.now (view_of R.keys R.seats self) }
+        requires nobody { (i : ℕ) → has_entered papers.now (view_of R.keys R.seats self).ranks i ≡ false }
+        requires log { (view_of R.keys R.seats self).log ≡ [] }
+        requires proposals { (view_of R.keys R.seats self).proposals ≡ 0 }
+        requires ready { is_spent self ≡ false }
+        ensures fits { IfOk result (λ round. Fits papers.now (view_of R.keys R.seats round)) }
+        ensures entered { IfOk result (λ round. (i : ℕ) → has_entered papers.now (view_of R.keys R.seats round).ranks i ≡ stands next_choices.now i) }
+        ensures continues { IfOk result (λ round. (earlier : List Rejection) → AreNextChoices papers.now earlier next_choices.now → Continues papers.now earlier (view_of R.keys R.seats round)) }
+        ensures log { IfOk result (λ round. (view_of R.keys R.seats round).log ≡ []) }
+        ensures proposals { IfOk result (λ round. (view_of R.keys R.seats round).proposals ≡ 0) }
+        ensures ready { IfOk result (λ round. is_spent round ≡ false) }
+    {
+        let mut round = self;
+        for (turn, choice) in next_choices.iter().enumerate() {
+            let guess = guess_of(near, turn, round.ranks.len());
+            round.put(papers, *choice, guess)?;
         }
         Ok(round)
     }

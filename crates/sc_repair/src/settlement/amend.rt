@@ -41,7 +41,7 @@ impl Settlement {
     /// refused growth also costs an offer for each student and a look at each entry of the log, by which
     /// everybody is put back where they stand.
     ///
-    /// Any other amendment costs that of finding the region, the looks of a round at the papers, a look at each
+    /// Any other amendment costs that of finding the region, a look at each school, a look at each
     /// segment of the region's students before the rewind point, and an offer for each proposal of the others; a
     /// withdrawal also moves up whoever stands behind the student in the order of entry. Nothing of those outside the
     /// region is copied or passed over. The region's new segments are made whole beside the old ones before they take their

@@ -12,7 +12,6 @@ use crate::districts::{exchange, give_up, reach};
 use crate::resettling::resettle;
 use crate::rewind::point_in;
 use sc_papers::{Amendment, Refusal};
-use sc_seats::HeapRoll;
 
 impl Settlement {
     /// Makes an amendment by which nobody enters or withdraws, in place, and settles its region anew from its
@@ -34,7 +33,8 @@ impl Settlement {
         let point = point_in(&self.papers, &region, &amendment);
         let back = exchange(&mut self.papers, &mut self.districts, amendment)?;
         let end = self.papers.students_len();
-        let settled = resettle::<HeapRoll>(
+        let settled = resettle(
+            &mut self.spare,
             self.alloc,
             &self.papers,
             end,

@@ -12,7 +12,6 @@ use crate::districts::{follow, give_up, reach};
 use crate::resettling::resettle;
 use crate::rewind::rewind_point;
 use sc_papers::{Amendment, Refusal, StudentNo};
-use sc_seats::HeapRoll;
 
 /// The student who withdraws by the amendment.
 fn leaver(amendment: &Amendment) -> StudentNo
@@ -53,7 +52,8 @@ impl Settlement {
         follow(&mut self.districts, &self.papers, &amendment);
         self.papers.move_student(point, last);
         // All but the last student are settled.
-        let settled = resettle::<HeapRoll>(
+        let settled = resettle(
+            &mut self.spare,
             self.alloc,
             &self.papers,
             last,

@@ -1,4 +1,4 @@
-use Rattle.std.proofs.Common.{◌≡◌, refl, ap, sym, subst, ◌∙◌, ℕ, List, ◌<◌, Option, None, Contains, IfSome, slice_get, arith}
+use Rattle.std.proofs.Common.{◌≡◌, refl, ap, sym, subst, ◌∙◌, ℕ, ◌<◌, Option, None, Contains, IfSome, slice_get, arith}
 use Rattle.sc_papers.specs.Key.{key_of}
 use Rattle.sc_papers.specs.Market.{choices_of, seats_of, student_at}
 use Rattle.sc_papers.specs.Matching.{held}
@@ -11,11 +11,11 @@ use Rattle.sc_engine.proofs.Moves.{roll-new, proposed-told}
 use Rattle.sc_engine.proofs.Putting.{next-begun, put-nowhere, put-school, roll-open, put-on_roll}
 use Rattle.sc_engine.proofs.round.Round.put.Goals as goal
 
-pub rank_in-requires : goal.rank_in-requires
-rank_in-requires g c =
+pub rank_in-requires-clause-listed : goal.rank_in-requires-clause-listed
+rank_in-requires-clause-listed g c =
     let papers = c.args.papers.now in
-    subst (λ (choices : List ℕ). IfSome c.args.choice.next (λ s. Contains choices s))
-    (sym (c.choices_at.ensures.choices ∙ ap (choices_of papers) (student-there papers c.args.choice.student c.position_near-at.result c.position_near-at.ensures))) c.requires.listed
+    subst (λ (i : ℕ). IfSome c.args.choice.next (λ s. Contains (choices_of papers i) s))
+    (sym (student-there papers c.args.choice.student c.position_near-at.result c.position_near-at.ensures)) c.requires.listed
 
 pub returns-in_default-clause-stands : goal.returns-in_default-clause-stands
 returns-in_default-clause-stands g c =
@@ -27,7 +27,7 @@ returns-in_default-clause-stands g c =
     let old = view_of g.R.Roll.keys g.R.Roll.seats c.args.self.now in
     let there : student_at papers at ≡ student = student-there papers student at c.position_near-at.ensures in
     let here : slice_get (choices_of papers student) rank ≡ c.args.choice.next =
-    ap (λ choices. slice_get choices rank) (sym (c.choices_at.ensures.choices ∙ ap (choices_of papers) there)) ∙ c.rank_in.ensures.rank in
+    ap (λ i. slice_get (choices_of papers i) rank) (sym there) ∙ c.rank_in.ensures.rank in
     let begun : Begun papers old (moved old room at rank) student at rank = begins papers old room student at rank c.requires.fits c.position_near-at.ensures c.requires.absent c.in_ok-make_room.ensures.room c.in_ok-make_room.ensures.same c.in_ok-make_room.ensures.within in
     put-nowhere begun c.args.choice.next here c.in_default.is
 
@@ -41,7 +41,7 @@ position_and_key-position-requires-clause-school g c =
     let old = view_of g.R.Roll.keys g.R.Roll.seats c.args.self.now in
     let there : student_at papers at ≡ student = student-there papers student at c.position_near-at.ensures in
     let here : slice_get (choices_of papers student) rank ≡ c.args.choice.next =
-    ap (λ choices. slice_get choices rank) (sym (c.choices_at.ensures.choices ∙ ap (choices_of papers) there)) ∙ c.rank_in.ensures.rank in
+    ap (λ i. slice_get (choices_of papers i) rank) (sym there) ∙ c.rank_in.ensures.rank in
     let begun : Begun papers old (moved old room at rank) student at rank = begins papers old room student at rank c.requires.fits c.position_near-at.ensures c.requires.absent c.in_ok-make_room.ensures.room c.in_ok-make_room.ensures.same c.in_ok-make_room.ensures.within in
     put-school papers old student rank c.in-Some.school c.requires.fits (here ∙ c.in-Some.is)
 
@@ -55,7 +55,7 @@ offer_to-requires-clause-new g c =
     let old = view_of g.R.Roll.keys g.R.Roll.seats c.args.self.now in
     let there : student_at papers at ≡ student = student-there papers student at c.position_near-at.ensures in
     let here : slice_get (choices_of papers student) rank ≡ c.args.choice.next =
-    ap (λ choices. slice_get choices rank) (sym (c.choices_at.ensures.choices ∙ ap (choices_of papers) there)) ∙ c.rank_in.ensures.rank in
+    ap (λ i. slice_get (choices_of papers i) rank) (sym there) ∙ c.rank_in.ensures.rank in
     let begun : Begun papers old (moved old room at rank) student at rank = begins papers old room student at rank c.requires.fits c.position_near-at.ensures c.requires.absent c.in_ok-make_room.ensures.room c.in_ok-make_room.ensures.same c.in_ok-make_room.ensures.within in
     let key = c.position_and_key-position.ensures.key ∙ ap (λ i. key_of papers i c.in-Some.school) there in
     roll-new papers (moved old room at rank) student c.in-Some.school c.position_and_key-position.result.0 c.position_and_key-position.result.1 (fits-begun begun) c.position_and_key-position.ensures.position key
@@ -82,7 +82,7 @@ returns-clause-stands g c =
     let old = view_of g.R.Roll.keys g.R.Roll.seats c.args.self.now in
     let there : student_at papers at ≡ student = student-there papers student at c.position_near-at.ensures in
     let here : slice_get (choices_of papers student) rank ≡ c.args.choice.next =
-    ap (λ choices. slice_get choices rank) (sym (c.choices_at.ensures.choices ∙ ap (choices_of papers) there)) ∙ c.rank_in.ensures.rank in
+    ap (λ i. slice_get (choices_of papers i) rank) (sym there) ∙ c.rank_in.ensures.rank in
     let begun : Begun papers old (moved old room at rank) student at rank = begins papers old room student at rank c.requires.fits c.position_near-at.ensures c.requires.absent c.in_ok-make_room.ensures.room c.in_ok-make_room.ensures.same c.in_ok-make_room.ensures.within in
     let key = c.position_and_key-position.ensures.key ∙ ap (λ i. key_of papers i c.in-Some.school) there in
     let rolls = rolls_of g.R.Roll.keys g.R.Roll.seats c.offer_to.new.rolls.items in

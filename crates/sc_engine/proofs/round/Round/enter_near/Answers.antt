@@ -1,6 +1,6 @@
 use Rattle.sc_papers.proofs.Hands.{student-there}
 use Rattle.sc_engine.proofs.Proposing.{proposes-there}
-use Rattle.sc_engine.proofs.round.Round.enter_one.Goals as goal
+use Rattle.sc_engine.proofs.round.Round.enter_near.Goals as goal
 
 pub enter_with-requires-clause-first : goal.enter_with-requires-clause-first
 enter_with-requires-clause-first g c = λ ready.
