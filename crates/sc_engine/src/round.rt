@@ -207,12 +207,25 @@ fn position_near(papers: &Papers, student: StudentNo, guess: usize) -> usize
     at
 }
 
+/// Whether an offer of a seat of the school at the position would put out the key itself.
+fn is_refused<R: Roll>(rolls: &Vec<R>, at: usize, key: &Key) -> bool
+    requires within { at < length rolls.now.items }
+    requires new { ¬ Contains (roll_at (rolls_of R.keys R.seats rolls.now.items) at).keys key.now }
+    ensures { result ≡ true → OffersAt (rolls_of R.keys R.seats rolls.now.items) (rolls_of R.keys R.seats rolls.now.items) at key.now (Some key.now) }
+{
+    rolls[at].refuses(key)
+}
+
 /// Offers a seat of the school at the position to the key.
 fn offer_to<R: Roll>(rolls: &mut Vec<R>, at: usize, key: Key) -> Result<Option<Key>, AllocError>
     requires within { at < length rolls.old.items }
     requires new { ¬ Contains (roll_at (rolls_of R.keys R.seats rolls.old.items) at).keys key }
     ensures { IfOk result (λ out. OffersAt (rolls_of R.keys R.seats rolls.old.items) (rolls_of R.keys R.seats rolls.new.items) at key out) }
 {
+    // Most offers are refused, and then nothing is changed or copied.
+    if is_refused(rolls, at, &key) {
+        return Ok(Some(key));
+    }
     let roll = &mut rolls[at];
     let out = roll.offer(key)?;
     Ok(out)

@@ -14,7 +14,7 @@ use Rattle.sc_papers.proofs.Counting.{contains-cons, contains-head, contains-tai
 use Rattle.sc_seats.specs.Last.{IsLastOf}
 use Rattle.sc_seats.specs.Roll.{IsAscending, in_order}
 use Rattle.sc_papers.proofs.Priority.{before-trans}
-use Rattle.sc_seats.proofs.Ordering.{ties, ties-same, behind-apart, Differ, Differ-ascending, Differ-permutation, Differ-cons, Differ-head, Differ-tail, in_order-permutes, ascending-in_order, last-of}
+use Rattle.sc_seats.proofs.Ordering.{ties, ties-same, ties-self, before-apart, behind-apart, Differ, Differ-ascending, Differ-permutation, Differ-cons, Differ-head, Differ-tail, in_order-permutes, ascending-in_order, last-of}
 
 pub length-in_order : (keys : List Key) → length (in_order keys) ≡ length keys
 length-in_order keys = length_permutation keys (in_order keys) (in_order-permutes keys)
@@ -108,6 +108,13 @@ behind-all None keys key is behind = subst (All (λ held. is_before key held ≡
 behind-all (Some last) keys key is behind =
     all-from (λ held. is_before key held ≡ false) keys (λ x among. false_from_ne_true (is_before key x)
     (λ ahead. absurd (true≢false (sym (ahead-of_last key x last ahead (All-contains (λ y. is_before last y ≡ false) keys x is.behind among)) ∙ behind))))
+
+-- where all keys held are ahead of a key, it is not ahead of the last
+pub behind-last : (last : Option Key) (keys : List Key) (key : Key) → IsLastOf last keys → All (λ held. is_before held key ≡ true) (in_order keys) → option_map_or (is_before key) last false ≡ false
+behind-last last keys key is all = false_from_ne_true (option_map_or (is_before key) last false) (λ ahead.
+    let (held, among, before) = ahead-held last keys key is ahead in
+    let behind : is_before held key ≡ true = All-contains (λ x. is_before x key ≡ true) (in_order keys) held all (Contains-permutation keys (in_order keys) held (in_order-permutes keys) among) in
+    true≢false (sym (ties-self key) ∙ before-apart key key (before-trans key held key before behind)))
 
 -- a heap is made of the keys, and the last leaves it for another
 pub heaped-together : (old heap new : List Key) (key last : Key) → IsPermutation old heap → IsPermutation (key ∷ heap) (last ∷ new) → IsPermutation (key ∷ old) (last ∷ new)

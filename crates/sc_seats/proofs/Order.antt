@@ -1,12 +1,15 @@
 -- The order of keys, and ascending lists of them.
-use Rattle.std.proofs.Common.{◌≡◌, refl, ℕ, zero, suc, ◌<◌, ◌≤◌, true, List, [], ◌∷◌, ◌++◌, length, get_or, Some, All, arith}
+use Rattle.std.proofs.Common.{◌≡◌, inl, inr, refl, ap, sym, ◌∙◌, subst, ℕ, zero, suc, ◌<◌, ◌≤◌, ◌-◌, true, List, [], ◌∷◌, ◌++◌, length, get_or, slice_get, Some, All, arith}
 use Rattle.std.specs.List.{insert}
 use Rattle.std.specs.Ordering.{ordering_index}
 use Rattle.std.specs.declared.cmp.Ordering.TheVariants.{Less, Greater}
+use Rattle.std.proofs.lemmas.Bool.{cases_lt}
 use Rattle.std.proofs.lemmas.Bool.Decides.{nat_tests}
+use Rattle.std.proofs.lemmas.Option.{get_or_from_slice_get, slice_get_within}
 use Rattle.std.proofs.lemmas.List.Elements.{All-cons, All-head, All-tail, All-nil, All-pop}
 use Rattle.sc_papers.specs.Key.{is_before, key_cmp}
 use Rattle.sc_papers.specs.declared.key.Key.{Key}
+use Rattle.sc_papers.proofs.Priority.{before-trans}
 use Rattle.sc_seats.specs.Roll.{IsAscending}
 
 pub before-from_less : (a b : Key) → key_cmp a b ≡ Less → is_before a b ≡ true
@@ -49,3 +52,22 @@ ascending-front (first ∷ keys) last up =
     let rest = ascending-front keys last up.1 in
     let parts = All-pop (λ later. is_before first later ≡ true) (keys ++ last ∷ []) keys (Some last) refl up.0 in
     ((parts.0, rest.0), All-cons (λ held. is_before held last ≡ true) first keys parts.1 rest.1)
+
+-- where the last of an ascending list is ahead of a key, all are
+pub all-ahead : (keys : List Key) (last key : Key) → IsAscending keys → slice_get keys (length keys - 1) ≡ Some last → is_before last key ≡ true → All (λ held. is_before held key ≡ true) keys
+all-ahead keys last key up here ahead k d low =
+    let is_last : get_or keys (length keys - 1) d ≡ last = get_or_from_slice_get keys (length keys - 1) last d here in
+    elim (cases_lt k (length keys - 1)) [
+      | inl earlier ↦
+          before-trans (get_or keys k d) last key
+          (subst (λ x. is_before (get_or keys k d) x ≡ true) is_last (ascending-places keys k (length keys - 1) d up earlier (omega (arith, low)))) ahead
+      | inr past ↦
+          let same : k ≡ length keys - 1 = omega (arith, past, low) in
+          ap (λ n. is_before (get_or keys n d) key) same ∙ ap (λ x. is_before x key) is_last ∙ ahead
+    ]
+
+-- and where all are, the last is
+pub last-ahead : (keys : List Key) (last key : Key) → slice_get keys (length keys - 1) ≡ Some last → All (λ held. is_before held key ≡ true) keys → is_before last key ≡ true
+last-ahead keys last key here all =
+    ap (λ x. is_before x key) (sym (get_or_from_slice_get keys (length keys - 1) last last here))
+    ∙ all (length keys - 1) last (slice_get_within keys (length keys - 1) last here)

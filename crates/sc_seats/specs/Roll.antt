@@ -19,6 +19,11 @@ pub record IsRoll (roll : RollView) : Type 0 where
   pub ascending : IsAscending roll.keys
   pub within : length roll.keys ≤ roll.seats
 
+-- no seat is free for a key, and every key held is ahead of it
+pub record Refuses (keys : List Key) (seats : ℕ) (key : Key) : Type 0 where
+  pub full : length keys ≡ seats
+  pub behind : All (λ held. is_before held key ≡ true) keys
+
 -- a key put at its place in an ascending list
 abbrev pub put_in_order : Key → List Key → List Key
 put_in_order key [] = key ∷ []

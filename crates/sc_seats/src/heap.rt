@@ -65,6 +65,10 @@ impl Roll for HeapRoll {
         Ok(Some(key))
     }
 
+    fn refuses(&self, key: &Key) -> bool {
+        self.held.len() >= self.capacity.get() as usize && !is_ahead_of_last(&self.held.last(), key)
+    }
+
     fn worst(&self) -> Option<Key> {
         self.held.last()
     }

@@ -1,9 +1,9 @@
-ghost use Rattle.std.specs.Prelude.{◌≡◌, ℕ, ◌≤◌, ◌-◌, true, List, [], ◌∷◌, ◌++◌, length, All, Contains, IfOk, IfSome, IsSome, OnErr, slice_get};
+ghost use Rattle.std.specs.Prelude.{◌≡◌, ◌↔◌, ℕ, ◌≤◌, ◌-◌, true, List, [], ◌∷◌, ◌++◌, length, All, Contains, IfOk, IfSome, IsSome, IsTrue, OnErr, slice_get};
 ghost use Rattle.std.specs.List.Sorted.{IsPermutation};
 ghost use Rattle.std.specs.Option.{option_to_list};
 ghost use Rattle.sc_papers.specs.Key.{is_before};
 ghost use Rattle.sc_papers.specs.declared.key.Key.{Key as Priority};
-ghost use Rattle.sc_seats.specs.Roll.{IsAscending};
+ghost use Rattle.sc_seats.specs.Roll.{IsAscending, Refuses};
 
 use sc_papers::{Key, Seats};
 use std::alloc::{AllocError, Global};
@@ -35,6 +35,12 @@ pub trait Roll: Drop {
         ensures capacity { seats self.new ≡ seats self.old }
         ensures within { length (keys self.new) ≤ seats self.new }
         ensures ascending { IsAscending (keys self.new) };
+
+    /// Whether an offer to a key that is not held would put out that key itself: no seat is free, and everybody who holds
+    /// one is ahead. It takes no memory. In constant time.
+    fn refuses(&self, key: &Key) -> bool
+        requires { ¬ Contains (keys self.now) key.now }
+        ensures { IsTrue result ↔ Refuses (keys self.now) (seats self.now) key.now };
 
     /// The last of the keys held, or `None` where none is.
     fn worst(&self) -> Option<Key>

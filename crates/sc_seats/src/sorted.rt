@@ -1,4 +1,4 @@
-ghost use Rattle.std.specs.Prelude.{◌≡◌, ℕ, ◌+◌, ◌<◌, ◌≤◌, true, List, [], length, slice_index_or, Contains, vec_len, insert, OnOk, OnErr, IsSome, ◌++◌};
+ghost use Rattle.std.specs.Prelude.{◌≡◌, ◌↔◌, ℕ, ◌+◌, ◌<◌, ◌≤◌, true, List, [], length, slice_index_or, Contains, vec_len, insert, All, IsTrue, OnOk, OnErr, IsSome, ◌++◌};
 ghost use Rattle.std.specs.Option.{option_to_list};
 ghost use Rattle.sc_papers.specs.Key.{is_before};
 ghost use Rattle.sc_seats.specs.Roll.{IsAscending};
@@ -63,6 +63,18 @@ fn take_excess(keys: &mut Vec<Key>, capacity: usize) -> Option<Key>
     }
 }
 
+/// Whether all of the keys are ahead of one that is not among them.
+fn are_ahead(keys: &[Key], key: &Key) -> bool
+    requires ascending { IsAscending keys.now }
+    requires new { ¬ Contains keys.now key.now }
+    ensures { IsTrue result ↔ All (λ held. is_before held key.now ≡ true) keys.now }
+{
+    match keys.last().copied() {
+        Some(last) => last.is_ahead_of(key),
+        None => true,
+    }
+}
+
 impl Roll for SortedRoll {
     ghost keys = { λ r. r.keys };
 
@@ -80,6 +92,10 @@ impl Roll for SortedRoll {
         put_in(&mut self.keys, place, key)?;
         let capacity = self.capacity.get() as usize;
         Ok(take_excess(&mut self.keys, capacity))
+    }
+
+    fn refuses(&self, key: &Key) -> bool {
+        self.len() >= self.capacity.get() as usize && are_ahead(self.keys.as_slice(), key)
     }
 
     fn worst(&self) -> Option<Key> {
