@@ -5,6 +5,7 @@ ghost use Rattle.sc_papers.specs.Key.{is_before, key_cmp};
 ghost use Rattle.sc_papers.specs.declared.key.Key.{Key as Priority};
 ghost use Rattle.sc_seats.specs.Last.{IsLastOf};
 
+use crate::held_key::HeldKey;
 use sc_papers::Key;
 use std::alloc::{AllocError, Global};
 use std::collections::BinaryHeap;
@@ -13,9 +14,9 @@ use std::marker::Model;
 /// Keys as a heap with the last of them on top. There is at least one.
 #[derive(Drop)]
 pub(crate) struct KeyHeap {
-    keys: BinaryHeap<Key>,
+    keys: BinaryHeap<HeldKey>,
     // The top, so that an offer that is refused reads no heap.
-    last: Key,
+    last: HeldKey,
 }
 
 impl Model for KeyHeap {
@@ -27,7 +28,7 @@ impl Model for KeyHeap {
 }
 
 /// The last key of a heap.
-fn last_of(keys: &BinaryHeap<Key>) -> Key
+fn last_of(keys: &BinaryHeap<HeldKey>) -> HeldKey
     requires some { 0 < length (heap_items keys.now) }
     requires heap { IsHeap key_cmp (heap_items keys.now) }
     ensures { IsLastOf (Some result) (heap_items keys.now) }
@@ -39,7 +40,7 @@ fn last_of(keys: &BinaryHeap<Key>) -> Key
 }
 
 /// Takes the last key out of a heap and adds another in its room.
-fn replace_last(keys: &mut BinaryHeap<Key>, key: Key) -> Key
+fn replace_last(keys: &mut BinaryHeap<HeldKey>, key: HeldKey) -> HeldKey
     requires some { 0 < length (heap_items keys.old) }
     requires heap { IsHeap key_cmp (heap_items keys.old) }
     ensures heap { IsHeap key_cmp (heap_items keys.new) }
@@ -57,7 +58,7 @@ fn replace_last(keys: &mut BinaryHeap<Key>, key: Key) -> Key
 
 impl KeyHeap {
     /// The heap of these keys, in the memory that they have. The cost is their number.
-    pub(crate) fn of(keys: Vec<Key>) -> Self
+    pub(crate) fn of(keys: Vec<HeldKey>) -> Self
         requires some { 0 < length keys.items }
         ensures { IsPermutation keys.items result }
     {
@@ -71,9 +72,9 @@ impl KeyHeap {
         ensures together { IsPermutation (key ∷ self.old) (result ∷ self.new) }
         ensures last { All (λ held. is_before result held ≡ false) self.old }
     {
-        let out = replace_last(&mut self.keys, key);
+        let out = replace_last(&mut self.keys, HeldKey::of(key));
         self.last = last_of(&self.keys);
-        out
+        out.key()
     }
 
     /// How many keys there are.
@@ -87,7 +88,7 @@ impl KeyHeap {
     pub(crate) fn last(&self) -> Key
         ensures { IsLastOf (Some result) self.now }
     {
-        self.last
+        self.last.key()
     }
 
     /// An equal heap, or the error of a refused growth. The cost is its length.

@@ -3,6 +3,7 @@ ghost use Rattle.std.specs.List.Sorted.{IsPermutation};
 ghost use Rattle.sc_papers.specs.declared.key.Key.{Key as Priority};
 ghost use Rattle.sc_seats.specs.Last.{IsLastOf};
 
+use crate::held_key::HeldKey;
 use crate::key_heap::KeyHeap;
 use sc_papers::Key;
 use std::alloc::{AllocError, Global};
@@ -11,8 +12,8 @@ use std::marker::Model;
 /// Keys as they came, at least one, and the last of them.
 #[derive(Drop)]
 pub(crate) struct KeyList {
-    keys: Vec<Key>,
-    last: Key,
+    keys: Vec<HeldKey>,
+    last: HeldKey,
 }
 
 impl Model for KeyList {
@@ -28,9 +29,9 @@ impl KeyList {
     pub(crate) fn of(alloc: Global, key: Key) -> Result<Self, AllocError>
         ensures { IfOk result (λ list. list ≡ key ∷ []) }
     {
-        let last = key;
+        let last = HeldKey::of(key);
         let mut keys = Vec::new(alloc);
-        keys.push(key)?;
+        keys.push(last)?;
         Ok(KeyList { keys, last })
     }
 
@@ -39,6 +40,7 @@ impl KeyList {
         ensures appended { OnOk result (self.new ≡ self.old ++ key ∷ []) }
         ensures unchanged { OnErr result (self.new ≡ self.old) }
     {
+        let key = HeldKey::of(key);
         self.keys.push(key)?;
         if self.last.is_ahead_of(&key) {
             self.last = key;
@@ -57,7 +59,7 @@ impl KeyList {
     pub(crate) fn last(&self) -> Key
         ensures { IsLastOf (Some result) self.now }
     {
-        self.last
+        self.last.key()
     }
 
     /// The keys as a heap, which takes no memory. The cost is their number.

@@ -6,6 +6,7 @@
 
 mod heap;
 mod held;
+mod held_key;
 mod key_heap;
 mod key_list;
 mod roll;
