@@ -18,7 +18,7 @@ use crate::lists::{ListRow, ListRows};
 use crate::roster::{RosterRow, RosterRows};
 use crate::schools::{SchoolRow, SchoolRows};
 use sc_papers::{
-    Amendment, MOST_SCHOOLS, MOST_STUDENTS, Papers, Refusal, SchoolList, SchoolRefusal, Seed,
+    MOST_SCHOOLS, MOST_STUDENTS, Papers, Refusal, SchoolList, SchoolRefusal, Seed, Student,
     StudentNo,
 };
 use std::alloc::{AllocError, Global};
@@ -123,14 +123,14 @@ fn enter(papers: &mut Papers, row: RosterRow, choices: SchoolList) -> Result<(),
     ensures entered { Gives (λ _. papers.new) OutOfMemory (amended papers.old (Enter row.student row.zone row.siblings choices row.continuing)) result }
     ensures unchanged { OnErr result (papers.new ≡ papers.old) }
 {
-    let amendment = Amendment::Enter {
-        student: row.student,
+    let student = Student {
         zone: row.zone,
         siblings: row.siblings,
         choices,
         continuing: row.continuing,
     };
-    match papers.apply(amendment) {
+    // Not by `apply`: it would read an amendment that has only just been written, and wait for it.
+    match papers.admit(row.student, student) {
         Ok(()) => Ok(()),
         Err(refusal) => Err(cause_of(refusal)),
     }

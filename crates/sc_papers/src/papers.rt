@@ -387,9 +387,19 @@ impl Papers {
         place_once(&self.positions, student.choices.as_slice())
     }
 
-    /// Tests a student as `check` does, and puts them last in the order of entry, or answers the first refusal that
-    /// applies, or else want of memory. After a refusal the papers are as before.
-    pub(crate) fn admit(&mut self, number: StudentNumber, student: Student) -> Result<(), Refusal>
+    /// Does what `apply` does with an amendment by which the student enters, without the amendment having to be made:
+    /// puts the student last in the order of entry, or answers the first refusal that applies. After a refusal the
+    /// papers are as before; the student is given up.
+    ///
+    /// The refusals, in the order of the tests: `StudentExists` where the number is in the papers; `EmptyList` where
+    /// there are no choices; `ListTooLong` where there are more than 20 choices, or more than 20 siblings;
+    /// `UnknownSchool` where a school is not in the papers, of the choices, then of the siblings, then the one at which
+    /// the student continues; `SchoolTwice` where the choices, and then the siblings, name a school twice; `RosterFull`
+    /// where there are 200,000 students; and last `OutOfMemory`.
+    ///
+    /// The cost is the lengths of the lists, a look-up for each school named, and one draw of the lottery for a student
+    /// who enters. It takes memory for the student alone, and none where `reserve` made room.
+    pub fn admit(&mut self, number: StudentNumber, student: Student) -> Result<(), Refusal>
         ensures allowed { OnOk result (first_of (objections_to_enter self.old number student.siblings student.choices student.continuing) ≡ None) }
         ensures entered { OnOk result (self.new ≡ with_student self.old number student) }
         ensures refused { IfErr result (IsRefusal (first_of (objections_to_enter self.old number student.siblings student.choices student.continuing))) }
