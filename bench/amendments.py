@@ -29,7 +29,9 @@ def count_of(kind, students, districts):
         return 5_000
     if districts > 1:
         return 1_000
-    return max(20, min(students // 4, 1_000_000 // students))
+    # Students and seats that go are used up; anything else may come again and again.
+    most = students // 4 if kind.startswith("withdrawal") or kind == "a seat less" else 4_000
+    return max(20, min(most, 1_000_000 // students))
 
 
 def market(folder, students, districts):
