@@ -21,7 +21,8 @@ fn seats(rt: &impl Abort, number: u32) -> Seats {
     Seats::new(number).expect(rt, "a number of seats")
 }
 
-/// Offers the key. Where a growth is refused the roll is as it was, and the key is offered again.
+/// Offers the key, and sees that the roll told beforehand whether it would be refused. Where a growth is refused the
+/// roll is as it was, and the key is offered again.
 fn offer_again<R: Roll>(rt: &impl Abort, roll: &mut R, key: &Key) -> Result<Option<Key>, AllocError>
     requires within { length (R.keys roll.old) ≤ R.seats roll.old }
     requires new { ¬ Contains (R.keys roll.old) key.now }
@@ -30,7 +31,9 @@ fn offer_again<R: Roll>(rt: &impl Abort, roll: &mut R, key: &Key) -> Result<Opti
 {
     let held = roll.len();
     let worst = roll.worst();
+    let refused = roll.refuses(key);
     if let Ok(out) = roll.offer(*key) {
+        assert_eq!(rt; out == Some(*key), refused);
         return Ok(out);
     }
     assert_eq!(rt; roll.len(), held);
