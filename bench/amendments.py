@@ -28,7 +28,7 @@ def count_of(kind, students, districts):
     if kind == "newcomer":
         return 5_000
     if districts > 1:
-        return 1_000
+        return 4_000
     # Students and seats that go are used up; anything else may come again and again.
     most = students // 4 if kind.startswith("withdrawal") or kind == "a seat less" else 4_000
     return max(20, min(most, 1_000_000 // students))
