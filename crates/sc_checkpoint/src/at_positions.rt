@@ -1,6 +1,6 @@
 //! The next choices of some students of the papers, by their own segments.
 
-ghost use Rattle.std.specs.Prelude.{◌≡◌, ℕ, ◌<◌, ◌++◌, ◌∷◌, [], List, length, map, slice_index, IfOk};
+ghost use Rattle.std.specs.Prelude.{◌≡◌, ℕ, ◌<◌, ◌++◌, ◌∷◌, [], List, None, Some, true, length, map, slice_get, slice_index, IfOk, IfSome};
 ghost use Rattle.std.specs.List.Sorted.{IsStrictlyIncreasing};
 ghost use Rattle.sc_papers.specs.Market.{student_at, students_of};
 ghost use Rattle.sc_papers.specs.Restriction.{joined};
@@ -9,15 +9,56 @@ ghost use Rattle.sc_checkpoint.specs.Chains.{logs_at};
 ghost use Rattle.sc_checkpoint.specs.NextChoices.{next_choices_after};
 ghost use Rattle.sc_checkpoint.specs.Ranks.{AreTabled};
 
+use crate::hints::Hints;
 use crate::next_choice::NextChoice;
 use crate::next_choices::first_outside;
 use crate::rank_set::RankSet;
 use crate::segments::Segments;
-use sc_papers::{Papers, Rejection};
+use sc_papers::{MOST_STUDENTS, Papers, Rejection, StudentNo};
 use std::alloc::{AllocError, Global};
 
+/// How many hints there is room for, for each student: so few of them take the place of others.
+const ROOM: usize = 4;
+
+/// Whether the student stands at the position with this place among the positions.
+fn is_at(papers: &Papers, positions: &[usize], student: StudentNo, place: usize) -> bool
+    ensures { result ≡ true → slice_get (map (student_at papers.now) positions.now) place ≡ Some student }
+{
+    let Some(position) = positions.get(place) else {
+        return false;
+    };
+    papers.student_at(*position) == Some(student)
+}
+
+/// The place, among the positions, of that at which the student stands, or `None` where they stand at none. One who
+/// stands at the guessed place is not looked up by number.
+fn place_near(
+    papers: &Papers,
+    positions: &[usize],
+    student: StudentNo,
+    guess: usize,
+) -> Option<usize>
+    requires rising { IsStrictlyIncreasing positions.now }
+    requires within { (k : ℕ) → k < length positions.now → slice_index positions.now k < length (students_of papers.now) }
+    ensures place { IfSome result (λ place. slice_get (map (student_at papers.now) positions.now) place ≡ Some student) }
+    ensures none { result ≡ None → (place : ℕ) → slice_get (map (student_at papers.now) positions.now) place ≡ Some student → ⊥ }
+{
+    if is_at(papers, positions, student, guess) {
+        return Some(guess);
+    }
+    // This call tells that the papers are well-formed: no number stands twice.
+    prove!(papers.students_len() <= MOST_STUDENTS);
+    let Some(position) = papers.student_position(student) else {
+        return None;
+    };
+    match positions.binary_search(&position) {
+        Ok(place) => Some(place),
+        Err(_) => None,
+    }
+}
+
 /// Puts the entry's school among the ranks of the entry's student, where the student stands at one of the
-/// positions and lists the school. A student who stands at the guess is not looked up by number.
+/// positions and lists the school. A student who stands at the guessed place among them is not looked up by number.
 fn mark_at(
     papers: &Papers,
     positions: &[usize],
@@ -31,28 +72,44 @@ fn mark_at(
     ensures tabled { (log : List Rejection) → AreTabled papers.now (map (student_at papers.now) positions.now) log table.old.items → AreTabled papers.now (map (student_at papers.now) positions.now) (log ++ entry ∷ []) table.new.items }
     ensures same_length { length table.new.items ≡ length table.old.items }
 {
-    let Some(position) = papers.student_position_near(entry.student, guess) else {
+    let Some(place) = place_near(papers, positions, entry.student, guess) else {
         return;
     };
     // This call tells that the papers are well-formed and within their limits: no number and no choice stands
     // twice, and a set has room for each rank.
-    prove!(position < papers.students_len());
-    let Ok(place) = positions.binary_search(&position) else {
-        return;
-    };
-    let Some(rank) = papers.choice_rank_at(position, entry.school) else {
+    prove!(papers.students_len() <= MOST_STUDENTS);
+    let Some(rank) = papers.choice_rank_at(positions[place], entry.school) else {
         return;
     };
     table[place] = table[place].with(rank);
 }
 
+/// A student, and the place among some positions of that at which they stand.
+#[derive(Clone, Copy)]
+struct Owner {
+    student: StudentNo,
+    place: usize,
+}
+
+impl Owner {
+    /// The place at which a student may be: most rejections of a segment are those of its own student.
+    fn guess(&self, hints: &Hints, student: StudentNo) -> usize {
+        if student == self.student {
+            self.place
+        } else {
+            hints.guess(student)
+        }
+    }
+}
+
 /// Puts each entry's school among the ranks of the entry's student, where the student stands at one of the
-/// positions. The students who stand at the guess are not looked up by number.
+/// positions. The segment's owner and whoever the hints find are not looked up by number.
 fn mark_all_at(
     papers: &Papers,
     positions: &[usize],
     table: &mut Vec<RankSet>,
-    guess: usize,
+    hints: &Hints,
+    owner: Owner,
     entries: &[Rejection],
 )
     requires rising { IsStrictlyIncreasing positions.now }
@@ -62,8 +119,20 @@ fn mark_all_at(
     ensures same_length { length table.new.items ≡ length table.old.items }
 {
     for entry in entries {
+        let guess = owner.guess(hints, entry.student);
         mark_at(papers, positions, table, guess, *entry);
     }
+}
+
+/// Hints by which the students of the segments at some positions are found: each one's place among the positions.
+fn hints_of(alloc: Global, segments: &Segments, positions: &[usize]) -> Result<Hints, AllocError>
+    requires held { (k : ℕ) → k < length positions.now → slice_index positions.now k < length segments.now }
+{
+    let mut hints = Hints::with_room(alloc, positions.len().saturating_mul(ROOM))?;
+    for (place, position) in positions.iter().enumerate() {
+        hints.note(segments.student(*position), place);
+    }
+    Ok(hints)
 }
 
 /// For each student at the positions, the ranks of the choices that rejected them, by the segments at the
@@ -81,13 +150,18 @@ fn rejected_ranks_at(
     ensures tabled { IfOk result (λ table. AreTabled papers.now (map (student_at papers.now) positions.now) (joined (logs_at positions.now segments.now)) table.items) }
 {
     let mut table = vec![in alloc; RankSet::new(); positions.len()]?;
-    for position in positions {
-        // Most rejections of a segment are those of its own student.
+    let hints = hints_of(alloc, segments, positions)?;
+    for (place, position) in positions.iter().enumerate() {
+        let owner = Owner {
+            student: segments.student(*position),
+            place,
+        };
         mark_all_at(
             papers,
             positions,
             &mut table,
-            *position,
+            &hints,
+            owner,
             segments.segment(*position),
         );
     }

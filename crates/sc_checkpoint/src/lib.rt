@@ -3,11 +3,13 @@
 #![tactic(auto)]
 
 mod at_positions;
+mod hints;
 mod next_choice;
 mod next_choices;
 mod rank_set;
 mod segment;
 mod segments;
 
+pub use hints::Hints;
 pub use next_choice::NextChoice;
 pub use segments::Segments;

@@ -5,7 +5,6 @@
 
 mod batches;
 mod entrants;
-mod hints;
 pub mod laws;
 mod round;
 mod settled;

@@ -11,8 +11,8 @@ ghost use Rattle.sc_engine.specs.Rolls.{rolls_of};
 
 mod resume;
 
-use crate::hints::Hints;
 use crate::settled::Settled;
+use sc_checkpoint::Hints;
 use sc_papers::{
     Assignment, Key, LONGEST_LIST, MOST_STUDENTS, Papers, Proposal, Rejection, SchoolNo, Seats,
     StudentNo,
