@@ -1,11 +1,10 @@
 -- Students who are given other places, one after the other.
-use Rattle.std.proofs.Common.{◌≡◌, refl, ap, sym, ◌∙◌, ℕ, nat_eq, Bool, true, false, not, ◌&&◌, ◌||◌, cond, List, [], ◌∷◌, ◌++◌, Option, Some, None, is_some}
-use Rattle.std.proofs.lemmas.Bool.{eqb-true}
+use Rattle.std.proofs.Common.{◌≡◌, refl, ap, sym, subst, ◌∙◌, ℕ, nat_eq, Bool, true, false, not, ◌&&◌, ◌||◌, cond, List, [], ◌∷◌, ◌++◌, Option, Some, None, is_some}
+use Rattle.std.proofs.lemmas.Bool.{eqb-true, false≢true, true≢false}
 use Rattle.std.proofs.lemmas.List.Folds.{list_any-append}
 use Rattle.sc_papers.specs.Matching.{Matching}
-use Rattle.sc_repair.specs.Course.{either_by}
 use Rattle.sc_repair.specs.Locality.{is_among}
-use Rattle.sc_repair.specs.Placing.{with_moved, with_new}
+use Rattle.sc_repair.specs.Placing.{with_moved, with_new, AreMovers}
 
 -- one more student
 among-one : (students : List ℕ) (i j : ℕ) → is_among (students ++ i ∷ []) j ≡ (is_among students j || nat_eq j i)
@@ -56,25 +55,6 @@ moved-one students next a middle after i before moved j =
     own-next true same = ap (λ o. cond (is_some (middle j)) o (middle j)) (same refl)
     own-next false same = refl
 
--- both together give each of them what the other matching does
-pub new-moved : (students : List ℕ) (next a middle after : Matching) → ((j : ℕ) → middle j ≡ with_new students next a j) → ((j : ℕ) → after j ≡ with_moved students next middle j)
-    → (j : ℕ) → after j ≡ either_by (is_among students) next a j
-new-moved students next a middle after new moved j =
-    moved j ∙ ap (λ o. cond (is_among students j && is_some o) (next j) o) (new j) ∙ go (is_among students j) (a j) (next j)
-  where
-    go : (b : Bool) (had next : Option ℕ) → cond (b && is_some (cond (b && not (is_some had)) next had)) next (cond (b && not (is_some had)) next had) ≡ cond b next had
-    go true None None = refl
-    go true None (Some s) = refl
-    go true (Some t) next = refl
-    go false had next = refl
-
--- none of no students is given another place
-pub none-new : (next a : Matching) (j : ℕ) → a j ≡ with_new [] next a j
-none-new next a j = refl
-
-pub none-moved : (next a : Matching) (j : ℕ) → a j ≡ with_moved [] next a j
-none-moved next a j = refl
-
 -- who has nothing is given a school
 pub given-one : (next a after : Matching) (i s : ℕ) → a i ≡ None → next i ≡ Some s → ((j : ℕ) → after j ≡ cond (nat_eq j i) (Some s) (a j)) → (j : ℕ) → after j ≡ cond (nat_eq j i && not (is_some (a j))) (next j) (a j)
 given-one next a after i s none stands given j = given j ∙ go (nat_eq j i) (λ same. ap next (eqb-true j i same) ∙ stands) (λ same. ap a (eqb-true j i same) ∙ none)
@@ -82,3 +62,50 @@ given-one next a after i s none stands given j = given j ∙ go (nat_eq j i) (λ
     go : (b : Bool) → (b ≡ true → next j ≡ Some s) → (b ≡ true → a j ≡ None) → cond b (Some s) (a j) ≡ cond (b && not (is_some (a j))) (next j) (a j)
     go true own nothing = sym (own refl) ∙ ap (λ o. cond (not (is_some o)) (next j) (a j)) (sym (nothing refl))
     go false own nothing = refl
+
+or-left : (s o : Bool) → s ≡ true → (s || o) ≡ true
+or-left true o holds = refl
+or-left false o holds = absurd (false≢true holds)
+
+still : (b : Bool) (had its : Option ℕ) → had ≡ its → cond b its had ≡ its
+still true had its same = refl
+still false had its same = same
+
+-- one more student, who has what the next matching gives them
+pub movers-stay : (students movers : List ℕ) (next middle after : Matching) (i : ℕ) → AreMovers students movers next middle
+    → ((j : ℕ) → after j ≡ cond (nat_eq j i && not (is_some (middle j))) (next j) (middle j)) → after i ≡ next i → AreMovers (students ++ i ∷ []) movers next after
+movers-stay students movers next middle after i are given there = record {
+  among = λ j inside. among-one students i j ∙ or-left (is_among students j) (nat_eq j i) (are.among j inside);
+  others = λ j any out. go j (is_among students j) (nat_eq j i)
+      (λ inside. given j ∙ still (nat_eq j i && not (is_some (middle j))) (middle j) (next j) (are.others j inside out))
+      (λ same. subst (λ k. after k ≡ next k) (sym (eqb-true j i same)) there)
+      (sym (among-one students i j) ∙ any);
+}
+  where
+    go : (j : ℕ) (s o : Bool) → (s ≡ true → after j ≡ next j) → (o ≡ true → after j ≡ next j) → (s || o) ≡ true → after j ≡ next j
+    go j true o one two any = one refl
+    go j false true one two any = two refl
+    go j false false one two any = absurd (false≢true any)
+
+-- one more student, who is to be given another place
+pub movers-more : (students movers : List ℕ) (next middle after : Matching) (i : ℕ) → AreMovers students movers next middle
+    → ((j : ℕ) → after j ≡ cond (nat_eq j i && not (is_some (middle j))) (next j) (middle j)) → AreMovers (students ++ i ∷ []) (movers ++ i ∷ []) next after
+movers-more students movers next middle after i are given = record {
+  among = λ j any. among-one students i j ∙ into (is_among movers j) (nat_eq j i) (is_among students j) (are.among j) (sym (among-one movers i j) ∙ any);
+  others = λ j any out. go j (is_among students j) (nat_eq j i) (is_among movers j)
+      (λ inside other. given j ∙ still (nat_eq j i && not (is_some (middle j))) (middle j) (next j) (are.others j inside other))
+      (sym (among-one students i j) ∙ any) (sym (among-one movers i j) ∙ out);
+}
+  where
+    into : (m o s : Bool) → (m ≡ true → s ≡ true) → (m || o) ≡ true → (s || o) ≡ true
+    into true o s among any = or-left s o (among refl)
+    into false true true among any = refl
+    into false true false among any = refl
+    into false false s among any = absurd (false≢true any)
+
+    go : (j : ℕ) (s o m : Bool) → (s ≡ true → m ≡ false → after j ≡ next j) → (s || o) ≡ true → (m || o) ≡ false → after j ≡ next j
+    go j true false false one any out = one refl refl
+    go j true true false one any out = absurd (true≢false out)
+    go j s o true one any out = absurd (true≢false out)
+    go j false true false one any out = absurd (true≢false out)
+    go j false false false one any out = absurd (false≢true any)

@@ -78,7 +78,8 @@ fn note<R: Roll>(
         return Ok(());
     };
     let before = places.len();
-    places.put(student, school)?;
+    // Whoever enters comes last.
+    places.put(student, segments.len(), school)?;
     let pushed = segments.push(student, round.log());
     if pushed.is_err() {
         places.truncate(before);
@@ -94,7 +95,9 @@ fn move_on<R: Roll>(round: &Round<R>, papers: &Papers, places: &mut Places)
 {
     for rejection in round.log() {
         let student = rejection.student;
-        places.move_to(student, round.next_choice(papers, student));
+        let at = papers.student_position(student).unwrap_or(0);
+        let school = round.next_choice_near(papers, student, at);
+        places.move_near(student, at, school);
     }
 }
 

@@ -7,6 +7,7 @@ mod districts;
 mod entering;
 mod entry_order;
 mod open_refused;
+mod pair_hints;
 mod places;
 mod placing;
 mod region_positions;

@@ -7,7 +7,8 @@ ghost use Rattle.sc_papers.specs.Assignment.{assigned, holders, with_place};
 ghost use Rattle.sc_papers.specs.declared.school_no.TheConstants.SchoolNo.{GREATEST as greatest_school};
 ghost use Rattle.sc_repair.specs.Places.{AreCounts};
 
-use sc_papers::{Assignment, SchoolNo, StudentNo};
+use crate::pair_hints::PairHints;
+use sc_papers::{Assignment, Papers, SchoolNo, StudentNo};
 use std::alloc::{AllocError, Global};
 use std::marker::Model;
 
@@ -17,6 +18,8 @@ pub(crate) struct Places {
     assignment: Assignment,
     // By the number of the school.
     counts: Vec<usize>,
+    // Where the students' pairs may stand in the assignment, by their positions in the order of entry.
+    hints: PairHints,
 }
 
 impl Model for Places {
@@ -90,12 +93,22 @@ fn uncount_from(counts: &mut Vec<usize>, assignment: &Assignment, from: usize)
 }
 
 impl Places {
-    /// The places of an assignment. The only error is want of memory.
-    pub(crate) fn of(alloc: Global, assignment: Assignment) -> Result<Self, AllocError>
+    /// The places of an assignment of the papers. The only error is want of memory. The cost is one pass over the
+    /// students.
+    pub(crate) fn of(
+        alloc: Global,
+        papers: &Papers,
+        assignment: Assignment,
+    ) -> Result<Self, AllocError>
         ensures { IfOk result (λ places. places ≡ assignment) }
     {
         let counts = counts_of(alloc, &assignment)?;
-        Ok(Places { assignment, counts })
+        let hints = PairHints::of(alloc, papers, &assignment)?;
+        Ok(Places {
+            assignment,
+            counts,
+            hints,
+        })
     }
 
     /// The assignment, lent.
@@ -119,6 +132,14 @@ impl Places {
         self.assignment.get(student)
     }
 
+    /// What `get` says of a student who often stands at this position of the order of entry: then mostly no number is
+    /// looked up.
+    pub(crate) fn get_near(&self, student: StudentNo, at: usize) -> Option<SchoolNo>
+        ensures { result ≡ assigned self.now student }
+    {
+        self.assignment.get_near(student, self.hints.guess(at))
+    }
+
     /// How many students have a school.
     pub(crate) fn len(&self) -> usize
         ensures count { result ≡ length self.now }
@@ -127,25 +148,37 @@ impl Places {
         self.assignment.len()
     }
 
-    /// Gives a student who has none the school, at the end of the order. A refused growth changes nothing.
-    pub(crate) fn put(&mut self, student: StudentNo, school: SchoolNo) -> Result<(), AllocError>
+    /// Gives a student who has none the school, at the end of the order. The student stands at this position of the order
+    /// of entry, or may be looked up by number later on. A refused growth changes nothing.
+    pub(crate) fn put(
+        &mut self,
+        student: StudentNo,
+        at: usize,
+        school: SchoolNo,
+    ) -> Result<(), AllocError>
         requires unplaced { assigned self.old student ≡ None }
         ensures put { OnOk result (self.new ≡ with_place self.old student school) }
         ensures unchanged { OnErr result (self.new ≡ self.old) }
     {
+        let pair = self.assignment.len();
         self.assignment.put(student, school)?;
         // This call tells that the pairs can be counted.
         prove!(self.assignment.len() <= usize::MAX);
         count_one(&mut self.counts, school);
+        self.hints.note(at, pair);
         Ok(())
     }
 
     /// Gives a student who has a school another one, or none; one who has none stays without. It takes no memory.
-    /// In constant time.
-    pub(crate) fn move_to(&mut self, student: StudentNo, school: Option<SchoolNo>)
+    /// In constant time. One who often stands at this position of the order of entry, and has the school by now, is
+    /// mostly not looked up by number.
+    pub(crate) fn move_near(&mut self, student: StudentNo, at: usize, school: Option<SchoolNo>)
         ensures moved { (j : ℕ) → assigned self.new j ≡ (if nat_eq j student && is_some (assigned self.old j) then school else assigned self.old j) }
     {
-        let before = self.assignment.get(student);
+        let before = self.assignment.get_near(student, self.hints.guess(at));
+        if before == school {
+            return;
+        }
         self.assignment.move_to(student, school);
         let Some(from) = before else {
             return;
@@ -166,5 +199,12 @@ impl Places {
             uncount_from(&mut self.counts, &self.assignment, count);
             self.assignment.truncate(count);
         }
+    }
+
+    /// The student at the position leaves the order of entry, and whoever stands behind moves up by one: no place changes.
+    pub(crate) fn leave(&mut self, position: usize)
+        ensures { self.new ≡ self.old }
+    {
+        self.hints.leave(position);
     }
 }

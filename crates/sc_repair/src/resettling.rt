@@ -90,6 +90,13 @@ fn resumed<R: Roll>(
     }
 }
 
+/// For how many students a round takes room for hints: for several times as many as may stand in it, so that few hints
+/// take the place of others, and for no more than there are.
+fn hints_for(papers: &Papers, region: &RegionMarks) -> usize {
+    let several = region.positions().len().saturating_mul(4);
+    several.min(papers.students_len())
+}
+
 /// A round in which the students of the region stand settled, of whom those before the point made no proposal:
 /// they stood at their next choices. A renewed chain is made for each of them from the point on.
 fn settle_region<R: Roll>(
@@ -119,6 +126,7 @@ fn settle_region<R: Roll>(
     ensures ready { IfOk result (λ round. is_spent round ≡ false) }
 {
     let positions = positions_before(region, point);
+    let expected = hints_for(papers, region);
     let next_choices = old.next_choices_of(papers, positions)?;
     let mut round = resumed(
         spare,
@@ -126,10 +134,18 @@ fn settle_region<R: Roll>(
         papers,
         next_choices.as_slice(),
         positions,
-        region.positions().len(),
+        expected,
     )?;
     take_turns(&mut round, papers, end, region, point, old, renewed)?;
     Ok(round)
+}
+
+/// The position of the student who leaves, if one does.
+fn leaver_at(point: usize, gap: usize) -> Option<usize> {
+    if gap > 0 {
+        return Some(point);
+    }
+    None
 }
 
 /// Puts the renewed chains into the place of the region's old ones, and takes out that of who leaves, if one does.
@@ -193,7 +209,8 @@ pub(crate) fn resettle<R: Roll>(
         segments,
         &mut renewed,
     )?;
-    place_inside(&round, papers, region, segments, places)?;
+    let leaver = leaver_at(point, gap);
+    place_inside(alloc, &round, papers, region, segments, leaver, places)?;
     let proposals = round.proposals();
     renew(segments, region, point, gap, renewed);
     *spare = Some(round);

@@ -98,7 +98,7 @@ pub(crate) fn settle_on<R: Roll>(
     )?;
     enter_rest(&mut round, papers, segments)?;
     let settled = round.into_settled(papers)?;
-    let places = Places::of(alloc, settled.assignment)?;
+    let places = Places::of(alloc, papers, settled.assignment)?;
     Ok(Placed {
         places,
         proposals: settled.proposals,

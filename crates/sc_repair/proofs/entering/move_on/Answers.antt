@@ -12,11 +12,11 @@ loop-rejection-preserved g c =
     let next = next_of c.args.papers.now c.args.round.now.ranks.items in
     let more = take_more log c.loop-rejection.rejection-index c.rejection-item.result c.loop-rejection-test.true
     ∙ ap (λ (e : Rejection). take c.loop-rejection.rejection-index log ++ e ∷ []) (sym c.rejection-item.is) in
-    subst (λ l. MovesFirst next l c.args.places.now c.move_to.new.self) (sym more)
-    (moves-next next (take c.loop-rejection.rejection-index log) c.rejection-item.result c.args.places.now c.loop-rejection.places c.move_to.new.self
+    subst (λ l. MovesFirst next l c.args.places.now c.move_near.new.self) (sym more)
+    (moves-next next (take c.loop-rejection.rejection-index log) c.rejection-item.result c.args.places.now c.loop-rejection.places c.move_near.new.self
     c.loop-rejection.invariant
-    (λ j. c.move_to.ensures.moved j
-    ∙ ap (λ o. cond (nat_eq j c.rejection-item.result.student && is_some (assigned c.loop-rejection.places j)) o (assigned c.loop-rejection.places j)) (c.next_choice.ensures c.requires.ready)))
+    (λ j. c.move_near.ensures.moved j
+    ∙ ap (λ o. cond (nat_eq j c.rejection-item.result.student && is_some (assigned c.loop-rejection.places j)) o (assigned c.loop-rejection.places j)) (c.next_choice_near-school.ensures c.requires.ready)))
 
 pub returns : goal.returns
 returns g c =

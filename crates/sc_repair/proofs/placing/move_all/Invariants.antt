@@ -9,4 +9,4 @@ use Rattle.sc_repair.proofs.placing.move_all.Given as goal
 
 abbrev pub invariant-loop-position : goal.invariant-loop-position
 invariant-loop-position g l =
-    (j : ℕ) → assigned l.places j ≡ with_moved (picked (students_in l.chains) (take l.position-index l.positions)) (next_of l.papers (view_of g.R.Roll.keys g.R.Roll.seats l.round).ranks) (assigned l.initial.places) j
+    (j : ℕ) → assigned l.places j ≡ with_moved (picked (students_in l.chains) (take l.position-index l.movers)) (next_of l.papers (view_of g.R.Roll.keys g.R.Roll.seats l.round).ranks) (assigned l.initial.places) j
