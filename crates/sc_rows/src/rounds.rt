@@ -137,6 +137,37 @@ fn resume_with_the_third<R: Roll>(alloc: Global, papers: &Papers) -> Result<Sett
     round.into_settled(papers)
 }
 
+/// Does so in the memory of a round that is done with, where nobody is found by a guess at where they stand.
+fn resume_again_with_the_third<R: Roll>(
+    alloc: Global,
+    papers: &Papers,
+) -> Result<Settled, AllocError> {
+    let (Some(one), Some(two), Some(three)) = (
+        papers.student_at(0),
+        papers.student_at(1),
+        papers.student_at(2),
+    ) else {
+        return Err(AllocError);
+    };
+    let next_choices = first_two_stand::<R>(alloc, papers, one, two)?;
+    let mut done: Round<R> = Round::start(alloc, papers)?;
+    done.enter_one(papers, three)?;
+    let mut round = done.resume_in(papers, &next_choices, &[1, 2], 0)?;
+    round.enter_near(papers, three, 1)?;
+    round.into_settled(papers)
+}
+
+#[test]
+fn a_newcomer_to_a_round_in_old_memory(rt: HostRuntime) {
+    let papers = papers_of(&rt, rt.alloc(), MARKET_B_AND_NEWCOMER);
+    let want = "(1,10)(2,20)(2,10) 3: 1 at 20 3 at 10";
+    let sorted = resume_again_with_the_third::<SortedRoll>(rt.alloc(), &papers);
+    expect_settled(&rt, rt.alloc(), sorted, want);
+    let heap = resume_again_with_the_third::<HeapRoll>(rt.alloc(), &papers);
+    expect_settled(&rt, rt.alloc(), heap, want);
+    drop(papers);
+}
+
 #[test]
 fn a_newcomer_to_a_resumed_round(rt: HostRuntime) {
     let papers = papers_of(&rt, rt.alloc(), MARKET_B_AND_NEWCOMER);

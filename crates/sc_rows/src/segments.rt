@@ -5,7 +5,7 @@ ghost use Rattle.sc_papers.specs.Market.{students_of};
 ghost use Rattle.sc_checkpoint.specs.Chains.{students_in};
 
 use crate::given::{school, student};
-use sc_checkpoint::{NextChoice, Segments};
+use sc_checkpoint::{Hints, NextChoice, Segments};
 use sc_papers::{
     Amendment, Papers, Refusal, Rejection, SchoolList, SchoolRefusal, Seats, Seed, Zone,
 };
@@ -249,6 +249,23 @@ fn copied(segments: &Segments) -> Option<usize>
         }
         Err(_) => None,
     }
+}
+
+/// Hints with this much room, of students 1 and 2 at the positions 7 and 9.
+fn hints_of_two(rt: &impl Abort, alloc: Global, room: usize) -> Hints {
+    let mut hints = Hints::with_room(alloc, room).expect(rt, "memory");
+    hints.note(student(rt, 1), 7);
+    hints.note(student(rt, 2), 9);
+    hints
+}
+
+#[test]
+fn hints_of_two_students(rt: HostRuntime) {
+    let hints = hints_of_two(&rt, rt.alloc(), 4);
+    assert_eq!(&rt; hints.guess(student(&rt, 1)), 7);
+    assert_eq!(&rt; hints.guess(student(&rt, 2)), 9);
+    let none = hints_of_two(&rt, rt.alloc(), 0);
+    assert_eq!(&rt; none.guess(student(&rt, 1)), 0);
 }
 
 fn expect_growths(rt: &impl Abort, segments: &mut Segments)
