@@ -590,6 +590,20 @@ impl<R: Roll> Round<R> {
         self.spent
     }
 
+    /// The choices at which the students of the round stand, in order of entry. A spent round answers the error, and so
+    /// does want of memory. The cost is a look at each student of the papers.
+    pub fn assignment(&self, papers: &Papers) -> Result<Assignment, AllocError>
+        requires { is_spent self.now ≡ false → Fits papers.now (view_of R.keys R.seats self.now) }
+        ensures was_ready { OnOk result (is_spent self.now ≡ false) }
+        ensures given { IfOk result (λ assignment. (i : ℕ) → assigned assignment i ≡ next_of papers.now (view_of R.keys R.seats self.now).ranks i) }
+    {
+        if self.spent {
+            return Err(AllocError);
+        }
+        let standing = assignment_of(self.alloc, self.ranks.as_slice(), papers)?;
+        Ok(standing)
+    }
+
     /// The log and the count of proposals of the round, and the choices at which its students stand. A
     /// spent round answers the error. On an error the round is given up.
     pub fn into_settled(self, papers: &Papers) -> Result<Settled, AllocError>
@@ -599,10 +613,7 @@ impl<R: Roll> Round<R> {
         ensures given { IfOk result (λ settled. (i : ℕ) → assigned settled.assignment i ≡ next_of papers.now (view_of R.keys R.seats self).ranks i) }
         ensures proposals { IfOk result (λ settled. settled.proposals ≡ (view_of R.keys R.seats self).proposals) }
     {
-        if self.spent {
-            return Err(AllocError);
-        }
-        let assignment = assignment_of(self.alloc, self.ranks.as_slice(), papers)?;
+        let assignment = self.assignment(papers)?;
         Ok(Settled {
             log: self.log,
             assignment,

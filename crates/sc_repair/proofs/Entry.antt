@@ -19,7 +19,7 @@ use Rattle.sc_papers.proofs.Positions.{among-student}
 use Rattle.sc_checkpoint.specs.Chains.{logs_in, students_in, Chain}
 use Rattle.sc_checkpoint.specs.NextChoices.{next_choices_after, stands, AreNextChoices}
 use Rattle.sc_checkpoint.specs.declared.next_choice.NextChoice.{NextChoice}
-use Rattle.sc_engine.specs.RoundView.{RoundView, entered_papers, has_entered, next_of, rank_of, Continues, Fits}
+use Rattle.sc_engine.specs.RoundView.{RoundView, entered_papers, has_entered, next_of, rank_of, without_log, Continues, Fits}
 use Rattle.sc_engine.proofs.Growing.{continues-grown, entered-grown, fits-grown}
 use Rattle.sc_engine.proofs.Settling.{first-apart}
 use Rattle.sc_engine.proofs.Tables.{next-none}
@@ -167,6 +167,30 @@ fits-forgotten n r chain made fits none = record {
   each = fits.each;
   proposals = omega (arith, none);
 }
+
+-- everybody stands where a settling leaves them, once its log is forgotten
+pub stands-forgotten : (n : Market) (kept : List (List Rejection)) (k : ℕ) (new : List Chain) (r after : RoundView) → after ≡ without_log r → GoesOn n kept r (students_in new) (logs_in new) k → StandsAfter n new after
+stands-forgotten n kept k new r after is on =
+    subst (StandsAfter n new) (sym is) (record {
+      fits = record {
+        well_formed = on.fits.well_formed;
+        within_limits = on.fits.within_limits;
+        ranks = on.fits.ranks;
+        rolls = on.fits.rolls;
+        each = on.fits.each;
+        proposals = omega arith;
+      };
+      entered = λ j. on.entered j ∙ ap (list_any (nat_eq j)) (sym on.theirs);
+      continues = record {
+        settled = subst (IsSettled (entered_papers n r.ranks)) whole on.continues.settled;
+        next = λ j. ap (λ l. next_choice (entered_papers n r.ranks) l j) (sym whole) ∙ on.continues.next j;
+      };
+      no_log = refl;
+      no_proposals = refl;
+    })
+  where
+    whole : joined kept ++ r.log ≡ joined (logs_in new) ++ []
+    whole = sym on.log ∙ sym (append-nil (joined (logs_in new)))
 
 pub stands-entered : (n : Market) (i made k : ℕ) (chains new : List Chain) (given : List (ℕ × ℕ)) (r : RoundView) (has : HasEntered n chains new given r i made)
     → GoesOn n (logs_in chains) (with_log r has.chain made) (students_in new) (logs_in new) k → StandsAfter n new r

@@ -82,7 +82,7 @@ impl Settlement {
                 places: placed.places,
                 segments,
                 proposals: placed.proposals,
-                round: None,
+                round: Some(placed.round),
                 spare: None,
                 districts: None,
             }),

@@ -11,6 +11,7 @@ ghost use Rattle.sc_papers.specs.declared.rejection.Rejection.{Rejection};
 ghost use Rattle.sc_checkpoint.specs.Chains.{logs_in, students_in, with_chain};
 ghost use Rattle.sc_engine.specs.Round.{is_spent, view_of};
 ghost use Rattle.sc_engine.specs.RoundView.{has_entered, Enters, Fits};
+ghost use Rattle.sc_repair.specs.Newcomer.{StandsAfter};
 ghost use Rattle.sc_repair.specs.Resumption.{proposals_of_first, GoesOn};
 
 use crate::places::Places;
@@ -62,23 +63,25 @@ fn enter_rest<R: Roll>(
     Ok(())
 }
 
-/// What a settling comes to: the places, and how many proposals it made.
+/// What a settling comes to: the places, how many proposals it made, and the round in which everybody stands.
 #[derive(Drop)]
-pub(crate) struct Placed {
+pub(crate) struct Placed<R: Roll> {
     pub(crate) places: Places,
     pub(crate) proposals: u64,
+    pub(crate) round: Round<R>,
 }
 
 /// Settles the papers on from the segments of their first students: these stand at their next choices,
 /// the others enter after them in order of entry, and a segment is put at the end for each. The only
 /// error is want of memory, after which the segments are to be given up.
 ///
-/// The cost is a look at each entry of the segments, and an offer for each proposal of those who enter.
+/// The round is kept for whoever enters next. The cost is a look at each entry of the segments, and an offer for each
+/// proposal of those who enter.
 pub(crate) fn settle_on<R: Roll>(
     alloc: Global,
     papers: &Papers,
     segments: &mut Segments,
-) -> Result<Placed, AllocError>
+) -> Result<Placed<R>, AllocError>
     requires well_formed { WellFormed papers.now }
     requires theirs { students_in segments.old ≡ take (length segments.old) (students_of papers.now) }
     requires segmented { IsSegmented (cut papers.now (length segments.old)) (logs_in segments.old) }
@@ -86,6 +89,8 @@ pub(crate) fn settle_on<R: Roll>(
     ensures segmented { OnOk result (IsSegmented papers.now (logs_in segments.new)) }
     ensures stays { OnOk result (take (length segments.old) (logs_in segments.new) ≡ logs_in segments.old) }
     ensures matching { IfOk result (λ made. (i : ℕ) → assigned made.places i ≡ next_choice papers.now (joined (logs_in segments.new)) i) }
+    ensures stands { IfOk result (λ made. StandsAfter papers.now segments.new (view_of R.keys R.seats made.round)) }
+    ensures ready { IfOk result (λ made. is_spent made.round ≡ false) }
     ensures proposals { IfOk result (λ made. made.proposals + proposals_of_first papers.now (length segments.old) (joined (logs_in segments.old)) ≡ length (joined (logs_in segments.new)) + placed papers.now (assigned made.places)) }
 {
     let next_choices = segments.next_choices_at(papers, segments.len())?;
@@ -97,10 +102,13 @@ pub(crate) fn settle_on<R: Roll>(
         papers.students_len(),
     )?;
     enter_rest(&mut round, papers, segments)?;
-    let settled = round.into_settled(papers)?;
-    let places = Places::of(alloc, papers, settled.assignment)?;
+    let assignment = round.assignment(papers)?;
+    let places = Places::of(alloc, papers, assignment)?;
+    let proposals = round.proposals();
+    round.forget_log();
     Ok(Placed {
         places,
-        proposals: settled.proposals,
+        proposals,
+        round,
     })
 }

@@ -47,6 +47,18 @@ fn expect_settled(
     assert_eq!(rt; text.as_str(), want);
 }
 
+/// Both kinds of rolls came to what is wanted.
+fn expect_both(
+    rt: &impl Abort,
+    alloc: Global,
+    sorted: Result<Settled, AllocError>,
+    heap: Result<Settled, AllocError>,
+    want: &str,
+) {
+    expect_settled(rt, alloc, sorted, want);
+    expect_settled(rt, alloc, heap, want);
+}
+
 #[test]
 fn one_seat_two_students(rt: HostRuntime) {
     let papers = papers_of(&rt, rt.alloc(), TWO_STUDENTS);
@@ -162,9 +174,8 @@ fn a_newcomer_to_a_round_in_old_memory(rt: HostRuntime) {
     let papers = papers_of(&rt, rt.alloc(), MARKET_B_AND_NEWCOMER);
     let want = "(1,10)(2,20)(2,10) 3: 1 at 20 3 at 10";
     let sorted = resume_again_with_the_third::<SortedRoll>(rt.alloc(), &papers);
-    expect_settled(&rt, rt.alloc(), sorted, want);
     let heap = resume_again_with_the_third::<HeapRoll>(rt.alloc(), &papers);
-    expect_settled(&rt, rt.alloc(), heap, want);
+    expect_both(&rt, rt.alloc(), sorted, heap, want);
     drop(papers);
 }
 
@@ -173,9 +184,8 @@ fn a_newcomer_to_a_resumed_round(rt: HostRuntime) {
     let papers = papers_of(&rt, rt.alloc(), MARKET_B_AND_NEWCOMER);
     let want = "(1,10)(2,20)(2,10) 3: 1 at 20 3 at 10";
     let sorted = resume_with_the_third::<SortedRoll>(rt.alloc(), &papers);
-    expect_settled(&rt, rt.alloc(), sorted, want);
     let heap = resume_with_the_third::<HeapRoll>(rt.alloc(), &papers);
-    expect_settled(&rt, rt.alloc(), heap, want);
+    expect_both(&rt, rt.alloc(), sorted, heap, want);
     drop(papers);
 }
 
@@ -222,9 +232,8 @@ fn entry_in_order(rt: HostRuntime) {
     let want = "(2,10)(3,20)(2,20) 6: 1 at 10 4 at 20 5 at 20";
     expect_settled(&rt, rt.alloc(), settle(rt.alloc(), &papers), want);
     let sorted = settle_forwards::<SortedRoll>(rt.alloc(), &papers);
-    expect_settled(&rt, rt.alloc(), sorted, want);
     let heap = settle_forwards::<HeapRoll>(rt.alloc(), &papers);
-    expect_settled(&rt, rt.alloc(), heap, want);
+    expect_both(&rt, rt.alloc(), sorted, heap, want);
     drop(papers);
 }
 
@@ -233,9 +242,8 @@ fn entry_in_reverse(rt: HostRuntime) {
     let papers = papers_of(&rt, rt.alloc(), FIVE_STUDENTS);
     let want = "(3,20)(2,10)(2,20) 6: 1 at 10 4 at 20 5 at 20";
     let sorted = settle_backwards::<SortedRoll>(rt.alloc(), &papers);
-    expect_settled(&rt, rt.alloc(), sorted, want);
     let heap = settle_backwards::<HeapRoll>(rt.alloc(), &papers);
-    expect_settled(&rt, rt.alloc(), heap, want);
+    expect_both(&rt, rt.alloc(), sorted, heap, want);
     drop(papers);
 }
 
@@ -254,11 +262,13 @@ fn spend(
     if round.enter_one(papers, one).is_err() {
         assert!(rt; round.is_spent());
         assert!(rt; round.enter_one(papers, one).is_err());
+        assert!(rt; round.assignment(papers).is_err());
         assert!(rt; round.into_settled(papers).is_err());
         return Err(AllocError);
     }
     assert!(rt; !round.is_spent());
     assert_eq!(rt; round.next_choice(papers, one), Some(school(rt, 1)));
+    assert_eq!(rt; round.assignment(papers)?.get(one), Some(school(rt, 1)));
     assert!(rt; round.log().is_empty());
     assert_eq!(rt; round.proposals(), 1);
     Ok(())

@@ -7,6 +7,7 @@ use Rattle.sc_checkpoint.specs.Chains.{logs_in, students_in, Chain}
 use Rattle.sc_checkpoint.specs.NextChoices.{next_choices_after, stands}
 use Rattle.sc_engine.specs.Round.{view_of}
 use Rattle.sc_repair.specs.Resumption.{proposals_of_first}
+use Rattle.sc_repair.proofs.Entry.{stands-forgotten}
 use Rattle.sc_repair.proofs.Resumption.{goes-on-begins, next-all, proposals-all, segments-all, stand-segments}
 use Rattle.sc_repair.proofs.settling.settle_on.Goals as goal
 
@@ -34,11 +35,14 @@ pub returns-clause-segmented : goal.returns-clause-segmented
 returns-clause-segmented g c = segments-all c.args.papers.now _ _ _ _ c.in_ok-enter_rest.ensures.on
 
 pub returns-clause-matching : goal.returns-clause-matching
-returns-clause-matching g c i = ap (λ pairs. assigned pairs i) c.in_ok-places.ensures ∙ c.in_ok-settled.ensures.given i ∙ next-all c.args.papers.now _ _ _ _ c.in_ok-enter_rest.ensures.on i
+returns-clause-matching g c i = ap (λ pairs. assigned pairs i) c.in_ok-places.ensures ∙ c.in_ok-assignment.ensures.given i ∙ next-all c.args.papers.now _ _ _ _ c.in_ok-enter_rest.ensures.on i
 
 pub returns-clause-proposals : goal.returns-clause-proposals
 returns-clause-proposals g c =
     let count = length-map c.args.segments.now (λ (chain : Chain). chain.rejections) in
-    ap (λ n. n + proposals_of_first c.args.papers.now (length c.args.segments.now) (joined (logs_in c.args.segments.now))) c.in_ok-settled.ensures.proposals
+    ap (λ n. n + proposals_of_first c.args.papers.now (length c.args.segments.now) (joined (logs_in c.args.segments.now))) c.proposals-proposals.ensures
     ∙ ap (λ k. (view_of g.R.Roll.keys g.R.Roll.seats c.enter_rest.new.round).proposals + proposals_of_first c.args.papers.now k (joined (logs_in c.args.segments.now))) (sym count)
-    ∙ proposals-all c.args.papers.now _ (view_of g.R.Roll.keys g.R.Roll.seats c.enter_rest.new.round) _ _ (assigned c.in_ok-places.places) c.in_ok-enter_rest.ensures.on (λ i. ap (λ pairs. assigned pairs i) c.in_ok-places.ensures ∙ c.in_ok-settled.ensures.given i)
+    ∙ proposals-all c.args.papers.now _ (view_of g.R.Roll.keys g.R.Roll.seats c.enter_rest.new.round) _ _ (assigned c.in_ok-places.places) c.in_ok-enter_rest.ensures.on (λ i. ap (λ pairs. assigned pairs i) c.in_ok-places.ensures ∙ c.in_ok-assignment.ensures.given i)
+
+pub returns-clause-stands : goal.returns-clause-stands
+returns-clause-stands g c = stands-forgotten c.args.papers.now (logs_in c.args.segments.now) _ c.enter_rest.new.segments (view_of g.R.Roll.keys g.R.Roll.seats c.enter_rest.new.round) _ c.forget_log.ensures.forgotten c.in_ok-enter_rest.ensures.on

@@ -6,7 +6,7 @@ pub invariant_of-result : goal.invariant_of-result
 invariant_of-result c = record {
   certified = certified-of c.args.papers c.in-Ok.placed.places (logs_in c.settle_on.new.segments) c.in-Ok.placed.proposals c.requires.well_formed c.in-Ok.ensures.segmented c.in-Ok.ensures.matching;
   theirs = c.in-Ok.ensures.theirs;
-  round = tt;
+  round = (c.in-Ok.ensures.ready, c.in-Ok.ensures.stands);
   districts = tt;
 }
 
