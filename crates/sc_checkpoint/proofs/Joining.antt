@@ -1,30 +1,22 @@
 -- Segments as chains, and their log, one position after the other.
-use Rattle.std.proofs.Common.{◌≡◌, ap, sym, ◌∙◌, ℕ, zero, suc, ◌+◌, List, [], ◌∷◌, ◌++◌, length, map, min, Some, take, slice_get, append-nil, arith}
-use Rattle.std.proofs.lemmas.List.{length-append, map-append, take_more}
+use Rattle.std.proofs.Common.{◌≡◌, ap, sym, ◌∙◌, ℕ, zero, suc, ◌+◌, List, [], ◌∷◌, ◌++◌, length, min, Some, take, slice_get, append-nil, arith}
+use Rattle.std.proofs.lemmas.List.{length-append, take_more}
 use Rattle.std.proofs.lemmas.Grind.{flat_map-append}
 use Rattle.std.proofs.lemmas.Option.{get_or_from_slice_get, none-some, same_Some, slice_get_within}
 use Rattle.sc_papers.specs.Restriction.{joined}
 use Rattle.sc_papers.specs.declared.rejection.Rejection.{Rejection}
-use Rattle.sc_checkpoint.specs.Chains.{logs_in, students_in, with_chain, Chain}
-use Rattle.sc_checkpoint.specs.Representation.{chain_of}
-use Rattle.sc_checkpoint.specs.declared.segment.Segment.{Segment}
+use Rattle.sc_checkpoint.specs.Chains.{logs_in, students_in, Chain}
 
--- one more segment
-pub chains-push : (segments others : List Segment) (s : Segment) (i : ℕ) (log : List Rejection) → others ≡ segments ++ s ∷ [] → s.student ≡ i → s.rejections.items ≡ log → map chain_of others ≡ with_chain (map chain_of segments) i log
-chains-push segments others s i log more own its =
-    ap (map chain_of) more ∙ map-append chain_of segments (s ∷ [])
-    ∙ (λ t. map chain_of segments ++ record { student = own t; rejections = its t } ∷ [])
+-- the student and the rejections of the chain at an index
+pub student-at : (chains : List Chain) (k : ℕ) (chain : Chain) → slice_get chains k ≡ Some chain → slice_get (students_in chains) k ≡ Some chain.student
+student-at [] k chain here = absurd (none-some chain here)
+student-at (first ∷ rest) zero chain here = ap (λ (c : Chain). Some c.student) (same_Some first chain here)
+student-at (first ∷ rest) (suc k) chain here = student-at rest k chain here
 
--- the student and the rejections of the segment at an index
-pub student-at : (segments : List Segment) (k : ℕ) (s : Segment) → slice_get segments k ≡ Some s → slice_get (students_in (map chain_of segments)) k ≡ Some s.student
-student-at [] k s here = absurd (none-some s here)
-student-at (first ∷ rest) zero s here = ap (λ (segment : Segment). Some segment.student) (same_Some first s here)
-student-at (first ∷ rest) (suc k) s here = student-at rest k s here
-
-pub log-at : (segments : List Segment) (k : ℕ) (s : Segment) → slice_get segments k ≡ Some s → slice_get (logs_in (map chain_of segments)) k ≡ Some s.rejections.items
-log-at [] k s here = absurd (none-some s here)
-log-at (first ∷ rest) zero s here = ap (λ (segment : Segment). Some segment.rejections.items) (same_Some first s here)
-log-at (first ∷ rest) (suc k) s here = log-at rest k s here
+pub log-at : (chains : List Chain) (k : ℕ) (chain : Chain) → slice_get chains k ≡ Some chain → slice_get (logs_in chains) k ≡ Some chain.rejections
+log-at [] k chain here = absurd (none-some chain here)
+log-at (first ∷ rest) zero chain here = ap (λ (c : Chain). Some c.rejections) (same_Some first chain here)
+log-at (first ∷ rest) (suc k) chain here = log-at rest k chain here
 
 -- one more segment, joined
 pub joined-next : (segments : List (List Rejection)) (k : ℕ) (s : List Rejection) → slice_get segments k ≡ Some s → joined (take (k + 1) segments) ≡ joined (take k segments) ++ s

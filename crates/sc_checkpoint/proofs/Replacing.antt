@@ -1,11 +1,8 @@
 -- Chains that give way to renewed ones.
-use Rattle.std.proofs.Common.{◌≡◌, refl, ap, subst, sym, ◌∙◌, ℕ, zero, suc, ◌+◌, ◌<◌, List, [], ◌∷◌, ◌++◌, length, drop, get_or, map, set, take, Some, Contains, slice_get, length-set, arith}
-use Rattle.std.specs.List.{remove}
-use Rattle.std.proofs.lemmas.List.{at_drop_more, map-append}
+use Rattle.std.proofs.Common.{◌≡◌, refl, ap, subst, sym, ◌∙◌, ℕ, zero, suc, ◌+◌, ◌<◌, List, [], ◌∷◌, ◌++◌, length, drop, get_or, set, Some, Contains, slice_get, length-set, arith}
+use Rattle.std.proofs.lemmas.List.{at_drop_more}
 use Rattle.sc_papers.proofs.Counting.{contains-head, contains-tail}
 use Rattle.sc_checkpoint.specs.Chains.{replaced, Chain}
-use Rattle.sc_checkpoint.specs.Representation.{chain_of}
-use Rattle.sc_checkpoint.specs.declared.segment.Segment.{Segment}
 
 drop-next : (xs : List ℕ) (k d : ℕ) → k < length xs → drop k xs ≡ get_or xs k d ∷ drop (k + 1) xs
 drop-next xs k d low = at_drop_more (λ ys. ys) xs k d low
@@ -44,33 +41,12 @@ replaced-push chains [] (c ∷ renewed) at chain same = absurd (omega (arith, sa
 replaced-push chains (p ∷ positions) [] at chain same = absurd (omega (arith, same))
 replaced-push chains (p ∷ positions) (c ∷ renewed) at chain same = replaced-push (set chains p c) positions renewed at chain (omega (arith, same))
 
--- a segment is written as its chain is
-pub chains-set : (segments : List Segment) (k : ℕ) (s : Segment) → map chain_of (set segments k s) ≡ set (map chain_of segments) k (chain_of s)
-chains-set [] k s = refl
-chains-set (first ∷ rest) zero s = refl
-chains-set (first ∷ rest) (suc k) s = ap (λ chains. chain_of first ∷ chains) (chains-set rest k s)
-
--- the next of the positions, and the next of the renewed segments
-pub replaced-next : (segments after : List Segment) (positions : List ℕ) (k at : ℕ) (renewed rest : List Segment) (s : Segment) → k < length positions → get_or positions k 0 ≡ at → renewed ≡ s ∷ rest → after ≡ set segments at s
-    → replaced (map chain_of segments) (drop k positions) (map chain_of renewed) ≡ replaced (map chain_of after) (drop (k + 1) positions) (map chain_of rest)
-replaced-next segments after positions k at renewed rest s low is next write =
-    (λ t. replaced (map chain_of segments) (split t) (map chain_of (next t)))
-    ∙ ap (λ chains. replaced chains (drop (k + 1) positions) (map chain_of rest)) (sym (ap (map chain_of) write ∙ chains-set segments at s))
+-- the next of the positions, and the next of the renewed chains
+pub replaced-next : (chains after : List Chain) (positions : List ℕ) (k at : ℕ) (renewed rest : List Chain) (chain : Chain) → k < length positions → get_or positions k 0 ≡ at → renewed ≡ chain ∷ rest → after ≡ set chains at chain
+    → replaced chains (drop k positions) renewed ≡ replaced after (drop (k + 1) positions) rest
+replaced-next chains after positions k at renewed rest chain low is next write =
+    (λ t. replaced chains (split t) (next t))
+    ∙ ap (λ cs. replaced cs (drop (k + 1) positions) rest) (sym write)
   where
     split : drop k positions ≡ at ∷ drop (k + 1) positions
     split = drop-next positions k 0 low ∙ ap (λ p. p ∷ drop (k + 1) positions) is
-
--- a segment that is taken out
-chains-first : (segments : List Segment) (k : ℕ) → map chain_of (take k segments) ≡ take k (map chain_of segments)
-chains-first segments zero = refl
-chains-first [] (suc k) = refl
-chains-first (first ∷ rest) (suc k) = ap (λ chains. chain_of first ∷ chains) (chains-first rest k)
-
-chains-rest : (segments : List Segment) (k : ℕ) → map chain_of (drop k segments) ≡ drop k (map chain_of segments)
-chains-rest segments zero = refl
-chains-rest [] (suc k) = refl
-chains-rest (first ∷ rest) (suc k) = chains-rest rest k
-
-pub chains-remove : (segments : List Segment) (k : ℕ) → map chain_of (remove segments k) ≡ remove (map chain_of segments) k
-chains-remove segments k =
-    map-append chain_of (take k segments) (drop (suc k) segments) ∙ (λ t. chains-first segments k t ++ chains-rest segments (suc k) t)

@@ -1,4 +1,3 @@
 pub mod NextChoices
 pub mod Chains
-pub mod Representation
 pub mod Ranks

@@ -23,9 +23,7 @@ impl Model for Segments {
 
     ghost Value = { List Chain };
 
-    ghost use Rattle.sc_checkpoint.specs.Representation.{chains_of};
-
-    ghost view = { chains_of };
+    ghost view = { λ s. s.segments.items };
 }
 
 impl Segments {
@@ -53,11 +51,8 @@ impl Segments {
         ensures unchanged { OnErr result (self.new ≡ self.old) }
     {
         self.segments.reserve(1)?;
-        let rejections = Vec::from_slice(self.alloc, rejections)?;
-        self.segments.push_reserved(Segment {
-            student,
-            rejections,
-        });
+        let segment = Segment::new(self.alloc, student, rejections)?;
+        self.segments.push_reserved(segment);
         Ok(())
     }
 
@@ -86,7 +81,7 @@ impl Segments {
         requires { k < length self.now }
         ensures { slice_get (logs_in self.now) k ≡ Some result.now }
     {
-        self.segments[k].rejections.as_slice()
+        self.segments[k].rejections()
     }
 
     /// The student whose segment stands at a position, from 0. In constant time.
@@ -94,7 +89,7 @@ impl Segments {
         requires { k < length self.now }
         ensures { slice_get (students_in self.now) k ≡ Some result }
     {
-        self.segments[k].student
+        self.segments[k].student()
     }
 
     /// The whole log as a value of its own: the segments joined. The only error is a refused growth. The cost

@@ -1,6 +1,6 @@
 use Rattle.std.proofs.Common.{◌≡◌, ◌∷◌, refl, ap, ◌∙◌, List, length, length-set, arith}
 use Rattle.std.specs.Vec.Iter.{into_iter_items}
-use Rattle.sc_checkpoint.specs.declared.segment.Segment.{Segment}
+use Rattle.sc_checkpoint.specs.Chains.{Chain}
 use Rattle.sc_checkpoint.proofs.Replacing.{replaced-next}
 use Rattle.sc_checkpoint.proofs.segment.replace_at.Goals as goal
 
@@ -10,7 +10,7 @@ loop-position-preserved c =
     let at = c.loop-position.position-index in
     let segments = c.loop-position.segments.items in
     let next : into_iter_items c.loop-position.renewed ≡ c.in-Some.segment ∷ into_iter_items c.next.new.self = c.in-Some.ensures.items in
-    let fewer = ap (λ (left : List Segment). length left) next in (
+    let fewer = ap (λ (left : List Chain). length left) next in (
       c.loop-position.invariant.0
           ∙ replaced-next segments _ ps at _ (into_iter_items c.loop-position.renewed) (into_iter_items c.next.new.self) c.in-Some.segment c.loop-position-test.true refl next refl,
       omega (arith, c.loop-position.invariant.1, fewer),

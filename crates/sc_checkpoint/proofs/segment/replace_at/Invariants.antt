@@ -1,12 +1,11 @@
-use Rattle.std.proofs.Common.{◌≡◌, ◌+◌, drop, length, map}
+use Rattle.std.proofs.Common.{◌≡◌, ◌+◌, drop, length}
 use Rattle.std.specs.Vec.Iter.{into_iter_items, into_iter_len}
 use Rattle.sc_checkpoint.specs.Chains.{replaced}
-use Rattle.sc_checkpoint.specs.Representation.{chain_of}
 use Rattle.sc_checkpoint.proofs.segment.replace_at.Given as goal
 
 abbrev pub invariant-loop-position : goal.invariant-loop-position
 invariant-loop-position l =
-    (replaced (map chain_of l.initial.segments.items) l.positions (map chain_of l.fn.renewed.items) ≡ replaced (map chain_of l.segments.items) (drop l.position-index l.positions) (map chain_of (into_iter_items l.renewed)))
+    (replaced l.initial.segments.items l.positions l.fn.renewed.items ≡ replaced l.segments.items (drop l.position-index l.positions) (into_iter_items l.renewed))
     × (length (into_iter_items l.renewed) + l.position-index ≡ length l.positions)
     × (into_iter_len l.renewed ≡ length (into_iter_items l.renewed))
     × (length l.segments.items ≡ length l.initial.segments.items)
