@@ -1,6 +1,7 @@
 //! Numbers read from decimal digits.
 
-ghost use Rattle.std.specs.Prelude.{◌≡◌, ℕ, ◌≤◌, ◌==◌, ◌↔◌, None, Some, decimal, if◌then◌else◌};
+ghost use Rattle.std.specs.Prelude.{◌≡◌, ℕ, ◌-◌, ◌≤◌, true, nat_le, ◌==◌, ◌↔◌, None, Some, decimal, if◌then◌else◌};
+ghost use Rattle.std.specs.Char.{is_ascii_digit};
 ghost use Rattle.sc_decimal.specs.Number.{number_at_front, has_leading_zero, read_number, read_plain_number};
 
 /// The most digits that a number has in a text: nine of them write any number of the papers.
@@ -16,6 +17,15 @@ fn written(number: u32, digits: usize) -> Option<(u32, usize)>
     Some((number, digits))
 }
 
+/// The value of a byte that is a digit; for another byte it is more than 9.
+#[inline(always)]
+fn digit_value(byte: u8) -> u32
+    ensures value { is_ascii_digit byte ≡ true → result ≡ byte - 48 }
+    ensures decides { nat_le result 9 ≡ is_ascii_digit byte }
+{
+    u32::from(byte).wrapping_sub(u32::from(b'0'))
+}
+
 /// What `number_at_front` answers, byte by byte.
 #[inline(always)]
 fn read_digits(text: &[u8]) -> Option<(u32, usize)>
@@ -23,14 +33,14 @@ fn read_digits(text: &[u8]) -> Option<(u32, usize)>
 {
     let mut number = 0;
     for index in 0..text.len() {
-        let byte = text[index];
-        if !byte.is_ascii_digit() {
+        let digit = digit_value(text[index]);
+        if digit > 9 {
             return written(number, index);
         }
         if index == MOST_DIGITS {
             return None;
         }
-        number = number * 10 + u32::from(byte - b'0');
+        number = number * 10 + digit;
     }
     written(number, text.len())
 }

@@ -5,6 +5,7 @@ pub mod PlainCutting
 pub mod Runs
 pub mod Bounded
 pub mod Words
+pub mod Spaces
 pub mod FirstNumber
 pub mod Giving
 pub mod Listing

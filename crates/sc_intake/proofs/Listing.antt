@@ -1,5 +1,6 @@
 -- A list of schools that is read word by word: the numbers so far, and whether each is a school's.
 use Rattle.std.proofs.Common.{◌≡◌, ℕ, ◌≤◌, ◌<◌, Bool, true, false, ◌&&◌, List, [], ◌∷◌, ◌++◌, length, drop, refl, sym, ap, ◌∙◌, Ok, Err}
+use Rattle.std.specs.Prelude.{if◌then◌else◌}
 use Rattle.std.specs.List.{list_all}
 use Rattle.std.proofs.lemmas.Bool.{and_right}
 use Rattle.std.proofs.lemmas.List.Folds.{list_all-append}
@@ -85,5 +86,10 @@ pub SoFar-whole : (text : List ℕ) (start : ℕ) (schools : List ℕ) → SoFar
 SoFar-whole text start schools so past =
     listed-whole text so.numbers (so.reading ∙ numbers-last so.numbers text start past) so.ranged ∙ ap (λ (ns : List ℕ). Ok (Ok ns)) (sym (so.same refl))
 
-pub SoFar-out : (text : List ℕ) (start : ℕ) (schools : List ℕ) → SoFar text start schools false → length text ≤ start → listed text ≡ Ok (Err Range)
+SoFar-out : (text : List ℕ) (start : ℕ) (schools : List ℕ) → SoFar text start schools false → length text ≤ start → listed text ≡ Ok (Err Range)
 SoFar-out text start schools so past = listed-out text so.numbers (so.reading ∙ numbers-last so.numbers text start past) so.ranged
+
+pub SoFar-end : (text : List ℕ) (start : ℕ) (schools : List ℕ) (in_range : Bool) → SoFar text start schools in_range → length text ≤ start
+    → listed text ≡ Ok (if in_range then Ok schools else Err Range)
+SoFar-end text start schools true so past = SoFar-whole text start schools so past
+SoFar-end text start schools false so past = SoFar-out text start schools so past

@@ -3,6 +3,7 @@ use Rattle.std.proofs.Common.{◌≡◌, ℕ, ◌+◌, ◌-◌, ◌<◌, ◌≤�
 use Rattle.std.specs.Prelude.{if◌then◌else◌, slice_range, Result, Ok, Err}
 use Rattle.std.proofs.lemmas.List.{append-nil, at_drop_all, at_drop_more, drop-drop, length-drop, take_all}
 use native.Mathlib.Numerals.{unary_clauses}
+use Rattle.sc_decimal.specs.Number.{is_number, read_number}
 use Rattle.sc_intake.specs.Fault.{◌>>=◌}
 use Rattle.sc_intake.specs.declared.fault.Cause.{Cause}
 use Rattle.sc_intake.specs.Field.{first_number, first_word, number_of, numbers_after, word_of, words_after}
@@ -75,6 +76,12 @@ first_number-err text e first = by (number_of (first_word text)) first
     by : (r : Result ℕ Cause) → ◌>>=◌ {B = ℕ × ℕ} r (λ m. Ok (m, length (first_word text))) ≡ Err e → r ≡ Err e
     by (Ok m) same = cc same
     by (Err f) same = cc same
+
+-- a word that writes a number has a byte
+pub number_of-some : (w : List ℕ) (n : ℕ) → number_of w ≡ Ok n → 0 < length w
+unfolding number_of read_number is_number
+number_of-some [] n number = absurd (cc number)
+number_of-some (c ∷ cs) n number = omega arith
 
 -- the numbers, where the next word is one
 pub numbers-more : (ns : List ℕ) (w : List ℕ) (ws : List (List ℕ)) (n : ℕ) → number_of w ≡ Ok n

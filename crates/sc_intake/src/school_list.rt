@@ -1,10 +1,10 @@
 //! The fields that are lists of schools.
 
-ghost use Rattle.std.specs.Prelude.{◌≡◌, ◌≤◌, ◌==◌, length};
+ghost use Rattle.std.specs.Prelude.{◌≡◌, ◌<◌, ◌≤◌, ◌==◌, [], length, if◌then◌else◌, vec_capacity, Ok, Err, IfErr, IfOk};
 ghost use Rattle.std.specs.List.{count_by};
 ghost use Rattle.sc_intake.specs.Fault.{Gives};
 ghost use Rattle.sc_intake.specs.Field.{listed};
-ghost use Rattle.sc_intake.specs.declared.fault.Cause.TheVariants.{OutOfMemory};
+ghost use Rattle.sc_intake.specs.declared.fault.Cause.TheVariants.{OutOfMemory, Range};
 
 use crate::fault::Cause;
 use crate::field::first_number;
@@ -35,6 +35,36 @@ fn space_count(text: &[u8]) -> usize
     spaces
 }
 
+/// Puts the schools of a list into `schools`, which is empty and has more room than the text has
+/// spaces. Answers them and whether each number is a school's, or `Number` where one of them is no
+/// number.
+///
+/// It is not inlined and owns the list, so that what its loop uses stays in registers.
+#[inline(never)]
+fn fill_schools(text: &[u8], mut schools: Vec<SchoolNo>) -> Result<(Vec<SchoolNo>, bool), Cause>
+    requires empty { schools.items ≡ [] }
+    requires room { count_by (λ c. c == 32) text.now < vec_capacity schools }
+    ensures read { IfOk result (λ filled. listed text.now ≡ Ok (if filled.1 then Ok filled.0.items else Err Range)) }
+    ensures bad { IfErr result (λ cause. listed text.now ≡ Err cause) }
+{
+    let mut in_range = true;
+    let mut start = 0;
+    while start < text.len() {
+        match first_number(&text[start..]) {
+            Ok((number, digits)) => {
+                match SchoolNo::new(number) {
+                    Some(school) => schools.push_reserved(school),
+                    None => in_range = false,
+                }
+                start += digits + 1;
+            }
+            Err(_) if text[start] == b' ' => start += 1,
+            Err(cause) => return Err(cause),
+        }
+    }
+    Ok((schools, in_range))
+}
+
 /// The schools of a list: a text without blanks at its ends that is numbers with one or more spaces
 /// between them. `Number` where one of them is no number; where one is no school's, `Range` comes
 /// inside, for the caller to tell after what comes first.
@@ -47,21 +77,8 @@ pub(crate) fn school_list(alloc: Global, text: &[u8]) -> Result<Result<SchoolLis
     if text.is_empty() {
         return Ok(Ok(SchoolList::from_vec(Vec::new(alloc))));
     }
-    let mut schools = Vec::with_capacity(alloc, space_count(text) + 1)?;
-    let mut in_range = true;
-    let mut start = 0;
-    while start < text.len() {
-        if text[start] == b' ' {
-            start += 1;
-        } else {
-            let (number, digits) = first_number(&text[start..])?;
-            match SchoolNo::new(number) {
-                Some(school) => schools.push(school)?,
-                None => in_range = false,
-            }
-            start += digits + 1;
-        }
-    }
+    let room = Vec::with_capacity(alloc, space_count(text) + 1)?;
+    let (mut schools, in_range) = fill_schools(text, room)?;
     if !in_range {
         return Ok(Err(Cause::Range));
     }
