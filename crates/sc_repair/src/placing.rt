@@ -138,7 +138,7 @@ fn move_all<R: Roll>(
 /// Where a student leaves, who stood at this position, whoever stands behind moves up by one.
 ///
 /// The cost is a look at what each student of the region has, and a look-up by number for each who has something else
-/// now. Memory is taken for those who have something else now.
+/// now, has nothing, or does not stand where the hints say. Memory is taken for those who have something else now.
 pub(crate) fn place_inside<R: Roll>(
     alloc: Global,
     round: &Round<R>,

@@ -99,7 +99,8 @@ impl<R: Roll> Round<R> {
     /// Does what `resume` does, in the memory of a round that is done with, whatever papers it was of and whether or
     /// not it is spent.
     ///
-    /// The cost is a look at each school, and for each student what it is in `resume`.
+    /// The cost is a look at each school, two bytes to clear for each student of the papers, and for each student of the
+    /// next choices what it is in `resume`.
     pub fn resume_in(
         self,
         papers: &Papers,
