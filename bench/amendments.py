@@ -3,8 +3,9 @@
 
     amendments.py [--students N,N,..] [--times N] [--folder FOLDER] [--program PATH]
 
-Each market is made three times by generate.py: as one city whose students' lists connect all schools, as 200 districts that
-share none, and as a market that is one such district alone. A run with the script is timed beside one with an empty script,
+Each market is made four times by generate.py: as one city whose students' lists connect all schools, as 200 districts that
+share none, whose students stand among each other in the roster, as these with the students of each district together, and as a
+market that is one such district alone. A run with the script is timed beside one with an empty script,
 `--times` times each; the difference of the least processor times, divided by the number of amendments, is what one costs. So
 the opening, the reading and the report do not count. The last column is the run with the empty script, whole.
 """
@@ -20,6 +21,7 @@ PROGRAM = os.path.join(HERE, "..", "crates", "clearinghouse", "out", "clearingho
 SCHOOLS = {20_000: 200, 80_000: 700, 200_000: 2_000}
 CHOICES = 12
 DISTRICTS = 200
+MOST_STUDENTS = 200_000  # A roster has no room for more, so that newcomers to so many would be refused.
 KINDS = ("newcomer", "withdrawal of the last", "withdrawal of a random one", "rerank", "correction", "a seat more", "a seat less")
 
 
@@ -34,12 +36,12 @@ def count_of(kind, students, districts):
     return max(20, min(most, 1_000_000 // students))
 
 
-def market(folder, students, districts):
-    target = os.path.join(folder, f"{students}-{districts}")
+def market(folder, students, districts, together):
+    target = os.path.join(folder, f"{students}-{districts}" + ("-together" if together else ""))
     if not os.path.isdir(target):
         schools = SCHOOLS.get(students, max(students // 100, 1))
         subprocess.run([sys.executable, os.path.join(HERE, "generate.py"), target, "--students", str(students), "--schools", str(schools),
-                        "--choices", str(CHOICES), "--seats", str(students // schools), "--districts", str(districts)], check=True)
+                        "--choices", str(CHOICES), "--seats", str(students // schools), "--districts", str(districts), *(["--together"] if together else [])], check=True)
     return target
 
 
@@ -103,9 +105,13 @@ def main():
     print("| students | " + " | ".join(f"{kind}, ms" for kind in KINDS) + " | the whole opening, ms |")
     print("|---" * (len(KINDS) + 2) + "|")
     for students in map(int, given.students.split(",")):
-        for whole, districts, name in ((students, 1, "one city"), (students, DISTRICTS, f"{DISTRICTS} districts"),
-                                       (students // DISTRICTS, 1, "one of these districts alone")):
-            folder = market(given.folder, whole, districts)
+        for whole, districts, together, name in (
+            (students, 1, False, "one city"),
+            (students, DISTRICTS, False, f"{DISTRICTS} districts"),
+            (students, DISTRICTS, True, f"{DISTRICTS} districts, each together in the roster"),
+            (students // DISTRICTS, 1, False, "one of these districts alone"),
+        ):
+            folder = market(given.folder, whole, districts, together)
             with open(os.path.join(folder, "seed")) as file:
                 opening = ["--seed", file.read()]
             for file in ("schools", "roster", "lists"):
@@ -118,9 +124,14 @@ def main():
                 return min(processor([given.program, "run", *opening, "--script", script, "--journal", journal]) for _ in range(given.times))
 
             empty = run([])
-            counts = [count_of(kind, whole, districts) for kind in KINDS]
-            costs = [(run(script_of(kind, folder, districts, count)) - empty) / count for kind, count in zip(KINDS, counts)]
-            print(f"| {whole:,}, {name} | " + " | ".join(f"{max(cost, 0):.3f}" for cost in costs) + f" | {empty:.0f} |", flush=True)
+
+            def cost(kind):
+                count = count_of(kind, whole, districts)
+                if kind == "newcomer" and whole + count > MOST_STUDENTS:
+                    return "-"
+                return f"{max((run(script_of(kind, folder, districts, count)) - empty) / count, 0):.3f}"
+
+            print(f"| {whole:,}, {name} | " + " | ".join(map(cost, KINDS)) + f" | {empty:.0f} |", flush=True)
 
 
 if __name__ == "__main__":

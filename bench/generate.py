@@ -2,14 +2,15 @@
 """Makes a market: the files of schools, roster and lists, and one bundle of them.
 
     generate.py FOLDER [--students N] [--schools N] [--choices N] [--seats N] [--zones N]
-                       [--siblings PERCENT] [--popularity EXPONENT] [--random SEED] [--districts N]
+                       [--siblings PERCENT] [--popularity EXPONENT] [--random SEED] [--districts N] [--together]
                        [--student-numbers FILE] [--school-numbers FILE]
 
 Each student lists as many different schools as `--choices` says. A school's popularity falls with its
 number: the k-th is drawn with a weight of 1 / k^EXPONENT (0: all alike). `--siblings` is how many
 students of a hundred have a sibling at one of their choices. With `--districts` the schools and the students are
-dealt out in turn to so many districts, and each student lists schools of their own district alone. A file of
-numbers, one a line, takes the place of the numbers that are drawn. The same arguments make the same files.
+dealt out in turn to so many districts, and each student lists schools of their own district alone; with `--together`
+the students of a district stand together in the roster. A file of numbers, one a line, takes the place of the numbers
+that are drawn. The same arguments make the same files.
 """
 import argparse
 import itertools
@@ -45,6 +46,7 @@ def main():
     words.add_argument("--popularity", type=float, default=0.5)
     words.add_argument("--random", type=int, default=1)
     words.add_argument("--districts", type=int, default=1)
+    words.add_argument("--together", action="store_true")
     words.add_argument("--student-numbers")
     words.add_argument("--school-numbers")
     given = words.parse_args()
@@ -64,7 +66,7 @@ def main():
     school_rows = [f"{number},{source.randint(0, given.zones)},{given.seats}\n" for number in schools]
     roster_rows, list_rows = [], []
     for turn, number in enumerate(students):
-        near = districts[turn % given.districts]
+        near = districts[turn * given.districts // given.students if given.together else turn % given.districts]
         choices = choices_of(source, near, weights[:len(near)], min(given.choices, len(near)))
         siblings = str(source.choice(choices)) if source.randrange(100) < given.siblings else ""
         roster_rows.append(f"{number},{source.randint(0, given.zones)},{siblings}\n")
