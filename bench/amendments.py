@@ -36,7 +36,7 @@ def count_of(kind, students, districts):
     return max(20, min(most, 1_000_000 // students))
 
 
-def market(folder, students, districts, together):
+def market(folder, students, districts, together=False):
     target = os.path.join(folder, f"{students}-{districts}" + ("-together" if together else ""))
     if not os.path.isdir(target):
         schools = SCHOOLS.get(students, max(students // 100, 1))
