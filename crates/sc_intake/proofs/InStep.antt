@@ -7,17 +7,14 @@ use Rattle.std.proofs.lemmas.Bool.Decides.{nat_tests}
 use Rattle.std.proofs.lemmas.Cmp.{nat_eq_equiv}
 use Rattle.std.proofs.lemmas.Map.Keys.{IsDistinct-tail, apart_from_distinct}
 use Rattle.sc_papers.specs.Market.{Market}
-use Rattle.sc_intake.specs.Fault.{◌>>=◌, IsFault, fault_at, no_memory}
+use Rattle.sc_intake.specs.Fault.{◌>>=◌}
 use Rattle.sc_intake.specs.Lists.{list_number}
 use Rattle.sc_intake.specs.Papers.{all_entered, entered_by, filled, first_not_in_roster, is_in_roster, list_of, unless_not_in_roster}
 use Rattle.sc_intake.specs.Roster.{roster_number}
-use Rattle.sc_intake.specs.declared.fault.Cause.{Cause}
-use Rattle.sc_intake.specs.declared.fault.Cause.TheVariants.{OutOfMemory}
 use Rattle.sc_intake.specs.declared.fault.IntakeFault.{IntakeFault}
-use Rattle.sc_intake.specs.declared.fault.Source.TheVariants.{Roster}
 use Rattle.sc_intake.specs.declared.lists.ListRow.{ListRow}
 use Rattle.sc_intake.specs.declared.roster.RosterRow.{RosterRow}
-use Rattle.sc_intake.proofs.PaperLemmas.{all_entered-bad, all_entered-more}
+use Rattle.sc_intake.proofs.PaperLemmas.{all_entered-more}
 
 at-there : (earlier rest : List ListRow) (list : ListRow) → get_or (map list_number (earlier ++ list ∷ rest)) (length earlier) 0 ≡ list.student
 at-there [] rest list = refl
@@ -53,14 +50,6 @@ module _ (lists earlier ls : List ListRow) (rows : List RosterRow) (row : Roster
   pub in-step : (reading : Result Market IntakeFault) (m n : Market) → reading ≡ all_entered lists m (row ∷ rows) → entered_by m row (Some list) ≡ Ok n
       → reading ≡ all_entered lists n rows
   in-step reading m n so_far entered = so_far ∙ all_entered-more lists m n row rows (ap (entered_by m row) is-theirs ∙ entered)
-
-  -- the reading ends at a fault
-  pub in-step-fault : (reading : Result Market IntakeFault) (m : Market) (cause : Cause) (fault : IntakeFault) → reading ≡ all_entered lists m (row ∷ rows)
-      → IsFault OutOfMemory (entered_by m row (Some list)) cause → fault ≡ fault_at Roster row.row cause → IsFault (no_memory Roster) reading fault
-  in-step-fault reading m cause fault so_far bad is = elim bad [
-    | inl refused ↦ inl (rw is (so_far ∙ all_entered-bad lists m row rows cause (ap (entered_by m row) is-theirs ∙ refused)))
-    | inr memory ↦ inr (rw (is, memory) refl)
-  ]
 
   -- one list more has been passed
   pub in-step-parts : lists ≡ (earlier ++ list ∷ []) ++ ls

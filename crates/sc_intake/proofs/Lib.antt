@@ -13,4 +13,5 @@ pub mod RowLemmas
 pub mod SeenLemmas
 pub mod PaperLemmas
 pub mod InStep
+pub mod ReadTogether
 pub mod JudgingSteps

@@ -171,7 +171,7 @@ or-assoc true b c = refl
 or-assoc false b c = refl
 
 -- who is in the papers after one student has entered
-entered-students : (m n : Market) (row : RosterRow) (list : Option ListRow) → entered_by m row list ≡ Ok n → (i : ℕ)
+pub entered-students : (m n : Market) (row : RosterRow) (list : Option ListRow) → entered_by m row list ≡ Ok n → (i : ℕ)
     → is_student n i ≡ (is_student m i || nat_eq i row.student)
 entered-students m n row None entered i = cc entered
 entered-students m n row (Some list) entered i = by (verdict m a) entered
@@ -186,7 +186,7 @@ entered-students m n row (Some list) entered i = by (verdict m a) entered
     by (Some r) is = cc is
 
 -- who is in the papers after the roster has entered
-all-students : (lists : List ListRow) (m n : Market) (roster : List RosterRow) → all_entered lists m roster ≡ Ok n → (i : ℕ)
+pub all-students : (lists : List ListRow) (m n : Market) (roster : List RosterRow) → all_entered lists m roster ≡ Ok n → (i : ℕ)
     → is_student n i ≡ (is_student m i || is_in_roster roster i)
 unfolding all_entered
 all-students lists m n [] entered i = let same : m ≡ n = cc in ap (λ (p : Market). is_student p i) (sym same) ∙ or-false (is_student m i)

@@ -13,6 +13,7 @@ pub mod Schools
 pub mod Roster
 pub mod Lists
 pub mod Papers
+pub mod Together
 pub mod Checking
 pub mod Script
 pub mod Log

@@ -6,6 +6,7 @@
 #![tactic(auto)]
 
 mod blanks;
+mod byte_count;
 mod byte_order_mark;
 mod fault;
 mod field;
@@ -25,6 +26,7 @@ mod schools;
 mod script;
 mod script_records;
 mod seen;
+mod together;
 
 pub use blanks::{Blanks, trimmed};
 pub use fault::{Cause, IntakeFault, Source};
@@ -32,9 +34,10 @@ pub use input::MOST_BYTES;
 pub use judging::{Sheet, judge_lists, judge_papers, judge_roster, judge_schools, judge_script};
 pub use lists::{ListRow, ListRows, read_lists};
 pub use log::read_log;
-pub use papers::{papers_of, papers_of_rows};
+pub use papers::papers_of;
 pub use roster::{RosterRow, RosterRows, read_roster};
 pub use rows::{Numbered, Rows};
 pub use schools::{SchoolRow, SchoolRows, read_schools};
 pub use script::read_script;
 pub use script_records::ScriptRecords;
+pub use together::read_papers;

@@ -1,12 +1,10 @@
 //! The papers that the rows of the three files make.
 
-ghost use Rattle.std.specs.Prelude.{◌≡◌, [], IfErr, IfOk, OnErr, map};
-ghost use Rattle.std.specs.Bool.{OnTrue};
+ghost use Rattle.std.specs.Prelude.{◌≡◌, [], IfErr, IfOk, OnErr};
 ghost use Rattle.std.specs.Option.{option_copied};
 ghost use Rattle.sc_intake.specs.Fault.{Gives, no_memory};
 ghost use Rattle.sc_intake.specs.Lists.{list_number};
 ghost use Rattle.sc_intake.specs.Papers.{all_entered, amended, ArePositions, cause_of, entered_by, filled, list_of, opening, papers_of, unknown_list};
-ghost use Rattle.sc_intake.specs.Roster.{roster_number};
 ghost use Rattle.sc_intake.specs.Rows.{AreRows};
 ghost use Rattle.sc_intake.specs.Schools.{school_number};
 ghost use Rattle.sc_intake.specs.declared.fault.Cause.TheVariants.{OutOfMemory};
@@ -46,7 +44,7 @@ pub(crate) fn open_papers(
 }
 
 /// The papers with these schools and room for so many students, before any of them, or want of memory.
-fn open_with_room(
+pub(crate) fn open_with_room(
     alloc: Global,
     seed: Seed,
     schools: &[SchoolRow],
@@ -119,7 +117,7 @@ pub(crate) fn enter_copied(
 }
 
 /// Enters a student of the roster with these choices.
-fn enter(papers: &mut Papers, row: RosterRow, choices: SchoolList) -> Result<(), Cause>
+pub(crate) fn enter(papers: &mut Papers, row: RosterRow, choices: SchoolList) -> Result<(), Cause>
     ensures entered { Gives (λ _. papers.new) OutOfMemory (amended papers.old (Enter row.student row.zone row.siblings choices row.continuing)) result }
     ensures unchanged { OnErr result (papers.new ≡ papers.old) }
 {
@@ -186,45 +184,6 @@ fn fill_papers(
     }
 }
 
-/// Whether the lists are those of the roster's students, row by row.
-fn are_in_step(roster: &[RosterRow], lists: &[ListRow]) -> bool
-    ensures { OnTrue result (map roster_number roster.now ≡ map list_number lists.now) }
-{
-    if roster.len() != lists.len() {
-        return false;
-    }
-    for (position, row) in roster.iter().enumerate() {
-        if row.student != lists[position].student {
-            return false;
-        }
-    }
-    true
-}
-
-/// Enters the students of the roster, in the order of its rows, each with the list of the same row. So
-/// each list is of one of them.
-fn fill_in_step(
-    papers: &mut Papers,
-    roster: Vec<RosterRow>,
-    lists: Vec<ListRow>,
-) -> Result<(), IntakeFault>
-    requires lists { AreRows list_number MOST_STUDENTS lists.items }
-    requires step { map roster_number roster.items ≡ map list_number lists.items }
-    ensures { Gives (λ _. papers.new) (no_memory Roster) (filled papers.old roster.items lists.items) result }
-{
-    let mut lists = lists.into_iter();
-    for row in roster {
-        let Some(list) = lists.next() else {
-            unreachable!()
-        };
-        let number = row.row;
-        if let Err(cause) = enter(papers, row, list.choices) {
-            return Err(IntakeFault::at(Source::Roster, number, cause));
-        }
-    }
-    Ok(())
-}
-
 /// The papers that the rows make, or their first fault.
 ///
 /// The schools are added in the order of their rows, and then the students of the roster enter in
@@ -234,7 +193,7 @@ fn fill_in_step(
 /// roster, row 0.
 ///
 /// The cost is that of the rows and of copying their lists, a draw of the lottery for each student, and
-/// for each list a look-up in a tree of their numbers. `papers_of_rows` copies no list.
+/// for each list a look-up in a tree of their numbers. `read_papers` copies no list.
 pub fn papers_of(
     alloc: Global,
     seed: Seed,
@@ -246,27 +205,5 @@ pub fn papers_of(
 {
     let mut papers = open_with_room(alloc, seed, schools.as_slice(), roster.len())?;
     fill_papers(alloc, &mut papers, roster.as_slice(), lists.as_slice())?;
-    Ok(papers)
-}
-
-/// As `papers_of`, of rows that are given up: where the lists stand in the order of the roster, row by
-/// row, their schools are moved into the papers, and no list is looked up.
-///
-/// The cost is that of the rows and their lists, and a draw of the lottery for each student; where the
-/// lists stand in another order, that of `papers_of`.
-pub fn papers_of_rows(
-    alloc: Global,
-    seed: Seed,
-    schools: &SchoolRows,
-    roster: RosterRows,
-    lists: ListRows,
-) -> Result<Papers, IntakeFault>
-    ensures { Gives (λ papers. papers) (no_memory Roster) (papers_of seed schools.now roster lists) result }
-{
-    if !are_in_step(roster.as_slice(), lists.as_slice()) {
-        return papers_of(alloc, seed, schools, &roster, &lists);
-    }
-    let mut papers = open_with_room(alloc, seed, schools.as_slice(), roster.len())?;
-    fill_in_step(&mut papers, roster.into_vec(), lists.into_vec())?;
     Ok(papers)
 }

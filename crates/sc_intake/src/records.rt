@@ -61,8 +61,8 @@ impl<'a> Records<'a> {
         }
     }
 
-    /// Reads the next record, and says whether there was one.
-    fn read(&mut self) -> Result<bool, AllocError>
+    /// Reads the next record, and says whether there was one. The only error is want of memory.
+    pub(crate) fn read(&mut self) -> Result<bool, AllocError>
         ensures { IfOk result (λ found. MatchBool found (self.old.left ≡ self.new.current ∷ self.new.left) (self.old.left ≡ [])) }
     {
         match &mut self.cutter {

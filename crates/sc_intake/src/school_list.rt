@@ -6,34 +6,11 @@ ghost use Rattle.sc_intake.specs.Fault.{Gives};
 ghost use Rattle.sc_intake.specs.Field.{listed};
 ghost use Rattle.sc_intake.specs.declared.fault.Cause.TheVariants.{OutOfMemory, Range};
 
+use crate::byte_count::count_of;
 use crate::fault::Cause;
 use crate::field::first_number;
 use sc_papers::{SchoolList, SchoolNo};
 use std::alloc::Global;
-
-/// How many of at most 255 bytes are spaces.
-fn spaces_in_run(run: &[u8]) -> u8
-    requires { length run.now ≤ 255 }
-    ensures { result ≡ count_by (λ c. c == 32) run.now }
-{
-    let mut spaces = 0;
-    for byte in run {
-        spaces += u8::from(*byte == b' ');
-    }
-    spaces
-}
-
-/// How many spaces a text has. Each run of 255 bytes is counted in one byte, since a processor adds
-/// more bytes at once than numbers of 64 bits.
-fn space_count(text: &[u8]) -> usize
-    ensures { result ≡ count_by (λ c. c == 32) text.now }
-{
-    let mut spaces = 0;
-    for run in text.chunks(255) {
-        spaces += usize::from(spaces_in_run(run));
-    }
-    spaces
-}
 
 /// Puts the schools of a list into `schools`, which is empty and has more room than the text has
 /// spaces. Answers them and whether each number is a school's, or `Number` where one of them is no
@@ -77,7 +54,7 @@ pub(crate) fn school_list(alloc: Global, text: &[u8]) -> Result<Result<SchoolLis
     if text.is_empty() {
         return Ok(Ok(SchoolList::from_vec(Vec::new(alloc))));
     }
-    let room = Vec::with_capacity(alloc, space_count(text) + 1)?;
+    let room = Vec::with_capacity(alloc, count_of(b' ', text) + 1)?;
     let (mut schools, in_range) = fill_schools(text, room)?;
     if !in_range {
         return Ok(Err(Cause::Range));

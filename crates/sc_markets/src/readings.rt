@@ -1,9 +1,6 @@
 //! Papers, amendments and assignments, read from their rows.
 
-use sc_intake::{
-    Cause, IntakeFault, Source, papers_of_rows, read_lists, read_log, read_roster, read_schools,
-    read_script,
-};
+use sc_intake::{Cause, IntakeFault, Source, read_log, read_papers, read_script};
 use sc_papers::{Amendment, Assignment, Papers, Refusal, Rejection, Seed, Stamp, Stamped};
 use sc_repair::Clearing;
 use sc_stamps::{Record, record_of};
@@ -40,20 +37,13 @@ pub fn papers(
     let schools = file(alloc, Source::Schools, "school,zone,seats", schools)?;
     let roster = file(alloc, Source::Roster, roster_header(students), students)?;
     let lists = file(alloc, Source::Lists, "student,choices", lists)?;
-    read(
+    read_papers(
         alloc,
+        zero_seed(),
         schools.as_bytes(),
         roster.as_bytes(),
         lists.as_bytes(),
     )
-}
-
-/// The papers of three files.
-fn read(alloc: Global, schools: &[u8], roster: &[u8], lists: &[u8]) -> Result<Papers, IntakeFault> {
-    let schools = read_schools(alloc, schools)?;
-    let roster = read_roster(alloc, roster)?;
-    let lists = read_lists(alloc, lists)?;
-    papers_of_rows(alloc, zero_seed(), &schools, roster, lists)
 }
 
 /// The seed of 64 zeros.

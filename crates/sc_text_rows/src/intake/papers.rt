@@ -1,5 +1,5 @@
 //! The three files together: the papers that they make, or their first fault.
-use sc_intake::{IntakeFault, papers_of, papers_of_rows, read_lists, read_roster, read_schools};
+use sc_intake::{IntakeFault, papers_of, read_lists, read_papers, read_roster, read_schools};
 use sc_papers::{Papers, SchoolList, Seed, Student};
 use std::alloc::{AllocError, Global};
 use std::process::Abort;
@@ -80,20 +80,6 @@ fn opened(
     papers_of(alloc, seed, &schools, &roster, &lists)
 }
 
-/// The same papers, made of rows that are given up.
-fn opened_by_rows(
-    alloc: Global,
-    seed: Seed,
-    schools: &str,
-    roster: &str,
-    lists: &str,
-) -> Result<Papers, IntakeFault> {
-    let schools = read_schools(alloc, schools.as_bytes())?;
-    let roster = read_roster(alloc, roster.as_bytes())?;
-    let lists = read_lists(alloc, lists.as_bytes())?;
-    papers_of_rows(alloc, seed, &schools, roster, lists)
-}
-
 /// The papers of three files as a text, or the line of their fault.
 fn told(alloc: Global, opened: Result<Papers, IntakeFault>) -> Result<String, AllocError> {
     match opened {
@@ -116,8 +102,17 @@ fn expect(
     for (schools, roster, lists, want) in table {
         let lent = told(alloc, opened(alloc, seed, schools, roster, lists))?;
         assert!(rt; lent.as_str() == *want, "{lent}");
-        let moved = told(alloc, opened_by_rows(alloc, seed, schools, roster, lists))?;
-        assert!(rt; moved.as_str() == *want, "{moved}");
+        let read = told(
+            alloc,
+            read_papers(
+                alloc,
+                seed,
+                schools.as_bytes(),
+                roster.as_bytes(),
+                lists.as_bytes(),
+            ),
+        )?;
+        assert!(rt; read.as_str() == *want, "{read}");
     }
     Ok(())
 }

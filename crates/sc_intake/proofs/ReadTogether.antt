@@ -1,0 +1,180 @@
+-- One row more of the roster and of the lists, read together.
+use Rattle.std.proofs.Common.{◌≡◌, ℕ, suc, ◌+◌, ◌-◌, ◌<◌, Bool, true, false, nat_eq, List, [], ◌∷◌, ◌++◌, length, map, inl, inr, refl, sym, ap, ◌∙◌, arith, Ok, Err, Option, Some, None}
+use Rattle.std.specs.Prelude.{Result, nat_le}
+use Rattle.std.specs.List.{list_any}
+use Rattle.std.proofs.lemmas.Bool.{cases_Bool}
+use Rattle.std.proofs.lemmas.Bool.Decides.{nat_tests}
+use Rattle.std.proofs.lemmas.List.{length_push, length-map, map-append}
+use Rattle.std.proofs.lemmas.List.Folds.{find-append}
+use Rattle.sc_papers.specs.Market.{Market, is_student}
+use Rattle.sc_papers.specs.Verdict.{after, objections, verdict}
+use Rattle.sc_papers.specs.declared.amendment.Amendment.TheVariants.{Enter}
+use Rattle.sc_papers.specs.declared.amendment.Refusal.{Refusal}
+use Rattle.sc_papers.specs.declared.amendment.Refusal.TheVariants.{StudentExists, RosterFull}
+use Rattle.sc_papers.specs.declared.limits.TheConstants.{MOST_STUDENTS}
+use Rattle.sc_papers.proofs.Objections.{first_of-none, refuse_if-none}
+use Rattle.sc_intake.specs.Fault.{◌>>=◌}
+use Rattle.sc_intake.specs.File.{in_row, rows_after, rows_in}
+use Rattle.sc_intake.specs.Lists.{choices_of, is_list_header, list_number, lists_in, next_list}
+use Rattle.sc_intake.specs.Papers.{all_entered, entered_by, is_in_roster, list_of, opening, unless_refused}
+use Rattle.sc_intake.specs.Roster.{is_roster_header, next_student, roster_in, roster_number, student_of}
+use Rattle.sc_intake.specs.Rows.{added, next_row_at, row_at}
+use Rattle.sc_intake.specs.Together.{papers_below, records_below, AreReadTo, EntersBoth}
+use Rattle.sc_intake.specs.declared.fault.Cause.{Cause}
+use Rattle.sc_intake.specs.declared.fault.Source.{Source}
+use Rattle.sc_intake.specs.declared.fault.Source.TheVariants.{Roster, Lists}
+use Rattle.sc_intake.specs.declared.lists.ListRow.{ListRow}
+use Rattle.sc_intake.specs.declared.roster.RosterRow.{RosterRow}
+use Rattle.sc_intake.specs.declared.schools.SchoolRow.{SchoolRow}
+use Rattle.sc_intake.proofs.InStep.{filled-in-step}
+use Rattle.sc_intake.proofs.PaperLemmas.{all-students}
+use Rattle.sc_intake.proofs.RowLemmas.{row-step}
+
+-- who enters is not in the papers yet, and there is room
+may-enter : (m n : Market) (row : RosterRow) (list : ListRow) → entered_by m row (Some list) ≡ Ok n
+    → (is_student m row.student ≡ false) × (nat_le MOST_STUDENTS (length m.students) ≡ false) × (after m (Enter row.student row.zone row.siblings list.choices row.continuing) ≡ n)
+may-enter m n row list entered = by (verdict m (Enter row.student row.zone row.siblings list.choices row.continuing)) refl entered
+  where
+    by : (v : Option Refusal) → verdict m (Enter row.student row.zone row.siblings list.choices row.continuing) ≡ v
+        → unless_refused m (Enter row.student row.zone row.siblings list.choices row.continuing) v ≡ Ok n
+        → (is_student m row.student ≡ false) × (nat_le MOST_STUDENTS (length m.students) ≡ false) × (after m (Enter row.student row.zone row.siblings list.choices row.continuing) ≡ n)
+    by None is done =
+        let none = first_of-none (objections m (Enter row.student row.zone row.siblings list.choices row.continuing)) is in
+        (refuse_if-none (is_student m row.student) StudentExists none.0, refuse_if-none (nat_le MOST_STUDENTS (length m.students)) RosterFull none.1.1.1.1.1.1.1.1.1.0, cc)
+    by (Some r) is done = cc done
+
+-- one student more is in them
+entered-more : (m n : Market) (row : RosterRow) (list : Option ListRow) → entered_by m row list ≡ Ok n → length n.students ≡ length m.students + 1
+entered-more m n row None entered = cc entered
+entered-more m n row (Some list) entered =
+    let same = (may-enter m n row list entered).2 in
+    rw (← same) (length_push m.students (row.student, record { zone = row.zone; siblings = row.siblings; choices = list.choices; continuing = row.continuing }))
+
+-- as many students are in the papers as rows were entered
+as-many : (lists : List ListRow) (m n : Market) (roster : List RosterRow) → all_entered lists m roster ≡ Ok n → length n.students ≡ length m.students + length roster
+unfolding all_entered
+as-many lists m n [] entered = let same : m ≡ n = cc in rw (← same) (omega arith)
+as-many lists m n (row ∷ rest) entered = by (entered_by m row (list_of lists row.student)) refl entered (λ k. as-many lists k n rest)
+  where
+    by : (r : Result Market Cause) → entered_by m row (list_of lists row.student) ≡ r → (in_row Roster row.row r >>= λ k. all_entered lists k rest) ≡ Ok n
+        → ((k : Market) → all_entered lists k rest ≡ Ok n → length n.students ≡ length k.students + length rest)
+        → length n.students ≡ length m.students + suc (length rest)
+    by (Ok k) is entered more =
+        let here = entered-more m k row (list_of lists row.student) is in
+        let there = more k entered in
+        omega arith
+    by (Err cause) is entered more = cc entered
+
+-- a list more changes nothing for whoever has one
+list-kept : (lists : List ListRow) (list found : ListRow) (i : ℕ) → list_of lists i ≡ Some found → list_of (lists ++ list ∷ []) i ≡ Some found
+list-kept lists list found i is = find-append (λ (l : ListRow). nat_eq i l.student) lists (list ∷ []) ∙ rw is refl
+
+-- and is the list of whoever had none
+list-new : (lists : List ListRow) (list : ListRow) (i : ℕ) → list_of lists i ≡ None → i ≡ list.student → list_of (lists ++ list ∷ []) i ≡ Some list
+list-new lists list i none same =
+    let equal : nat_eq i list.student ≡ true = grind (arith, nat_tests) in
+    find-append (λ (l : ListRow). nat_eq i l.student) lists (list ∷ []) ∙ rw (none, equal) refl
+
+-- one student more has entered, by one list more
+all_entered-push : (lists : List ListRow) (list : ListRow) (m n k : Market) (roster : List RosterRow) (row : RosterRow) → all_entered lists m roster ≡ Ok n
+    → list_of (lists ++ list ∷ []) row.student ≡ Some list → entered_by n row (Some list) ≡ Ok k
+    → all_entered (lists ++ list ∷ []) m (roster ++ row ∷ []) ≡ Ok k
+unfolding all_entered
+all_entered-push lists list m n k [] row entered found enters =
+    let same : m ≡ n = cc in
+    let here : entered_by m row (list_of (lists ++ list ∷ []) row.student) ≡ Ok k = rw (found, same) enters in
+    rw here refl
+all_entered-push lists list m n k (first ∷ rest) row entered found enters =
+    by (list_of lists first.student) refl (entered_by m first (list_of lists first.student)) refl entered (λ j so_far. all_entered-push lists list j n k rest row so_far found enters)
+  where
+    by : (theirs : Option ListRow) → list_of lists first.student ≡ theirs
+        → (r : Result Market Cause) → entered_by m first (list_of lists first.student) ≡ r → (in_row Roster first.row r >>= λ j. all_entered lists j rest) ≡ Ok n
+        → ((j : Market) → all_entered lists j rest ≡ Ok n → all_entered (lists ++ list ∷ []) j (rest ++ row ∷ []) ≡ Ok k)
+        → (in_row Roster first.row (entered_by m first (list_of (lists ++ list ∷ []) first.student)) >>= λ j. all_entered (lists ++ list ∷ []) j (rest ++ row ∷ [])) ≡ Ok k
+    by (Some l) has (Ok j) is done more =
+        let kept = list-kept lists list l first.student has in
+        let here : entered_by m first (list_of (lists ++ list ∷ []) first.student) ≡ Ok j = rw kept (rw has at is) in
+        rw here (more j done)
+    by None has (Ok j) is done more = let no : entered_by m first None ≡ Ok j = rw has at is in cc no
+    by theirs has (Err cause) is done more = cc done
+
+-- who is in a roster, by the numbers of its rows
+in-numbers : (roster : List RosterRow) (i : ℕ) → is_in_roster roster i ≡ list_any (nat_eq i) (map roster_number roster)
+in-numbers [] i = refl
+in-numbers (row ∷ rest) i = rw (in-numbers rest i) refl
+
+-- who has none of the numbers has no list
+no-list : (lists : List ListRow) (i : ℕ) → list_any (nat_eq i) (map list_number lists) ≡ false → list_of lists i ≡ None
+no-list [] i none = refl
+no-list (list ∷ rest) i none = elim (cases_Bool (nat_eq i list.student)) [
+  | inl same ↦ let bad : true ≡ false = rw same at none in cc bad
+  | inr other ↦ rw other (no-list rest i (rw other at none))
+]
+
+-- a good record with a new number is one row more
+added-row : {R : Type 0} (most : ℕ) (number : R → ℕ) (read : ℕ → List (List ℕ) → Result R Cause) (width row : ℕ) (earlier : List R) (fields : List (List ℕ)) (found : R)
+    → nat_le most (length earlier) ≡ false → row_at read width row fields ≡ Ok found → list_any (nat_eq (number found)) (map number earlier) ≡ false
+    → added earlier (next_row_at most number read width row earlier fields) ≡ Ok (earlier ++ found ∷ [])
+added-row most number read width row earlier fields found room is new = rw (room, is, new) refl
+
+-- both files were read one row further
+pub AreReadTo-more : (width list_width : ℕ) (roster lists : List (List (List ℕ))) (m : Market) (roster_left lists_left : List (List (List ℕ))) (n : Market)
+    (fields list_fields : List (List ℕ)) (roster_rest lists_rest : List (List (List ℕ))) (k : Market)
+    → m.students ≡ [] → AreReadTo width list_width roster lists m roster_left lists_left n
+    → roster_left ≡ fields ∷ roster_rest → lists_left ≡ list_fields ∷ lists_rest → EntersBoth width list_width n fields list_fields k
+    → AreReadTo width list_width roster lists m roster_rest lists_rest k
+AreReadTo-more width list_width roster lists m roster_left lists_left n fields list_fields roster_rest lists_rest k fresh to next next_list_is enters =
+    let row = enters.row in
+    let list = enters.list in
+    let may = may-enter n k row list enters.entered in
+    let absent : is_student n row.student ≡ false = may.0 in
+    let within = may.1 in
+    let counted = as-many to.list_rows m n to.roster_rows to.entered in
+    let nobody : length m.students ≡ 0 = rw fresh refl in
+    let size : length n.students ≡ length to.roster_rows = omega arith in
+    let list_size : length to.list_rows ≡ length n.students = sym (length-map to.list_rows list_number) ∙ ap length (sym to.step) ∙ length-map to.roster_rows roster_number ∙ sym size in
+    let new : list_any (nat_eq row.student) (map roster_number to.roster_rows) ≡ false =
+    sym (in-numbers to.roster_rows row.student) ∙ sym (all-students to.list_rows m n to.roster_rows to.entered row.student ∙ rw fresh refl) ∙ absent in
+    let list_new : list_any (nat_eq row.student) (map list_number to.list_rows) ≡ false = rw (← to.step) new in
+    let list_is_new : list_any (nat_eq list.student) (map list_number to.list_rows) ≡ false = rw (← enters.same) list_new in
+    let found = list-new to.list_rows list row.student (no-list to.list_rows row.student list_new) enters.same in
+    record {
+      roster_rows = to.roster_rows ++ row ∷ [];
+      list_rows = to.list_rows ++ list ∷ [];
+      roster_read = row-step 2 Roster (next_student width) _ to.roster_rows (to.roster_rows ++ row ∷ []) roster_left roster_rest fields to.roster_read next
+          (added-row MOST_STUDENTS roster_number student_of width (length to.roster_rows + 2) to.roster_rows fields row (rw size at within) (rw size at enters.in_roster) new);
+      lists_read = row-step 2 Lists (next_list list_width) _ to.list_rows (to.list_rows ++ list ∷ []) lists_left lists_rest list_fields to.lists_read next_list_is
+          (added-row MOST_STUDENTS list_number choices_of list_width (length to.list_rows + 2) to.list_rows list_fields list (rw list_size within) (rw list_size enters.in_lists) list_is_new);
+      step = map-append roster_number to.roster_rows (row ∷ []) ∙ ap (λ (numbers : List ℕ). numbers ++ row.student ∷ []) to.step ∙ ap (λ (i : ℕ). map list_number to.list_rows ++ i ∷ []) enters.same
+          ∙ sym (map-append list_number to.list_rows (list ∷ []));
+      entered = all_entered-push to.list_rows list m n k to.roster_rows row to.entered found enters.entered;
+    }
+
+-- no row was read
+pub AreReadTo-none : (width list_width : ℕ) (roster lists : List (List (List ℕ))) (m : Market) → AreReadTo width list_width roster lists m roster lists m
+unfolding all_entered
+AreReadTo-none width list_width roster lists m = record { roster_rows = []; list_rows = []; roster_read = refl; lists_read = refl; step = refl; entered = refl }
+
+-- there is room for fewer students than before
+pub room-left : (width list_width : ℕ) (n : Market) (fields list_fields : List (List ℕ)) (k : Market) → EntersBoth width list_width n fields list_fields k
+    → MOST_STUDENTS - length k.students < MOST_STUDENTS - length n.students
+room-left width list_width n fields list_fields k enters =
+    let more = entered-more n k enters.row (Some enters.list) enters.entered in
+    let room = (may-enter n k enters.row enters.list enters.entered).1 in
+    let within : length n.students < MOST_STUDENTS = grind (arith, nat_tests) in
+    omega arith
+
+-- a file whose records are read to their end reads as its rows
+all-read : {R : Type 0} (source : Source) (is_header : List (List ℕ) → Bool) (read : ℕ → List R → List (List ℕ) → Result R Cause) (text : List ℕ) (width : ℕ) (records : List (List (List ℕ))) (rows : List R)
+    → records_below source is_header text ≡ Ok (width, records) → rows_after 2 source (read width) [] records ≡ rows_after 2 source (read width) rows [] → rows_in source is_header read text ≡ Ok rows
+unfolding rows_after
+all-read source is_header read text width records rows below to = rw below to
+
+-- both files were read to their ends
+pub AreReadTo-end : (seed : List ℕ) (schools : List SchoolRow) (roster lists : List ℕ) (width list_width : ℕ) (records list_records : List (List (List ℕ))) (m n : Market)
+    → records_below Roster is_roster_header roster ≡ Ok (width, records) → records_below Lists is_list_header lists ≡ Ok (list_width, list_records)
+    → m ≡ opening seed schools → AreReadTo width list_width records list_records m [] [] n → papers_below seed schools roster lists ≡ Ok n
+AreReadTo-end seed schools roster lists width list_width records list_records m n below list_below opened to =
+    let roster_is : roster_in roster ≡ Ok to.roster_rows = all-read Roster is_roster_header next_student roster width records to.roster_rows below to.roster_read in
+    let lists_are : lists_in lists ≡ Ok to.list_rows = all-read Lists is_list_header next_list lists list_width list_records to.list_rows list_below to.lists_read in
+    rw (roster_is, lists_are, ← opened) (filled-in-step m to.roster_rows to.list_rows to.step ∙ to.entered)

@@ -1,0 +1,46 @@
+-- The roster and the lists read together, row by row.
+use Rattle.std.specs.Prelude.{◌≡◌, ℕ, ◌+◌, Bool, List, [], length, map, Some, Result, Ok}
+use Rattle.sc_papers.specs.Market.{Market}
+use Rattle.sc_intake.specs.Fault.{◌>>=◌}
+use Rattle.sc_intake.specs.File.{after_header, records_in, rows_after}
+use Rattle.sc_intake.specs.Lists.{choices_of, list_number, lists_in, next_list}
+use Rattle.sc_intake.specs.Papers.{all_entered, entered_by, papers_of}
+use Rattle.sc_intake.specs.Roster.{next_student, roster_in, roster_number, student_of}
+use Rattle.sc_intake.specs.Rows.{row_at}
+use Rattle.sc_intake.specs.declared.fault.IntakeFault.{IntakeFault}
+use Rattle.sc_intake.specs.declared.fault.Source.{Source}
+use Rattle.sc_intake.specs.declared.fault.Source.TheVariants.{Roster, Lists}
+use Rattle.sc_intake.specs.declared.lists.ListRow.{ListRow}
+use Rattle.sc_intake.specs.declared.roster.RosterRow.{RosterRow}
+use Rattle.sc_intake.specs.declared.schools.SchoolRow.{SchoolRow}
+
+-- how many fields the header of a text has, and the records after it
+abbrev pub records_below : Source → (List (List ℕ) → Bool) → List ℕ → Result (ℕ × List (List (List ℕ))) IntakeFault
+records_below source is_header text = records_in source text >>= after_header source is_header
+
+-- the papers that a roster and lists make under these schools, or the first fault
+abbrev pub papers_below : List ℕ → List SchoolRow → List ℕ → List ℕ → Result Market IntakeFault
+papers_below seed schools roster lists = do
+  roster_rows ← roster_in roster
+  list_rows ← lists_in lists
+  papers_of seed schools roster_rows list_rows
+
+-- a record of the roster and one of the lists, under headers of so many fields, are rows of one student, who enters:
+-- both have the number after those of the students before
+pub record EntersBoth (width list_width : ℕ) (m : Market) (fields list_fields : List (List ℕ)) (n : Market) : Type 0 where
+  pub row : RosterRow
+  pub list : ListRow
+  pub in_roster : row_at student_of width (length m.students + 2) fields ≡ Ok row
+  pub in_lists : row_at choices_of list_width (length m.students + 2) list_fields ≡ Ok list
+  pub same : row.student ≡ list.student
+  pub entered : entered_by m row (Some list) ≡ Ok n
+
+-- both files were read so far: the records from here on go on after rows of the same students, who entered papers `m`
+-- one by one, so that they are now `n`
+pub record AreReadTo (width list_width : ℕ) (roster lists : List (List (List ℕ))) (m : Market) (roster_left lists_left : List (List (List ℕ))) (n : Market) : Type 0 where
+  pub roster_rows : List RosterRow
+  pub list_rows : List ListRow
+  pub roster_read : rows_after 2 Roster (next_student width) [] roster ≡ rows_after 2 Roster (next_student width) roster_rows roster_left
+  pub lists_read : rows_after 2 Lists (next_list list_width) [] lists ≡ rows_after 2 Lists (next_list list_width) list_rows lists_left
+  pub step : map roster_number roster_rows ≡ map list_number list_rows
+  pub entered : all_entered list_rows m roster_rows ≡ Ok n

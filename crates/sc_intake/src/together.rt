@@ -1,0 +1,165 @@
+//! The papers of the texts of the three files.
+
+ghost use Rattle.std.specs.Prelude.{◌≡◌, ◌⊎◌, ◌∷◌, [], Err, IfErr, IfOk, IfSome, MatchBool, Ok};
+ghost use Rattle.std.specs.Bool.{OnTrue};
+ghost use Rattle.sc_intake.specs.Lists.{choices_of};
+ghost use Rattle.sc_intake.specs.Papers.{papers_in};
+ghost use Rattle.sc_intake.specs.Roster.{student_of};
+ghost use Rattle.sc_intake.specs.Rows.{row_at};
+ghost use Rattle.sc_intake.specs.Together.{papers_below, records_below, AreReadTo, EntersBoth};
+ghost use Rattle.sc_intake.specs.declared.fault.Cause.TheVariants.{OutOfMemory};
+
+use crate::byte_count::count_of;
+use crate::fault::IntakeFault;
+use crate::input::records_in;
+use crate::lists::{ListRow, read_lists};
+use crate::papers::{enter, open_with_room, papers_of};
+use crate::records::Records;
+use crate::roster::{RosterRow, read_roster};
+use crate::rows::{Row, take_header};
+use crate::schools::{SchoolRows, read_schools};
+use sc_papers::{MOST_STUDENTS, Papers, Seed};
+use std::alloc::Global;
+
+/// A file below its header: its records, each of which is to have as many fields as that.
+#[derive(Drop)]
+struct Below<'a> {
+    width: usize,
+    records: Records<'a>,
+}
+
+/// The records of a file below its header. `None` says nothing of the file: `read_rows` tells what is wrong.
+fn below_header<'a, R: Row>(alloc: Global, text: &'a [u8]) -> Option<Below<'a>>
+    ensures { IfSome result (λ below. records_below R.source R.is_header text.now ≡ Ok (below.width, below.records.left)) }
+{
+    let Ok(mut records) = records_in(alloc, R::source(), text) else {
+        return None;
+    };
+    let Ok(width) = take_header::<R>(&mut records) else {
+        return None;
+    };
+    Some(Below { width, records })
+}
+
+/// Reads the next record of both files, and says whether there was one of each or of neither. `None` says nothing:
+/// one of them is longer, or memory is wanting.
+fn advance_both(roster: &mut Below<'_>, lists: &mut Below<'_>) -> Option<bool>
+    ensures roster { IfSome result (λ more. MatchBool more (roster.old.records.left ≡ roster.new.records.current ∷ roster.new.records.left) (roster.old.records.left ≡ [])) }
+    ensures lists { IfSome result (λ more. MatchBool more (lists.old.records.left ≡ lists.new.records.current ∷ lists.new.records.left) (lists.old.records.left ≡ [])) }
+    ensures width { roster.new.width ≡ roster.old.width }
+    ensures list_width { lists.new.width ≡ lists.old.width }
+{
+    match (roster.records.read(), lists.records.read()) {
+        (Ok(true), Ok(true)) => Some(true),
+        (Ok(false), Ok(false)) => Some(false),
+        _ => None,
+    }
+}
+
+/// The row that the record of a file that was read last is, in this row. `None` says nothing: it is none, or memory is
+/// wanting.
+fn row_at<R: Row>(alloc: Global, row: u64, below: &Below<'_>) -> Option<R>
+    ensures { IfSome result (λ found. row_at R.reading below.now.width row below.now.records.current ≡ Ok found) }
+{
+    if below.records.len() != below.width {
+        return None;
+    }
+    match R::read(alloc, row, &below.records) {
+        Ok(found) => Some(found),
+        Err(_) => None,
+    }
+}
+
+/// Enters the student of whom the records read last are, and says whether they are of one student who may enter.
+/// Otherwise, or where memory is wanting, the papers are no longer to be used.
+fn enter_both(alloc: Global, papers: &mut Papers, roster: &Below<'_>, lists: &Below<'_>) -> bool
+    ensures { OnTrue result (EntersBoth roster.now.width lists.now.width papers.old roster.now.records.current lists.now.records.current papers.new) }
+{
+    let number = papers.students_len() as u64 + 2;
+    let Some(row) = row_at::<RosterRow>(alloc, number, roster) else {
+        return false;
+    };
+    let Some(list) = row_at::<ListRow>(alloc, number, lists) else {
+        return false;
+    };
+    row.student == list.student && enter(papers, row, list.choices).is_ok()
+}
+
+/// Enters the students of both files, and says whether each row of the one is of the same student as that row of the
+/// other, and each of them may enter. Otherwise, or where memory is wanting, the papers are no longer to be used.
+fn enter_together(
+    alloc: Global,
+    papers: &mut Papers,
+    roster: &mut Below<'_>,
+    lists: &mut Below<'_>,
+) -> bool
+    requires { papers.old.students ≡ [] }
+    ensures { OnTrue result (AreReadTo roster.old.width lists.old.width roster.old.records.left lists.old.records.left papers.old [] [] papers.new) }
+{
+    'rows: loop {
+        match advance_both(roster, lists) {
+            Some(true) => {
+                if !enter_both(alloc, papers, roster, lists) {
+                    return false;
+                }
+            }
+            Some(false) => return true,
+            None => return false,
+        }
+    }
+}
+
+/// How many students a roster may have, by its line ends: a guess, for which room is made at once.
+fn likely_students(roster: &[u8]) -> usize {
+    count_of(b'\n', roster).min(MOST_STUDENTS)
+}
+
+/// The papers of a roster and lists that have no fault and whose rows are of the same students, row by row. `None` says
+/// nothing of them.
+fn papers_together(
+    alloc: Global,
+    seed: Seed,
+    schools: &SchoolRows,
+    roster: &[u8],
+    lists: &[u8],
+) -> Option<Papers>
+    ensures { IfSome result (λ papers. papers_below seed schools.now roster.now lists.now ≡ Ok papers) }
+{
+    let room = likely_students(roster);
+    let mut roster = below_header::<RosterRow>(alloc, roster)?;
+    let mut lists = below_header::<ListRow>(alloc, lists)?;
+    let Ok(mut papers) = open_with_room(alloc, seed, schools.as_slice(), room) else {
+        return None;
+    };
+    if !enter_together(alloc, &mut papers, &mut roster, &mut lists) {
+        return None;
+    }
+    Some(papers)
+}
+
+/// The papers that the texts of the three files make under a seed, or the first fault: of the schools, the roster, the
+/// lists, and then of what they say together, as `papers_of` tells it. Beside that the only error is want of memory, of
+/// one of the files and row 0.
+///
+/// Where the lists stand in the order of the roster, row by row, and nothing is wrong, both are read together: no row is
+/// kept, no list is copied and none is looked up. Then the cost is the length of the texts, a look-up for each school
+/// named, and a draw of the lottery for each student. Otherwise the roster and the lists are read again, each alone, and
+/// what is more than reading is the cost of `papers_of`.
+pub fn read_papers(
+    alloc: Global,
+    seed: Seed,
+    schools: &[u8],
+    roster: &[u8],
+    lists: &[u8],
+) -> Result<Papers, IntakeFault>
+    ensures read { IfOk result (λ papers. papers_in seed schools.now roster.now lists.now ≡ Ok papers) }
+    ensures fault { IfErr result (λ fault. (papers_in seed schools.now roster.now lists.now ≡ Err fault) ⊎ (fault.cause ≡ OutOfMemory)) }
+{
+    let schools = read_schools(alloc, schools)?;
+    if let Some(papers) = papers_together(alloc, seed, &schools, roster, lists) {
+        return Ok(papers);
+    }
+    let roster = read_roster(alloc, roster)?;
+    let lists = read_lists(alloc, lists)?;
+    papers_of(alloc, seed, &schools, &roster, &lists)
+}
