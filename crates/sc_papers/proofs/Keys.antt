@@ -1,6 +1,6 @@
 -- What look-ups in the papers' tables give.
-use Rattle.std.proofs.Common.{◌≡◌, ℕ, ◌<◌, nat_eq, Bool, List, [], get_or, length, Option, Some, None, refl, sym, ap, ◌∙◌, cond, false, true, is_some, position}
-use Rattle.std.specs.Prelude.{◌==◌, ◌&&◌, nat_lt}
+use Rattle.std.proofs.Common.{◌≡◌, ℕ, ◌<◌, nat_eq, Bool, List, [], ◌∷◌, get_or, length, inl, inr, Option, Some, None, refl, sym, ap, arith, ◌∙◌, cond, false, true, is_some, position}
+use Rattle.std.specs.Prelude.{◌==◌, ◌&&◌, ◌||◌, nat_lt}
 use Rattle.std.specs.List.{slice_get, list_any}
 use Rattle.sc_lottery.specs.Draw.{draw}
 use Rattle.sc_papers.specs.Key.{class_by, has_sibling_at, same_zone, key_of, key_at}
@@ -12,7 +12,8 @@ use Rattle.sc_papers.specs.declared.records.School.{School}
 use Rattle.sc_papers.specs.declared.records.Student.{Student}
 use Rattle.std.specs.Map.{keys_of, lookup}
 use Rattle.std.specs.Option.{option_map, option_map_or, option_and_then, option_eq}
-use Rattle.std.proofs.lemmas.Bool.{and_right, ltb-true}
+use Rattle.std.proofs.lemmas.Bool.{and_right, cases_Bool, ltb-true}
+use Rattle.std.proofs.lemmas.Bool.Decides.{nat_tests}
 use Rattle.std.proofs.lemmas.Cmp.{nat_eq_equiv}
 use Rattle.std.proofs.lemmas.Map.Entries.{lookup_from_place}
 use Rattle.indexmap.proofs.MapLemmas.{some_index}
@@ -60,6 +61,14 @@ unfolding key_of
 key-of_places m place at i s class d student school entry entry' known known' class_is draw_is =
     rw (key-there m.students place i student entry, key-there m.schools at s school entry', known, known', class_is, draw_is) refl
 
+-- where a list of schools has one that is another, all is said by the first school where there is no other
+pub some-sibling : (s : ℕ) (siblings : List ℕ) → (option_eq nat_eq (slice_get siblings 0) (Some s) || (nat_lt 1 (length siblings) && list_any (λ t. t == s) siblings)) ≡ list_any (λ t. t == s) siblings
+some-sibling s [] = refl
+some-sibling s (t ∷ []) = elim (cases_Bool (t == s)) [ inl same ↦ rw same refl | inr other ↦ rw other refl ]
+some-sibling s (t ∷ u ∷ rest) =
+    let more : nat_lt 1 (length (t ∷ u ∷ rest)) ≡ true = grind (arith, nat_tests) in
+    elim (cases_Bool (t == s)) [ inl same ↦ rw same refl | inr other ↦ rw (other, more) refl ]
+
 -- what a read of the rows gives
 pub row-read : (rows : List Row) (place : ℕ) (row : Row) → true ≡ nat_lt place (length rows) → row ≡ get_or rows place row → slice_get rows place ≡ Some row
 row-read rows place row within is = slice_get_read rows (length rows) place row refl (ltb-true place (length rows) (sym within)) is
@@ -96,11 +105,17 @@ module _ (m : Market) (table : List (Option ℕ)) (rows : List Row) (place : ℕ
   pub row-within : place < length m.students
   row-within = slice_get_within m.students place whose.0 whose.1
 
-  -- the row tells whether there are siblings
-  pub row-siblings : row.siblings ≡ nat_lt 0 (length (siblings_of m (student_at m place)))
-  row-siblings =
-      ap (λ (r : Row). r.siblings) whose.2
-      ∙ ap (λ o. nat_lt 0 (length (option_map_or (λ (student : Student). student.siblings) o []))) (sym theirs)
+  -- the row tells the school of the first sibling
+  pub row-sibling : row.sibling ≡ slice_get (siblings_of m (student_at m place)) 0
+  row-sibling =
+      ap (λ (r : Row). r.sibling) whose.2
+      ∙ ap (λ o. slice_get (option_map_or (λ (student : Student). student.siblings) o []) 0) (sym theirs)
+
+  -- and whether there are more
+  pub row-more_siblings : row.more_siblings ≡ nat_lt 1 (length (siblings_of m (student_at m place)))
+  row-more_siblings =
+      ap (λ (r : Row). r.more_siblings) whose.2
+      ∙ ap (λ o. nat_lt 1 (length (option_map_or (λ (student : Student). student.siblings) o []))) (sym theirs)
 
   -- and a key is put together from it
   pub key-of_row : (at s class : ℕ) (sibling : Bool) (school : School) → slice_get m.schools at ≡ Some (s, school) → school_of m s ≡ Some school

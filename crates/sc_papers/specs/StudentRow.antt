@@ -1,16 +1,17 @@
 -- What the papers keep of a student in one row, beside the student's record.
-use Rattle.std.specs.Prelude.{ℕ, ◌==◌, Bool, nat_lt, List, Option, None, Some, length, map, take, slice_index_or, unwrap_or, if◌then◌else◌}
+use Rattle.std.specs.Prelude.{ℕ, ◌==◌, Bool, nat_lt, List, Option, None, Some, length, map, take, slice_get, slice_index_or, unwrap_or, if◌then◌else◌}
 use Rattle.sc_papers.specs.declared.records.Student.{Student}
 use Rattle.sc_papers.specs.declared.student_row.StudentRow.TheInside.{Inside}
 
--- the draw, the student's number, the zone, whether there are siblings, the school at which the student continues,
--- and the positions of the choices' schools, best first
+-- the draw, the student's number, the school at which the student continues, the school of the first sibling, whether
+-- there are more siblings, the zone, and the positions of the choices' schools, best first
 pub record Row : Type 0 where
   pub draw : ℕ
   pub number : ℕ
-  pub zone : ℕ
-  pub siblings : Bool
   pub continuing : Option ℕ
+  pub sibling : Option ℕ
+  pub more_siblings : Bool
+  pub zone : ℕ
   pub choices : List ℕ
 
 -- the school of a number, where 0 is none
@@ -22,9 +23,10 @@ abbrev pub row_in : Inside → Row
 row_in r = record {
   draw = r.draw;
   number = r.number;
-  zone = r.zone;
-  siblings = r.siblings;
   continuing = school_in r.continuing;
+  sibling = school_in r.sibling;
+  more_siblings = r.more_siblings;
+  zone = r.zone;
   choices = take r.count r.positions;
 }
 
@@ -37,9 +39,10 @@ abbrev pub row_at : List ℕ → ℕ → ℕ → Student → Row
 row_at positions number draw student = record {
   draw = draw;
   number = number;
-  zone = student.zone;
-  siblings = nat_lt 0 (length student.siblings);
   continuing = student.continuing;
+  sibling = slice_get student.siblings 0;
+  more_siblings = nat_lt 1 (length student.siblings);
+  zone = student.zone;
   choices = positions;
 }
 

@@ -36,7 +36,7 @@ pub struct Papers {
     positions: SchoolPositions,
     students: IndexMap<StudentNumber, Student, SeededHash>,
     // What a proposal reads of each student, in order of entry: so a key costs no block of the cipher, nor a read
-    // of `students` where there are no siblings, and a choice no look-up.
+    // of `students` where there is one sibling at most, and a choice no look-up.
     rows: Vec<StudentRow>,
 }
 
@@ -346,14 +346,16 @@ impl Papers {
     }
 
     /// Whether a sibling of the student at a position of the order of entry, from 0, is at the school. The record
-    /// is read only where the student's row tells of siblings.
+    /// is read only where the student's row tells of more than one.
     #[inline]
     fn has_sibling_at(&self, row: &StudentRow, student: usize, school: SchoolNo) -> bool
         requires student { student < length self.now.students }
-        requires row { row.now.siblings ≡ nat_lt 0 (length (siblings_of self.now (student_at self.now student))) }
+        requires sibling { row.now.sibling ≡ slice_get (siblings_of self.now (student_at self.now student)) 0 }
+        requires more { row.now.more_siblings ≡ nat_lt 1 (length (siblings_of self.now (student_at self.now student))) }
         ensures { result ≡ has_sibling_at self.now (student_at self.now student) school }
     {
-        row.has_siblings() && self.siblings_at(student).contains(&school)
+        row.has_first_sibling_at(school)
+            || row.has_more_siblings() && self.siblings_at(student).contains(&school)
     }
 
     /// Makes room for so many more students, so that none of them takes memory as they enter, but for their lists. Nothing

@@ -11,16 +11,18 @@ use sc_lottery::StudentNumber;
 use std::alloc::AllocError;
 use std::marker::Model;
 
-/// What a proposal reads of a student, in one piece of memory: all but the schools of siblings.
+/// What a proposal reads of a student, in one piece of memory: all but the schools of further siblings.
 #[derive(Drop)]
 pub(crate) struct StudentRow {
     // Fields are laid out in this order, which fills 64 bytes.
     draw: u64,
     number: StudentNumber,
-    zone: Zone,
     // The school's number, or 0 where there is none: an `Option<SchoolNo>` takes 8 bytes, and the row would not fit.
     continuing: u32,
-    siblings: bool,
+    // The school of the first sibling, in the same way.
+    sibling: u32,
+    zone: Zone,
+    more_siblings: bool,
     // How many choices there are.
     count: u8,
     positions: [u16; 20],
@@ -87,9 +89,10 @@ impl StudentRow {
         StudentRow {
             draw,
             number,
-            zone: student.zone,
-            siblings: !student.siblings.as_slice().is_empty(),
             continuing: number_or_zero(student.continuing),
+            sibling: number_or_zero(student.siblings.as_slice().first().copied()),
+            zone: student.zone,
+            more_siblings: student.siblings.as_slice().len() > 1,
             count: student.choices.as_slice().len() as u8,
             positions,
         }
@@ -114,11 +117,19 @@ impl StudentRow {
         self.zone
     }
 
-    /// Whether a sibling's school is known.
-    pub(crate) fn has_siblings(&self) -> bool
-        ensures { result ≡ self.now.siblings }
+    /// Whether the first sibling is at this school.
+    pub(crate) fn has_first_sibling_at(&self, school: SchoolNo) -> bool
+        ensures { result ≡ option_eq nat_eq self.now.sibling (Some school) }
     {
-        self.siblings
+        // No school has the number 0, which stands for none.
+        self.sibling == school.get()
+    }
+
+    /// Whether there are siblings beside the first.
+    pub(crate) fn has_more_siblings(&self) -> bool
+        ensures { result ≡ self.now.more_siblings }
+    {
+        self.more_siblings
     }
 
     /// Whether the student continues at this school.
@@ -144,9 +155,10 @@ impl Clone for StudentRow {
         Ok(StudentRow {
             draw: self.draw,
             number: self.number,
-            zone: self.zone,
-            siblings: self.siblings,
             continuing: self.continuing,
+            sibling: self.sibling,
+            zone: self.zone,
+            more_siblings: self.more_siblings,
             count: self.count,
             positions: self.positions,
         })

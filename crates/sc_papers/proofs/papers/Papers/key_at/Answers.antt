@@ -1,9 +1,9 @@
 use Rattle.std.proofs.Common.{◌<◌, Some, length, sym, ◌∙◌, ap, subst}
-use Rattle.std.specs.Prelude.{nat_lt}
+use Rattle.std.specs.Prelude.{nat_lt, slice_get}
 use Rattle.sc_papers.specs.Representation.{market_of}
 use Rattle.sc_papers.specs.Key.{class_by, has_sibling_at, key_at, same_zone}
 use Rattle.sc_papers.specs.Market.{Market, siblings_of, student_at}
-use Rattle.sc_papers.proofs.Keys.{key-of_row, row-read, row-siblings, row-within}
+use Rattle.sc_papers.proofs.Keys.{key-of_row, row-more_siblings, row-read, row-sibling, row-within}
 use Rattle.sc_papers.proofs.papers.Papers.key_at.Goals as goal
 
 pub returns : goal.returns
@@ -32,10 +32,18 @@ has_sibling_at-sibling-requires-clause-student c =
     subst (λ (n : Market). c.args.student < length n.students) c.self.view_is
     (row-within m c.self.inside.positions c.deref.result.now c.args.student c.in_ok-row.row.now c.self.invariant.well_formed (c.deref.ensures.value ∙ c.self.invariant.rows) here)
 
-pub has_sibling_at-sibling-requires-clause-row : goal.has_sibling_at-sibling-requires-clause-row
-has_sibling_at-sibling-requires-clause-row c =
+pub has_sibling_at-sibling-requires-clause-sibling : goal.has_sibling_at-sibling-requires-clause-sibling
+has_sibling_at-sibling-requires-clause-sibling c =
     let m = market_of c.self.inside in
     let read = c.in_ok-row.ensures.lookup in
     let here = row-read c.deref.result.now c.args.student c.in_ok-row.row.now read.0 read.1 in
-    row-siblings m c.self.inside.positions c.deref.result.now c.args.student c.in_ok-row.row.now c.self.invariant.well_formed (c.deref.ensures.value ∙ c.self.invariant.rows) here
-    ∙ ap (λ (n : Market). nat_lt 0 (length (siblings_of n (student_at n c.args.student)))) c.self.view_is
+    row-sibling m c.self.inside.positions c.deref.result.now c.args.student c.in_ok-row.row.now c.self.invariant.well_formed (c.deref.ensures.value ∙ c.self.invariant.rows) here
+    ∙ ap (λ (n : Market). slice_get (siblings_of n (student_at n c.args.student)) 0) c.self.view_is
+
+pub has_sibling_at-sibling-requires-clause-more : goal.has_sibling_at-sibling-requires-clause-more
+has_sibling_at-sibling-requires-clause-more c =
+    let m = market_of c.self.inside in
+    let read = c.in_ok-row.ensures.lookup in
+    let here = row-read c.deref.result.now c.args.student c.in_ok-row.row.now read.0 read.1 in
+    row-more_siblings m c.self.inside.positions c.deref.result.now c.args.student c.in_ok-row.row.now c.self.invariant.well_formed (c.deref.ensures.value ∙ c.self.invariant.rows) here
+    ∙ ap (λ (n : Market). nat_lt 1 (length (siblings_of n (student_at n c.args.student)))) c.self.view_is
