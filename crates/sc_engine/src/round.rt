@@ -164,8 +164,8 @@ fn choice_at(ranks: &[Option<u8>], papers: &Papers, at: usize) -> Option<SchoolN
     requires { at < length papers.now.students }
     ensures { (i : ℕ) → position (nat_eq i) (students_of papers.now) ≡ Some at → result ≡ next_of papers.now ranks.now i }
 {
-    let proposal = proposal_of(ranks, papers, at)?;
-    Some(proposal.school)
+    let rank = rank_at(ranks, at)?;
+    papers.choice_at(at, rank)
 }
 
 /// The choice at which the student at the position stands, with its position and the student's key there.
@@ -590,7 +590,7 @@ impl<R: Roll> Round<R> {
         self.spent
     }
 
-    /// The choices at which the students of the round stand, in order of entry. A spent round answers the error, and so
+    /// The choices at which the students of the round stand. A spent round answers the error, and so
     /// does want of memory. The cost is a look at each student of the papers.
     pub fn assignment(&self, papers: &Papers) -> Result<Assignment, AllocError>
         requires { is_spent self.now ≡ false → Fits papers.now (view_of R.keys R.seats self.now) }
