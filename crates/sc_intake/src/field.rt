@@ -35,6 +35,9 @@ pub(crate) fn number_or_none(text: &[u8]) -> Result<Option<u32>, Cause>
 
 /// The number that a text begins with, and how many digits write it: they end at the first space, or
 /// at the end of the text. `Number` where they are not 1 to 9 decimal digits.
+///
+/// It is inlined into each loop over a list, which calls it for each number.
+#[inline(always)]
 pub(crate) fn first_number(text: &[u8]) -> Result<(u32, usize), Cause>
     ensures { result ≡ first_number text.now }
 {

@@ -1,6 +1,6 @@
 //! The fields that are lists of schools.
 
-ghost use Rattle.std.specs.Prelude.{◌≡◌, ◌<◌, ◌≤◌, ◌==◌, [], length, if◌then◌else◌, vec_capacity, Ok, Err, IfErr, IfOk};
+ghost use Rattle.std.specs.Prelude.{◌≡◌, ◌<◌, ◌≤◌, ◌==◌, [], length, take, if◌then◌else◌, vec_capacity, Ok, Err, IfErr, IfOk, IfSome};
 ghost use Rattle.std.specs.List.{count_by};
 ghost use Rattle.sc_intake.specs.Fault.{Gives};
 ghost use Rattle.sc_intake.specs.Field.{listed};
@@ -9,8 +9,8 @@ ghost use Rattle.sc_intake.specs.declared.fault.Cause.TheVariants.{OutOfMemory, 
 use crate::byte_count::count_of;
 use crate::fault::Cause;
 use crate::field::first_number;
-use sc_papers::{SchoolList, SchoolNo};
-use std::alloc::Global;
+use sc_papers::{LONGEST_LIST, SchoolList, SchoolNo};
+use std::alloc::{AllocError, Global};
 
 /// Puts the schools of a list into `schools`, which is empty and has more room than the text has
 /// spaces. Answers them and whether each number is a school's, or `Number` where one of them is no
@@ -42,18 +42,42 @@ fn fill_schools(text: &[u8], mut schools: Vec<SchoolNo>) -> Result<(Vec<SchoolNo
     Ok((schools, in_range))
 }
 
-/// The schools of a list: a text without blanks at its ends that is numbers with one or more spaces
-/// between them. `Number` where one of them is no number; where one is no school's, `Range` comes
-/// inside, for the caller to tell after what comes first.
+/// The schools of a list, where it is tidy: one space between two numbers, each number a school's, and no more of them
+/// than a list of the papers may have. `None` says nothing of the list. The only error is want of memory.
 ///
-/// The cost is the text's length: its bytes are read once, beside a count of its spaces, from which
-/// the list is made at its size.
-pub(crate) fn school_list(alloc: Global, text: &[u8]) -> Result<Result<SchoolList, Cause>, Cause>
+/// Most lists are so, and then neither are their spaces counted nor is room taken that is not used.
+#[inline(never)]
+fn tidy_list(alloc: Global, text: &[u8]) -> Result<Option<SchoolList>, AllocError>
+    ensures { IfOk result (λ list. IfSome list (λ schools. listed text.now ≡ Ok (Ok schools))) }
+{
+    let Some(filler) = SchoolNo::new(1) else {
+        return Ok(None);
+    };
+    let mut schools = [filler; LONGEST_LIST];
+    let mut count = 0;
+    let mut start = 0;
+    while start < text.len() {
+        let Ok((number, digits)) = first_number(&text[start..]) else {
+            return Ok(None);
+        };
+        let Some(school) = SchoolNo::new(number) else {
+            return Ok(None);
+        };
+        if count == LONGEST_LIST {
+            return Ok(None);
+        }
+        schools[count] = school;
+        count += 1;
+        start += digits + 1;
+    }
+    let list = Vec::from_slice(alloc, &schools[..count])?;
+    Ok(Some(SchoolList::from_vec(list)))
+}
+
+/// What `school_list` answers, for a list of any length and any spelling.
+fn any_list(alloc: Global, text: &[u8]) -> Result<Result<SchoolList, Cause>, Cause>
     ensures { Gives (λ schools. schools) OutOfMemory (listed text.now) result }
 {
-    if text.is_empty() {
-        return Ok(Ok(SchoolList::from_vec(Vec::new(alloc))));
-    }
     let room = Vec::with_capacity(alloc, count_of(b' ', text) + 1)?;
     let (mut schools, in_range) = fill_schools(text, room)?;
     if !in_range {
@@ -62,4 +86,19 @@ pub(crate) fn school_list(alloc: Global, text: &[u8]) -> Result<Result<SchoolLis
     // There was room for more where spaces stand side by side.
     schools.shrink_to_fit();
     Ok(Ok(SchoolList::from_vec(schools)))
+}
+
+/// The schools of a list: a text without blanks at its ends that is numbers with one or more spaces
+/// between them. `Number` where one of them is no number; where one is no school's, `Range` comes
+/// inside, for the caller to tell after what comes first.
+///
+/// The cost is the text's length: its bytes are read once, and where something about it is not as in most lists, its
+/// spaces are counted and it is read again.
+pub(crate) fn school_list(alloc: Global, text: &[u8]) -> Result<Result<SchoolList, Cause>, Cause>
+    ensures { Gives (λ schools. schools) OutOfMemory (listed text.now) result }
+{
+    match tidy_list(alloc, text)? {
+        Some(schools) => Ok(Ok(schools)),
+        None => any_list(alloc, text),
+    }
 }
