@@ -18,3 +18,4 @@ pub mod Progress
 pub mod Reordering
 pub mod EntryOrder
 pub mod Interleaving
+pub mod NumberHash
