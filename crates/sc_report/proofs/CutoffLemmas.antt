@@ -1,7 +1,6 @@
 -- The rows of the cutoffs, school by school.
-use Rattle.std.proofs.Common.{◌≡◌, refl, sym, subst, ◌∙◌, ap, ℕ, ◌+◌, ◌<◌, nat_eq, List, [], ◌∷◌, ◌++◌, length, get_or, map, take, add-one, position, slice_get, Some, All, IsPermutation}
+use Rattle.std.proofs.Common.{◌≡◌, refl, sym, subst, ◌∙◌, ap, ℕ, ◌+◌, nat_eq, List, [], ◌∷◌, ◌++◌, get_or, map, take, position, slice_get, Some, All, IsPermutation}
 use Rattle.std.specs.List.Sorted.{IsNonDecreasingBy}
-use Rattle.std.proofs.Math.Seq.{take-suc}
 use Rattle.std.proofs.lemmas.List.{get_or-map, map-append}
 use Rattle.std.proofs.lemmas.List.Elements.{All-head, All-map, All-tail}
 use Rattle.std.proofs.lemmas.List.Sorted.{All-permutation}
@@ -47,7 +46,8 @@ remade f [] made = refl
 remade f (row ∷ rows) made =
     λ t. All-head (λ row. row ≡ f row.school) row rows made t ∷ remade f rows (All-tail (λ row. row ≡ f row.school) row rows made) t
 
-schools-of_rows : (m : Market) (a : Matching) (xs : List ℕ) → map (λ (row : CutoffRow). row.school) (map (cutoff_row m a) xs) ≡ xs
+-- the rows of schools are theirs, one by one
+pub schools-of_rows : (m : Market) (a : Matching) (xs : List ℕ) → map (λ (row : CutoffRow). row.school) (map (cutoff_row m a) xs) ≡ xs
 schools-of_rows m a [] = refl
 schools-of_rows m a (x ∷ xs) = λ t. x ∷ schools-of_rows m a xs t
 
@@ -68,8 +68,3 @@ pub cutoff-read : (m : Market) (a : Matching) (rows : List CutoffRow) (s at : �
 cutoff-read m a rows s at row are found =
     let (low, here) = position-at (schools_of m) s at found in
     ap (λ r. r.cutoff) (ap (λ all. get_or all at row) are ∙ get_or-map (cutoff_row m a) (schools_of m) at s row low ∙ ap (cutoff_row m a) here)
-
--- what a mapped list gains by one more element
-pub map-take_one : {Y : Type 0} (f : ℕ → Y) (xs : List ℕ) (k x : ℕ) → k < length xs → x ≡ get_or xs k x → map f (take (k + 1) xs) ≡ map f (take k xs) ++ f x ∷ []
-map-take_one f xs k x low is =
-    ap (map f) (rw (add-one, take-suc xs k x low) (ap (λ y. take k xs ++ y ∷ []) (sym is))) ∙ map-append f (take k xs) (x ∷ [])

@@ -6,5 +6,6 @@ pub mod CutoffLemmas
 pub mod ReasonLemmas
 pub mod ReasonCounts
 pub mod LineLemmas
+pub mod EndingLemmas
 pub mod ReasonLaws
 pub mod AdmissionLaws

@@ -1,13 +1,19 @@
 -- A student's rows, choice by choice.
-use Rattle.std.proofs.Common.{◌≡◌, refl, sym, ◌∙◌, ap, ℕ, suc, ◌+◌, ◌<◌, ◌≤◌, Bool, true, false, ◌==◌, not, List, [], ◌∷◌, ◌++◌, length, get_or, map, take, drop, add-one, append_assoc, append-nil, drop-cons, Option, arith}
+use Rattle.std.proofs.Common.{◌≡◌, sym, ◌∙◌, ap, ℕ, suc, ◌+◌, ◌≤◌, Bool, true, false, ◌==◌, not, List, [], ◌∷◌, ◌++◌, length, take, add-one, append_assoc, slice_get, Option, None, Some, arith}
 use Rattle.std.specs.List.{before_first, position_or_len}
-use Rattle.std.specs.Option.{option_map_or}
-use Rattle.std.proofs.Math.Seq.{take-suc}
+use Rattle.std.specs.Option.{option_map, option_map_or}
 use Rattle.std.proofs.lemmas.Bool.{cond-true, cond-false}
-use Rattle.std.proofs.lemmas.List.{drop_all}
+use Rattle.std.proofs.Math.Seq.{take-suc}
+use Rattle.std.proofs.lemmas.List.{length-map, length-take-le, take_all}
+use Rattle.std.proofs.lemmas.List.Sums.{prefix_len-le-length}
+use Rattle.std.proofs.lemmas.Option.{get_or_from_slice_get, slice_get-map, slice_get_past, slice_get_within}
 use Rattle.sc_papers.specs.Market.{Market, choices_of}
 use Rattle.sc_papers.specs.Matching.{Matching, has}
-use Rattle.sc_report.specs.Reason.{reason, reason_row, reasons_of}
+use Rattle.sc_papers.proofs.Choices.{places-end}
+use Rattle.sc_repair.proofs.InTurn.{slice_get_none}
+use Rattle.sc_repair.proofs.Positions.{first-here, first-later}
+use Rattle.sc_repair.proofs.Renewing.{get-take}
+use Rattle.sc_report.specs.Reason.{preferred, reason, reason_row, reasons_of}
 use Rattle.sc_report.specs.declared.reason.Reason.{Reason}
 use Rattle.sc_report.specs.declared.reason.ReasonRow.{ReasonRow}
 
@@ -22,43 +28,49 @@ before-fails p x xs fails =
 pub before-passes : (p : ℕ → Bool) (x : ℕ) (xs : List ℕ) → p x ≡ true → before_first p (x ∷ xs) ≡ []
 before-passes p x xs passes = ap (λ n. take n (x ∷ xs)) (cond-false (not (p x)) (1 + position_or_len p xs) 0 (ap not passes))
 
--- none of the first k passes
-pub record NonePassed (p : ℕ → Bool) (xs : List ℕ) (k : ℕ) : Type 0 where
-  pub split : before_first p xs ≡ take k xs ++ before_first p (drop k xs)
+-- how many stand before the first that passes
+before-length : (p : ℕ → Bool) (xs : List ℕ) → length (before_first p xs) ≡ position_or_len p xs
+before-length p xs = length-take-le (position_or_len p xs) xs (prefix_len-le-length (λ x. not (p x)) xs)
 
-pub passed-start : (p : ℕ → Bool) (xs : List ℕ) → NonePassed p xs 0
-passed-start p xs = record { split = refl }
+-- a student's rows are as many as the choices before what it has
+rows-length : (m : Market) (a : Matching) (i : ℕ) → length (reasons_of m a i) ≡ position_or_len (λ s. has a s i) (choices_of m i)
+unfolding reasons_of
+rows-length m a i = length-map (preferred m a i) (reason_row m a i) ∙ before-length (λ s. has a s i) (choices_of m i)
 
-pub passed-more : (p : ℕ → Bool) (xs : List ℕ) (k x : ℕ) → NonePassed p xs k → k < length xs → x ≡ get_or xs k x → p x ≡ false → NonePassed p xs (k + 1)
-passed-more p xs k x none low is fails =
-    let rest : drop k xs ≡ x ∷ drop (suc k) xs = drop-cons xs k x low ∙ ap (λ y. y ∷ drop (suc k) xs) (sym is) in
-    let front : take (suc k) xs ≡ take k xs ++ x ∷ [] = take-suc xs k x low ∙ ap (λ y. take k xs ++ y ∷ []) (sym is) in
-    record {
-      split = rw add-one (none.split ∙ ap (λ ys. take k xs ++ before_first p ys) rest
-          ∙ ap (λ ys. take k xs ++ ys) (before-fails p x (drop (suc k) xs) fails)
-          ∙ sym (append_assoc (take k xs) (x ∷ []) (before_first p (drop (suc k) xs)))
-          ∙ ap (λ ys. ys ++ before_first p (drop (suc k) xs)) (sym front));
-    }
+-- the row at a rank, of the choice there
+rows-at : (m : Market) (a : Matching) (i k : ℕ) → slice_get (reasons_of m a i) k ≡ option_map (reason_row m a i) (slice_get (preferred m a i) k)
+unfolding reasons_of
+rows-at m a i k = slice_get-map (reason_row m a i) (preferred m a i) k
 
-pub passed-stop : (p : ℕ → Bool) (xs : List ℕ) (k x : ℕ) → NonePassed p xs k → k < length xs → x ≡ get_or xs k x → p x ≡ true → before_first p xs ≡ take k xs
-passed-stop p xs k x none low is passes =
-    let rest : drop k xs ≡ x ∷ drop (suc k) xs = drop-cons xs k x low ∙ ap (λ y. y ∷ drop (suc k) xs) (sym is) in
-    none.split ∙ ap (λ ys. take k xs ++ before_first p ys) rest
-    ∙ ap (λ ys. take k xs ++ ys) (before-passes p x (drop (suc k) xs) passes) ∙ append-nil (take k xs)
+-- a choice that the student does not have, with only such ones before it, has its row at its rank
+pub row-missed : (m : Market) (a : Matching) (i k s : ℕ) → k ≤ length (reasons_of m a i) → slice_get (choices_of m i) k ≡ Some s → has a s i ≡ false
+    → slice_get (reasons_of m a i) k ≡ Some (reason_row m a i s)
+row-missed m a i k s up here fails =
+    let test : ℕ → Bool = λ t. has a t i in
+    let xs = choices_of m i in
+    let first : k ≤ position_or_len test xs = omega (arith, up, rows-length m a i) in
+    let low = first-later test xs k (slice_get_within xs k s here) first (ap test (get_or_from_slice_get xs k s 0 here) ∙ fails) in
+    rows-at m a i k ∙ ap (option_map (reason_row m a i)) (get-take (position_or_len test xs) xs k (omega (arith, low)) ∙ here)
 
-pub passed-end : (p : ℕ → Bool) (xs : List ℕ) (k : ℕ) → NonePassed p xs k → length xs ≤ k → before_first p xs ≡ take k xs
-passed-end p xs k none over =
-    none.split ∙ ap (λ ys. take k xs ++ before_first p ys) (drop_all k xs over) ∙ append-nil (take k xs)
+-- there is no row at the rank of what the student has
+pub row-held : (m : Market) (a : Matching) (i k s : ℕ) → k ≤ length (reasons_of m a i) → slice_get (choices_of m i) k ≡ Some s → has a s i ≡ true
+    → slice_get (reasons_of m a i) k ≡ None
+row-held m a i k s up here holds =
+    let test : ℕ → Bool = λ t. has a t i in
+    let xs = choices_of m i in
+    let first : k ≤ position_or_len test xs = omega (arith, up, rows-length m a i) in
+    let is = first-here test xs k first (ap test (get_or_from_slice_get xs k s 0 here) ∙ holds) in
+    slice_get_past (reasons_of m a i) k (omega (arith, is, rows-length m a i))
+
+-- nor past the last choice
+pub row-past : (m : Market) (a : Matching) (i k : ℕ) → slice_get (choices_of m i) k ≡ None → slice_get (reasons_of m a i) k ≡ None
+row-past m a i k past =
+    slice_get_past (reasons_of m a i) k
+    (omega (arith, places-end (choices_of m i) k past, rows-length m a i, prefix_len-le-length (λ s. not (has a s i)) (choices_of m i)))
 
 -- whether what a student has is a school
 pub held-test : (a : Matching) (i s : ℕ) (held : Option ℕ) (r b : Bool) → held ≡ a i → r ≡ option_map_or (λ t. t == s) held false → r ≡ b → has a s i ≡ b
 held-test a i s held r b held_is r_is is = ap (λ o. option_map_or (λ t. t == s) o false) (sym held_is) ∙ sym r_is ∙ is
-
--- the rows of the choices before what the student has are the student's rows
-pub reasons-are : (m : Market) (a : Matching) (i : ℕ) (choices : List ℕ) (k : ℕ) → choices ≡ choices_of m i → before_first (λ s. has a s i) choices ≡ take k choices
-    → map (reason_row m a i) (take k choices) ≡ reasons_of m a i
-unfolding reasons_of
-reasons-are m a i choices k same before = ap (map (reason_row m a i)) (sym before ∙ ap (before_first (λ s. has a s i)) same)
 
 -- a row of these parts
 abbrev row_with : ℕ → ℕ → Reason → ReasonRow
@@ -66,3 +78,18 @@ row_with i s made = record { student = i; school = s; reason = made }
 
 pub row-reason : (m : Market) (a : Matching) (i s : ℕ) (made : Reason) → made ≡ reason m a i s → row_with i s made ≡ reason_row m a i s
 row-reason m a i s made is = λ t. row_with i s (is t)
+
+front : (rows : List ReasonRow) (k : ℕ) (row : ReasonRow) → slice_get rows k ≡ Some row → take (k + 1) rows ≡ take k rows ++ row ∷ []
+front rows k row here =
+    rw (add-one, take-suc rows k row (slice_get_within rows k row here)) (ap (λ y. take k rows ++ y ∷ []) (get_or_from_slice_get rows k row row here))
+
+-- the rows up to a rank, and the one there
+pub rows-more : (rows : List ReasonRow) (k : ℕ) (row : ReasonRow) (old before new : List ReasonRow) → before ≡ old ++ take k rows → slice_get rows k ≡ Some row
+    → new ≡ before ++ row ∷ [] → new ≡ old ++ take (k + 1) rows
+rows-more rows k row old before new before_is here new_is =
+    new_is ∙ ap (λ t. t ++ row ∷ []) before_is ∙ append_assoc old (take k rows) (row ∷ [])
+    ∙ ap (λ more. old ++ more) (sym (front rows k row here))
+
+-- where there is no row at a rank, those up to it are all
+pub rows-end : (rows : List ReasonRow) (k : ℕ) → slice_get rows k ≡ None → take k rows ≡ rows
+rows-end rows k past = take_all k rows (slice_get_none rows k past)

@@ -8,6 +8,7 @@ pub mod Reason
 pub mod Admission
 pub mod CutoffText
 pub mod ReasonText
+pub mod Endings
 pub mod Text
 pub mod Report
 pub mod Reply

@@ -5,6 +5,7 @@
 mod cutoff;
 mod cutoff_lines;
 pub mod devices;
+mod endings;
 mod entrants;
 pub mod laws;
 mod lines;

@@ -1,5 +1,5 @@
 //! Reasons: why a student does not have a choice that it prefers to what it has.
-ghost use Rattle.std.specs.Prelude.{◌≡◌, ◌<◌, ◌++◌, ◌==◌, false, flat_map, length, nat_eq, position, Some, All, IfOk, OnOk};
+ghost use Rattle.std.specs.Prelude.{◌≡◌, ◌<◌, ◌≤◌, ◌++◌, ◌==◌, false, flat_map, length, nat_eq, option_map, position, slice_get, Some, All, IfOk, IfSome, OnOk};
 ghost use Rattle.std.specs.Option.{option_map_or};
 ghost use Rattle.sc_papers.specs.Assignment.{assigned};
 ghost use Rattle.sc_papers.specs.Market.{Market, schools_of};
@@ -62,8 +62,50 @@ fn is_held(held: &Option<SchoolNo>, school: SchoolNo) -> bool
     *held == Some(school)
 }
 
+/// A choice that a student prefers to what they have, as its row, and where its school stands in the order of entry.
+#[derive(Clone, Copy)]
+pub(crate) struct Missed {
+    pub row: ReasonRow,
+    pub position: usize,
+}
+
+/// A student's row at a rank, from 0 and at most the number of their rows, or `None` past the last one: that of the
+/// choice there, unless it is what they have. It is made by the rows of all schools in order of entry. In constant time.
+pub(crate) fn row_at_rank(
+    rows: &[CutoffRow],
+    papers: &Papers,
+    held: &Option<SchoolNo>,
+    entrant: &Entrant,
+    rank: usize,
+) -> Option<Missed>
+    requires rows { length rows.now ≡ length papers.now.schools }
+    requires stands { StandsAt papers.now entrant.now }
+    // By whichever matching the rows were made.
+    ensures row { (a : Matching) → rows.now ≡ rows_in_order papers.now a → held.now ≡ a entrant.now.student → rank ≤ length (reasons_of papers.now a entrant.now.student)
+        → option_map (λ missed. missed.row) result ≡ slice_get (reasons_of papers.now a entrant.now.student) rank }
+    ensures student { IfSome result (λ missed. missed.row.student ≡ entrant.now.student) }
+    ensures position { IfSome result (λ missed. position (nat_eq missed.row.school) (schools_of papers.now) ≡ Some missed.position) }
+{
+    let Some(choice) = papers.proposal(entrant.position, rank) else {
+        return None;
+    };
+    if is_held(held, choice.school) {
+        return None;
+    }
+    let reason = reason_of(rows, &choice);
+    let row = ReasonRow {
+        student: entrant.student,
+        school: choice.school,
+        reason,
+    };
+    Some(Missed {
+        row,
+        position: choice.position,
+    })
+}
+
 /// Adds a student's rows, in order of choice, by the rows of all schools in order of entry.
-pub(crate) fn push_reasons(
+fn push_reasons(
     reasons: &mut Vec<ReasonRow>,
     rows: &[CutoffRow],
     papers: &Papers,
@@ -77,16 +119,8 @@ pub(crate) fn push_reasons(
 {
     let held = places.get_near(entrant.student, entrant.pair);
     let mut rank = 0;
-    'ranks: while let Some(choice) = papers.proposal(entrant.position, rank) {
-        if is_held(&held, choice.school) {
-            return Ok(());
-        }
-        let reason = reason_of(rows, &choice);
-        reasons.push(ReasonRow {
-            student: entrant.student,
-            school: choice.school,
-            reason,
-        })?;
+    'ranks: while let Some(found) = row_at_rank(rows, papers, &held, &entrant, rank) {
+        reasons.push(found.row)?;
         rank += 1;
     }
     Ok(())

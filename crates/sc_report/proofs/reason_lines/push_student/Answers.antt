@@ -1,16 +1,51 @@
-use Rattle.std.proofs.Common.{◌≡◌, ◌++◌, ◌∙◌, sym, subst, codes, decimal, All}
-use Rattle.std.proofs.lemmas.List.Elements.{All-map}
+use Rattle.std.proofs.Common.{◌≡◌, ◌++◌, None, Some, ap, arith, codes, decimal, flat_map, slice_get, sym, ◌∙◌}
+use Rattle.std.proofs.lemmas.Option.{get_or_from_slice_get, slice_get_within}
 use Rattle.sc_papers.specs.Assignment.{assigned}
-use Rattle.sc_report.specs.Reason.{preferred, reason_row, reasons_of}
-use Rattle.sc_report.specs.declared.reason.ReasonRow.{ReasonRow}
+use Rattle.sc_papers.specs.Market.{schools_of}
+use Rattle.sc_papers.proofs.Positions.{position-there}
+use Rattle.sc_report.specs.Reason.{reasons_of}
+use Rattle.sc_report.specs.ReasonText.{reason_line}
+use Rattle.sc_report.proofs.EndingLemmas.{line-joined, line-longer}
+use Rattle.sc_report.proofs.LineLemmas.{lines-more}
+use Rattle.sc_report.proofs.ReasonLemmas.{rows-end}
 use Rattle.sc_report.proofs.reason_lines.push_student.Goals as goal
 
-pub push_lines-requires : goal.push_lines-requires
-unfolding reasons_of
-push_lines-requires c =
+pub overflow_add-rank : goal.overflow_add-rank
+overflow_add-rank c =
+    let longer = line-longer c.args.entrant.student c.args.number.now c.ending.result.now c.ranks.text.items c.push_line.new.text.items c.requires.number c.in_ok-push_line.ensures in
+    omega (arith, longer, c.ranks.invariant.longer, c.push_line.new.text.ok, c.push_line.new.text.small)
+
+pub ranks-smaller : goal.ranks-smaller
+ranks-smaller c =
+    let a = assigned c.args.places.now in
+    let rows = reasons_of c.args.papers.now a c.args.entrant.student in
+    let k = c.ranks.rank in
+    let here : slice_get rows k ≡ Some c.in-Some.found.row = sym (c.in-Some.ensures.row a c.requires.rows c.get_near-held.ensures c.ranks.invariant.within) in
+    omega (arith, slice_get_within rows k c.in-Some.found.row here)
+
+pub ranks-preserved : goal.ranks-preserved
+ranks-preserved c =
     let m = c.args.papers.now in
     let a = assigned c.args.places.now in
-    let i = c.args.entrant.student in
-    let number : c.as_slice.result.now ≡ decimal i ++ codes "," = c.as_slice.ensures.value ∙ c.in_ok-fill.ensures.number in
-    subst (All (λ (row : ReasonRow). c.as_slice.result.now ≡ decimal row.student ++ codes ",")) (sym (c.as_slice-2.ensures.value ∙ c.in_ok-fill.ensures.rows))
-    (All-map (λ (row : ReasonRow). c.as_slice.result.now ≡ decimal row.student ++ codes ",") (reason_row m a i) (preferred m a i) (λ k d low. number))
+    let rows = reasons_of m a c.args.entrant.student in
+    let k = c.ranks.rank in
+    let row = c.in-Some.found.row in
+    let here : slice_get rows k ≡ Some row = sym (c.in-Some.ensures.row a c.requires.rows c.get_near-held.ensures c.ranks.invariant.within) in
+    let low = slice_get_within rows k row here in
+    let ending = c.ending.ensures row.school
+    (ap (λ schools. slice_get schools c.in-Some.found.position) c.requires.schools ∙ position-there (schools_of m) row.school c.in-Some.found.position c.in-Some.ensures.position) in
+    let number = c.requires.number ∙ ap (λ i. decimal i ++ codes ",") (sym c.in-Some.ensures.student) in
+    let line = line-joined row c.args.number.now c.ending.result.now c.ranks.text.items c.push_line.new.text.items number ending c.in_ok-push_line.ensures in
+    let longer = line-longer c.args.entrant.student c.args.number.now c.ending.result.now c.ranks.text.items c.push_line.new.text.items c.requires.number c.in_ok-push_line.ensures in
+    record {
+      lines = lines-more reason_line rows k row c.args.text.now.items c.ranks.text.items c.push_line.new.text.items c.ranks.invariant.lines line low (sym (get_or_from_slice_get rows k row row here));
+      longer = omega (arith, longer, c.ranks.invariant.longer);
+      within = omega (arith, low);
+    }
+
+pub returns : goal.returns
+returns c =
+    let a = assigned c.args.places.now in
+    let rows = reasons_of c.args.papers.now a c.args.entrant.student in
+    let past : slice_get rows c.ranks.rank ≡ None = sym (c.in_default.ensures.row a c.requires.rows c.get_near-held.ensures c.ranks.invariant.within) in
+    c.ranks.invariant.lines ∙ ap (λ more. c.args.text.now.items ++ flat_map reason_line more) (rows-end rows c.ranks.rank past)
