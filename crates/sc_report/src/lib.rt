@@ -15,6 +15,7 @@ mod reason;
 mod reason_lines;
 mod reply;
 mod report;
+mod room;
 mod text;
 mod watched;
 mod whole;

@@ -14,6 +14,7 @@ use crate::cutoff::{CutoffRow, rows_in_order};
 use crate::endings::Endings;
 use crate::entrants::{Entrant, rising_entrants};
 use crate::reason::{Reason, row_at_rank};
+use crate::room::Widths;
 use sc_decimal::push_number;
 use sc_papers::{Assignment, Papers, StudentNo};
 use sc_repair::Clearing;
@@ -22,8 +23,8 @@ use std::alloc::{AllocError, Global};
 /// The line above the reasons' lines.
 const HEADER: &[u8; 22] = b"student,school,reason\n";
 
-/// The most bytes of a line: two numbers, the longest word, two commas and a newline.
-const LONGEST_LINE: usize = 24;
+/// The most bytes of a line beside its two numbers: the longest word, two commas and a newline.
+const MOST_BESIDE: usize = 10;
 
 /// The most bytes of a student's number and a comma.
 const LONGEST_NUMBER: usize = 10;
@@ -122,9 +123,9 @@ pub(crate) fn push_reason_lines(
 }
 
 /// How many bytes the reasons take at most, where so many rejections led to the assignment: it has a line for each.
-pub(crate) fn room_for_reasons(rejections: usize) -> usize {
-    rejections
-        .saturating_mul(LONGEST_LINE)
+pub(crate) fn room_for_reasons(widths: Widths, rejections: usize) -> usize {
+    widths
+        .room(rejections, MOST_BESIDE)
         .saturating_add(HEADER.len())
 }
 
@@ -138,7 +139,8 @@ pub fn reason_text(alloc: Global, clearing: &Clearing) -> Result<Vec<u8>, AllocE
     let places = clearing.places();
     let entrants = rising_entrants(alloc, papers, places)?;
     let rows = rows_in_order(alloc, papers, places)?;
-    let mut text = Vec::with_capacity(alloc, room_for_reasons(clearing.log_len()))?;
+    let room = room_for_reasons(Widths::new(entrants.as_slice(), papers), clearing.log_len());
+    let mut text = Vec::with_capacity(alloc, room)?;
     push_reason_lines(
         &mut text,
         alloc,

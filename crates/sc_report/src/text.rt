@@ -11,6 +11,7 @@ use crate::cutoff_lines::{push_cutoffs, room_for_cutoffs};
 use crate::entrants::{Entrant, rising_entrants};
 use crate::matched::Matched;
 use crate::reason_lines::{push_reason_lines, room_for_reasons};
+use crate::room::Widths;
 use sc_decimal::push_number;
 use sc_papers::{Assignment, Papers};
 use sc_repair::Clearing;
@@ -19,8 +20,8 @@ use std::alloc::{AllocError, Global};
 /// The line above the assignment's lines.
 const HEADER: &[u8; 15] = b"student,school\n";
 
-/// The most bytes of a student's line: two numbers, a comma and a newline.
-const LONGEST_LINE: usize = 17;
+/// How many bytes a student's line has beside its two numbers: a comma and a newline.
+const BESIDE: usize = 2;
 
 /// Adds what the student has, or a dash.
 fn push_place(text: &mut Vec<u8>, places: &Assignment, entrant: Entrant) -> Result<(), AllocError>
@@ -58,48 +59,55 @@ fn push_assignments(
 }
 
 /// How many bytes the assignment text takes at most.
-fn room_for_assignment(papers: &Papers) -> usize {
-    HEADER.len() + papers.students_len() * LONGEST_LINE
+fn room_for_assignment(widths: Widths, papers: &Papers) -> usize {
+    widths
+        .room(papers.students_len(), BESIDE)
+        .saturating_add(HEADER.len())
 }
 
 /// The assignment text: a header, and for each student by rising number a line with the school that
 /// the student has, or a dash. The only error is want of memory. The cost is a sort of the
-/// students' numbers and one pass.
+/// students' numbers, and a pass over them and over the schools.
 pub fn assignment_text(alloc: Global, clearing: &Clearing) -> Result<Vec<u8>, AllocError>
     ensures { IfOk result (λ text. text.items ≡ assignment_text clearing.now.standing.papers (matching_of clearing.now.standing)) }
 {
-    let entrants = rising_entrants(alloc, clearing.papers(), clearing.places())?;
-    let mut text = Vec::with_capacity(alloc, room_for_assignment(clearing.papers()))?;
+    let papers = clearing.papers();
+    let entrants = rising_entrants(alloc, papers, clearing.places())?;
+    let room = room_for_assignment(Widths::new(entrants.as_slice(), papers), papers);
+    let mut text = Vec::with_capacity(alloc, room)?;
     push_assignments(&mut text, entrants.as_slice(), clearing.places())?;
     Ok(text)
 }
 
+/// How many bytes the report text takes at most, where so many rejections led to the assignment.
+fn room_for_report(widths: Widths, papers: &Papers, rejections: usize) -> usize {
+    room_for_assignment(widths, papers)
+        .saturating_add(room_for_cutoffs(papers))
+        .saturating_add(room_for_reasons(widths, rejections))
+}
+
 /// Adds the assignment text, the cutoff text and the reason text, by the rows of all schools in order of
-/// entry.
+/// entry. Room is taken for as many reasons as rejections led to the assignment.
 fn push_report(
     text: &mut Vec<u8>,
     alloc: Global,
     rows: &[CutoffRow],
     papers: &Papers,
     places: &Assignment,
+    rejections: usize,
 ) -> Result<(), AllocError>
     requires rows { rows.now ≡ rows_in_order papers.now (assigned places.now) }
     requires well_formed { WellFormed papers.now }
     ensures { OnOk result (text.new.items ≡ text.old.items ++ report_text papers.now (assigned places.now)) }
 {
     let entrants = rising_entrants(alloc, papers, places)?;
+    let widths = Widths::new(entrants.as_slice(), papers);
+    text.reserve(room_for_report(widths, papers, rejections))?;
     push_assignments(text, entrants.as_slice(), places)?;
     let cutoffs = rising_rows(alloc, rows)?;
     push_cutoffs(text, cutoffs.as_slice())?;
     push_reason_lines(text, alloc, entrants.as_slice(), rows, papers, places)?;
     Ok(())
-}
-
-/// How many bytes the report text takes at most.
-fn room_for_report(matched: Matched<'_>) -> usize {
-    room_for_assignment(matched.papers)
-        .saturating_add(room_for_cutoffs(matched.papers))
-        .saturating_add(room_for_reasons(matched.rejections))
 }
 
 /// The report text of papers and an assignment, whoever holds them: the assignment text, the cutoff text and the reason
@@ -111,8 +119,15 @@ pub fn report_text_of(alloc: Global, matched: Matched<'_>) -> Result<Vec<u8>, Al
     let papers = matched.papers;
     let places = matched.places;
     let rows = rows_in_order(alloc, papers, places)?;
-    let mut text = Vec::with_capacity(alloc, room_for_report(matched))?;
-    push_report(&mut text, alloc, rows.as_slice(), papers, places)?;
+    let mut text = Vec::new(alloc);
+    push_report(
+        &mut text,
+        alloc,
+        rows.as_slice(),
+        papers,
+        places,
+        matched.rejections,
+    )?;
     Ok(text)
 }
 
