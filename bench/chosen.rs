@@ -1,17 +1,20 @@
 //! Prints numbers that somebody might choose to slow a table down: under the fixed seed of the kit's
-//! hasher they fall to a few places of a table of their count.
+//! hasher, without that of the lottery, they fall to a few places of a table of their count.
 //!
 //! chosen COUNT GREATEST    COUNT numbers from 1 to GREATEST, one a line
 
 const INITIAL: u64 = 0x243f_6a88_85a3_08d3;
 const MULTIPLIER: u64 = 0x9e37_79b9_7f4a_7c15;
 
-/// The hash of a number of four bytes under the fixed seed, folded to 32 bits.
+/// The hash of a number as the papers' tables have it, before the lottery's seed is written: all bytes but the low one are
+/// mixed, and the low one moves what comes out.
 fn hash(number: u32) -> u32 {
-    let bytes = u64::from(number);
-    let product = u128::from(INITIAL ^ (bytes | bytes << 32)) * u128::from(MULTIPLIER ^ 8);
-    let hash = product as u64 ^ (product >> 64) as u64;
-    (hash ^ hash >> 32) as u32
+    let (rest, low) = (u64::from(number >> 8), u64::from(number & 0xFF));
+    let product = u128::from(INITIAL ^ rest) * u128::from(MULTIPLIER ^ 6);
+    let mixed = product as u64 ^ (product >> 64) as u64;
+    let tag = (mixed / 0x100_0000 % 0x100 + low) % 0x100;
+    let group = (mixed % 0x100_0000 + low / 2) % 0x100_0000;
+    (tag << 24 | group) as u32
 }
 
 fn main() {
