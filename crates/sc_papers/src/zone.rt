@@ -6,7 +6,7 @@ use std::marker::Model;
 /// A zone's number, from 0 to 9,999, where 0 means no zone.
 #[derive(Clone, Copy, Debug, PartialEq, Eq, PartialOrd, Ord, Hash)]
 pub struct Zone {
-    number: u32,
+    number: u16,
 }
 
 impl Model for Zone {
@@ -28,7 +28,9 @@ impl Zone {
         ensures { SomeIff result (number ≤ Self.GREATEST) number }
     {
         if number <= Self::GREATEST {
-            Some(Zone { number })
+            Some(Zone {
+                number: number as u16,
+            })
         } else {
             None
         }
@@ -39,6 +41,6 @@ impl Zone {
         ensures value { result ≡ self }
         ensures greatest { result ≤ Self.GREATEST }
     {
-        self.number
+        u32::from(self.number)
     }
 }
