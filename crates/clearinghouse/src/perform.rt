@@ -7,7 +7,7 @@ use sc_papers::{Seed, StudentNo};
 use sc_report::{Watched, write_whole};
 use sc_runs::{
     Checked, Ending, Explained, Inputs, Opening, PapersFile, PapersFiles, RunFault, Settling, Tail,
-    Verdict, audit_files, check_files, explain_files, export_files, fault_line, match_settled,
+    Verdict, audit_files, check_files, explain_files, export_files, fault_line, match_files,
     read_student, replay_files, run, run_bundle, status_of, summary_files,
 };
 use sc_words::{FileWords, OpeningWords, Order, Subcommand, Word, order_of};
@@ -66,9 +66,9 @@ fn match_opening<R: Files + AllocGlobal, W: Write>(
     out: &mut Watched<W>,
 ) -> Result<Ending, RunFault> {
     let mut opening = open_opening(rt, &words.files)?;
-    let settled = match_settled(rt.alloc(), seed, &mut opening, show_log, out)?;
+    let papers = match_files(rt.alloc(), seed, &mut opening, show_log, out)?;
     // The program ends here, so the papers are not taken apart.
-    forget(settled);
+    forget(papers);
     Ok(Ending::Done)
 }
 
@@ -126,8 +126,11 @@ fn replay_journal<R: Files + AllocGlobal, W: Write>(
 ) -> Result<Ending, RunFault> {
     let mut opening = open_opening(rt, &words.files)?;
     let mut journal = open_input(rt, journal, Source::Journal)?;
-    let tail = replay_files(rt.alloc(), seed, &mut opening, &mut journal, out)?;
-    Ok(ending_after(tail))
+    let replayed = replay_files(rt.alloc(), seed, &mut opening, &mut journal, out)?;
+    let ending = ending_after(replayed.tail);
+    // The program ends here, so the papers are not taken apart.
+    forget(replayed);
+    Ok(ending)
 }
 
 /// Makes a file of exported papers in a folder, and writes it whole. A file of this name that is there

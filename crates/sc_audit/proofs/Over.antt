@@ -1,5 +1,5 @@
 -- The least school at which a student stands without being kept.
-use Rattle.std.proofs.Common.{◌≡◌, inl, inr, ap, sym, ◌∙◌, ℕ, ◌<◌, ◌≤◌, false, Option, Some, None, IfSome, length, arith}
+use Rattle.std.proofs.Common.{◌≡◌, inl, inr, ap, ◌∙◌, ℕ, ◌<◌, ◌≤◌, false, Option, Some, None, IfSome, length, arith}
 use Rattle.std.specs.Prelude.{IfNone}
 use Rattle.std.specs.Option.{option_map}
 use Rattle.std.proofs.lemmas.Bool.{cases_Bool}

@@ -12,7 +12,7 @@ use Rattle.sc_papers.specs.Matching.{Matching, has}
 use Rattle.sc_papers.specs.declared.key.Key.{Key}
 use Rattle.sc_papers.proofs.Priority.{before-irrefl}
 use Rattle.sc_papers.proofs.Rejections.{has-true, has-some}
-use Rattle.sc_audit.specs.AuditView.{AuditView, stand_of, next_of, keys_at, is_past, past_at, waiting_at, waiting_rank, waiting_school, keeps, KeepsBest, Fits}
+use Rattle.sc_audit.specs.AuditView.{AuditView, stand_of, next_of, keys_at, is_past, past_at, waiting_at, waiting_rank, waiting_school, KeepsBest, Fits}
 use Rattle.sc_audit.specs.declared.waiting.Waiting.{Waiting}
 use Rattle.sc_audit.proofs.Keeping.{keys-hold, keys-own}
 use Rattle.sc_audit.proofs.Tables.{all-from, keys-read, read-mapped, stander-among}

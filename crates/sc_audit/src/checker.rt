@@ -10,7 +10,7 @@ use crate::membership::is_matching;
 use crate::stability::Stability;
 use crate::tallies::least_over;
 use sc_papers::{Assignment, Papers};
-use sc_tallies::{Tally, tallies};
+use sc_tallies::{Tally, places_of, tallies};
 use std::alloc::{AllocError, Global};
 
 /// Whether an assignment, whoever made it, is a stable matching of the papers (Gale and Shapley 1962),
@@ -19,7 +19,7 @@ use std::alloc::{AllocError, Global};
 ///
 /// The only error is want of memory, and says nothing of the assignment. The cost is a pass over the
 /// assignment, and a few look-ups for each student and each choice that the student prefers to what it
-/// has. Memory is taken in proportion to the schools.
+/// has. Memory is taken in proportion to the schools and the students.
 pub fn check_stable(
     alloc: Global,
     papers: &Papers,
@@ -30,7 +30,8 @@ pub fn check_stable(
     if !is_matching(papers, assignment) {
         return Ok(Stability::NotAMatching);
     }
-    let tallies = tallies(alloc, papers, assignment)?;
+    let places = places_of(alloc, papers, assignment)?;
+    let tallies = tallies(alloc, papers, places.as_slice())?;
     Ok(judge(tallies.as_slice(), papers, assignment))
 }
 

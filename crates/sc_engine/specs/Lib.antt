@@ -5,3 +5,4 @@ pub mod Counting
 pub mod Entrants
 pub mod Proposals
 pub mod Newcomers
+pub mod Outcome

@@ -1,6 +1,6 @@
 //! Rounds of proposals.
 
-ghost use Rattle.std.specs.Prelude.{◌≡◌, ℕ, ◌+◌, ◌^◌, ◌<◌, ◌≤◌, true, false, All, List, [], ◌∷◌, ◌++◌, Contains, Option, None, Some, length, position, nat_eq, slice_get, slice_index_or, slice_set, if◌then◌else◌, IfOk, IfSome, IsSome, OnOk, OnErr};
+ghost use Rattle.std.specs.Prelude.{◌≡◌, ℕ, ◌+◌, ◌^◌, ◌<◌, ◌≤◌, true, false, All, List, [], ◌∷◌, ◌++◌, Contains, Option, None, Some, length, position, nat_eq, map, slice_get, slice_index_or, slice_set, if◌then◌else◌, IfOk, IfSome, IsSome, OnOk, OnErr};
 ghost use Rattle.std.specs.Option.{option_map};
 ghost use Rattle.sc_papers.specs.Assignment.{assigned};
 ghost use Rattle.sc_papers.specs.Key.{key_of};
@@ -11,7 +11,7 @@ ghost use Rattle.sc_engine.specs.Rolls.{rolls_of};
 
 mod resume;
 
-use crate::settled::Settled;
+use crate::settled::{Outcome, Settled};
 use sc_checkpoint::Hints;
 use sc_papers::{
     Assignment, Key, LONGEST_LIST, MOST_STUDENTS, Papers, Proposal, Rejection, SchoolNo, Seats,
@@ -123,6 +123,21 @@ fn assignment_of(
         assignment.give(student, choice_at(ranks, papers, position))?;
     }
     Ok(assignment)
+}
+
+/// The choice at which each student stands, in order of entry.
+fn places_of(
+    alloc: Global,
+    ranks: &[Option<u8>],
+    papers: &Papers,
+) -> Result<Vec<Option<SchoolNo>>, AllocError>
+    ensures { IfOk result (λ places. places.items ≡ map (next_of papers.now ranks.now) (students_of papers.now)) }
+{
+    let mut places = Vec::with_capacity(alloc, papers.students_len())?;
+    for position in 0..papers.students_len() {
+        places.push(choice_at(ranks, papers, position))?;
+    }
+    Ok(places)
 }
 
 /// The rank of the choice at which the student at the position stands: none past the end.
@@ -602,6 +617,27 @@ impl<R: Roll> Round<R> {
         }
         let standing = assignment_of(self.alloc, self.ranks.as_slice(), papers)?;
         Ok(standing)
+    }
+
+    /// The choices at which the students of the round stand, in the papers' order of entry, and how many rejections and
+    /// proposals led there. A spent round answers the error, and so does want of memory. On an error the round is given
+    /// up. The cost is a look at each student of the papers.
+    pub(crate) fn into_outcome(self, papers: &Papers) -> Result<Outcome, AllocError>
+        requires { is_spent self ≡ false → Fits papers.now (view_of R.keys R.seats self) }
+        ensures was_ready { OnOk result (is_spent self ≡ false) }
+        ensures places { IfOk result (λ outcome. outcome.places.items ≡ map (next_of papers.now (view_of R.keys R.seats self).ranks) (students_of papers.now)) }
+        ensures rejections { IfOk result (λ outcome. outcome.rejections ≡ length (view_of R.keys R.seats self).log) }
+        ensures proposals { IfOk result (λ outcome. outcome.proposals ≡ (view_of R.keys R.seats self).proposals) }
+    {
+        if self.spent {
+            return Err(AllocError);
+        }
+        let places = places_of(self.alloc, self.ranks.as_slice(), papers)?;
+        Ok(Outcome {
+            places,
+            rejections: self.log.len(),
+            proposals: self.proposals,
+        })
     }
 
     /// The log and the count of proposals of the round, and the choices at which its students stand. A

@@ -7,13 +7,14 @@ ghost use Rattle.sc_papers.specs.Log.{next_choice, IsSettled};
 ghost use Rattle.sc_papers.specs.Market.{students_of};
 ghost use Rattle.sc_papers.specs.Matching.{IsStudentOptimal};
 ghost use Rattle.sc_papers.specs.Progress.{placed};
+ghost use Rattle.sc_engine.specs.Outcome.{IsOutcome};
 ghost use Rattle.sc_engine.specs.Round.{view_of, is_spent};
 ghost use Rattle.sc_engine.specs.RoundView.{Fits, next_of, SettlesFirst, SettlesThese};
 
 use crate::batches::enter_in_batches;
 use crate::entrants::entrants_by_draw;
 use crate::round::Round;
-use sc_papers::{Assignment, Papers, Rejection};
+use sc_papers::{Assignment, Papers, Rejection, SchoolNo};
 use sc_seats::{HeapRoll, Roll};
 use std::alloc::{AllocError, Global};
 
@@ -24,6 +25,17 @@ pub struct Settled {
     pub log: Vec<Rejection>,
     /// Who has which school.
     pub assignment: Assignment,
+    /// How many proposals were made.
+    pub proposals: u64,
+}
+
+/// What the proposals came to, for a caller that asks for no log.
+#[derive(Drop)]
+pub struct Outcome {
+    /// The school that each student has, if any, in the papers' order of entry.
+    pub places: Vec<Option<SchoolNo>>,
+    /// How many rejections there were.
+    pub rejections: usize,
     /// How many proposals were made.
     pub proposals: u64,
 }
@@ -43,20 +55,27 @@ pub fn settle(alloc: Global, papers: &Papers) -> Result<Settled, AllocError>
     settle_over::<HeapRoll>(alloc, papers)
 }
 
-/// Does what `settle` does, with the same assignment and the same count of proposals, and another log: the students enter
-/// in the order of their draws. So fewer of them are put out again, and most offers are refused while their rows are at
-/// hand. The cost is a sort of the draws more.
-pub fn settle_by_draws(alloc: Global, papers: &Papers) -> Result<Settled, AllocError>
-    ensures settled { IfOk result (λ settled. IsSettled papers.now settled.log.items) }
-    ensures matching { IfOk result (λ settled. (i : ℕ) → assigned settled.assignment i ≡ next_choice papers.now settled.log.items i) }
-    ensures optimal { IfOk result (λ settled. IsStudentOptimal papers.now (assigned settled.assignment)) }
-    ensures proposals { IfOk result (λ settled. settled.proposals ≡ length settled.log.items + placed papers.now (assigned settled.assignment)) }
+/// Settles papers as `settle` does, to the same assignment and the same count of proposals, and answers no log: the
+/// students enter in the order of their draws. So fewer of them are put out again, and most offers are refused while
+/// their rows are at hand. The cost is a sort of the draws more, and no student is put into a table.
+pub fn settle_by_draws(alloc: Global, papers: &Papers) -> Result<Outcome, AllocError>
+    ensures { IfOk result (IsOutcome papers.now) }
 {
     let mut round: Round<HeapRoll> = Round::start(alloc, papers)?;
     let entrants = entrants_by_draw(alloc, papers)?;
     enter_in_batches(alloc, &mut round, papers, entrants.as_slice())?;
-    let settled = come_to(round, papers)?;
-    Ok(settled)
+    drop(entrants);
+    let outcome = outcome_of(round, papers)?;
+    Ok(outcome)
+}
+
+/// The outcome of a round in which all students have entered.
+fn outcome_of<R: Roll>(round: Round<R>, papers: &Papers) -> Result<Outcome, AllocError>
+    requires all { SettlesThese papers.now (view_of R.keys R.seats round) (students_of papers.now) }
+    ensures { IfOk result (IsOutcome papers.now) }
+{
+    let outcome = round.into_outcome(papers)?;
+    Ok(outcome)
 }
 
 /// As `settle`, over a kind of roll.

@@ -1,12 +1,11 @@
 //! What came of each choice, as text.
 ghost use Rattle.std.specs.Prelude.{◌≡◌, ◌<◌, ◌++◌, ◌||◌, codes, decimal, flat_map, is_some, length, nat_eq, position, All, IfOk, IfSome, OnOk, Some};
-ghost use Rattle.sc_papers.specs.Assignment.{assigned};
 ghost use Rattle.sc_papers.specs.Market.{Market, is_student, schools_of};
 ghost use Rattle.sc_papers.specs.Matching.{Matching};
 ghost use Rattle.sc_papers.specs.WellFormed.{WithinLimits};
 ghost use Rattle.sc_repair.specs.Standing.{matching_of};
 ghost use Rattle.sc_report.specs.Cutoff.{cutoff, rows_in_order};
-ghost use Rattle.sc_report.specs.Entrants.{numbers_of, StandsAt};
+ghost use Rattle.sc_report.specs.Entrants.{numbers_of, Holds, StandsAt};
 ghost use Rattle.sc_report.specs.Reason.{reason_by};
 ghost use Rattle.sc_notices.specs.Explanation.{is_given, outcome_by};
 ghost use Rattle.sc_notices.specs.ExplanationText.{choice_fields, explanation_lines, explanation_of, explanation_text, own_fields, student_lines};
@@ -14,13 +13,12 @@ ghost use Rattle.sc_notices.specs.ExplanationText.{choice_fields, explanation_li
 use crate::fields::push_field;
 use crate::outcome::{outcome_of, push_outcome};
 use sc_decimal::push_number;
-use sc_papers::{
-    Assignment, Key, LONGEST_LIST, MOST_STUDENTS, Papers, Proposal, SchoolNo, StudentNo,
-};
+use sc_papers::{Key, LONGEST_LIST, MOST_STUDENTS, Papers, Proposal, SchoolNo, StudentNo};
 use sc_repair::Clearing;
 use sc_report::{
-    Cutoff, CutoffRow, Entrant, push_cutoff, push_draw, rising_entrants, rows_in_order,
+    Cutoff, CutoffRow, Entrant, entrant_at, push_cutoff, push_draw, rising_entrants, rows_in_order,
 };
+use sc_tallies::places_of;
 use std::alloc::{AllocError, Global};
 
 /// The line above the choices' lines.
@@ -92,22 +90,21 @@ fn push_choices(
     number: &[u8],
     rows: &[CutoffRow],
     papers: &Papers,
-    places: &Assignment,
     entrant: Entrant,
 ) -> Result<(), AllocError>
     requires number { number.now ≡ decimal entrant.student ++ codes "," }
-    requires rows { rows.now ≡ rows_in_order papers.now (assigned places.now) }
+    requires rows { length rows.now ≡ length papers.now.schools }
     requires stands { StandsAt papers.now entrant }
     requires within_limits { WithinLimits papers.now }
-    ensures { OnOk result (text.new.items ≡ text.old.items ++ student_lines papers.now (assigned places.now) entrant.student) }
+    // By whichever matching the rows were made.
+    ensures { OnOk result ((a : Matching) → rows.now ≡ rows_in_order papers.now a → Holds a entrant → text.new.items ≡ text.old.items ++ student_lines papers.now a entrant.student) }
 {
-    let held = places.get_near(entrant.student, entrant.pair);
     let mut is_past = false;
     let mut rank = 0;
-    'ranks: while let Some(choice) = papers.proposal(entrant.position, rank) {
+    'ranks: while let Some(choice) = papers.proposal(entrant.position as usize, rank) {
         let cutoff = cutoff_of(rows, &choice);
         text.extend_from_slice(number)?;
-        is_past = push_choice(text, rank, &choice, cutoff, &held, is_past)?;
+        is_past = push_choice(text, rank, &choice, cutoff, &entrant.held, is_past)?;
         rank += 1;
     }
     Ok(())
@@ -120,11 +117,11 @@ fn push_explanations(
     entrants: &[Entrant],
     rows: &[CutoffRow],
     papers: &Papers,
-    places: &Assignment,
 ) -> Result<(), AllocError>
-    requires rows { rows.now ≡ rows_in_order papers.now (assigned places.now) }
+    requires rows { length rows.now ≡ length papers.now.schools }
     requires stand { All (StandsAt papers.now) entrants.now }
-    ensures { OnOk result (text.new.items ≡ text.old.items ++ explanation_lines papers.now (assigned places.now) (numbers_of entrants.now)) }
+    // By whichever matching the rows were made.
+    ensures { OnOk result ((a : Matching) → rows.now ≡ rows_in_order papers.now a → All (Holds a) entrants.now → text.new.items ≡ text.old.items ++ explanation_lines papers.now a (numbers_of entrants.now)) }
 {
     // This call tells that the papers are within their limits, and so are their lists.
     prove!(papers.students_len() <= MOST_STUDENTS);
@@ -132,7 +129,7 @@ fn push_explanations(
     text.extend_from_slice(HEADER)?;
     for entrant in entrants {
         set_number(&mut number, entrant.student)?;
-        push_choices(text, number.as_slice(), rows, papers, places, *entrant)?;
+        push_choices(text, number.as_slice(), rows, papers, *entrant)?;
     }
     Ok(())
 }
@@ -158,9 +155,9 @@ pub fn explanation_text(alloc: Global, clearing: &Clearing) -> Result<Vec<u8>, A
     ensures { IfOk result (λ text. text.items ≡ explanation_text clearing.now.standing.papers (matching_of clearing.now.standing)) }
 {
     let papers = clearing.papers();
-    let places = clearing.places();
-    let entrants = rising_entrants(alloc, papers, places)?;
-    let rows = rows_in_order(alloc, papers, places)?;
+    let places = places_of(alloc, papers, clearing.places())?;
+    let entrants = rising_entrants(alloc, papers, places.as_slice())?;
+    let rows = rows_in_order(alloc, papers, places.as_slice())?;
     let mut text = Vec::with_capacity(alloc, room_for_explanations(papers))?;
     push_explanations(
         &mut text,
@@ -168,7 +165,6 @@ pub fn explanation_text(alloc: Global, clearing: &Clearing) -> Result<Vec<u8>, A
         entrants.as_slice(),
         rows.as_slice(),
         papers,
-        places,
     )?;
     Ok(text)
 }
@@ -184,24 +180,13 @@ pub fn explanation_of(
     ensures text { IfOk result (λ found. IfSome found (λ text. text.items ≡ explanation_of clearing.now.standing.papers (matching_of clearing.now.standing) student)) }
 {
     let papers = clearing.papers();
-    let places = clearing.places();
     let Some(position) = papers.student_position(student) else {
         return Ok(None);
     };
-    let entrant = Entrant {
-        student,
-        position,
-        pair: position,
-    };
-    let rows = rows_in_order(alloc, papers, places)?;
+    let places = places_of(alloc, papers, clearing.places())?;
+    let entrant = entrant_at(papers, position, places[position]);
+    let rows = rows_in_order(alloc, papers, places.as_slice())?;
     let mut text = Vec::new(alloc);
-    push_explanations(
-        &mut text,
-        alloc,
-        &[entrant],
-        rows.as_slice(),
-        papers,
-        places,
-    )?;
+    push_explanations(&mut text, alloc, &[entrant], rows.as_slice(), papers)?;
     Ok(Some(text))
 }

@@ -1,15 +1,15 @@
 //! Cutoffs: the last key that each school admits.
-ghost use Rattle.std.specs.Prelude.{◌≡◌, IfOk, OnOk};
-ghost use Rattle.sc_papers.specs.Assignment.{assigned};
-ghost use Rattle.sc_papers.specs.Market.{Market};
+ghost use Rattle.std.specs.Prelude.{◌≡◌, length, map, IfOk, OnOk};
+ghost use Rattle.sc_papers.specs.Market.{Market, schools_of};
 ghost use Rattle.sc_papers.specs.Matching.{Matching};
 ghost use Rattle.sc_papers.specs.WellFormed.{WellFormed};
 ghost use Rattle.sc_repair.specs.Standing.{matching_of};
 ghost use Rattle.sc_report.specs.Cutoff.{cutoff_by, cutoff_rows, rows_in_order};
+ghost use Rattle.sc_tallies.specs.Places.{ArePlaces};
 
-use sc_papers::{Assignment, Key, Papers, SchoolNo, Seats};
+use sc_papers::{Key, Papers, SchoolNo, Seats};
 use sc_repair::Clearing;
-use sc_tallies::tallies;
+use sc_tallies::{places_of, tallies};
 use std::alloc::{AllocError, Global};
 
 /// What it takes to have a school.
@@ -44,14 +44,17 @@ pub(crate) fn cutoff_by(seats: u32, held: u32, last: Option<Key>) -> Cutoff
     }
 }
 
-/// The rows of all schools, in order of entry. The only error is want of memory. The cost is one pass over the students.
-/// Papers are always well-formed, and this call tells its callers so.
+/// The rows of all schools, in order of entry, by the schools that the students have, given in their order of entry. The
+/// only error is want of memory. The cost is one pass over the students. Papers are always well-formed, and this call
+/// tells its callers so.
 pub fn rows_in_order(
     alloc: Global,
     papers: &Papers,
-    places: &Assignment,
+    places: &[Option<SchoolNo>],
 ) -> Result<Vec<CutoffRow>, AllocError>
-    ensures rows { IfOk result (λ rows. rows.items ≡ rows_in_order papers.now (assigned places.now)) }
+    requires { length places.now ≡ length papers.now.students }
+    ensures rows { IfOk result (λ rows. (a : Matching) → ArePlaces papers.now a places.now → rows.items ≡ rows_in_order papers.now a) }
+    ensures schools { IfOk result (λ rows. map (λ row. row.school) rows.items ≡ schools_of papers.now) }
     ensures well_formed { OnOk result (WellFormed papers.now) }
 {
     let tallies = tallies(alloc, papers, places)?;
@@ -87,7 +90,8 @@ pub(crate) fn rising_rows(alloc: Global, rows: &[CutoffRow]) -> Result<Vec<Cutof
 pub fn cutoffs(alloc: Global, clearing: &Clearing) -> Result<Vec<CutoffRow>, AllocError>
     ensures { IfOk result (λ rows. rows.items ≡ cutoff_rows clearing.now.standing.papers (matching_of clearing.now.standing)) }
 {
-    let rows = rows_in_order(alloc, clearing.papers(), clearing.places())?;
+    let places = places_of(alloc, clearing.papers(), clearing.places())?;
+    let rows = rows_in_order(alloc, clearing.papers(), places.as_slice())?;
     let rising = rising_rows(alloc, rows.as_slice())?;
     Ok(rising)
 }

@@ -22,7 +22,7 @@ mod whole;
 
 pub use cutoff::{Cutoff, CutoffRow, cutoffs, rows_in_order};
 pub use cutoff_lines::{cutoff_text, push_cutoff};
-pub use entrants::{Entrant, rising_entrants};
+pub use entrants::{Entrant, entrant_at, rising_entrants};
 pub use lines::push_draw;
 pub use log::log_text;
 pub use matched::Matched;

@@ -1,19 +1,19 @@
 //! Reasons: why a student does not have a choice that it prefers to what it has.
-ghost use Rattle.std.specs.Prelude.{◌≡◌, ◌<◌, ◌≤◌, ◌++◌, ◌==◌, false, flat_map, length, nat_eq, option_map, position, slice_get, Some, All, IfOk, IfSome, OnOk};
+ghost use Rattle.std.specs.Prelude.{◌≡◌, ◌<◌, ◌≤◌, ◌++◌, ◌==◌, false, flat_map, length, nat_eq, option_map, position, slice_get, Some, All, IfOk, IfSome, IsSome, OnOk};
 ghost use Rattle.std.specs.Option.{option_map_or};
-ghost use Rattle.sc_papers.specs.Assignment.{assigned};
-ghost use Rattle.sc_papers.specs.Market.{Market, schools_of};
+ghost use Rattle.sc_papers.specs.Market.{Market, choices_of, schools_of};
 ghost use Rattle.sc_papers.specs.Matching.{Matching};
 ghost use Rattle.sc_papers.specs.WellFormed.{WellFormed};
 ghost use Rattle.sc_repair.specs.Standing.{matching_of};
 ghost use Rattle.sc_report.specs.Cutoff.{cutoff, rows_in_order};
-ghost use Rattle.sc_report.specs.Entrants.{numbers_of, StandsAt};
+ghost use Rattle.sc_report.specs.Entrants.{numbers_of, Holds, StandsAt};
 ghost use Rattle.sc_report.specs.Reason.{reason_by, reason_rows, reasons_of};
 
 use crate::cutoff::{Cutoff, CutoffRow, rows_in_order};
 use crate::entrants::{Entrant, rising_entrants};
-use sc_papers::{Assignment, Key, Papers, Proposal, SchoolNo, StudentNo};
+use sc_papers::{Key, Papers, Proposal, SchoolNo, StudentNo};
 use sc_repair::Clearing;
+use sc_tallies::places_of;
 use std::alloc::{AllocError, Global};
 
 /// Why a student does not have a school.
@@ -74,22 +74,22 @@ pub(crate) struct Missed {
 pub(crate) fn row_at_rank(
     rows: &[CutoffRow],
     papers: &Papers,
-    held: &Option<SchoolNo>,
     entrant: &Entrant,
     rank: usize,
 ) -> Option<Missed>
     requires rows { length rows.now ≡ length papers.now.schools }
     requires stands { StandsAt papers.now entrant.now }
     // By whichever matching the rows were made.
-    ensures row { (a : Matching) → rows.now ≡ rows_in_order papers.now a → held.now ≡ a entrant.now.student → rank ≤ length (reasons_of papers.now a entrant.now.student)
+    ensures row { (a : Matching) → rows.now ≡ rows_in_order papers.now a → Holds a entrant.now → rank ≤ length (reasons_of papers.now a entrant.now.student)
         → option_map (λ missed. missed.row) result ≡ slice_get (reasons_of papers.now a entrant.now.student) rank }
+    ensures within { IsSome result → rank < length (choices_of papers.now entrant.now.student) }
     ensures student { IfSome result (λ missed. missed.row.student ≡ entrant.now.student) }
     ensures position { IfSome result (λ missed. position (nat_eq missed.row.school) (schools_of papers.now) ≡ Some missed.position) }
 {
-    let Some(choice) = papers.proposal(entrant.position, rank) else {
+    let Some(choice) = papers.proposal(entrant.position as usize, rank) else {
         return None;
     };
-    if is_held(held, choice.school) {
+    if is_held(&entrant.held, choice.school) {
         return None;
     }
     let reason = reason_of(rows, &choice);
@@ -109,17 +109,16 @@ fn push_reasons(
     reasons: &mut Vec<ReasonRow>,
     rows: &[CutoffRow],
     papers: &Papers,
-    places: &Assignment,
     entrant: Entrant,
 ) -> Result<(), AllocError>
-    requires rows { rows.now ≡ rows_in_order papers.now (assigned places.now) }
+    requires rows { length rows.now ≡ length papers.now.schools }
     requires stands { StandsAt papers.now entrant }
     requires well_formed { WellFormed papers.now }
-    ensures { OnOk result (reasons.new.items ≡ reasons.old.items ++ reasons_of papers.now (assigned places.now) entrant.student) }
+    // By whichever matching the rows were made.
+    ensures { OnOk result ((a : Matching) → rows.now ≡ rows_in_order papers.now a → Holds a entrant → reasons.new.items ≡ reasons.old.items ++ reasons_of papers.now a entrant.student) }
 {
-    let held = places.get_near(entrant.student, entrant.pair);
     let mut rank = 0;
-    'ranks: while let Some(found) = row_at_rank(rows, papers, &held, &entrant, rank) {
+    'ranks: while let Some(found) = row_at_rank(rows, papers, &entrant, rank) {
         reasons.push(found.row)?;
         rank += 1;
     }
@@ -132,16 +131,16 @@ fn reasons_among(
     entrants: &[Entrant],
     rows: &[CutoffRow],
     papers: &Papers,
-    places: &Assignment,
 ) -> Result<Vec<ReasonRow>, AllocError>
-    requires rows { rows.now ≡ rows_in_order papers.now (assigned places.now) }
+    requires rows { length rows.now ≡ length papers.now.schools }
     requires stand { All (StandsAt papers.now) entrants.now }
     requires well_formed { WellFormed papers.now }
-    ensures { IfOk result (λ reasons. reasons.items ≡ flat_map (reasons_of papers.now (assigned places.now)) (numbers_of entrants.now)) }
+    // By whichever matching the rows were made.
+    ensures { IfOk result (λ reasons. (a : Matching) → rows.now ≡ rows_in_order papers.now a → All (Holds a) entrants.now → reasons.items ≡ flat_map (reasons_of papers.now a) (numbers_of entrants.now)) }
 {
     let mut reasons = Vec::new(alloc);
     for entrant in entrants {
-        push_reasons(&mut reasons, rows, papers, places, *entrant)?;
+        push_reasons(&mut reasons, rows, papers, *entrant)?;
     }
     Ok(reasons)
 }
@@ -153,9 +152,9 @@ pub fn reasons(alloc: Global, clearing: &Clearing) -> Result<Vec<ReasonRow>, All
     ensures { IfOk result (λ rows. rows.items ≡ reason_rows clearing.now.standing.papers (matching_of clearing.now.standing)) }
 {
     let papers = clearing.papers();
-    let places = clearing.places();
-    let entrants = rising_entrants(alloc, papers, places)?;
-    let rows = rows_in_order(alloc, papers, places)?;
-    let reasons = reasons_among(alloc, entrants.as_slice(), rows.as_slice(), papers, places)?;
+    let places = places_of(alloc, papers, clearing.places())?;
+    let entrants = rising_entrants(alloc, papers, places.as_slice())?;
+    let rows = rows_in_order(alloc, papers, places.as_slice())?;
+    let reasons = reasons_among(alloc, entrants.as_slice(), rows.as_slice(), papers)?;
     Ok(reasons)
 }

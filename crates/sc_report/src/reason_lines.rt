@@ -1,12 +1,12 @@
 //! The reasons as text.
-ghost use Rattle.std.specs.Prelude.{◌≡◌, ◌++◌, codes, decimal, flat_map, All, IfOk, OnOk};
-ghost use Rattle.sc_papers.specs.Assignment.{assigned};
+ghost use Rattle.std.specs.Prelude.{◌≡◌, ◌++◌, codes, decimal, flat_map, length, map, All, IfOk, OnOk};
 ghost use Rattle.sc_papers.specs.Market.{schools_of};
+ghost use Rattle.sc_papers.specs.Matching.{Matching};
 ghost use Rattle.sc_papers.specs.WellFormed.{WellFormed};
 ghost use Rattle.sc_repair.specs.Standing.{matching_of};
 ghost use Rattle.sc_report.specs.Cutoff.{rows_in_order};
 ghost use Rattle.sc_report.specs.Endings.{schools_with, EndingsStand};
-ghost use Rattle.sc_report.specs.Entrants.{numbers_of, StandsAt};
+ghost use Rattle.sc_report.specs.Entrants.{numbers_of, Holds, StandsAt};
 ghost use Rattle.sc_report.specs.Reason.{reasons_of};
 ghost use Rattle.sc_report.specs.ReasonText.{reason_line, reason_lines, reason_text, reason_word};
 
@@ -16,8 +16,9 @@ use crate::entrants::{Entrant, rising_entrants};
 use crate::reason::{Reason, row_at_rank};
 use crate::room::Widths;
 use sc_decimal::push_number;
-use sc_papers::{Assignment, Papers, StudentNo};
+use sc_papers::{Papers, StudentNo};
 use sc_repair::Clearing;
+use sc_tallies::places_of;
 use std::alloc::{AllocError, Global};
 
 /// The line above the reasons' lines.
@@ -65,20 +66,19 @@ fn push_student(
     endings: &Endings,
     rows: &[CutoffRow],
     papers: &Papers,
-    places: &Assignment,
     entrant: Entrant,
 ) -> Result<(), AllocError>
     requires number { number.now ≡ decimal entrant.student ++ codes "," }
     requires schools { schools_with endings.now ≡ schools_of papers.now }
     requires endings { EndingsStand endings.now }
-    requires rows { rows.now ≡ rows_in_order papers.now (assigned places.now) }
+    requires rows { length rows.now ≡ length papers.now.schools }
     requires stands { StandsAt papers.now entrant }
     requires well_formed { WellFormed papers.now }
-    ensures { OnOk result (text.new.items ≡ text.old.items ++ flat_map reason_line (reasons_of papers.now (assigned places.now) entrant.student)) }
+    // By whichever matching the rows were made.
+    ensures { OnOk result ((a : Matching) → rows.now ≡ rows_in_order papers.now a → Holds a entrant → text.new.items ≡ text.old.items ++ flat_map reason_line (reasons_of papers.now a entrant.student)) }
 {
-    let held = places.get_near(entrant.student, entrant.pair);
     let mut rank = 0;
-    'ranks: while let Some(found) = row_at_rank(rows, papers, &held, &entrant, rank) {
+    'ranks: while let Some(found) = row_at_rank(rows, papers, &entrant, rank) {
         push_line(
             text,
             number,
@@ -97,27 +97,20 @@ pub(crate) fn push_reason_lines(
     entrants: &[Entrant],
     rows: &[CutoffRow],
     papers: &Papers,
-    places: &Assignment,
 ) -> Result<(), AllocError>
-    requires rows { rows.now ≡ rows_in_order papers.now (assigned places.now) }
+    requires schools { map (λ row. row.school) rows.now ≡ schools_of papers.now }
     requires stand { All (StandsAt papers.now) entrants.now }
     requires well_formed { WellFormed papers.now }
-    ensures { OnOk result (text.new.items ≡ text.old.items ++ reason_lines (flat_map (reasons_of papers.now (assigned places.now)) (numbers_of entrants.now))) }
+    // By whichever matching the rows were made.
+    ensures { OnOk result ((a : Matching) → rows.now ≡ rows_in_order papers.now a → All (Holds a) entrants.now
+        → text.new.items ≡ text.old.items ++ reason_lines (flat_map (reasons_of papers.now a) (numbers_of entrants.now))) }
 {
     let endings = Endings::new(alloc, rows)?;
     let mut number = Vec::with_capacity(alloc, LONGEST_NUMBER)?;
     text.extend_from_slice(HEADER)?;
     for entrant in entrants {
         set_number(&mut number, entrant.student)?;
-        push_student(
-            text,
-            number.as_slice(),
-            &endings,
-            rows,
-            papers,
-            places,
-            *entrant,
-        )?;
+        push_student(text, number.as_slice(), &endings, rows, papers, *entrant)?;
     }
     Ok(())
 }
@@ -136,9 +129,9 @@ pub fn reason_text(alloc: Global, clearing: &Clearing) -> Result<Vec<u8>, AllocE
     ensures { IfOk result (λ text. text.items ≡ reason_text clearing.now.standing.papers (matching_of clearing.now.standing)) }
 {
     let papers = clearing.papers();
-    let places = clearing.places();
-    let entrants = rising_entrants(alloc, papers, places)?;
-    let rows = rows_in_order(alloc, papers, places)?;
+    let places = places_of(alloc, papers, clearing.places())?;
+    let entrants = rising_entrants(alloc, papers, places.as_slice())?;
+    let rows = rows_in_order(alloc, papers, places.as_slice())?;
     let room = room_for_reasons(Widths::new(entrants.as_slice(), papers), clearing.log_len());
     let mut text = Vec::with_capacity(alloc, room)?;
     push_reason_lines(
@@ -147,7 +140,6 @@ pub fn reason_text(alloc: Global, clearing: &Clearing) -> Result<Vec<u8>, AllocE
         entrants.as_slice(),
         rows.as_slice(),
         papers,
-        places,
     )?;
     Ok(text)
 }

@@ -1,12 +1,13 @@
-ghost use Rattle.std.specs.Prelude.{◌≡◌, ◌||◌};
-ghost use Rattle.sc_papers.specs.Assignment.{assigned};
+ghost use Rattle.std.specs.Prelude.{◌≡◌, ◌||◌, length};
+ghost use Rattle.sc_papers.specs.Matching.{Matching};
 ghost use Rattle.sc_repair.specs.Standing.{matching_of};
 ghost use Rattle.sc_report.specs.Report.{WritesReport, is_write_fault};
 ghost use Rattle.sc_report.specs.Watched.{device_of, has_failed};
 ghost use Rattle.sc_report.specs.declared.report.ReportFault.TheVariants as fault;
+ghost use Rattle.sc_tallies.specs.Places.{ArePlaces};
 
 use crate::matched::Matched;
-use crate::text::report_text_of;
+use crate::text::{report_text, report_text_of};
 use crate::watched::{DeviceFailed, Watched};
 use crate::whole::write_whole;
 use sc_repair::Clearing;
@@ -50,8 +51,9 @@ pub fn write_report_of<W: Write>(
     matched: Matched<'_>,
     to: &mut Watched<W>,
 ) -> Result<(), ReportFault>
-    ensures bytes { WritesReport matched.entry.papers.now (assigned matched.entry.places.now)
-        (W.contents (device_of to.old)) (W.contents (device_of to.new)) result }
+    requires { length matched.places.now ≡ length matched.papers.now.students }
+    ensures bytes { (a : Matching) → ArePlaces matched.entry.papers.now a matched.entry.places.now
+        → WritesReport matched.entry.papers.now a (W.contents (device_of to.old)) (W.contents (device_of to.new)) result }
     ensures failed { has_failed to.new ≡ (has_failed to.old || is_write_fault result) }
 {
     let text = report_text_of(alloc, matched)?;
@@ -69,5 +71,7 @@ pub fn write_report<W: Write>(
         (W.contents (device_of to.old)) (W.contents (device_of to.new)) result }
     ensures failed { has_failed to.new ≡ (has_failed to.old || is_write_fault result) }
 {
-    write_report_of(alloc, Matched::standing(clearing), to)
+    let text = report_text(alloc, clearing)?;
+    write_whole(to, text.as_slice())?;
+    Ok(())
 }

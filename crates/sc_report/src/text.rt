@@ -1,10 +1,12 @@
-ghost use Rattle.std.specs.Prelude.{◌≡◌, ◌++◌, IfOk, OnOk};
-ghost use Rattle.sc_papers.specs.Assignment.{assigned};
+ghost use Rattle.std.specs.Prelude.{◌≡◌, ◌++◌, length, map, All, IfOk, OnOk};
+ghost use Rattle.sc_papers.specs.Market.{schools_of};
+ghost use Rattle.sc_papers.specs.Matching.{Matching};
 ghost use Rattle.sc_papers.specs.WellFormed.{WellFormed};
 ghost use Rattle.sc_repair.specs.Standing.{matching_of};
 ghost use Rattle.sc_report.specs.Cutoff.{rows_in_order};
-ghost use Rattle.sc_report.specs.Entrants.{numbers_of};
+ghost use Rattle.sc_report.specs.Entrants.{numbers_of, Holds};
 ghost use Rattle.sc_report.specs.Text.{assignment_line, assignment_lines, assignment_text, place_text, report_text, IsReportText};
+ghost use Rattle.sc_tallies.specs.Places.{ArePlaces};
 
 use crate::cutoff::{CutoffRow, rising_rows, rows_in_order};
 use crate::cutoff_lines::{push_cutoffs, room_for_cutoffs};
@@ -13,8 +15,9 @@ use crate::matched::Matched;
 use crate::reason_lines::{push_reason_lines, room_for_reasons};
 use crate::room::Widths;
 use sc_decimal::push_number;
-use sc_papers::{Assignment, Papers};
+use sc_papers::{Papers, SchoolNo};
 use sc_repair::Clearing;
+use sc_tallies::places_of;
 use std::alloc::{AllocError, Global};
 
 /// The line above the assignment's lines.
@@ -24,36 +27,32 @@ const HEADER: &[u8; 15] = b"student,school\n";
 const BESIDE: usize = 2;
 
 /// Adds what the student has, or a dash.
-fn push_place(text: &mut Vec<u8>, places: &Assignment, entrant: Entrant) -> Result<(), AllocError>
-    ensures { OnOk result (text.new.items ≡ text.old.items ++ place_text (assigned places.now entrant.student)) }
+fn push_place(text: &mut Vec<u8>, held: Option<SchoolNo>) -> Result<(), AllocError>
+    ensures { OnOk result (text.new.items ≡ text.old.items ++ place_text held) }
 {
-    match places.get_near(entrant.student, entrant.pair) {
+    match held {
         Some(school) => push_number(text, u64::from(school.get())),
         None => text.extend_from_slice(b"-"),
     }
 }
 
 /// Adds the line of a student.
-fn push_line(text: &mut Vec<u8>, places: &Assignment, entrant: Entrant) -> Result<(), AllocError>
-    ensures { OnOk result (text.new.items ≡ text.old.items ++ assignment_line (assigned places.now) entrant.student) }
+fn push_line(text: &mut Vec<u8>, entrant: Entrant) -> Result<(), AllocError>
+    ensures { OnOk result ((a : Matching) → Holds a entrant → text.new.items ≡ text.old.items ++ assignment_line a entrant.student) }
 {
     push_number(text, u64::from(entrant.student.get()))?;
     text.extend_from_slice(b",")?;
-    push_place(text, places, entrant)?;
+    push_place(text, entrant.held)?;
     text.extend_from_slice(b"\n")
 }
 
 /// Adds the header and the line of each student.
-fn push_assignments(
-    text: &mut Vec<u8>,
-    entrants: &[Entrant],
-    places: &Assignment,
-) -> Result<(), AllocError>
-    ensures { OnOk result (text.new.items ≡ text.old.items ++ assignment_lines (assigned places.now) (numbers_of entrants.now)) }
+fn push_assignments(text: &mut Vec<u8>, entrants: &[Entrant]) -> Result<(), AllocError>
+    ensures { OnOk result ((a : Matching) → All (Holds a) entrants.now → text.new.items ≡ text.old.items ++ assignment_lines a (numbers_of entrants.now)) }
 {
     text.extend_from_slice(HEADER)?;
     for entrant in entrants {
-        push_line(text, places, *entrant)?;
+        push_line(text, *entrant)?;
     }
     Ok(())
 }
@@ -72,10 +71,11 @@ pub fn assignment_text(alloc: Global, clearing: &Clearing) -> Result<Vec<u8>, Al
     ensures { IfOk result (λ text. text.items ≡ assignment_text clearing.now.standing.papers (matching_of clearing.now.standing)) }
 {
     let papers = clearing.papers();
-    let entrants = rising_entrants(alloc, papers, clearing.places())?;
+    let places = places_of(alloc, papers, clearing.places())?;
+    let entrants = rising_entrants(alloc, papers, places.as_slice())?;
     let room = room_for_assignment(Widths::new(entrants.as_slice(), papers), papers);
     let mut text = Vec::with_capacity(alloc, room)?;
-    push_assignments(&mut text, entrants.as_slice(), clearing.places())?;
+    push_assignments(&mut text, entrants.as_slice())?;
     Ok(text)
 }
 
@@ -92,21 +92,23 @@ fn push_report(
     text: &mut Vec<u8>,
     alloc: Global,
     rows: &[CutoffRow],
-    papers: &Papers,
-    places: &Assignment,
-    rejections: usize,
+    matched: Matched<'_>,
 ) -> Result<(), AllocError>
-    requires rows { rows.now ≡ rows_in_order papers.now (assigned places.now) }
-    requires well_formed { WellFormed papers.now }
-    ensures { OnOk result (text.new.items ≡ text.old.items ++ report_text papers.now (assigned places.now)) }
+    requires schools { map (λ row. row.school) rows.now ≡ schools_of matched.papers.now }
+    requires places { length matched.places.now ≡ length matched.papers.now.students }
+    requires well_formed { WellFormed matched.papers.now }
+    // By whichever matching the rows were made.
+    ensures { OnOk result ((a : Matching) → ArePlaces matched.entry.papers.now a matched.entry.places.now → rows.now ≡ rows_in_order matched.entry.papers.now a
+        → text.new.items ≡ text.old.items ++ report_text matched.entry.papers.now a) }
 {
-    let entrants = rising_entrants(alloc, papers, places)?;
+    let papers = matched.papers;
+    let entrants = rising_entrants(alloc, papers, matched.places)?;
     let widths = Widths::new(entrants.as_slice(), papers);
-    text.reserve(room_for_report(widths, papers, rejections))?;
-    push_assignments(text, entrants.as_slice(), places)?;
+    text.reserve(room_for_report(widths, papers, matched.rejections))?;
+    push_assignments(text, entrants.as_slice())?;
     let cutoffs = rising_rows(alloc, rows)?;
     push_cutoffs(text, cutoffs.as_slice())?;
-    push_reason_lines(text, alloc, entrants.as_slice(), rows, papers, places)?;
+    push_reason_lines(text, alloc, entrants.as_slice(), rows, papers)?;
     Ok(())
 }
 
@@ -114,20 +116,12 @@ fn push_report(
 /// text. The only error is want of memory. The cost is one pass over the students for the cutoffs, a sort of the
 /// students' and the schools' numbers, and one pass for the lines.
 pub fn report_text_of(alloc: Global, matched: Matched<'_>) -> Result<Vec<u8>, AllocError>
-    ensures { IfOk result (λ text. IsReportText matched.entry.papers.now (assigned matched.entry.places.now) text.items) }
+    requires { length matched.places.now ≡ length matched.papers.now.students }
+    ensures { IfOk result (λ text. (a : Matching) → ArePlaces matched.entry.papers.now a matched.entry.places.now → IsReportText matched.entry.papers.now a text.items) }
 {
-    let papers = matched.papers;
-    let places = matched.places;
-    let rows = rows_in_order(alloc, papers, places)?;
+    let rows = rows_in_order(alloc, matched.papers, matched.places)?;
     let mut text = Vec::new(alloc);
-    push_report(
-        &mut text,
-        alloc,
-        rows.as_slice(),
-        papers,
-        places,
-        matched.rejections,
-    )?;
+    push_report(&mut text, alloc, rows.as_slice(), matched)?;
     Ok(text)
 }
 
@@ -135,6 +129,13 @@ pub fn report_text_of(alloc: Global, matched: Matched<'_>) -> Result<Vec<u8>, Al
 pub fn report_text(alloc: Global, clearing: &Clearing) -> Result<Vec<u8>, AllocError>
     ensures { IfOk result (λ text. IsReportText clearing.now.standing.papers (matching_of clearing.now.standing) text.items) }
 {
-    let text = report_text_of(alloc, Matched::standing(clearing))?;
+    let papers = clearing.papers();
+    let places = places_of(alloc, papers, clearing.places())?;
+    let matched = Matched {
+        papers,
+        places: places.as_slice(),
+        rejections: clearing.log_len(),
+    };
+    let text = report_text_of(alloc, matched)?;
     Ok(text)
 }

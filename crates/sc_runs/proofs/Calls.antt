@@ -4,7 +4,7 @@ use Rattle.std.proofs.lemmas.List.Elements.{All-nil}
 use Rattle.sc_intake.specs.Log.{log_in}
 use Rattle.sc_intake.specs.Script.{script_in}
 use Rattle.sc_audit.specs.declared.verdict.Verdict.{Verdict}
-use Rattle.sc_journal.specs.declared.journal.Tail.{Tail}
+use Rattle.sc_runs.specs.declared.replaying.Replayed.{Replayed}
 use Rattle.sc_runs.specs.Auditing.{claimed_in, AuditsFiles, WritesVerdict}
 use Rattle.sc_runs.specs.Inputs.{in_order, Texts, Turn, AreRead, EndsAmong, EndsReading, IsUntouched}
 use Rattle.sc_runs.specs.Opening.{opening_in, papers_in, MatchesFiles, WritesMatch}
@@ -51,7 +51,7 @@ AuditsFiles-read seed turns texts log given old new result read is wrote = inr (
 )
 
 -- the files and the journal were read, and the journal was replayed
-pub ReplaysFiles-read : (seed : List ℕ) (turns : List Turn) (texts : Texts) (journal given : List ℕ) (old new : Option (List ℕ)) (result : Result Tail RunFault)
+pub ReplaysFiles-read : (seed : List ℕ) (turns : List Turn) (texts : Texts) (journal given : List ℕ) (old new : Option (List ℕ)) (result : Result Replayed RunFault)
     → AreRead turns (in_order texts ++ journal ∷ []) → given ≡ journal
     → WritesReplay (opening_in seed texts) given old new result → ReplaysFiles seed turns old new result
 ReplaysFiles-read seed turns texts journal given old new result read is wrote = inr (

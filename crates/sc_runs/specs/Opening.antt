@@ -1,7 +1,6 @@
 -- What the files of an opening make, and what matching them does to the writer's bytes, where those are known.
 use Rattle.std.specs.Prelude.{◌≡◌, ◌⊎◌, ℕ, Bool, true, false, List, Option, Result, Ok, Err, ⊤, IsErrAnd}
 use Rattle.std.specs.Io.KnownBytes.{Appends, Keeps}
-use Rattle.sc_papers.specs.Assignment.{assigned}
 use Rattle.sc_papers.specs.Log.{IsSettled}
 use Rattle.sc_papers.specs.Market.{Market}
 use Rattle.sc_papers.specs.Matching.{Matching, IsStudentOptimal}
@@ -16,7 +15,6 @@ use Rattle.sc_report.specs.Whole.{AppendsPrefix}
 use Rattle.sc_runs.specs.Inputs.{in_order, Texts, Turn, AreRead, EndsAmong}
 use Rattle.sc_runs.specs.declared.fault.RunFault.{RunFault}
 use Rattle.sc_runs.specs.declared.fault.RunFault.TheVariants.{Read, Intake, Journal, WriteOut, WriteJournal, OutOfMemory}
-use Rattle.sc_runs.specs.declared.settled.SettledPapers.{SettledPapers}
 
 -- the papers of an opening's texts, or their first fault
 abbrev pub opening_in : List ℕ → Texts → Result Market IntakeFault
@@ -59,10 +57,6 @@ IsCertificate m text = (log : List Rejection) × IsSettled m log × (text ≡ lo
 -- a text is the report of the papers under their student-optimal stable matching
 abbrev pub IsReport : Market → List ℕ → Type 0
 IsReport m text = (a : Matching) × IsStudentOptimal m a × IsReportText m a text
-
--- what settling papers came to: the log is settled for them, and the assignment is their student-optimal stable matching
-abbrev pub AreSettled : SettledPapers → Type 0
-AreSettled done = IsSettled done.papers done.settled.log.items × IsStudentOptimal done.papers (assigned done.settled.assignment)
 
 -- what matching papers is to write: the report, or the log where that is asked for
 abbrev pub IsMatchText : Bool → Market → List ℕ → Type 0

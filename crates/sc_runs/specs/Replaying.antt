@@ -11,7 +11,8 @@ use Rattle.sc_journal.specs.declared.fault.JournalCause.TheVariants as cause
 use Rattle.sc_journal.specs.declared.journal.Tail.{Tail}
 use Rattle.sc_report.specs.Whole.{AppendsPrefix}
 use Rattle.sc_runs.specs.Inputs.{in_order, Texts, Turn, AreRead}
-use Rattle.sc_runs.specs.Opening.{opening_in, EndsUnread, IsReport}
+use Rattle.sc_runs.specs.Opening.{opening_in, EndsUnread, IsReport, WritesText}
+use Rattle.sc_runs.specs.declared.replaying.Replayed.{Replayed}
 use Rattle.sc_runs.specs.declared.fault.RunFault.{RunFault}
 use Rattle.sc_runs.specs.declared.fault.RunFault.TheVariants.{Read, Intake, Journal, WriteOut, WriteJournal, OutOfMemory}
 
@@ -19,11 +20,18 @@ use Rattle.sc_runs.specs.declared.fault.RunFault.TheVariants.{Read, Intake, Jour
 abbrev pub IsReplayReport : Market → List ℕ → Tail → List ℕ → Type 0
 IsReplayReport m journal tail text = (now : StampedPapers) × IsReplay (unamended m) now journal tail × IsReport now.papers text
 
--- a replay answers how the journal ends, and wrote the report of the papers after it; a prefix of it where
+-- the report of amended papers was written, and they are answered with how the journal ends; a prefix of it where the
+-- writer failed, and nothing for want of memory
+abbrev pub WritesReplayed : Market → Tail → Option (List ℕ) → Option (List ℕ) → Result Replayed RunFault → Type 0
+WritesReplayed m tail old new (Ok done) = (done.papers ≡ m) × (done.tail ≡ tail) × WritesText (IsReport m) old new (Ok tt)
+WritesReplayed m tail old new (Err fault) = WritesText (IsReport m) old new (Err fault)
+
+-- a replay answers the papers after the journal and how it ends, and wrote their report; a prefix of it where
 -- the writer failed, and nothing where the inputs or the journal have a fault
-abbrev pub WritesReplay : Result Market IntakeFault → List ℕ → Option (List ℕ) → Option (List ℕ) → Result Tail RunFault → Type 0
-WritesReplay reading journal old new (Ok tail) =
-    (m : Market) × (reading ≡ Ok m) × ((text : List ℕ) × IsReplayReport m journal tail text × Appends old new text)
+abbrev pub WritesReplay : Result Market IntakeFault → List ℕ → Option (List ℕ) → Option (List ℕ) → Result Replayed RunFault → Type 0
+WritesReplay reading journal old new (Ok done) =
+    (m : Market) × (reading ≡ Ok m) × ((now : StampedPapers) × IsReplay (unamended m) now journal done.tail × (done.papers ≡ now.papers)
+    × ((text : List ℕ) × IsReport now.papers text × Appends old new text))
 WritesReplay reading journal old new (Err (Intake fault)) = (reading ≡ Err fault) × Keeps old new
 WritesReplay reading journal old new (Err (Journal fault)) = (m : Market) × (reading ≡ Ok m) × IsFirstFault (unamended m) journal fault × Keeps old new
 WritesReplay reading journal old new (Err WriteOut) =
@@ -34,7 +42,7 @@ WritesReplay reading journal old new (Err WriteJournal) = ⊥
 
 -- what replaying files did: reading them ended early, and nothing was written; or they were read, each whole,
 -- and the journal was replayed
-abbrev pub ReplaysFiles : List ℕ → List Turn → Option (List ℕ) → Option (List ℕ) → Result Tail RunFault → Type 0
+abbrev pub ReplaysFiles : List ℕ → List Turn → Option (List ℕ) → Option (List ℕ) → Result Replayed RunFault → Type 0
 ReplaysFiles seed turns old new result = EndsUnread turns old new result
     ⊎ ((texts : Texts) × (journal : List ℕ) × AreRead turns (in_order texts ++ journal ∷ []) × WritesReplay (opening_in seed texts) journal old new result)
 

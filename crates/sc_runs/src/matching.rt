@@ -3,60 +3,32 @@
 ghost use Rattle.std.specs.Prelude.{◌≡◌, ◌||◌, All, IfOk, Ok};
 ghost use Rattle.sc_report.specs.Watched.{device_of, has_failed};
 ghost use Rattle.sc_runs.specs.Inputs.{opening_turns, texts_of, TakesWithin};
-ghost use Rattle.sc_runs.specs.Opening.{is_output_fault, opening_in, papers_in, ArePapersOf, AreSettled, MatchesFiles, WritesMatch};
+ghost use Rattle.sc_runs.specs.Opening.{is_output_fault, opening_in, papers_in, ArePapersOf, MatchesFiles, WritesMatch};
 
 use crate::fault::RunFault;
 use crate::inputs::{Opening, OpeningSlices, OpeningTexts, read_opening};
 use crate::opening::{read_owned, read_papers};
-use crate::settled::{SettledPapers, settle_papers};
-use crate::writing::{write_flushed_report, write_log};
+use crate::settled::{log_papers, report_papers};
 use sc_papers::{Papers, Seed};
 use sc_report::Watched;
 use std::alloc::Global;
 use std::io::{Read, Write};
 
-/// Writes the report of settled papers, or their log, and flushes it.
-fn write_settled<W: Write>(
+/// Settles papers and writes their report, or their log, and flushes it.
+fn match_papers<W: Write>(
     alloc: Global,
-    settled: &SettledPapers,
+    papers: &Papers,
     show_log: bool,
     out: &mut Watched<W>,
 ) -> Result<(), RunFault>
-    requires settled { AreSettled settled.now }
-    ensures bytes { WritesMatch show_log (Ok settled.now.papers)
+    ensures bytes { WritesMatch show_log (Ok papers.now)
         (W.contents (device_of out.old)) (W.contents (device_of out.new)) result }
     ensures failed { has_failed out.new ≡ (has_failed out.old || is_output_fault result) }
 {
     if show_log {
-        write_log(alloc, settled.settled.log.as_slice(), out)
+        log_papers(alloc, papers, out)
     } else {
-        write_flushed_report(alloc, settled.matched(), out)
-    }
-}
-
-/// Settles papers and writes their report, or their log, and flushes it. It answers the papers, settled.
-fn match_papers<W: Write>(
-    alloc: Global,
-    papers: Papers,
-    show_log: bool,
-    out: &mut Watched<W>,
-) -> Result<SettledPapers, RunFault>
-    ensures bytes { WritesMatch show_log (Ok papers)
-        (W.contents (device_of out.old)) (W.contents (device_of out.new)) result }
-    ensures papers { IfOk result (λ done. done.papers ≡ papers) }
-    ensures settled { IfOk result AreSettled }
-    ensures failed { has_failed out.new ≡ (has_failed out.old || is_output_fault result) }
-{
-    let settled = match settle_papers(alloc, papers, show_log) {
-        Ok(settled) => settled,
-        Err(fault) => return Err(fault),
-    };
-    match write_settled(alloc, &settled, show_log, out) {
-        Ok(()) => Ok(settled),
-        Err(fault) => {
-            drop(settled);
-            Err(fault)
-        }
+        report_papers(alloc, papers, out)
     }
 }
 
@@ -72,65 +44,60 @@ pub fn match_texts<W: Write>(
         (W.contents (device_of out.old)) (W.contents (device_of out.new)) result }
     ensures failed { has_failed out.new ≡ (has_failed out.old || is_output_fault result) }
 {
-    let papers = match read_papers(alloc, seed, texts) {
-        Ok(papers) => papers,
-        Err(fault) => return Err(fault),
-    };
-    match match_papers(alloc, papers, show_log, out) {
-        Ok(settled) => {
-            drop(settled);
-            Ok(())
+    match read_papers(alloc, seed, texts) {
+        Ok(papers) => {
+            let written = match_papers(alloc, &papers, show_log, out);
+            drop(papers);
+            written
         }
         Err(fault) => Err(fault),
     }
 }
 
-/// Does what `match_texts` does, and answers the papers, settled. The texts are given up once the papers are read, so
-/// that their memory serves the settling.
+/// Writes the report of papers, or their log, flushes it, and answers the papers.
+fn match_and_keep<W: Write>(
+    alloc: Global,
+    papers: Papers,
+    show_log: bool,
+    out: &mut Watched<W>,
+) -> Result<Papers, RunFault>
+    ensures bytes { WritesMatch show_log (Ok papers)
+        (W.contents (device_of out.old)) (W.contents (device_of out.new)) result }
+    ensures papers { IfOk result (λ kept. kept ≡ papers) }
+    ensures failed { has_failed out.new ≡ (has_failed out.old || is_output_fault result) }
+{
+    match match_papers(alloc, &papers, show_log, out) {
+        Ok(()) => Ok(papers),
+        Err(fault) => {
+            drop(papers);
+            Err(fault)
+        }
+    }
+}
+
+/// Does what `match_texts` does, and answers the papers. The texts are given up once the papers are read, so that their
+/// memory serves the settling.
 fn match_owned<W: Write>(
     alloc: Global,
     seed: &Seed,
     texts: OpeningTexts,
     show_log: bool,
     out: &mut Watched<W>,
-) -> Result<SettledPapers, RunFault>
+) -> Result<Papers, RunFault>
     ensures bytes { WritesMatch show_log (opening_in seed.now (texts_of texts))
         (W.contents (device_of out.old)) (W.contents (device_of out.new)) result }
-    ensures papers { IfOk result (λ done. opening_in seed.now (texts_of texts) ≡ Ok done.papers) }
-    ensures settled { IfOk result AreSettled }
+    ensures papers { IfOk result (λ papers. opening_in seed.now (texts_of texts) ≡ Ok papers) }
     ensures failed { has_failed out.new ≡ (has_failed out.old || is_output_fault result) }
 {
     match read_owned(alloc, seed, texts) {
-        Ok(papers) => match_papers(alloc, papers, show_log, out),
+        Ok(papers) => match_and_keep(alloc, papers, show_log, out),
         Err(fault) => Err(fault),
     }
 }
 
-/// Does what `match_files` does, and answers the papers of the files with their assignment, for a caller that goes on
-/// with them.
-pub fn match_settled<R: Read, W: Write>(
-    alloc: Global,
-    seed: &Seed,
-    opening: &mut Opening<R>,
-    show_log: bool,
-    out: &mut Watched<W>,
-) -> Result<SettledPapers, RunFault>
-    ensures bytes { MatchesFiles seed.now show_log (opening_turns R.remaining opening.old opening.new)
-        (W.contents (device_of out.old)) (W.contents (device_of out.new)) result }
-    ensures papers { IfOk result (λ done. ArePapersOf seed.now (opening_turns R.remaining opening.old opening.new) done.papers) }
-    ensures settled { IfOk result AreSettled }
-    ensures failed { has_failed out.new ≡ (has_failed out.old || is_output_fault result) }
-    ensures limit { All TakesWithin (opening_turns R.remaining opening.old opening.new) }
-{
-    let texts = match read_opening(alloc, opening) {
-        Ok(texts) => texts,
-        Err(fault) => return Err(fault),
-    };
-    match_owned(alloc, seed, texts, show_log, out)
-}
-
 /// Reads the three files, in the order schools, roster, lists, and writes the report of their papers, or
-/// with `show_log` the log of rejections that certifies the assignment of the report.
+/// with `show_log` the log of rejections that certifies the assignment of the report. It answers the papers, for a caller
+/// that goes on with them.
 ///
 /// Nothing is written before the files are known to be good. An error is the first fault of the
 /// files, each of which is read whole before any is looked into; that a file or the output failed; or
@@ -143,17 +110,16 @@ pub fn match_files<R: Read, W: Write>(
     opening: &mut Opening<R>,
     show_log: bool,
     out: &mut Watched<W>,
-) -> Result<(), RunFault>
+) -> Result<Papers, RunFault>
     ensures bytes { MatchesFiles seed.now show_log (opening_turns R.remaining opening.old opening.new)
         (W.contents (device_of out.old)) (W.contents (device_of out.new)) result }
+    ensures papers { IfOk result (λ papers. ArePapersOf seed.now (opening_turns R.remaining opening.old opening.new) papers) }
     ensures failed { has_failed out.new ≡ (has_failed out.old || is_output_fault result) }
     ensures limit { All TakesWithin (opening_turns R.remaining opening.old opening.new) }
 {
-    match match_settled(alloc, seed, opening, show_log, out) {
-        Ok(settled) => {
-            drop(settled);
-            Ok(())
-        }
-        Err(fault) => Err(fault),
-    }
+    let texts = match read_opening(alloc, opening) {
+        Ok(texts) => texts,
+        Err(fault) => return Err(fault),
+    };
+    match_owned(alloc, seed, texts, show_log, out)
 }

@@ -4,14 +4,13 @@ ghost use Rattle.std.specs.Prelude.{◌≡◌, ◌||◌, ◌++◌, ◌∷◌, []
 ghost use Rattle.sc_intake.specs.declared.fault.Source.TheVariants as input;
 ghost use Rattle.sc_report.specs.Watched.{device_of, has_failed};
 ghost use Rattle.sc_runs.specs.Inputs.{opening_turns, texts_of, turn_of, TakesWithin};
-ghost use Rattle.sc_runs.specs.Opening.{is_output_fault, opening_in, IsReport, WritesText};
-ghost use Rattle.sc_runs.specs.Replaying.{ReplaysFiles, WritesReplay};
+ghost use Rattle.sc_runs.specs.Opening.{is_output_fault, opening_in};
+ghost use Rattle.sc_runs.specs.Replaying.{ReplaysFiles, WritesReplay, WritesReplayed};
 
 use crate::fault::RunFault;
 use crate::inputs::{Opening, OpeningTexts, read_inputs};
 use crate::opening::read_owned;
-use crate::settled::settle_papers;
-use crate::writing::write_flushed_report;
+use crate::settled::report_papers;
 use sc_intake::Source;
 use sc_journal::{Tail, replay_papers};
 use sc_papers::{Papers, Seed};
@@ -19,22 +18,31 @@ use sc_report::Watched;
 use std::alloc::Global;
 use std::io::{Read, Write};
 
-/// Settles papers and writes their report, and flushes it.
-fn report_papers<W: Write>(
+/// What a journal that was replayed came to.
+#[derive(Drop)]
+pub struct Replayed {
+    /// The papers as they stand after it.
+    pub papers: Papers,
+    /// Whether bytes follow the journal's last newline.
+    pub tail: Tail,
+}
+
+/// Writes the report of amended papers, and flushes it.
+fn report_amended<W: Write>(
     alloc: Global,
     papers: Papers,
+    tail: Tail,
     out: &mut Watched<W>,
-) -> Result<(), RunFault>
-    ensures bytes { WritesText (IsReport papers) (W.contents (device_of out.old)) (W.contents (device_of out.new)) result }
+) -> Result<Replayed, RunFault>
+    ensures bytes { WritesReplayed papers tail (W.contents (device_of out.old)) (W.contents (device_of out.new)) result }
     ensures failed { has_failed out.new ≡ (has_failed out.old || is_output_fault result) }
 {
-    match settle_papers(alloc, papers, false) {
-        Ok(settled) => {
-            let written = write_flushed_report(alloc, settled.matched(), out);
-            drop(settled);
-            written
+    match report_papers(alloc, &papers, out) {
+        Ok(()) => Ok(Replayed { papers, tail }),
+        Err(fault) => {
+            drop(papers);
+            Err(fault)
         }
-        Err(fault) => Err(fault),
     }
 }
 
@@ -44,15 +52,12 @@ fn report_replayed<W: Write>(
     papers: Papers,
     journal: &[u8],
     out: &mut Watched<W>,
-) -> Result<Tail, RunFault>
+) -> Result<Replayed, RunFault>
     ensures report { WritesReplay (Ok papers) journal.now (W.contents (device_of out.old)) (W.contents (device_of out.new)) result }
     ensures failed { has_failed out.new ≡ (has_failed out.old || is_output_fault result) }
 {
     match replay_papers(alloc, papers, journal) {
-        Ok((amended, tail)) => match report_papers(alloc, amended.into_papers(), out) {
-            Ok(()) => Ok(tail),
-            Err(fault) => Err(fault),
-        },
+        Ok((amended, tail)) => report_amended(alloc, amended.into_papers(), tail, out),
         Err(fault) => Err(RunFault::from(fault)),
     }
 }
@@ -64,7 +69,7 @@ fn replay_texts<W: Write>(
     texts: OpeningTexts,
     journal: &[u8],
     out: &mut Watched<W>,
-) -> Result<Tail, RunFault>
+) -> Result<Replayed, RunFault>
     ensures report { WritesReplay (opening_in seed.now (texts_of texts)) journal.now
         (W.contents (device_of out.old)) (W.contents (device_of out.new)) result }
     ensures failed { has_failed out.new ≡ (has_failed out.old || is_output_fault result) }
@@ -76,8 +81,8 @@ fn replay_texts<W: Write>(
 }
 
 /// Reads the three files and a journal, in the order schools, roster, lists, journal, makes the amendments
-/// of the journal in turn, and writes the report of the papers as they then stand. It answers whether bytes
-/// follow the journal's last newline, which are left unread.
+/// of the journal in turn, and writes the report of the papers as they then stand. It answers these papers, and whether
+/// bytes follow the journal's last newline, which are left unread.
 ///
 /// Nothing is written before the inputs are known to be good. An error is the first fault of the inputs,
 /// each of which is read whole before any is looked into, or else the first faulty line of the journal with
@@ -89,7 +94,7 @@ pub fn replay_files<R: Read, W: Write>(
     opening: &mut Opening<R>,
     journal: &mut Watched<R>,
     out: &mut Watched<W>,
-) -> Result<Tail, RunFault>
+) -> Result<Replayed, RunFault>
     ensures report { ReplaysFiles seed.now
         (opening_turns R.remaining opening.old opening.new ++ turn_of R.remaining input.Journal journal.old journal.new ∷ [])
         (W.contents (device_of out.old)) (W.contents (device_of out.new)) result }

@@ -1,60 +1,73 @@
-//! Papers and what settling them came to.
+//! From papers to what is written of their assignment.
 
-ghost use Rattle.std.specs.Prelude.{◌≡◌, IfErr, IfOk};
-ghost use Rattle.sc_runs.specs.Opening.{AreSettled};
-ghost use Rattle.sc_runs.specs.declared.fault.RunFault.TheVariants.{OutOfMemory};
+ghost use Rattle.std.specs.Prelude.{◌≡◌, ◌||◌};
+ghost use Rattle.sc_engine.specs.Outcome.{IsOutcome};
+ghost use Rattle.sc_report.specs.Watched.{device_of, has_failed};
+ghost use Rattle.sc_runs.specs.Opening.{is_output_fault, IsCertificate, IsReport, WritesText};
 
 use crate::fault::RunFault;
-use sc_engine::{Settled, settle, settle_by_draws};
+use crate::writing::{write_flushed_report, write_log};
+use sc_engine::{Outcome, settle, settle_by_draws};
 use sc_papers::Papers;
-use sc_report::Matched;
+use sc_report::{Matched, Watched};
 use std::alloc::Global;
+use std::io::Write;
 
-/// Papers and what settling them came to, for a caller that has no amendment to make: there are no segments and no
-/// stamps.
-#[derive(Drop)]
-pub struct SettledPapers {
-    pub papers: Papers,
-    /// The log of rejections, and the assignment that it certifies.
-    pub settled: Settled,
+/// Writes the report of papers and of what settling them came to, and flushes it.
+fn write_outcome<W: Write>(
+    alloc: Global,
+    papers: &Papers,
+    outcome: &Outcome,
+    out: &mut Watched<W>,
+) -> Result<(), RunFault>
+    requires { IsOutcome papers.now outcome.now }
+    ensures bytes { WritesText (IsReport papers.now) (W.contents (device_of out.old)) (W.contents (device_of out.new)) result }
+    ensures failed { has_failed out.new ≡ (has_failed out.old || is_output_fault result) }
+{
+    let matched = Matched {
+        papers,
+        places: outcome.places.as_slice(),
+        rejections: outcome.rejections,
+    };
+    write_flushed_report(alloc, matched, out)
 }
 
-impl SettledPapers {
-    ghost use Rattle.std.specs.Prelude.{◌≡◌};
-
-    /// The papers and the assignment, lent: what a report tells of.
-    pub fn matched(&self) -> Matched<'_>
-        ensures papers { result.papers.now ≡ self.now.papers }
-        ensures places { result.places.now ≡ self.now.settled.assignment }
-    {
-        Matched {
-            papers: &self.papers,
-            places: &self.settled.assignment,
-            rejections: self.settled.log.len(),
+/// Settles papers, for a caller that has no amendment to make, writes their report, and flushes it. A report looks at no
+/// log, and costs less by the order of the draws.
+pub fn report_papers<W: Write>(
+    alloc: Global,
+    papers: &Papers,
+    out: &mut Watched<W>,
+) -> Result<(), RunFault>
+    ensures bytes { WritesText (IsReport papers.now) (W.contents (device_of out.old)) (W.contents (device_of out.new)) result }
+    ensures failed { has_failed out.new ≡ (has_failed out.old || is_output_fault result) }
+{
+    match settle_by_draws(alloc, papers) {
+        Ok(outcome) => {
+            let written = write_outcome(alloc, papers, &outcome, out);
+            drop(outcome);
+            written
         }
+        Err(_) => Err(RunFault::OutOfMemory),
     }
 }
 
-/// Settles papers for their report, or with `show_log` for their log. The only fault is want of memory.
-///
-/// The assignment is the same either way. The log that is shown is that of the order of entry; a report looks at none,
-/// and costs less by the order of the draws.
-pub fn settle_papers(
+/// Settles papers, writes the log of rejections that certifies their assignment, and flushes it. The log is that of the
+/// order of entry.
+pub fn log_papers<W: Write>(
     alloc: Global,
-    papers: Papers,
-    show_log: bool,
-) -> Result<SettledPapers, RunFault>
-    ensures papers { IfOk result (λ done. done.papers ≡ papers) }
-    ensures settled { IfOk result AreSettled }
-    ensures refused { IfErr result (λ fault. fault ≡ OutOfMemory) }
+    papers: &Papers,
+    out: &mut Watched<W>,
+) -> Result<(), RunFault>
+    ensures bytes { WritesText (IsCertificate papers.now) (W.contents (device_of out.old)) (W.contents (device_of out.new)) result }
+    ensures failed { has_failed out.new ≡ (has_failed out.old || is_output_fault result) }
 {
-    let settled = if show_log {
-        settle(alloc, &papers)
-    } else {
-        settle_by_draws(alloc, &papers)
-    };
-    match settled {
-        Ok(settled) => Ok(SettledPapers { papers, settled }),
+    match settle(alloc, papers) {
+        Ok(settled) => {
+            let written = write_log(alloc, settled.log.as_slice(), out);
+            drop(settled);
+            written
+        }
         Err(_) => Err(RunFault::OutOfMemory),
     }
 }

@@ -1,19 +1,22 @@
 //! Writing to the output: a line, a text, a report and a log.
 
-ghost use Rattle.std.specs.Prelude.{◌≡◌, ◌||◌, IfErr};
+ghost use Rattle.std.specs.Prelude.{◌≡◌, ◌||◌, length, IfErr};
 ghost use Rattle.std.specs.Io.KnownBytes.{Keeps};
-ghost use Rattle.sc_papers.specs.Assignment.{assigned};
+ghost use Rattle.sc_papers.specs.Matching.{Matching};
 ghost use Rattle.sc_repair.specs.Standing.{matching_of};
 ghost use Rattle.sc_report.specs.LogText.{log_text};
 ghost use Rattle.sc_report.specs.Text.{IsReportText};
 ghost use Rattle.sc_report.specs.Watched.{device_of, has_failed};
 ghost use Rattle.sc_runs.specs.Opening.{is_output_fault, WritesExactly, WritesText};
 ghost use Rattle.sc_runs.specs.declared.fault.RunFault.TheVariants.{WriteOut};
+ghost use Rattle.sc_tallies.specs.Places.{ArePlaces};
 
 use crate::fault::RunFault;
 use sc_papers::Rejection;
 use sc_repair::Clearing;
-use sc_report::{Matched, ReportFault, Watched, log_text, write_report_of, write_whole};
+use sc_report::{
+    Matched, ReportFault, Watched, log_text, write_report, write_report_of, write_whole,
+};
 use std::alloc::Global;
 use std::io::Write;
 
@@ -51,13 +54,14 @@ pub fn write_text<W: Write>(text: &[u8], out: &mut Watched<W>) -> Result<(), Run
     flush_output(out)
 }
 
-/// Writes the report of papers and an assignment, and does not flush it.
-pub fn write_report_text<W: Write>(
+/// Writes the report of papers and what the students have, and does not flush it.
+fn write_report_text<W: Write>(
     alloc: Global,
     matched: Matched<'_>,
     out: &mut Watched<W>,
 ) -> Result<(), RunFault>
-    ensures bytes { WritesText (IsReportText matched.entry.papers.now (assigned matched.entry.places.now))
+    requires { length matched.places.now ≡ length matched.papers.now.students }
+    ensures bytes { (a : Matching) → ArePlaces matched.entry.papers.now a matched.entry.places.now → WritesText (IsReportText matched.entry.papers.now a)
         (W.contents (device_of out.old)) (W.contents (device_of out.new)) result }
     ensures failed { has_failed out.new ≡ (has_failed out.old || is_output_fault result) }
 {
@@ -78,16 +82,21 @@ pub fn write_standing_report<W: Write>(
         (W.contents (device_of out.old)) (W.contents (device_of out.new)) result }
     ensures failed { has_failed out.new ≡ (has_failed out.old || is_output_fault result) }
 {
-    write_report_text(alloc, Matched::standing(clearing), out)
+    match write_report(alloc, clearing, out) {
+        Ok(()) => Ok(()),
+        Err(ReportFault::Write) => Err(RunFault::WriteOut),
+        Err(ReportFault::OutOfMemory) => Err(RunFault::OutOfMemory),
+    }
 }
 
-/// Writes the report of papers and an assignment, and flushes it.
+/// Writes the report of papers and what the students have, and flushes it.
 pub fn write_flushed_report<W: Write>(
     alloc: Global,
     matched: Matched<'_>,
     out: &mut Watched<W>,
 ) -> Result<(), RunFault>
-    ensures bytes { WritesText (IsReportText matched.entry.papers.now (assigned matched.entry.places.now))
+    requires { length matched.places.now ≡ length matched.papers.now.students }
+    ensures bytes { (a : Matching) → ArePlaces matched.entry.papers.now a matched.entry.places.now → WritesText (IsReportText matched.entry.papers.now a)
         (W.contents (device_of out.old)) (W.contents (device_of out.new)) result }
     ensures failed { has_failed out.new ≡ (has_failed out.old || is_output_fault result) }
 {

@@ -1,2 +1,3 @@
 pub mod LastKey
+pub mod Places
 pub mod Tally

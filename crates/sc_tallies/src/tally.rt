@@ -1,11 +1,12 @@
-ghost use Rattle.std.specs.Prelude.{◌≡◌, ◌+◌, ◌<◌, ◌≤◌, true, length, replicate, slice_get, take, Some, IfOk, OnOk};
-ghost use Rattle.sc_papers.specs.Assignment.{assigned};
+ghost use Rattle.std.specs.Prelude.{◌≡◌, ℕ, ◌+◌, ◌<◌, ◌≤◌, true, length, replicate, get_or, set, slice_get, take, All, Some, IfOk, IfSome, OnOk};
 ghost use Rattle.sc_papers.specs.Market.{students_of};
+ghost use Rattle.sc_papers.specs.Matching.{Matching};
 ghost use Rattle.sc_papers.specs.WellFormed.{WellFormed, WithinLimits};
 ghost use Rattle.sc_tallies.specs.LastKey.{or_later};
+ghost use Rattle.sc_tallies.specs.Places.{ArePlaces};
 ghost use Rattle.sc_tallies.specs.Tally.{held_at, no_tally, with_key, AreTallies, AreTalliesAmong};
 
-use sc_papers::{Assignment, Key, MOST_STUDENTS, Papers, StudentNo};
+use sc_papers::{Key, MOST_SCHOOLS, MOST_STUDENTS, Papers, SchoolNo};
 use std::alloc::{AllocError, Global};
 
 /// How many students have a school, and the last key among them, if they are any.
@@ -36,47 +37,46 @@ fn with_student(tally: Tally, key: Key) -> Tally
     }
 }
 
-/// The position of the school that the student at a position has, if it is one of the papers, and the
-/// student's key there. Their pair may stand at the guessed position of the assignment.
-fn held_at(
-    papers: &Papers,
-    assignment: &Assignment,
-    student: StudentNo,
-    position: usize,
-    guess: usize,
-) -> Option<(usize, Key)>
-    requires { slice_get (students_of papers.now) position ≡ Some student }
-    ensures { result ≡ held_at papers.now (assigned assignment.now) student }
+/// The position of the school that a student has, if it is one of the papers, and the student's key there. The student
+/// is the one at the position, and has this school.
+fn held_at(papers: &Papers, position: usize, place: Option<SchoolNo>) -> Option<(usize, Key)>
+    ensures within { IfSome result (λ found. found.0 < length papers.now.schools) }
+    ensures found { (a : Matching) (student : ℕ) → slice_get (students_of papers.now) position ≡ Some student → a student ≡ place → result ≡ held_at papers.now a student }
 {
-    let school = assignment.get_near(student, guess)?;
+    let Some(school) = place else {
+        return None;
+    };
     let at = papers.school_position(school)?;
     let key = papers.key_at(position, at)?;
     Some((at, key))
 }
 
-/// Counts the student at the position of the order of entry, whose pair may stand at the guessed position of the
-/// assignment, and answers the guess for the next one: mostly the pairs stand in the students' order.
-fn count_student(
-    tallies: &mut [Tally],
-    papers: &Papers,
-    assignment: &Assignment,
-    position: usize,
-    guess: usize,
-) -> usize
+/// Counts a student of this key at the position.
+fn count_at(tallies: &mut [Tally], at: usize, key: Key, counted: usize)
+    requires at { at < length tallies.old }
+    requires limit { length tallies.old ≤ MOST_SCHOOLS }
+    requires few { All (λ t. t.held ≤ counted) tallies.old }
+    requires counted { counted < MOST_STUDENTS }
+    ensures { (t : Tally) → tallies.new ≡ set tallies.old at (with_key (get_or tallies.old at t) key) }
+{
+    tallies[at] = with_student(tallies[at], key);
+}
+
+/// Counts the student at the position of the order of entry, who has this school, if any.
+fn count_student(tallies: &mut [Tally], papers: &Papers, position: usize, place: Option<SchoolNo>)
     requires within { position < length papers.now.students }
     requires well_formed { WellFormed papers.now }
     requires within_limits { WithinLimits papers.now }
-    requires before { AreTalliesAmong papers.now (assigned assignment.now) (take position (students_of papers.now)) tallies.old }
-    ensures { AreTalliesAmong papers.now (assigned assignment.now) (take (position + 1) (students_of papers.now)) tallies.new }
+    requires schools { length tallies.old ≡ length papers.now.schools }
+    requires few { All (λ t. t.held ≤ position) tallies.old }
+    ensures schools { length tallies.new ≡ length papers.now.schools }
+    ensures few { All (λ t. t.held ≤ position + 1) tallies.new }
+    ensures counted { (a : Matching) (student : ℕ) → slice_get (students_of papers.now) position ≡ Some student → a student ≡ place → AreTalliesAmong papers.now a (take position (students_of papers.now)) tallies.old
+        → AreTalliesAmong papers.now a (take (position + 1) (students_of papers.now)) tallies.new }
 {
-    let Some(student) = papers.student_at(position) else {
-        unreachable!()
-    };
-    if let Some((at, key)) = held_at(papers, assignment, student, position, guess) {
-        tallies[at] = with_student(tallies[at], key);
-        return guess.saturating_add(1);
+    if let Some((at, key)) = held_at(papers, position, place) {
+        count_at(tallies, at, key, position);
     }
-    guess
 }
 
 /// A tally of nobody for each of so many schools.
@@ -93,24 +93,39 @@ fn no_tallies(alloc: Global, count: usize) -> Result<Vec<Tally>, AllocError>
     Ok(tallies)
 }
 
-/// Each school's tally by the assignment, by the school's position in the order of entry. Whoever is not
-/// in the papers is not counted, and no more is a student who has a school that is not in them.
+/// Counts the students, who have these schools in order of entry, where nobody is counted yet.
+fn count_students(tallies: &mut [Tally], papers: &Papers, places: &[Option<SchoolNo>])
+    requires places { length places.now ≡ length papers.now.students }
+    requires well_formed { WellFormed papers.now }
+    requires within_limits { WithinLimits papers.now }
+    requires nobody { tallies.old ≡ replicate (length papers.now.schools) no_tally }
+    ensures schools { length tallies.new ≡ length papers.now.schools }
+    ensures tallies { (a : Matching) → ArePlaces papers.now a places.now → AreTallies papers.now a tallies.new }
+{
+    for (position, place) in places.iter().enumerate() {
+        count_student(tallies, papers, position, *place);
+    }
+}
+
+/// Each school's tally by the schools that the students have, which are given in the papers' order of entry. Where a
+/// student has a school that is not in the papers, they are not counted. Tallies stand by the school's position in the
+/// order of entry.
 ///
-/// The only error is a refused growth; memory is taken for each school. The cost is a look-up of a school for each
-/// student, and one of the student where the assignment's pairs are in another order than theirs. Papers are
-/// always well-formed, and this call tells its callers so.
+/// The only error is a refused growth; memory is taken for each school. The cost is one pass over the students. Papers
+/// are always well-formed, and this call tells its callers so.
 pub fn tallies(
     alloc: Global,
     papers: &Papers,
-    assignment: &Assignment,
+    places: &[Option<SchoolNo>],
 ) -> Result<Vec<Tally>, AllocError>
-    ensures tallies { IfOk result (λ tallies. AreTallies papers.now (assigned assignment.now) tallies.items) }
+    requires { length places.now ≡ length papers.now.students }
+    ensures tallies { IfOk result (λ tallies. (a : Matching) → ArePlaces papers.now a places.now → AreTallies papers.now a tallies.items) }
+    ensures schools { IfOk result (λ tallies. length tallies.items ≡ length papers.now.schools) }
     ensures well_formed { OnOk result (WellFormed papers.now) }
 {
+    // This call tells that the papers are well-formed and within their limits.
+    prove!(papers.students_len() <= MOST_STUDENTS);
     let mut tallies = no_tallies(alloc, papers.schools_len())?;
-    let mut guess = 0;
-    for position in 0..papers.students_len() {
-        guess = count_student(tallies.as_mut_slice(), papers, assignment, position, guess);
-    }
+    count_students(tallies.as_mut_slice(), papers, places);
     Ok(tallies)
 }

@@ -537,7 +537,13 @@ fn failing_writers(rt: HostRuntime) -> Result<(), AllocError> {
 fn matched(alloc: Global, seed: &Seed, files: Files, show_log: bool) -> Result<String, AllocError> {
     let mut opening = opening(files);
     let mut out = Watched::new(Vec::new(alloc));
-    let answer = match_files(alloc, seed, &mut opening, show_log, &mut out);
+    let answer = match match_files(alloc, seed, &mut opening, show_log, &mut out) {
+        Ok(papers) => {
+            drop(papers);
+            Ok(())
+        }
+        Err(fault) => Err(fault),
+    };
     let output = String::from_utf8_lossy(alloc, out.inner().as_slice())?;
     format!(in alloc; "{output}|{answer:?}")
 }

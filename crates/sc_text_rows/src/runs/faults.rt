@@ -177,7 +177,10 @@ const NEWCOMER: &str =
 /// What a replay of a journal over Market B writes, and its answer.
 fn replayed(alloc: Global, seed: &Seed, journal: &'static [u8]) -> Result<String, AllocError> {
     let mut out = Watched::new(Vec::new(alloc));
-    let answer = replay_files(alloc, seed, &mut opening(), &mut whole(journal), &mut out);
+    let answer = match replay_files(alloc, seed, &mut opening(), &mut whole(journal), &mut out) {
+        Ok(replayed) => Ok(replayed.tail),
+        Err(fault) => Err(fault),
+    };
     let output = String::from_utf8_lossy(alloc, out.inner().as_slice())?;
     format!(in alloc; "{output}|{answer:?}")
 }

@@ -1,13 +1,15 @@
-use Rattle.std.proofs.Common.{sym, ◌∙◌, ap, inl, inr, []}
+use Rattle.std.proofs.Common.{◌≡◌, ◌++◌, ◌∷◌, [], Some, ap, get_or, inl, inr, slice_get, sym, ◌∙◌}
 use Rattle.std.proofs.lemmas.Bool.{cases_Bool}
+use Rattle.std.proofs.lemmas.List.{get_or-map}
 use Rattle.std.proofs.lemmas.List.Elements.{All-cons, All-nil}
+use Rattle.std.proofs.lemmas.Option.{get_or_from_slice_get, same_Some, slice_get_within}
 use Rattle.sc_papers.specs.Assignment.{assigned}
 use Rattle.sc_papers.specs.Market.{is_student, students_of}
 use Rattle.sc_papers.proofs.Hands.{has-position}
 use Rattle.sc_papers.proofs.Positions.{among-student, position-among, position-there}
 use Rattle.sc_repair.specs.Standing.{matching_of}
-use Rattle.sc_report.specs.Entrants.{StandsAt}
-use Rattle.sc_report.specs.declared.entrants.Entrant.{Entrant}
+use Rattle.sc_report.specs.Entrants.{Holds}
+use Rattle.sc_notices.specs.ExplanationText.{explanation_lines}
 use Rattle.sc_notices.proofs.ExplanationLemmas.{explained-one}
 use Rattle.sc_notices.proofs.explanation.explanation_of.Goals as goal
 
@@ -18,20 +20,28 @@ returns-in_default-clause-known c =
       | inr unknown ↦ sym unknown ∙ ap (λ m. is_student m c.args.student) c.papers-papers.ensures.papers
     ]
 
-pub push_explanations-requires-clause-stand : goal.push_explanations-requires-clause-stand
-push_explanations-requires-clause-stand c =
+pub returns-clause-known : goal.returns-clause-known
+returns-clause-known c =
     let m = c.papers-papers.result.now in
-    let entrant : Entrant = record { student = c.args.student; position = c.in-Some.position; pair = c.in-Some.position } in
-    All-cons (StandsAt m) entrant [] (position-there (students_of m) c.args.student c.in-Some.position (sym c.in-Some.ensures)) (All-nil (StandsAt m))
+    sym (among-student m c.args.student (position-among (students_of m) c.args.student c.in-Some.position (sym c.in-Some.ensures)))
+    ∙ ap (λ n. is_student n c.args.student) c.papers-papers.ensures.papers
 
-pub returns : goal.returns
-returns c =
+pub returns-clause-text : goal.returns-clause-text
+returns-clause-text c =
     let m = c.papers-papers.result.now in
     let standing = c.args.clearing.now.standing in
-    record {
-      known = sym (among-student m c.args.student (position-among (students_of m) c.args.student c.in-Some.position (sym c.in-Some.ensures)))
-          ∙ ap (λ n. is_student n c.args.student) c.papers-papers.ensures.papers;
-      text = explained-one standing.papers (matching_of standing) (assigned c.places-places.result.now) m c.args.student
-          c.new-text.result.items c.push_explanations.new.text.items
-          c.papers-papers.ensures.papers (ap assigned c.places-places.ensures) c.new-text.ensures.items c.in_ok-push_explanations.ensures;
-    }
+    let b = assigned c.places.result.now in
+    let k = c.in-Some.position in
+    let one = c.entrant_at-entrant.result in
+    let here : slice_get (students_of m) k ≡ Some one.student =
+    ap (slice_get (students_of m)) (sym c.entrant_at-entrant.ensures.position) ∙ c.entrant_at-entrant.ensures.stands in
+    let same = same_Some one.student c.args.student (sym here ∙ position-there (students_of m) c.args.student k (sym c.in-Some.ensures)) in
+    let held = c.entrant_at-entrant.ensures.held ∙ c.index.ensures ∙ ap (λ places. get_or places k c.index.result.now) c.in_ok-places.ensures
+    ∙ get_or-map b (students_of m) k one.student c.index.result.now (slice_get_within (students_of m) k one.student here)
+    ∙ ap b (get_or_from_slice_get (students_of m) k one.student one.student here) in
+    let made = c.as_slice-2.ensures.value ∙ c.in_ok-rows.ensures.rows b (c.as_slice.ensures.value ∙ c.in_ok-places.ensures) in
+    let hold = All-cons (Holds b) one [] (sym held) (All-nil (Holds b)) in
+    explained-one standing.papers (matching_of standing) b m c.args.student
+    c.new-text.result.items c.push_explanations.new.text.items
+    c.papers-papers.ensures.papers (ap assigned c.places.ensures) c.new-text.ensures.items
+    (c.in_ok-push_explanations.ensures b made hold ∙ ap (λ i. c.new-text.result.items ++ explanation_lines m b (i ∷ [])) same)

@@ -1,14 +1,17 @@
-use Rattle.std.proofs.Common.{ap, ◌∙◌}
+use Rattle.std.proofs.Common.{ap, subst, sym, ◌∙◌, All}
 use Rattle.sc_papers.specs.Assignment.{assigned}
 use Rattle.sc_repair.specs.Standing.{matching_of}
-use Rattle.sc_report.specs.Entrants.{numbers_of}
+use Rattle.sc_report.specs.Entrants.{numbers_of, Holds}
 use Rattle.sc_notices.proofs.ExplanationLemmas.{explained}
 use Rattle.sc_notices.proofs.explanation.explanation_text.Goals as goal
 
 pub returns : goal.returns
 returns c =
     let standing = c.args.clearing.now.standing in
-    explained standing.papers (matching_of standing) (assigned c.places-places.result.now) c.papers-papers.result.now (numbers_of c.as_slice.result.now)
+    let b = assigned c.places.result.now in
+    let made = c.as_slice-4.ensures.value ∙ c.in_ok-rows.ensures.rows b (c.as_slice-2.ensures.value ∙ c.in_ok-places.ensures) in
+    let hold = subst (All (Holds b)) (sym c.as_slice-3.ensures.value) (c.in_ok-entrants.ensures.hold b (c.as_slice.ensures.value ∙ c.in_ok-places.ensures)) in
+    explained standing.papers (matching_of standing) b c.papers-papers.result.now (numbers_of c.as_slice-3.result.now)
     c.in_ok-text.text.items c.push_explanations.new.text.items
-    c.papers-papers.ensures.papers (ap assigned c.places-places.ensures) c.in_ok-text.ensures.items
-    (ap numbers_of c.as_slice.ensures.value ∙ c.in_ok-entrants.ensures.numbers) c.in_ok-push_explanations.ensures
+    c.papers-papers.ensures.papers (ap assigned c.places.ensures) c.in_ok-text.ensures.items
+    (ap numbers_of c.as_slice-3.ensures.value ∙ c.in_ok-entrants.ensures.rising.numbers) (c.in_ok-push_explanations.ensures b made hold)

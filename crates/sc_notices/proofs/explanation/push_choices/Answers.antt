@@ -2,7 +2,6 @@ use Rattle.std.proofs.Common.{◌≡◌, refl, sym, ◌∙◌, ap, ℕ, ◌≤�
 use Rattle.std.specs.Prelude.{flat_map}
 use Rattle.std.proofs.lemmas.List.{take_all}
 use Rattle.std.proofs.lemmas.Option.{slice_get_within}
-use Rattle.sc_papers.specs.Assignment.{assigned}
 use Rattle.sc_papers.specs.Key.{key_of}
 use Rattle.sc_papers.specs.Market.{choices_of}
 use Rattle.sc_papers.proofs.Choices.{places-end}
@@ -41,35 +40,36 @@ ranks-smaller c =
 pub ranks-preserved : goal.ranks-preserved
 ranks-preserved c =
     let m = c.args.papers.now in
-    let a = assigned c.args.places.now in
     let i = c.args.entrant.student in
     let k = c.ranks.rank in
     let s = c.in-Some.choice.school in
     let cut = c.cutoff_of-cutoff.result in
     let key = c.in-Some.choice.key in
-    let held = c.get_near-held.result in
+    let held = c.args.entrant.held in
     let same = hand-is m c.args.entrant.position i c.requires.stands in
     let here : slice_get (choices_of m i) k ≡ Some s = sym (c.in-Some.ensures.school ∙ ap (λ (j : ℕ). slice_get (choices_of m j) k) same) in
-    let given = ap (λ o. is_given o s) c.get_near-held.ensures in
     record {
-      past = c.in_ok-is_past.ensures.past ∙ (λ t. c.ranks.invariant.past t || given t) ∙ sym (before-more m a i k s here);
-      lines = choices-more m a i k s key cut (outcome_by (is_given held s) c.ranks.is_past (reason_by cut key)) (is_given held s) c.ranks.is_past c.args.number.now
+      past = λ a are holds.
+          let given = ap (λ o. is_given o s) (sym holds) in
+          c.in_ok-is_past.ensures.past ∙ (λ t. c.ranks.invariant.past a are holds t || given t) ∙ sym (before-more m a i k s here);
+      lines = λ a are holds.
+          let given = ap (λ o. is_given o s) (sym holds) in
+          choices-more m a i k s key cut (outcome_by (is_given held s) c.ranks.is_past (reason_by cut key)) (is_given held s) c.ranks.is_past c.args.number.now
           c.args.text.now.items c.ranks.text.items c.extend_from_slice.new.self.items c.push_choice.new.text.items
           here c.requires.number (c.in-Some.ensures.key ∙ ap (λ (j : ℕ). key_of m j s) same)
-          (c.cutoff_of-cutoff.ensures m a c.requires.rows c.in-Some.ensures.position)
-          given c.ranks.invariant.past refl c.ranks.invariant.lines c.in_ok-extend_from_slice.ensures.items c.in_ok-is_past.ensures.text;
+          (c.cutoff_of-cutoff.ensures m a are c.in-Some.ensures.position)
+          given (c.ranks.invariant.past a are holds) refl (c.ranks.invariant.lines a are holds) c.in_ok-extend_from_slice.ensures.items c.in_ok-is_past.ensures.text;
       within = omega (arith, slice_get_within (choices_of m i) k s here);
     }
 
 pub returns : goal.returns
-returns c =
+returns c a are holds =
     let m = c.args.papers.now in
-    let a = assigned c.args.places.now in
     let i = c.args.entrant.student in
     let k = c.ranks.rank in
     let none : slice_get (choices_of m i) k ≡ None =
     sym (c.in_default.ensures.school ∙ ap (λ (j : ℕ). slice_get (choices_of m j) k) (hand-is m c.args.entrant.position i c.requires.stands)) in
     let past : length (choices_of m i) ≤ k = places-end (choices_of m i) k none in
-    c.ranks.invariant.lines
+    c.ranks.invariant.lines a are holds
     ∙ ap (λ choices. c.args.text.now.items ++ flat_map (λ (choice : ℕ × ℕ). choice_line m a i choice.0 choice.1) choices)
     (take_all k (ranked m i) (omega (arith, past, ranked-length m i)))

@@ -1,8 +1,11 @@
-use Rattle.std.proofs.Common.{◌≡◌, take}
+use Rattle.std.proofs.Common.{◌≡◌, take, All}
 use Rattle.std.specs.Prelude.{flat_map}
-use Rattle.sc_papers.specs.Assignment.{assigned}
+use Rattle.sc_papers.specs.Matching.{Matching}
+use Rattle.sc_report.specs.Cutoff.{rows_in_order}
+use Rattle.sc_report.specs.Entrants.{Holds}
 use Rattle.sc_report.specs.Reason.{reasons_of}
 use Rattle.sc_report.proofs.reason.reasons_among.Given as goal
 
 abbrev pub invariant-loop-entrant : goal.invariant-loop-entrant
-invariant-loop-entrant l = l.reasons.items ≡ flat_map (λ entrant. reasons_of l.papers (assigned l.places) entrant.student) (take l.entrant-index l.entrants)
+invariant-loop-entrant l = (a : Matching) → l.rows ≡ rows_in_order l.papers a → All (Holds a) l.entrants
+    → l.reasons.items ≡ flat_map (λ entrant. reasons_of l.papers a entrant.student) (take l.entrant-index l.entrants)

@@ -1,4 +1,5 @@
 use Rattle.std.proofs.Common.{◌≡◌, ℕ, None, Some, ap, false, slice_get, sym, true, ◌∙◌}
+use Rattle.std.proofs.lemmas.Option.{slice_get_within}
 use Rattle.sc_papers.specs.Key.{key_of}
 use Rattle.sc_papers.specs.Market.{choices_of}
 use Rattle.sc_papers.proofs.Hands.{hand-is}
@@ -22,7 +23,7 @@ returns-then-is_held-clause-row c a are holds up =
     let k = c.args.rank in
     let s = c.in-Some.choice.school in
     let here : slice_get (choices_of m i) k ≡ Some s = sym (c.in-Some.ensures.school ∙ ap (λ (j : ℕ). slice_get (choices_of m j) k) (hand-is m c.args.entrant.now.position i c.requires.stands)) in
-    sym (row-held m a i k s up here (held-test a i s c.args.held.now c.is_held.result true holds c.is_held.ensures c.if-is_held.true))
+    sym (row-held m a i k s up here (held-test a i s c.args.entrant.now.held c.is_held.result true (sym holds) c.is_held.ensures c.if-is_held.true))
 
 pub returns-clause-row : goal.returns-clause-row
 returns-clause-row c a are holds up =
@@ -35,4 +36,12 @@ returns-clause-row c a are holds up =
     let row = row-reason m a i s c.reason_of-reason.result
     (c.reason_of-reason.ensures m a are c.in-Some.ensures.position
     ∙ ap (reason_by (cutoff m a s)) (c.in-Some.ensures.key ∙ ap (λ (j : ℕ). key_of m j s) same)) in
-    ap Some row ∙ sym (row-missed m a i k s up here (held-test a i s c.args.held.now c.is_held.result false holds c.is_held.ensures c.if-is_held.false))
+    ap Some row ∙ sym (row-missed m a i k s up here (held-test a i s c.args.entrant.now.held c.is_held.result false (sym holds) c.is_held.ensures c.if-is_held.false))
+
+pub returns-clause-within : goal.returns-clause-within
+returns-clause-within c some =
+    let m = c.args.papers.now in
+    let i = c.args.entrant.now.student in
+    let s = c.in-Some.choice.school in
+    slice_get_within (choices_of m i) c.args.rank s
+    (sym (c.in-Some.ensures.school ∙ ap (λ (j : ℕ). slice_get (choices_of m j) c.args.rank) (hand-is m c.args.entrant.now.position i c.requires.stands)))

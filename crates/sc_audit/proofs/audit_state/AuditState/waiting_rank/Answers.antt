@@ -1,4 +1,4 @@
-use Rattle.std.proofs.Common.{◌≡◌, ◌∙◌, ap, sym, ℕ, nat_eq, Some, None}
+use Rattle.std.proofs.Common.{◌∙◌, ap, sym, ℕ, nat_eq, Some, None}
 use Rattle.std.specs.Option.{option_map}
 use Rattle.std.proofs.lemmas.Bool.{cond-true, cond-false}
 use Rattle.sc_papers.proofs.Hands.{student-there}

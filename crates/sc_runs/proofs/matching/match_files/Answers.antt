@@ -2,7 +2,7 @@ use Rattle.std.proofs.lemmas.Result.{IfOk-weaker}
 use Rattle.sc_report.specs.Watched.{device_of}
 use Rattle.sc_runs.specs.Inputs.{opening_turns, texts_of}
 use Rattle.sc_runs.proofs.Calls.{MatchesFiles-read}
-use Rattle.sc_runs.proofs.matching.match_settled.Goals as goal
+use Rattle.sc_runs.proofs.matching.match_files.Goals as goal
 
 pub returns-clause-bytes : goal.returns-clause-bytes
 returns-clause-bytes g c =
@@ -12,4 +12,4 @@ returns-clause-bytes g c =
 
 pub returns-clause-papers : goal.returns-clause-papers
 returns-clause-papers g c =
-    IfOk-weaker c.match_owned.result _ _ (λ done opened. (texts_of c.in-Ok.texts, c.in-Ok.ensures.read, opened)) c.match_owned.ensures.papers
+    IfOk-weaker c.match_owned.result _ _ (λ papers opened. (texts_of c.in-Ok.texts, c.in-Ok.ensures.read, opened)) c.match_owned.ensures.papers
