@@ -9,7 +9,8 @@ use std::alloc::{AllocError, Global};
 use std::marker::Model;
 
 /// A roll kept as a list until it puts out a key that it held, and from then on as a heap with the last key on top.
-/// An offer with a free seat costs a comparison and the room of a key, and one that is refused a comparison. One that
+/// An offer with a free seat costs a comparison and the room of a key, which the first one takes for all seats of a roll
+/// that has few, and one that is refused a comparison. One that
 /// puts out another key costs the logarithm of the seats, and the first such one the seats, since it makes the heap.
 /// A full roll takes no memory for an offer.
 #[derive(Drop)]
@@ -29,6 +30,15 @@ impl Model for HeapRoll {
     ghost view = { view_of };
 
     ghost invariant = { IsKept };
+}
+
+/// For how many keys a roll takes room at most when its first key comes.
+const MOST_FIRST_ROOM: usize = 64;
+
+/// For how many keys a roll of so many seats takes room when its first key comes: for as many as it may hold, unless
+/// these are many.
+fn first_room(capacity: Seats) -> usize {
+    (capacity.get() as usize).min(MOST_FIRST_ROOM)
 }
 
 /// Whether the key is ahead of the last of those held, if there is one.
@@ -56,7 +66,7 @@ impl Roll for HeapRoll {
 
     fn offer(&mut self, key: Key) -> Result<Option<Key>, AllocError> {
         if self.held.len() < self.capacity.get() as usize {
-            self.held.add(self.alloc, key)?;
+            self.held.add(self.alloc, first_room(self.capacity), key)?;
             return Ok(None);
         }
         if is_ahead_of_last(&self.held.last(), &key) {

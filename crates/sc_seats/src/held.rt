@@ -21,16 +21,16 @@ pub(crate) enum Held {
 }
 
 impl Held {
-    /// Adds a key to those of which none was put out yet, at the cost of a comparison. A refused growth changes
-    /// nothing.
-    pub(crate) fn add(&mut self, alloc: Global, key: Key) -> Result<(), AllocError>
+    /// Adds a key to those of which none was put out yet, at the cost of a comparison. The first key takes room for so
+    /// many. A refused growth changes nothing.
+    pub(crate) fn add(&mut self, alloc: Global, room: usize, key: Key) -> Result<(), AllocError>
         requires { is_heap self.old ≡ false }
         ensures added { OnOk result (IsPermutation (key ∷ keys_of self.old) (keys_of self.new)) }
         ensures listed { is_heap self.new ≡ false }
         ensures unchanged { OnErr result (self.new ≡ self.old) }
     {
         match self {
-            Held::Nobody => *self = Held::Listed(KeyList::of(alloc, key)?),
+            Held::Nobody => *self = Held::Listed(KeyList::of(alloc, room, key)?),
             Held::Listed(keys) => keys.append(key)?,
             Held::Heaped(_) => unreachable!(),
         }

@@ -25,12 +25,12 @@ impl Model for KeyList {
 }
 
 impl KeyList {
-    /// The list of one key, or the error of a refused growth.
-    pub(crate) fn of(alloc: Global, key: Key) -> Result<Self, AllocError>
+    /// The list of one key, with room for so many, or the error of a refused growth.
+    pub(crate) fn of(alloc: Global, room: usize, key: Key) -> Result<Self, AllocError>
         ensures { IfOk result (λ list. list ≡ key ∷ []) }
     {
         let last = HeldKey::of(key);
-        let mut keys = Vec::new(alloc);
+        let mut keys = Vec::with_capacity(alloc, room)?;
         keys.push(last)?;
         Ok(KeyList { keys, last })
     }
