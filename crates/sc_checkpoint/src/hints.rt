@@ -10,34 +10,36 @@ pub struct Hints {
     positions: Vec<u32>,
 }
 
+/// How many places there are for so many students' hints: a power of two, by which a remainder costs no division.
+fn places_for(students: usize) -> usize {
+    students.checked_next_power_of_two().unwrap_or(students)
+}
+
 impl Hints {
-    /// Room for so many students' hints: where it is too small, or where numbers lie far apart, some hints take the place
-    /// of others. The only error is want of memory.
+    /// Room for so many students' hints, and for less than twice as many: where it is too small, or where numbers lie far
+    /// apart, some hints take the place of others. The only error is want of memory.
     pub fn with_room(alloc: Global, students: usize) -> Result<Self, AllocError> {
         Ok(Hints {
-            positions: Vec::from_elem(alloc, 0, students)?,
+            positions: Vec::from_elem(alloc, 0, places_for(students))?,
         })
     }
 
-    /// Where the student's hint is kept: numbers that leave the same remainder share a place.
-    fn place(&self, student: StudentNo) -> Option<usize> {
-        (student.get() as usize).checked_rem(self.positions.len())
+    /// Where the student's hint is kept: numbers with the same last bits share a place.
+    fn place(&self, student: StudentNo) -> usize {
+        student.get() as usize & self.positions.len().wrapping_sub(1)
     }
 
     /// Keeps the student's position. In constant time.
     pub fn note(&mut self, student: StudentNo, position: usize) {
-        if let Some(place) = self.place(student) {
-            if let Some(hint) = self.positions.get_mut(place) {
-                *hint = u32::try_from(position).unwrap_or(0);
-            }
+        let place = self.place(student);
+        if let Some(hint) = self.positions.get_mut(place) {
+            *hint = u32::try_from(position).unwrap_or(0);
         }
     }
 
     /// The position at which the student may be. In constant time.
     pub fn guess(&self, student: StudentNo) -> usize {
-        let hint = self
-            .place(student)
-            .and_then(|place| self.positions.get(place));
+        let hint = self.positions.get(self.place(student));
         hint.map_or(0, |position| *position as usize)
     }
 }
