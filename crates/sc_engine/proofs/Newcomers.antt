@@ -5,7 +5,6 @@ use Rattle.std.proofs.lemmas.List.{get_or-append-add, get_or_append_left, map-ap
 use Rattle.std.proofs.lemmas.Option.{slice_get_read}
 use Rattle.sc_papers.specs.Market.{Market, students_of}
 use Rattle.sc_papers.specs.WellFormed.{WellFormed}
-use Rattle.sc_papers.specs.declared.proposal.Proposal.{Proposal}
 use Rattle.sc_engine.specs.Newcomers.{entrants_of, ComesNext}
 use Rattle.sc_engine.specs.Entrants.{numbers_of, AreEverybody}
 use Rattle.sc_engine.specs.RoundView.{RoundView, Enters, has_entered, SettlesThese}
@@ -16,7 +15,7 @@ use Rattle.sc_engine.proofs.Settling.{settles-permuted, take-next}
 use Rattle.sc_engine.proofs.Tables.{get_or-mapped, length-mapped}
 
 -- one newcomer more
-pub newcomers-more : (batch : List Entrant) (newcomers : List Newcomer) (k : ℕ) (e : Entrant) (first : Option Proposal) → k < length batch → e ≡ get_or batch k e
+pub newcomers-more : (batch : List Entrant) (newcomers : List Newcomer) (k : ℕ) (e : Entrant) (first : Option ℕ) → k < length batch → e ≡ get_or batch k e
     → entrants_of newcomers ≡ take k batch → entrants_of (newcomers ++ record { entrant = e; first = first } ∷ []) ≡ take (k + 1) batch
 newcomers-more batch newcomers k e first low is before =
     map-append (λ (n : Newcomer). n.entrant) newcomers (record { entrant = e; first = first } ∷ [])

@@ -1,10 +1,16 @@
--- What the papers propose at a rank.
-use Rattle.std.proofs.Common.{◌≡◌, sym, ap, subst, ◌∙◌, ℕ, nat_eq, Option, Some, None, IfSome, position, slice_get}
+-- What the papers propose at a rank, and at first.
+use Rattle.std.proofs.Common.{◌≡◌, refl, sym, ap, subst, ◌∙◌, ℕ, ◌<◌, nat_eq, List, length, map, Option, Some, None, IfSome, position, slice_get, arith}
 use Rattle.std.specs.Option.{option_map}
-use Rattle.sc_papers.specs.Key.{key_of}
-use Rattle.sc_papers.specs.Market.{Market, choices_of, schools_of, student_at}
+use Rattle.std.proofs.lemmas.Map.Entries.{length-keys_of}
+use Rattle.std.proofs.lemmas.Option.{none-some, same_Some, slice_get-map, slice_get_within}
+use Rattle.sc_papers.specs.Key.{key_at, key_of}
+use Rattle.sc_papers.specs.Market.{Market, choices_of, schools_of, student_at, students_of}
+use Rattle.sc_papers.specs.declared.key.Key.{Key}
 use Rattle.sc_papers.specs.declared.proposal.Proposal.{Proposal}
-use Rattle.sc_engine.specs.Proposals.{IsProposal}
+use Rattle.sc_papers.proofs.Hands.{hand-is, hand-key}
+use Rattle.sc_papers.proofs.Positions.{position-there}
+use Rattle.sc_engine.specs.Newcomers.{IsFirstPlace}
+use Rattle.sc_engine.specs.Proposals.{IsProposal, first_choice}
 
 -- no proposal to no choice
 pub proposes-nothing : (m : Market) (i : ℕ) (choice : Option ℕ) (proposal : Option Proposal) → proposal ≡ None → choice ≡ None → IsProposal m i choice proposal
@@ -14,6 +20,10 @@ proposes-nothing m i choice proposal none nowhere = record {
   key = subst (λ (o : Option Proposal). IfSome o (λ p. p.key ≡ key_of m i p.school)) (sym none) tt;
 }
 
+-- who stands at a position stands before the last one
+stands-low : (m : Market) (i at : ℕ) → slice_get (students_of m) at ≡ Some i → at < length m.students
+stands-low m i at stands = omega (arith, slice_get_within (students_of m) at i stands, length-keys_of m.students)
+
 -- what is said of the student at a position, said of the student who stands there
 pub proposes-there : (m : Market) (i at rank : ℕ) (proposal : Option Proposal) → student_at m at ≡ i
     → option_map (λ p. p.school) proposal ≡ slice_get (choices_of m (student_at m at)) rank
@@ -22,3 +32,31 @@ pub proposes-there : (m : Market) (i at rank : ℕ) (proposal : Option Proposal)
     → IsProposal m i (slice_get (choices_of m i) rank) proposal
 proposes-there m i at rank proposal there school place key =
     subst (λ (j : ℕ). IsProposal m j (slice_get (choices_of m j) rank) proposal) there (record { school = school; position = place; key = key })
+
+-- where the first choice stands, by the positions of all choices
+pub first-place : (m : Market) (choices places : List ℕ) (found : Option ℕ) → found ≡ slice_get places 0 → map Some places ≡ map (λ s. position (nat_eq s) (schools_of m)) choices
+    → option_map Some found ≡ option_map (λ s. position (nat_eq s) (schools_of m)) (slice_get choices 0)
+first-place m choices places found is theirs =
+    ap (option_map Some) is ∙ sym (slice_get-map Some places 0) ∙ ap (λ (os : List (Option ℕ)). slice_get os 0) theirs
+    ∙ slice_get-map (λ s. position (nat_eq s) (schools_of m)) choices 0
+
+-- where a choice has a place, its school stands there
+first-found : (m : Market) (i place : ℕ) → IsFirstPlace m i (Some place) → (s : ℕ) × (first_choice m i ≡ Some s) × (position (nat_eq s) (schools_of m) ≡ Some place)
+first-found m i place is = go (first_choice m i) is
+  where
+    go : (choice : Option ℕ) → Some (Some place) ≡ option_map (λ s. position (nat_eq s) (schools_of m)) choice → (s : ℕ) × (choice ≡ Some s) × (position (nat_eq s) (schools_of m) ≡ Some place)
+    go None none = absurd (none-some (Some place) (sym none))
+    go (Some s) found = (s, refl, sym (same_Some (Some place) (position (nat_eq s) (schools_of m)) found))
+
+-- so the student proposes there
+pub proposes-found : (m : Market) (i at place school : ℕ) (key : Key) → slice_get (students_of m) at ≡ Some i → IsFirstPlace m i (Some place) → Some school ≡ slice_get (schools_of m) place → Some key ≡ key_at m at place
+    → IsProposal m i (first_choice m i) (Some (record { school = school; position = place; key = key }))
+proposes-found m i at place school key stands is there keyed =
+    let (s, chosen, found) = first-found m i place is in
+    let same : school ≡ s = same_Some school s (there ∙ position-there (schools_of m) s place found) in
+    record {
+      school = ap Some same ∙ sym chosen;
+      position = ap (λ x. position (nat_eq x) (schools_of m)) same ∙ found;
+      key = same_Some key (key_of m (student_at m at) s) (keyed ∙ hand-key m at s place (stands-low m i at stands) found)
+          ∙ ap (λ j. key_of m j s) (hand-is m at i stands) ∙ ap (key_of m i) (sym same);
+    }

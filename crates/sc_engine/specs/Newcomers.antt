@@ -1,8 +1,9 @@
--- Students who enter in batches, each with what they propose first.
-use Rattle.std.specs.Prelude.{List, ◌++◌, map}
-use Rattle.sc_papers.specs.Market.{Market}
-use Rattle.sc_engine.specs.Entrants.{numbers_of, AreEverybody}
-use Rattle.sc_engine.specs.Proposals.{IsProposal, first_choice}
+-- Students who enter in batches, each with where their first choice's school stands.
+use Rattle.std.specs.Prelude.{◌≡◌, ℕ, nat_eq, List, ◌++◌, map, Option, Some, position}
+use Rattle.std.specs.Option.{option_map}
+use Rattle.sc_papers.specs.Market.{Market, schools_of}
+use Rattle.sc_engine.specs.Entrants.{numbers_of, AreEverybody, StandsAt}
+use Rattle.sc_engine.specs.Proposals.{first_choice}
 use Rattle.sc_engine.specs.RoundView.{RoundView, SettlesThese}
 use Rattle.sc_engine.specs.declared.batches.Newcomer.{Newcomer}
 use Rattle.sc_engine.specs.declared.entrants.Entrant.{Entrant}
@@ -11,9 +12,14 @@ use Rattle.sc_engine.specs.declared.entrants.Entrant.{Entrant}
 abbrev pub entrants_of : List Newcomer → List Entrant
 entrants_of newcomers = map (λ newcomer. newcomer.entrant) newcomers
 
--- the first proposal is of the student's first choice
-abbrev pub ProposesFirst : Market → Newcomer → Type 0
-ProposesFirst m newcomer = IsProposal m newcomer.entrant.student (first_choice m newcomer.entrant.student) newcomer.first
+-- this is the position of the school of a student's first choice, and none where there is no choice
+abbrev pub IsFirstPlace : Market → ℕ → Option ℕ → Type 0
+IsFirstPlace m i place = option_map Some place ≡ option_map (λ s. position (nat_eq s) (schools_of m)) (first_choice m i)
+
+-- who stands at their position, with that of their first choice's school
+pub record KnowsFirst (m : Market) (newcomer : Newcomer) : Type 0 where
+  pub stands : StandsAt m newcomer.entrant
+  pub first : IsFirstPlace m newcomer.entrant.student newcomer.first
 
 -- those before the batch have entered, and with the batch and those after it they are everybody
 pub record ComesNext (m : Market) (r : RoundView) (before batch after : List Entrant) : Type 0 where

@@ -2,7 +2,8 @@
 
 ghost use Rattle.std.specs.Prelude.{◌≡◌, false, All, List, [], ◌++◌, OnOk};
 ghost use Rattle.sc_papers.specs.Market.{students_of};
-ghost use Rattle.sc_engine.specs.Newcomers.{entrants_of, ComesNext, ProposesFirst};
+ghost use Rattle.sc_engine.specs.Newcomers.{entrants_of, ComesNext, IsFirstPlace, KnowsFirst};
+ghost use Rattle.sc_engine.specs.Proposals.{IsProposal, first_choice};
 ghost use Rattle.sc_engine.specs.Entrants.{numbers_of, AreEverybody, StandsAt};
 ghost use Rattle.sc_engine.specs.Round.{view_of, is_spent};
 ghost use Rattle.sc_engine.specs.RoundView.{SettlesThese};
@@ -17,11 +18,40 @@ use std::alloc::{AllocError, Global};
 /// what is made of them stays at hand.
 const BATCH: usize = 64;
 
-/// An entrant, and what they propose first.
+/// An entrant, and the position of the school of their first choice, if they have a choice.
 #[derive(Clone, Copy)]
 struct Newcomer {
     entrant: Entrant,
-    first: Option<Proposal>,
+    first: Option<usize>,
+}
+
+/// The position of the school of an entrant's first choice, if they have one.
+fn first_place(papers: &Papers, entrant: &Entrant) -> Option<usize>
+    requires { StandsAt papers.now entrant.now }
+    ensures { IsFirstPlace papers.now entrant.now.student result }
+{
+    let places = papers.choice_positions_at(entrant.position as usize);
+    Some(usize::from(*places.first()?))
+}
+
+/// What an entrant proposes first, whose first choice's school stands at this position, if they have a choice.
+fn first_proposal(papers: &Papers, entrant: &Entrant, first: Option<usize>) -> Option<Proposal>
+    requires stands { StandsAt papers.now entrant.now }
+    requires first { IsFirstPlace papers.now entrant.now.student first }
+    ensures { IsProposal papers.now entrant.now.student (first_choice papers.now entrant.now.student) result }
+{
+    let position = first?;
+    let Some(school) = papers.school_at(position) else {
+        unreachable!()
+    };
+    let Some(key) = papers.key_at(entrant.position as usize, position) else {
+        unreachable!()
+    };
+    Some(Proposal {
+        school,
+        position,
+        key,
+    })
 }
 
 /// Makes the entrants of a batch the newcomers, in place of those of the batch before. The only error is want of memory,
@@ -33,12 +63,13 @@ fn read_batch(
 ) -> Result<(), AllocError>
     requires { All (StandsAt papers.now) batch.now }
     ensures entrants { OnOk result (entrants_of newcomers.new.items ≡ batch.now) }
-    ensures proposals { OnOk result (All (ProposesFirst papers.now) newcomers.new.items) }
+    ensures firsts { OnOk result (All (KnowsFirst papers.now) newcomers.new.items) }
 {
     newcomers.clear();
     for entrant in batch {
-        // No read waits for another, so the processor makes several of them at once.
-        let first = papers.proposal(entrant.position as usize, 0);
+        // No read waits for another, and nothing is decided by what was read, so the processor makes several reads at
+        // once. What a student's priority is at the school is asked when the row has come.
+        let first = first_place(papers, entrant);
         newcomers.push(Newcomer {
             entrant: *entrant,
             first,
@@ -54,19 +85,15 @@ fn enter_batch<R: Roll>(
     newcomers: &[Newcomer],
 ) -> Result<(), AllocError>
     requires next { (before : List Entrant) × (after : List Entrant) × ComesNext papers.now (view_of R.keys R.seats round.old) before (entrants_of newcomers.now) after }
-    requires proposals { All (ProposesFirst papers.now) newcomers.now }
+    requires firsts { All (KnowsFirst papers.now) newcomers.now }
     requires ready { is_spent round.old ≡ false }
     ensures entered { OnOk result ((before after : List Entrant) → ComesNext papers.now (view_of R.keys R.seats round.old) before (entrants_of newcomers.now) after → SettlesThese papers.now (view_of R.keys R.seats round.new) (numbers_of (before ++ entrants_of newcomers.now))) }
     ensures ready { OnOk result (is_spent round.new ≡ false) }
 {
     for newcomer in newcomers {
         let entrant = newcomer.entrant;
-        round.enter_with(
-            papers,
-            entrant.student,
-            entrant.position as usize,
-            newcomer.first,
-        )?;
+        let first = first_proposal(papers, &entrant, newcomer.first);
+        round.enter_with(papers, entrant.student, entrant.position as usize, first)?;
     }
     Ok(())
 }

@@ -10,4 +10,4 @@ mod round;
 mod settled;
 
 pub use round::Round;
-pub use settled::{Outcome, Settled, settle, settle_by_draws};
+pub use settled::{Outcome, Settled, settle, settle_by_first_keys};

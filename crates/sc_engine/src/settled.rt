@@ -12,7 +12,7 @@ ghost use Rattle.sc_engine.specs.Round.{view_of, is_spent};
 ghost use Rattle.sc_engine.specs.RoundView.{Fits, next_of, SettlesFirst, SettlesThese};
 
 use crate::batches::enter_in_batches;
-use crate::entrants::entrants_by_draw;
+use crate::entrants::entrants_by_first_key;
 use crate::round::Round;
 use sc_papers::{Assignment, Papers, Rejection, SchoolNo};
 use sc_seats::{HeapRoll, Roll};
@@ -56,13 +56,13 @@ pub fn settle(alloc: Global, papers: &Papers) -> Result<Settled, AllocError>
 }
 
 /// Settles papers as `settle` does, to the same assignment and the same count of proposals, and answers no log: the
-/// students enter in the order of their draws. So fewer of them are put out again, and most offers are refused while
-/// their rows are at hand. The cost is a sort of the draws more, and no student is put into a table.
-pub fn settle_by_draws(alloc: Global, papers: &Papers) -> Result<Outcome, AllocError>
+/// students enter in the order of their keys at their first choices. So fewer of them are put out again, and most offers are
+/// refused while their rows are at hand. The cost is a sort of numbers more, and no student is put into a table.
+pub fn settle_by_first_keys(alloc: Global, papers: &Papers) -> Result<Outcome, AllocError>
     ensures { IfOk result (IsOutcome papers.now) }
 {
     let mut round: Round<HeapRoll> = Round::start(alloc, papers)?;
-    let entrants = entrants_by_draw(alloc, papers)?;
+    let entrants = entrants_by_first_key(alloc, papers)?;
     enter_in_batches(alloc, &mut round, papers, entrants.as_slice())?;
     drop(entrants);
     let outcome = outcome_of(round, papers)?;

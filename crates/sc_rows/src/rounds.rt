@@ -8,7 +8,7 @@ ghost use Rattle.sc_engine.specs.RoundView.{Fits, has_entered, SettlesFirst};
 
 use crate::given::{papers_of, school, student};
 use sc_checkpoint::NextChoice;
-use sc_engine::{Outcome, Round, Settled, settle, settle_by_draws};
+use sc_engine::{Outcome, Round, Settled, settle, settle_by_first_keys};
 use sc_markets::{
     FIVE_STUDENTS, Files, MARKET_A, MARKET_B, MARKET_B_AND_NEWCOMER, TWO_STUDENTS, log_text,
 };
@@ -87,9 +87,9 @@ fn a_newcomer(rt: HostRuntime) {
     drop(papers);
 }
 
-/// Settles a market by draws, which comes to the same outcome as the order of entry.
-fn expect_outcome_by_draws(rt: &impl Abort, alloc: Global, papers: &Papers, want: &str) {
-    let outcome = settle_by_draws(alloc, papers).expect(rt, "memory");
+/// Settles a market by the keys at the first choices, which comes to the same outcome as the order of entry.
+fn expect_outcome_by_first_keys(rt: &impl Abort, alloc: Global, papers: &Papers, want: &str) {
+    let outcome = settle_by_first_keys(alloc, papers).expect(rt, "memory");
     let text = placed_text(alloc, papers, &outcome).expect(rt, "memory");
     assert_eq!(rt; text.as_str(), want);
     let settled = settle(alloc, papers).expect(rt, "memory");
@@ -98,7 +98,7 @@ fn expect_outcome_by_draws(rt: &impl Abort, alloc: Global, papers: &Papers, want
 }
 
 #[test]
-fn entry_by_draws(rt: HostRuntime) {
+fn entry_by_first_keys(rt: HostRuntime) {
     for (files, want) in [
         (TWO_STUDENTS, "2: 2 at 1"),
         (MARKET_A, "2: 1 at 10 2 at 20"),
@@ -107,7 +107,7 @@ fn entry_by_draws(rt: HostRuntime) {
         (FIVE_STUDENTS, "6: 1 at 10 4 at 20 5 at 20"),
     ] {
         let papers = papers_of(&rt, rt.alloc(), files);
-        expect_outcome_by_draws(&rt, rt.alloc(), &papers, want);
+        expect_outcome_by_first_keys(&rt, rt.alloc(), &papers, want);
         drop(papers);
     }
 }

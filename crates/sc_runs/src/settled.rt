@@ -7,7 +7,7 @@ ghost use Rattle.sc_runs.specs.Opening.{is_output_fault, IsCertificate, IsReport
 
 use crate::fault::RunFault;
 use crate::writing::{write_flushed_report, write_log};
-use sc_engine::{Outcome, settle, settle_by_draws};
+use sc_engine::{Outcome, settle, settle_by_first_keys};
 use sc_papers::Papers;
 use sc_report::{Matched, Watched};
 use std::alloc::Global;
@@ -33,7 +33,7 @@ fn write_outcome<W: Write>(
 }
 
 /// Settles papers, for a caller that has no amendment to make, writes their report, and flushes it. A report looks at no
-/// log, and costs less by the order of the draws.
+/// log, and costs less where those who are ahead at their first choices enter first.
 pub fn report_papers<W: Write>(
     alloc: Global,
     papers: &Papers,
@@ -42,7 +42,7 @@ pub fn report_papers<W: Write>(
     ensures bytes { WritesText (IsReport papers.now) (W.contents (device_of out.old)) (W.contents (device_of out.new)) result }
     ensures failed { has_failed out.new ≡ (has_failed out.old || is_output_fault result) }
 {
-    match settle_by_draws(alloc, papers) {
+    match settle_by_first_keys(alloc, papers) {
         Ok(outcome) => {
             let written = write_outcome(alloc, papers, &outcome, out);
             drop(outcome);

@@ -1,5 +1,5 @@
 use Rattle.sc_engine.proofs.Settling.{settles-none}
-use Rattle.sc_engine.proofs.settled.settle_by_draws.Goals as goal
+use Rattle.sc_engine.proofs.settled.settle_by_first_keys.Goals as goal
 
 pub enter_in_batches-requires-clause-first : goal.enter_in_batches-requires-clause-first
 enter_in_batches-requires-clause-first c =
