@@ -30,3 +30,4 @@ pub mod Renewing
 pub mod Picked
 pub mod Regions
 pub mod FirstAmong
+pub mod Reordered

@@ -34,6 +34,7 @@ impl Model for Unsettled {
 impl Unsettled {
     ghost use Rattle.std.specs.Prelude.{◌≡◌, ◌<◌, ◌⊎◌, None, Some, IfErr, IfOk, OnErr, OnOk};
     ghost use Rattle.sc_papers.specs.Matching.{IsStudentOptimal};
+    ghost use Rattle.sc_papers.specs.Reordering.{IsReordering};
     ghost use Rattle.sc_papers.specs.Verdict.{unless_refused, verdict, IsRefusal};
     ghost use Rattle.sc_papers.specs.WellFormed.{WellFormed};
     ghost use Rattle.sc_papers.specs.declared.amendment.Refusal.TheVariants.{OutOfMemory};
@@ -71,6 +72,21 @@ impl Unsettled {
             mut turns,
         } = self;
         put_in_order(&mut papers, &mut stamps, &mut turns);
+        papers
+    }
+
+    /// The papers as they stand, with the students in an order of their own, for whoever asks for nothing that hangs on the
+    /// order of entry, as no text of a report does. In constant time.
+    pub fn into_reordered(self) -> Papers
+        ensures { IsReordering result self.papers }
+    {
+        let Unsettled {
+            papers,
+            stamps,
+            turns,
+        } = self;
+        drop(stamps);
+        drop(turns);
         papers
     }
 

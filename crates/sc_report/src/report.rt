@@ -42,7 +42,8 @@ impl From<AllocError> for ReportFault {
     }
 }
 
-/// Writes the report text of papers and an assignment, whoever holds them.
+/// Writes the report text of papers and of the school that each student has, of which there is one for each student in
+/// order of entry, `None` where they have none.
 ///
 /// The text is built first: after `OutOfMemory` nothing was written, and after `Write` a prefix of
 /// it was.

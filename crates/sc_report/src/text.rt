@@ -112,8 +112,8 @@ fn push_report(
     Ok(())
 }
 
-/// The report text of papers and an assignment, whoever holds them: the assignment text, the cutoff text and the reason
-/// text. The only error is want of memory. The cost is one pass over the students for the cutoffs, a sort of the
+/// The report text of papers and of the school that each student has, of which there is one for each student in order of
+/// entry, `None` where they have none: the assignment text, the cutoff text and the reason text. The only error is want of memory. The cost is one pass over the students for the cutoffs, a sort of the
 /// students' and the schools' numbers, and one pass for the lines.
 pub fn report_text_of(alloc: Global, matched: Matched<'_>) -> Result<Vec<u8>, AllocError>
     requires { length matched.places.now ≡ length matched.papers.now.students }

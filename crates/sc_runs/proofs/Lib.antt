@@ -3,6 +3,7 @@ pub mod Cutting
 pub mod Openings
 pub mod Reading
 pub mod Calls
+pub mod ReportOrder
 pub mod Standings
 pub mod Explanations
 pub mod Checks

@@ -2,6 +2,7 @@
 use Rattle.std.specs.Prelude.{◌≡◌, ◌⊎◌, ℕ, List, [], ◌∷◌, ◌++◌, Option, Result, Ok, Err}
 use Rattle.std.specs.Io.KnownBytes.{Appends, Keeps}
 use Rattle.sc_papers.specs.Market.{Market}
+use Rattle.sc_papers.specs.Reordering.{IsReordering}
 use Rattle.sc_stamps.specs.Verdict.{StampedPapers, unamended}
 use Rattle.sc_intake.specs.declared.fault.IntakeFault.{IntakeFault}
 use Rattle.sc_journal.specs.Journal.{IsFirstFault, IsReplay}
@@ -20,17 +21,17 @@ use Rattle.sc_runs.specs.declared.fault.RunFault.TheVariants.{Read, Intake, Jour
 abbrev pub IsReplayReport : Market → List ℕ → Tail → List ℕ → Type 0
 IsReplayReport m journal tail text = (now : StampedPapers) × IsReplay (unamended m) now journal tail × IsReport now.papers text
 
--- the report of amended papers was written, and they are answered with how the journal ends; a prefix of it where the
--- writer failed, and nothing for want of memory
+-- the report of amended papers was written, and they are answered up to the order of entry, with how the journal ends; a
+-- prefix of it where the writer failed, and nothing for want of memory
 abbrev pub WritesReplayed : Market → Tail → Option (List ℕ) → Option (List ℕ) → Result Replayed RunFault → Type 0
-WritesReplayed m tail old new (Ok done) = (done.papers ≡ m) × (done.tail ≡ tail) × WritesText (IsReport m) old new (Ok tt)
+WritesReplayed m tail old new (Ok done) = IsReordering done.papers m × (done.tail ≡ tail) × WritesText (IsReport m) old new (Ok tt)
 WritesReplayed m tail old new (Err fault) = WritesText (IsReport m) old new (Err fault)
 
--- a replay answers the papers after the journal and how it ends, and wrote their report; a prefix of it where
--- the writer failed, and nothing where the inputs or the journal have a fault
+-- a replay answers the papers after the journal, up to the order of entry, and how it ends, and wrote their report; a prefix
+-- of it where the writer failed, and nothing where the inputs or the journal have a fault
 abbrev pub WritesReplay : Result Market IntakeFault → List ℕ → Option (List ℕ) → Option (List ℕ) → Result Replayed RunFault → Type 0
 WritesReplay reading journal old new (Ok done) =
-    (m : Market) × (reading ≡ Ok m) × ((now : StampedPapers) × IsReplay (unamended m) now journal done.tail × (done.papers ≡ now.papers)
+    (m : Market) × (reading ≡ Ok m) × ((now : StampedPapers) × IsReplay (unamended m) now journal done.tail × IsReordering done.papers now.papers
     × ((text : List ℕ) × IsReport now.papers text × Appends old new text))
 WritesReplay reading journal old new (Err (Intake fault)) = (reading ≡ Err fault) × Keeps old new
 WritesReplay reading journal old new (Err (Journal fault)) = (m : Market) × (reading ≡ Ok m) × IsFirstFault (unamended m) journal fault × Keeps old new

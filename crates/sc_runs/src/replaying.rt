@@ -13,7 +13,8 @@ use crate::opening::read_owned;
 use crate::settled::report_papers;
 use sc_intake::Source;
 use sc_journal::{Tail, replay_papers};
-use sc_papers::{Papers, Seed};
+use sc_papers::{MOST_STUDENTS, Papers, Seed};
+use sc_repair::Unsettled;
 use sc_report::Watched;
 use std::alloc::Global;
 use std::io::{Read, Write};
@@ -21,22 +22,26 @@ use std::io::{Read, Write};
 /// What a journal that was replayed came to.
 #[derive(Drop)]
 pub struct Replayed {
-    /// The papers as they stand after it.
+    /// The papers as they stand after it, with the students in an order of their own: no text hangs on the order of entry.
     pub papers: Papers,
     /// Whether bytes follow the journal's last newline.
     pub tail: Tail,
 }
 
-/// Writes the report of amended papers, and flushes it.
+/// Writes the report of amended papers, and flushes it. A report says nothing of the order of entry, so they are not put
+/// in it.
 fn report_amended<W: Write>(
     alloc: Global,
-    papers: Papers,
+    amended: Unsettled,
     tail: Tail,
     out: &mut Watched<W>,
 ) -> Result<Replayed, RunFault>
-    ensures bytes { WritesReplayed papers tail (W.contents (device_of out.old)) (W.contents (device_of out.new)) result }
+    ensures bytes { WritesReplayed amended.papers tail (W.contents (device_of out.old)) (W.contents (device_of out.new)) result }
     ensures failed { has_failed out.new ≡ (has_failed out.old || is_output_fault result) }
 {
+    let papers = amended.into_reordered();
+    // This call tells that the papers are well-formed.
+    prove!(papers.students_len() <= MOST_STUDENTS);
     match report_papers(alloc, &papers, out) {
         Ok(()) => Ok(Replayed { papers, tail }),
         Err(fault) => {
@@ -57,7 +62,7 @@ fn report_replayed<W: Write>(
     ensures failed { has_failed out.new ≡ (has_failed out.old || is_output_fault result) }
 {
     match replay_papers(alloc, papers, journal) {
-        Ok((amended, tail)) => report_amended(alloc, amended.into_papers(), tail, out),
+        Ok((amended, tail)) => report_amended(alloc, amended, tail, out),
         Err(fault) => Err(RunFault::from(fault)),
     }
 }
@@ -81,8 +86,8 @@ fn replay_texts<W: Write>(
 }
 
 /// Reads the three files and a journal, in the order schools, roster, lists, journal, makes the amendments
-/// of the journal in turn, and writes the report of the papers as they then stand. It answers these papers, and whether
-/// bytes follow the journal's last newline, which are left unread.
+/// of the journal in turn, and writes the report of the papers as they then stand. It answers these papers, with the students
+/// in an order of their own, and whether bytes follow the journal's last newline, which are left unread.
 ///
 /// Nothing is written before the inputs are known to be good. An error is the first fault of the inputs,
 /// each of which is read whole before any is looked into, or else the first faulty line of the journal with
