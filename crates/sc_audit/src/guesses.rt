@@ -10,12 +10,17 @@ pub(crate) struct Guesses {
     positions: Vec<u32>,
 }
 
+/// How many places there are for so many students' guesses: a power of two, by which a remainder costs no division.
+fn places_for(students: usize) -> usize {
+    students.checked_next_power_of_two().unwrap_or(students)
+}
+
 impl Guesses {
     /// A guess for each student of the papers. The only error is want of memory; the cost is a pass over the students.
     pub(crate) fn at_students(alloc: Global, papers: &Papers) -> Result<Self, AllocError> {
         let students = papers.students_len();
         let mut guesses = Guesses {
-            positions: Vec::from_elem(alloc, 0, students)?,
+            positions: Vec::from_elem(alloc, 0, places_for(students))?,
         };
         for position in 0..students {
             if let Some(student) = papers.student_at(position) {
@@ -25,25 +30,22 @@ impl Guesses {
         Ok(guesses)
     }
 
-    /// Where the student's guess is kept: numbers that leave the same remainder share a place.
-    fn place(&self, student: StudentNo) -> Option<usize> {
-        (student.get() as usize).checked_rem(self.positions.len())
+    /// Where the student's guess is kept: numbers with the same last bits share a place.
+    fn place(&self, student: StudentNo) -> usize {
+        student.get() as usize & self.positions.len().wrapping_sub(1)
     }
 
     /// Keeps the student's position.
     fn note(&mut self, student: StudentNo, position: usize) {
-        if let Some(place) = self.place(student) {
-            if let Some(guess) = self.positions.get_mut(place) {
-                *guess = u32::try_from(position).unwrap_or(0);
-            }
+        let place = self.place(student);
+        if let Some(guess) = self.positions.get_mut(place) {
+            *guess = u32::try_from(position).unwrap_or(0);
         }
     }
 
     /// Where the student may stand.
     pub(crate) fn guess(&self, student: StudentNo) -> usize {
-        let guess = self
-            .place(student)
-            .and_then(|place| self.positions.get(place));
+        let guess = self.positions.get(self.place(student));
         guess.map_or(0, |position| *position as usize)
     }
 }
