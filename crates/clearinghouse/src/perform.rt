@@ -110,10 +110,14 @@ fn audit_log<R: Files + AllocGlobal, W: Write>(
 ) -> Result<Ending, RunFault> {
     let mut opening = open_opening(rt, &words.files)?;
     let mut log = open_input(rt, log, Source::Log)?;
-    match audit_files(rt.alloc(), seed, &mut opening, &mut log, out)? {
-        Verdict::Certified => Ok(Ending::Done),
-        _ => Ok(Ending::NotCertified),
-    }
+    let audited = audit_files(rt.alloc(), seed, &mut opening, &mut log, out)?;
+    let ending = match audited.verdict {
+        Verdict::Certified => Ending::Done,
+        _ => Ending::NotCertified,
+    };
+    // The program ends here, so the papers are not taken apart.
+    forget(audited);
+    Ok(ending)
 }
 
 /// Replays a journal over an opening.

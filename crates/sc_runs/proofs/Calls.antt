@@ -3,9 +3,9 @@ use Rattle.std.proofs.Common.{◌≡◌, ℕ, inl, inr, ap, Bool, List, [], ◌�
 use Rattle.std.proofs.lemmas.List.Elements.{All-nil}
 use Rattle.sc_intake.specs.Log.{log_in}
 use Rattle.sc_intake.specs.Script.{script_in}
-use Rattle.sc_audit.specs.declared.verdict.Verdict.{Verdict}
+use Rattle.sc_runs.specs.declared.auditing.Audited.{Audited}
 use Rattle.sc_runs.specs.declared.replaying.Replayed.{Replayed}
-use Rattle.sc_runs.specs.Auditing.{claimed_in, AuditsFiles, WritesVerdict}
+use Rattle.sc_runs.specs.Auditing.{claimed_in, AuditsFiles, WritesAudit}
 use Rattle.sc_runs.specs.Inputs.{in_order, Texts, Turn, AreRead, EndsAmong, EndsReading, IsUntouched}
 use Rattle.sc_runs.specs.Opening.{opening_in, papers_in, MatchesFiles, WritesMatch}
 use Rattle.sc_runs.specs.TwoWriters.{Contents}
@@ -40,14 +40,14 @@ pub EndsAmong-last : (turns : List Turn) (turn : Turn) (texts : List (List ℕ))
 EndsAmong-last turns turn texts fault read ended = EndsAmong-later turns (turn ∷ []) texts fault read (inl (ended, All-nil IsUntouched))
 
 -- the files and the log were read, and the log was audited
-pub AuditsFiles-read : (seed : List ℕ) (turns : List Turn) (texts : Texts) (log given : List ℕ) (old new : Option (List ℕ)) (result : Result Verdict RunFault)
+pub AuditsFiles-read : (seed : List ℕ) (turns : List Turn) (texts : Texts) (log given : List ℕ) (old new : Option (List ℕ)) (result : Result Audited RunFault)
     → AreRead turns (in_order texts ++ log ∷ []) → given ≡ log
-    → WritesVerdict (claimed_in (opening_in seed texts) (log_in given)) old new result → AuditsFiles seed turns old new result
+    → WritesAudit (claimed_in (opening_in seed texts) (log_in given)) old new result → AuditsFiles seed turns old new result
 AuditsFiles-read seed turns texts log given old new result read is wrote = inr (
   texts,
   log,
   read,
-  subst (λ text. WritesVerdict (claimed_in (opening_in seed texts) (log_in text)) old new result) is wrote,
+  subst (λ text. WritesAudit (claimed_in (opening_in seed texts) (log_in text)) old new result) is wrote,
 )
 
 -- the files and the journal were read, and the journal was replayed

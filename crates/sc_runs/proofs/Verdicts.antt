@@ -1,12 +1,14 @@
 -- The verdict of a log, told or not.
 use Rattle.std.proofs.Common.{◌≡◌, ℕ, List, Option, Result, Ok, Err, ap, subst}
+use Rattle.std.specs.Result.{result_ok}
+use Rattle.std.proofs.lemmas.Option.{none-some, same_Some}
 use Rattle.std.specs.Io.KnownBytes.{Appends}
 use Rattle.sc_papers.specs.Market.{Market}
 use Rattle.sc_papers.specs.declared.rejection.Rejection.{Rejection}
 use Rattle.sc_audit.specs.Verdict.{IsVerdict}
 use Rattle.sc_audit.specs.declared.verdict.Verdict.{Verdict}
 use Rattle.sc_intake.specs.declared.fault.IntakeFault.{IntakeFault}
-use Rattle.sc_runs.specs.Auditing.{claimed_in, verdict_text, WritesVerdictLine, WritesVerdict}
+use Rattle.sc_runs.specs.Auditing.{claimed_in, verdict_text, Claimed, WritesAudit, WritesVerdictLine, WritesVerdict}
 use Rattle.sc_runs.specs.declared.fault.RunFault.{RunFault}
 use Rattle.sc_runs.specs.declared.fault.RunFault.TheVariants.{Read, Intake, Journal, WriteOut, WriteJournal, OutOfMemory}
 
@@ -26,3 +28,9 @@ WritesVerdict-failed m logged seen log verdict old new (Read source) read same i
 WritesVerdict-failed m logged seen log verdict old new (Intake fault) read same is wrote = absurd wrote
 WritesVerdict-failed m logged seen log verdict old new (Journal fault) read same is wrote = absurd wrote
 WritesVerdict-failed m logged seen log verdict old new WriteJournal read same is wrote = absurd wrote
+
+-- and the papers are answered with it
+pub WritesAudit-answered : (m : Market) (logged : Result (List Rejection) IntakeFault) (verdict : Verdict) (old new : Option (List ℕ))
+    → WritesVerdict (claimed_in (Ok m) logged) old new (Ok verdict) → WritesAudit (claimed_in (Ok m) logged) old new (Ok (record { papers = m; verdict = verdict }))
+WritesAudit-answered m (Ok log) verdict old new (claimed, read, is, wrote) = (claimed, read, ap (λ (c : Claimed). c.papers) (same_Some (record { papers = m; log = log }) claimed (ap result_ok read)), is, wrote)
+WritesAudit-answered m (Err fault) verdict old new (claimed, read, is, wrote) = absurd (none-some claimed (ap result_ok read))

@@ -13,6 +13,7 @@ use Rattle.sc_intake.specs.declared.fault.IntakeFault.{IntakeFault}
 use Rattle.sc_report.specs.Whole.{AppendsPrefix}
 use Rattle.sc_runs.specs.Inputs.{in_order, Texts, Turn, AreRead}
 use Rattle.sc_runs.specs.Opening.{opening_in, EndsUnread}
+use Rattle.sc_runs.specs.declared.auditing.Audited.{Audited}
 use Rattle.sc_runs.specs.declared.fault.RunFault.{RunFault}
 use Rattle.sc_runs.specs.declared.fault.RunFault.TheVariants.{Read, Intake, Journal, WriteOut, WriteJournal, OutOfMemory}
 
@@ -48,8 +49,8 @@ WritesVerdictLine verdict old new (Err (Intake fault)) = ⊥
 WritesVerdictLine verdict old new (Err (Journal fault)) = ⊥
 WritesVerdictLine verdict old new (Err WriteJournal) = ⊥
 
--- an audit answers the verdict of the log that was read, and wrote its line; a prefix of it where the
--- writer failed, and nothing where the inputs have a fault
+-- a verdict of the log that was read was found, and its line written; a prefix of it where the writer failed, and nothing
+-- where the inputs have a fault
 abbrev pub WritesVerdict : Result Claimed IntakeFault → Option (List ℕ) → Option (List ℕ) → Result Verdict RunFault → Type 0
 WritesVerdict reading old new (Ok verdict) = (claimed : Claimed) × (reading ≡ Ok claimed) × IsVerdict claimed.papers claimed.log verdict × Appends old new (verdict_text verdict)
 WritesVerdict reading old new (Err (Intake fault)) = (reading ≡ Err fault) × Keeps old new
@@ -60,8 +61,14 @@ WritesVerdict reading old new (Err (Read source)) = ⊥
 WritesVerdict reading old new (Err (Journal fault)) = ⊥
 WritesVerdict reading old new (Err WriteJournal) = ⊥
 
+-- an audit answers the papers and the verdict of the log that were read, whose line was written
+abbrev pub WritesAudit : Result Claimed IntakeFault → Option (List ℕ) → Option (List ℕ) → Result Audited RunFault → Type 0
+WritesAudit reading old new (Ok audited) =
+    (claimed : Claimed) × (reading ≡ Ok claimed) × (audited.papers ≡ claimed.papers) × IsVerdict claimed.papers claimed.log audited.verdict × Appends old new (verdict_text audited.verdict)
+WritesAudit reading old new (Err fault) = WritesVerdict reading old new (Err fault)
+
 -- what auditing files did: reading them ended early, and nothing was written; or they were read, each whole,
 -- and the log was audited
-abbrev pub AuditsFiles : List ℕ → List Turn → Option (List ℕ) → Option (List ℕ) → Result Verdict RunFault → Type 0
+abbrev pub AuditsFiles : List ℕ → List Turn → Option (List ℕ) → Option (List ℕ) → Result Audited RunFault → Type 0
 AuditsFiles seed turns old new result = EndsUnread turns old new result
-    ⊎ ((texts : Texts) × (log : List ℕ) × AreRead turns (in_order texts ++ log ∷ []) × WritesVerdict (audit_in seed texts log) old new result)
+    ⊎ ((texts : Texts) × (log : List ℕ) × AreRead turns (in_order texts ++ log ∷ []) × WritesAudit (audit_in seed texts log) old new result)

@@ -5,7 +5,7 @@ ghost use Rattle.sc_audit.specs.Verdict.{IsVerdict};
 ghost use Rattle.sc_intake.specs.Log.{log_in};
 ghost use Rattle.sc_intake.specs.declared.fault.Source.TheVariants as input;
 ghost use Rattle.sc_report.specs.Watched.{device_of, has_failed};
-ghost use Rattle.sc_runs.specs.Auditing.{claimed_in, verdict_text, AuditsFiles, WritesVerdictLine, WritesVerdict};
+ghost use Rattle.sc_runs.specs.Auditing.{claimed_in, verdict_text, AuditsFiles, WritesAudit, WritesVerdictLine, WritesVerdict};
 ghost use Rattle.sc_runs.specs.Inputs.{opening_turns, texts_of, turn_of, TakesWithin};
 ghost use Rattle.sc_runs.specs.Opening.{is_output_fault, opening_in, IsOpeningFault};
 
@@ -20,6 +20,14 @@ use sc_papers::{Papers, Rejection, Seed};
 use sc_report::Watched;
 use std::alloc::{AllocError, Global};
 use std::io::{Read, Write};
+
+/// What a log that was audited came to.
+#[derive(Drop)]
+pub struct Audited {
+    /// The papers under which it was audited.
+    pub papers: Papers,
+    pub verdict: Verdict,
+}
 
 /// The line that tells a verdict, with its newline. The only error is want of memory.
 fn verdict_line(alloc: Global, verdict: &Verdict) -> Result<Vec<u8>, AllocError>
@@ -88,6 +96,25 @@ fn audit_papers<W: Write>(
     }
 }
 
+/// Audits a log under papers, and answers them with the verdict.
+fn answer_papers<W: Write>(
+    alloc: Global,
+    papers: Papers,
+    log: &[u8],
+    out: &mut Watched<W>,
+) -> Result<Audited, RunFault>
+    ensures verdict { WritesAudit (claimed_in (Ok papers) (log_in log.now)) (W.contents (device_of out.old)) (W.contents (device_of out.new)) result }
+    ensures failed { has_failed out.new ≡ (has_failed out.old || is_output_fault result) }
+{
+    match audit_papers(alloc, &papers, log, out) {
+        Ok(verdict) => Ok(Audited { papers, verdict }),
+        Err(fault) => {
+            drop(papers);
+            Err(fault)
+        }
+    }
+}
+
 /// Audits a log under the papers that the texts hold. The texts are given up once the papers are read.
 fn audit_texts<W: Write>(
     alloc: Global,
@@ -95,24 +122,21 @@ fn audit_texts<W: Write>(
     texts: OpeningTexts,
     log: &[u8],
     out: &mut Watched<W>,
-) -> Result<Verdict, RunFault>
-    ensures verdict { WritesVerdict (claimed_in (opening_in seed.now (texts_of texts)) (log_in log.now))
+) -> Result<Audited, RunFault>
+    ensures verdict { WritesAudit (claimed_in (opening_in seed.now (texts_of texts)) (log_in log.now))
         (W.contents (device_of out.old)) (W.contents (device_of out.new)) result }
     ensures failed { has_failed out.new ≡ (has_failed out.old || is_output_fault result) }
 {
     match read_owned(alloc, seed, texts) {
-        Ok(papers) => {
-            let verdict = audit_papers(alloc, &papers, log, out);
-            drop(papers);
-            verdict
-        }
+        Ok(papers) => answer_papers(alloc, papers, log, out),
         Err(fault) => Err(fault),
     }
 }
 
 /// Reads the three files and a log, in the order schools, roster, lists, log, audits the log under the
 /// papers that the files hold, whoever made it, and writes the verdict: `certified`, `bad entry LINE` or
-/// `over SCHOOL`. A certified log's matching is the student-optimal stable matching of the papers.
+/// `over SCHOOL`. It answers the papers and the verdict. A certified log's matching is the student-optimal stable matching of
+/// the papers.
 ///
 /// Nothing is written before the inputs are known to be good. An error is the first fault of the inputs,
 /// each of which is read whole before any is looked into; that an input or the output failed; or want of
@@ -123,7 +147,7 @@ pub fn audit_files<R: Read, W: Write>(
     opening: &mut Opening<R>,
     log: &mut Watched<R>,
     out: &mut Watched<W>,
-) -> Result<Verdict, RunFault>
+) -> Result<Audited, RunFault>
     ensures verdict { AuditsFiles seed.now
         (opening_turns R.remaining opening.old opening.new ++ turn_of R.remaining input.Log log.old log.new ∷ [])
         (W.contents (device_of out.old)) (W.contents (device_of out.new)) result }

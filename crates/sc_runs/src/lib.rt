@@ -27,7 +27,7 @@ mod summing;
 mod writing;
 
 pub use amendable::Settling;
-pub use auditing::audit_files;
+pub use auditing::{Audited, audit_files};
 pub use bundle::{Bundle, split_bundle};
 pub use bundle_run::run_bundle;
 pub use checking::{Checked, check_files};
