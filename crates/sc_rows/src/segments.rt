@@ -264,8 +264,10 @@ fn hints_of_two_students(rt: HostRuntime) {
     let hints = hints_of_two(&rt, rt.alloc(), 4);
     assert_eq!(&rt; hints.guess(student(&rt, 1)), 7);
     assert_eq!(&rt; hints.guess(student(&rt, 2)), 9);
-    let none = hints_of_two(&rt, rt.alloc(), 0);
-    assert_eq!(&rt; none.guess(student(&rt, 1)), 0);
+    // There is one place at least, which both share: the later one stands there.
+    let shared = hints_of_two(&rt, rt.alloc(), 0);
+    assert_eq!(&rt; shared.guess(student(&rt, 1)), 9);
+    assert_eq!(&rt; shared.guess(student(&rt, 2)), 9);
 }
 
 fn expect_growths(rt: &impl Abort, segments: &mut Segments)
