@@ -64,7 +64,7 @@ fn words(alloc: Global, text: &[u8]) -> Result<Vec<&[u8]>, AllocError>
 fn schools(alloc: Global, words: &[&[u8]]) -> Result<SchoolList, Unread>
     ensures { Gives (schools_after [] (map (λ word. word.now) words.now)) result }
 {
-    let mut schools = Vec::new(alloc);
+    let mut schools = Vec::with_capacity(alloc, words.len())?;
     for word in words {
         schools.push(school(*word)?)?;
     }

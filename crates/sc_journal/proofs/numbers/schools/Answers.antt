@@ -8,7 +8,7 @@ use Rattle.sc_journal.proofs.numbers.schools.Goals as goal
 pub returns-in_err-school : goal.returns-in_err-school
 returns-in_err-school c =
     let bad = sym c.in_err-school.ensures in
-    let same : c.from_residual.result ≡ Err c.in_err-school.field-0.0 = search rules in
+    let same : c.from_residual-in_err-school.result ≡ Err c.in_err-school.field-0.0 = search rules in
     Gives-error _ _ _ (c.loop-word.invariant ∙ schools-bad c.loop-word.schools.items c.args.words.now c.loop-word.word-index _ _ (omega arith) bad) same
 
 pub loop-word-preserved : goal.loop-word-preserved
