@@ -336,7 +336,10 @@ fn perform_order<R: Files + AllocGlobal, I: Read + Drop, W: Write>(
     out: &mut Watched<W>,
 ) -> Ending {
     match order {
-        Order::Bundle => run_bundle(rt.alloc(), &mut Watched::new(input), out),
+        Order::Bundle => {
+            keep_memory(rt.alloc());
+            run_bundle(rt.alloc(), &mut Watched::new(input), out)
+        }
         Order::Check { files, script } => match check(rt, files, *script, out) {
             Ok(ending) => ending,
             Err(fault) => Ending::Fault(fault),

@@ -1,5 +1,5 @@
 -- The report of papers in another order of entry.
-use Rattle.std.proofs.Common.{◌≡◌, refl, ◌∙◌, List, ℕ, Option, Result, Ok, Err}
+use Rattle.std.proofs.Common.{refl, ◌∙◌, List, ℕ, Option, Result, Ok, Err}
 use Rattle.sc_papers.specs.Market.{Market}
 use Rattle.sc_papers.specs.Reordering.{IsReordering}
 use Rattle.sc_papers.specs.WellFormed.{WellFormed}

@@ -29,6 +29,11 @@ IsOpeningFault reading WriteOut = ⊥
 IsOpeningFault reading WriteJournal = ⊥
 IsOpeningFault reading OutOfMemory = ⊤
 
+-- this came of reading the papers that the texts hold: those papers, or their first fault
+abbrev pub IsReadingOf : Result Market IntakeFault → Result Market RunFault → Type 0
+IsReadingOf reading (Ok m) = reading ≡ Ok m
+IsReadingOf reading (Err fault) = IsOpeningFault reading fault
+
 -- a writer was given one of these texts whole at `Ok`, a prefix of one where it failed, and nothing at
 -- want of memory
 abbrev pub WritesText : (List ℕ → Type 0) → Option (List ℕ) → Option (List ℕ) → Result (Unit {0}) RunFault → Type 0

@@ -1,12 +1,14 @@
 //! From one bundle to replies and an assignment.
 
-ghost use Rattle.std.specs.Prelude.{◌≡◌, ◌≢◌, ◌||◌, false};
+ghost use Rattle.std.specs.Prelude.{◌≡◌, ◌≢◌, ◌||◌, false, Result};
+ghost use Rattle.sc_intake.specs.declared.fault.IntakeFault.{IntakeFault};
 ghost use Rattle.sc_intake.specs.declared.fault.Source.TheVariants as source;
+ghost use Rattle.sc_papers.specs.Market.{Market};
 ghost use Rattle.sc_report.specs.Watched.{device_of, has_failed};
 ghost use Rattle.sc_runs.specs.Bundle.{sections_of};
-ghost use Rattle.sc_runs.specs.BundleRun.{ends_by_output, EndsBundle, RunsBundle, WritesSections};
+ghost use Rattle.sc_runs.specs.BundleRun.{ending_of, ends_by_output, EndsBundle, RunsBundle};
 ghost use Rattle.sc_runs.specs.Inputs.{turn_of, TakesWithin};
-ghost use Rattle.sc_runs.specs.Opening.{is_output_fault};
+ghost use Rattle.sc_runs.specs.Opening.{is_output_fault, IsReadingOf, WritesMatch};
 ghost use Rattle.sc_runs.specs.Run.{is_journal_fault};
 ghost use Rattle.sc_runs.specs.declared.ending.Ending.TheVariants.{Fault};
 ghost use Rattle.sc_runs.specs.declared.fault.RunFault.TheVariants.{WriteJournal};
@@ -16,11 +18,12 @@ use crate::bundle::{Bundle, split_bundle};
 use crate::ending::Ending;
 use crate::fault::RunFault;
 use crate::inputs::{OpeningSlices, read_input};
-use crate::matching::match_texts;
+use crate::opening::read_papers;
 use crate::recorder::Unkept;
 use crate::running::run_texts;
+use crate::settled::report_papers;
 use sc_intake::Source;
-use sc_papers::Seed;
+use sc_papers::{Papers, Seed};
 use sc_report::Watched;
 use std::alloc::Global;
 use std::io::{Read, Write};
@@ -41,56 +44,77 @@ pub fn run_bundle<R: Read, W: Write>(
     ensures limit { TakesWithin (turn_of R.remaining source.Bundle input.old input.new) }
 {
     match read_input(alloc, input, Source::Bundle) {
-        Ok(text) => run_text(alloc, text.as_slice(), out),
+        Ok(text) => run_text(alloc, text, out),
         Err(fault) => Ending::Fault(fault),
     }
 }
 
-/// Answers the script of a bundle, where it has one, and writes the report of its papers.
-fn run_sections<W: Write>(
-    alloc: Global,
-    seed: &Seed,
-    bundle: &Bundle<'_>,
-    out: &mut Watched<W>,
-) -> Result<(), RunFault>
-    ensures bytes { WritesSections seed.now (sections_of bundle.now) (W.contents (device_of out.old)) (W.contents (device_of out.new)) result }
-    ensures failed { has_failed out.new ≡ (has_failed out.old || is_output_fault result) }
-    ensures no_journal { is_journal_fault result ≡ false }
+/// The texts of a bundle's opening, lent.
+fn opening_of<'a>(bundle: &Bundle<'a>) -> OpeningSlices<'a>
+    ensures schools { result.schools.now ≡ (sections_of bundle.now).schools }
+    ensures roster { result.roster.now ≡ (sections_of bundle.now).roster }
+    ensures lists { result.lists.now ≡ (sections_of bundle.now).lists }
 {
-    let texts = OpeningSlices {
+    OpeningSlices {
         schools: bundle.schools,
         roster: bundle.roster,
         lists: bundle.lists,
-    };
-    match bundle.script {
-        Some(script) => run_texts(
-            alloc,
-            seed,
-            texts,
-            script,
-            Settling::EachTime,
-            out,
-            &mut Unkept,
-        ),
-        None => match_texts(alloc, seed, texts, false, out),
     }
 }
 
-/// Runs a bundle that was read.
-fn run_text<W: Write>(alloc: Global, text: &[u8], out: &mut Watched<W>) -> Ending
-    ensures ending { EndsBundle text.now (W.contents (device_of out.old)) (W.contents (device_of out.new)) result }
+/// Writes the report of papers that were read, and flushes it, or answers why they were not.
+fn report_read<W: Write>(
+    alloc: Global,
+    read: Result<Papers, RunFault>,
+    out: &mut Watched<W>,
+) -> Result<(), RunFault>
+    requires { (reading : Result Market IntakeFault) × IsReadingOf reading read }
+    ensures bytes { (reading : Result Market IntakeFault) → IsReadingOf reading read →
+        WritesMatch false reading (W.contents (device_of out.old)) (W.contents (device_of out.new)) result }
+    ensures failed { has_failed out.new ≡ (has_failed out.old || is_output_fault result) }
+    ensures no_journal { is_journal_fault result ≡ false }
+{
+    match read {
+        Ok(papers) => {
+            let written = report_papers(alloc, &papers, out);
+            drop(papers);
+            written
+        }
+        Err(fault) => Err(fault),
+    }
+}
+
+/// How running the sections of a bundle ends.
+fn ending_of(done: Result<(), RunFault>) -> Ending
+    ensures { result ≡ ending_of done }
+{
+    match done {
+        Ok(()) => Ending::Done,
+        Err(fault) => Ending::Fault(fault),
+    }
+}
+
+/// Runs a bundle that was read. Where it has no script, its text is given up once the papers are read, so that its memory
+/// serves the settling.
+fn run_text<W: Write>(alloc: Global, text: Vec<u8>, out: &mut Watched<W>) -> Ending
+    ensures ending { EndsBundle text.items (W.contents (device_of out.old)) (W.contents (device_of out.new)) result }
     ensures failed { has_failed out.new ≡ (has_failed out.old || ends_by_output result) }
     ensures no_journal { result ≢ Fault WriteJournal }
 {
-    let Some(bundle) = split_bundle(text) else {
+    let Some(bundle) = split_bundle(text.as_slice()) else {
         return Ending::BadBundle;
     };
     let seed = match Seed::from_hex(bundle.seed) {
         Ok(seed) => seed,
         Err(error) => return Ending::BadSeed(error),
     };
-    match run_sections(alloc, &seed, &bundle, out) {
-        Ok(()) => Ending::Done,
-        Err(fault) => Ending::Fault(fault),
+    let opening = opening_of(&bundle);
+    if let Some(script) = bundle.script {
+        let settling = Settling::EachTime;
+        let done = run_texts(alloc, &seed, opening, script, settling, out, &mut Unkept);
+        return ending_of(done);
     }
+    let read = read_papers(alloc, &seed, opening);
+    drop(text);
+    ending_of(report_read(alloc, read, out))
 }

@@ -3,11 +3,11 @@
 ghost use Rattle.std.specs.Prelude.{◌≡◌, ◌||◌, All, IfOk, Ok};
 ghost use Rattle.sc_report.specs.Watched.{device_of, has_failed};
 ghost use Rattle.sc_runs.specs.Inputs.{opening_turns, texts_of, TakesWithin};
-ghost use Rattle.sc_runs.specs.Opening.{is_output_fault, opening_in, papers_in, ArePapersOf, MatchesFiles, WritesMatch};
+ghost use Rattle.sc_runs.specs.Opening.{is_output_fault, opening_in, ArePapersOf, MatchesFiles, WritesMatch};
 
 use crate::fault::RunFault;
-use crate::inputs::{Opening, OpeningSlices, OpeningTexts, read_opening};
-use crate::opening::{read_owned, read_papers};
+use crate::inputs::{Opening, OpeningTexts, read_opening};
+use crate::opening::read_owned;
 use crate::settled::{log_papers, report_papers};
 use sc_papers::{Papers, Seed};
 use sc_report::Watched;
@@ -32,28 +32,6 @@ fn match_papers<W: Write>(
     }
 }
 
-/// Writes the report of the papers that the texts hold, or their log, and flushes it.
-pub fn match_texts<W: Write>(
-    alloc: Global,
-    seed: &Seed,
-    texts: OpeningSlices<'_>,
-    show_log: bool,
-    out: &mut Watched<W>,
-) -> Result<(), RunFault>
-    ensures bytes { WritesMatch show_log (papers_in seed.now texts.entry.schools.now texts.entry.roster.now texts.entry.lists.now)
-        (W.contents (device_of out.old)) (W.contents (device_of out.new)) result }
-    ensures failed { has_failed out.new ≡ (has_failed out.old || is_output_fault result) }
-{
-    match read_papers(alloc, seed, texts) {
-        Ok(papers) => {
-            let written = match_papers(alloc, &papers, show_log, out);
-            drop(papers);
-            written
-        }
-        Err(fault) => Err(fault),
-    }
-}
-
 /// Writes the report of papers, or their log, flushes it, and answers the papers.
 fn match_and_keep<W: Write>(
     alloc: Global,
@@ -75,7 +53,7 @@ fn match_and_keep<W: Write>(
     }
 }
 
-/// Does what `match_texts` does, and answers the papers. The texts are given up once the papers are read, so that their
+/// Writes the report of the papers that the texts hold, or their log, flushes it, and answers the papers. The texts are given up once the papers are read, so that their
 /// memory serves the settling.
 fn match_owned<W: Write>(
     alloc: Global,

@@ -1,5 +1,12 @@
-use Rattle.std.proofs.Common.{◌≡◌, ◌≢◌, false, Err, sym}
-use Rattle.sc_runs.specs.Bundle.{sections_of}
+use Rattle.std.proofs.Common.{◌≡◌, ◌≢◌, ℕ, List, Option, None, Some, Result, false, Ok, Err, ap, subst, sym, ◌∙◌}
+use Rattle.std.specs.Option.{option_copied}
+use Rattle.std.specs.Result.{MatchResult}
+use Rattle.sc_report.specs.Watched.{device_of}
+use Rattle.sc_runs.specs.Bundle.{bundle_of, sections_of}
+use Rattle.sc_runs.specs.BundleRun.{ending_of, EndsBundle, RunsSections, WritesWith}
+use Rattle.sc_papers.specs.Market.{Market}
+use Rattle.sc_intake.specs.declared.fault.IntakeFault.{IntakeFault}
+use Rattle.sc_runs.specs.Opening.{papers_in, IsOpeningFault, IsReadingOf}
 use Rattle.sc_runs.specs.Run.{is_journal_fault}
 use Rattle.sc_runs.specs.declared.ending.Ending.TheVariants.{Fault}
 use Rattle.sc_runs.specs.declared.fault.RunFault.{RunFault}
@@ -16,26 +23,58 @@ not-by_journal WriteOut is = λ same. cc
 not-by_journal WriteJournal is = λ same. cc
 not-by_journal OutOfMemory is = λ same. cc
 
+-- sections that were run under their seed end the bundle so
+ends-bundle : (text : List ℕ) (old new : Option (List ℕ)) (done : Result (Unit {0}) RunFault) → RunsSections text old new done → EndsBundle text old new (ending_of done)
+ends-bundle text old new (Ok end) runs = runs
+ends-bundle text old new (Err fault) runs = runs
+
+-- what reading papers came to
+is-reading : (reading : Result Market IntakeFault) (read : Result Market RunFault) → MatchResult read (λ papers. reading ≡ Ok papers) (IsOpeningFault reading) → IsReadingOf reading read
+is-reading reading (Ok papers) came = came
+is-reading reading (Err fault) came = came
+
+-- no journal ended what no journal failed in
+no-journal : (done : Result (Unit {0}) RunFault) → is_journal_fault done ≡ false → ending_of done ≢ Fault WriteJournal
+no-journal (Ok end) is = λ same. cc
+no-journal (Err fault) is = not-by_journal fault is
+
 pub returns-in-Err-clause-ending : goal.returns-in-Err-clause-ending
-returns-in-Err-clause-ending g c = (sections_of c.in-Some.bundle, sym c.in-Some.ensures, sym c.in-Err.ensures, Keeps-refl _)
+returns-in-Err-clause-ending g c =
+    (sections_of c.in-Some.bundle, ap bundle_of (sym c.as_slice.ensures.value) ∙ sym c.in-Some.ensures, sym c.in-Err.ensures, Keeps-refl _)
 
-pub returns-in-Ok-run_sections-clause-ending : goal.returns-in-Ok-run_sections-clause-ending
-returns-in-Ok-run_sections-clause-ending g c = record {
-  sections = sections_of c.in-Some.bundle;
-  seed = c.in-Ok.seed;
-  split = sym c.in-Some.ensures;
-  seeded = sym c.in-Ok.ensures;
-  written = c.in-Ok-run_sections.ensures.bytes;
-}
+pub returns-in-Some-script-clause-ending : goal.returns-in-Some-script-clause-ending
+returns-in-Some-script-clause-ending g c =
+    let sections = sections_of c.in-Some.bundle in
+    let script : sections.script ≡ Some c.in-Some-script.script.now = ap option_copied c.in-Some-script.is in
+    let texts = c.opening_of-opening.ensures in
+    let old = g.W.Write.contents (device_of c.args.out.now) in
+    let new = g.W.Write.contents (device_of c.run_texts-done.new.out) in
+    subst (EndsBundle c.args.text.items old new) (sym c.ending_of.ensures)
+    (ends-bundle c.args.text.items old new c.run_texts-done.result (record {
+      sections = sections;
+      seed = c.in-Ok.seed;
+      split = ap bundle_of (sym c.as_slice.ensures.value) ∙ sym c.in-Some.ensures;
+      seeded = sym c.in-Ok.ensures;
+      written = subst (λ (script : Option (List ℕ)). WritesWith script (papers_in c.in-Ok.seed sections.schools sections.roster sections.lists) old new c.run_texts-done.result) (sym script)
+          (rw (← texts.schools) (rw (← texts.roster) (rw (← texts.lists) c.run_texts-done.ensures.writes)));
+    }))
 
-pub returns-in-Err-run_sections-clause-ending : goal.returns-in-Err-run_sections-clause-ending
-returns-in-Err-run_sections-clause-ending g c = record {
-  sections = sections_of c.in-Some.bundle;
-  seed = c.in-Ok.seed;
-  split = sym c.in-Some.ensures;
-  seeded = sym c.in-Ok.ensures;
-  written = c.in-Err-run_sections.ensures.bytes;
-}
+pub report_read-requires : goal.report_read-requires
+report_read-requires g c = (_, is-reading _ c.read_papers-read.result c.read_papers-read.ensures)
 
-pub returns-in-Err-run_sections-clause-no_journal : goal.returns-in-Err-run_sections-clause-no_journal
-returns-in-Err-run_sections-clause-no_journal g c = not-by_journal c.in-Err-run_sections.fault c.in-Err-run_sections.ensures.no_journal
+pub returns-clause-ending : goal.returns-clause-ending
+returns-clause-ending g c =
+    let sections = sections_of c.in-Some.bundle in
+    let script : sections.script ≡ None = ap option_copied c.in_default-script.is in
+    let texts = c.opening_of-opening.ensures in
+    let old = g.W.Write.contents (device_of c.args.out.now) in
+    let new = g.W.Write.contents (device_of c.report_read.new.out) in
+    subst (EndsBundle c.args.text.items old new) (sym c.ending_of-2.ensures)
+    (ends-bundle c.args.text.items old new c.report_read.result (record {
+      sections = sections;
+      seed = c.in-Ok.seed;
+      split = ap bundle_of (sym c.as_slice.ensures.value) ∙ sym c.in-Some.ensures;
+      seeded = sym c.in-Ok.ensures;
+      written = subst (λ (script : Option (List ℕ)). WritesWith script (papers_in c.in-Ok.seed sections.schools sections.roster sections.lists) old new c.report_read.result) (sym script)
+          (c.report_read.ensures.bytes _ (rw (← texts.schools) (rw (← texts.roster) (rw (← texts.lists) (is-reading _ c.read_papers-read.result c.read_papers-read.ensures)))));
+    }))

@@ -1,6 +1,6 @@
-use Rattle.std.proofs.Common.{refl, sym, ◌∙◌, ap, arith, rules, ◌≡◌, ◌∷◌, length}
+use Rattle.std.proofs.Common.{refl, sym, ◌∙◌, ap, arith, length}
 use Rattle.sc_runs.specs.Run.{after_script}
-use Rattle.sc_runs.proofs.Replies.{or-nothing, answered-all, answered-failed, answered-first, answered-next, answered-taken, answered-unread}
+use Rattle.sc_runs.proofs.Replies.{or-nothing, answered-failed, answered-first, answered-next, answered-taken, answered-unread}
 use Rattle.sc_runs.proofs.script.Session.answer_all.Goals as goal
 
 pub records-init : goal.records-init
