@@ -86,16 +86,20 @@ pub(crate) fn row_at_rank(
     ensures student { IfSome result (λ missed. missed.row.student ≡ entrant.now.student) }
     ensures position { IfSome result (λ missed. position (nat_eq missed.row.school) (schools_of papers.now) ≡ Some missed.position) }
 {
-    let Some(choice) = papers.proposal(entrant.position as usize, rank) else {
+    let Some(school) = papers.choice_at(entrant.position as usize, rank) else {
         return None;
     };
-    if is_held(&entrant.held, choice.school) {
+    // Of what a student has, no key is made.
+    if is_held(&entrant.held, school) {
         return None;
     }
+    let Some(choice) = papers.proposal(entrant.position as usize, rank) else {
+        unreachable!()
+    };
     let reason = reason_of(rows, &choice);
     let row = ReasonRow {
         student: entrant.student,
-        school: choice.school,
+        school,
         reason,
     };
     Some(Missed {

@@ -13,7 +13,7 @@ returns-in_default-clause-row c a are holds up =
     let m = c.args.papers.now in
     let i = c.args.entrant.now.student in
     let k = c.args.rank in
-    let past : slice_get (choices_of m i) k ≡ None = sym (c.in_default.ensures.school ∙ ap (λ (j : ℕ). slice_get (choices_of m j) k) (hand-is m c.args.entrant.now.position i c.requires.stands)) in
+    let past : slice_get (choices_of m i) k ≡ None = sym (c.in_default.ensures ∙ ap (λ (j : ℕ). slice_get (choices_of m j) k) (hand-is m c.args.entrant.now.position i c.requires.stands)) in
     sym (row-past m a i k past)
 
 pub returns-then-is_held-clause-row : goal.returns-then-is_held-clause-row
@@ -21,8 +21,8 @@ returns-then-is_held-clause-row c a are holds up =
     let m = c.args.papers.now in
     let i = c.args.entrant.now.student in
     let k = c.args.rank in
-    let s = c.in-Some.choice.school in
-    let here : slice_get (choices_of m i) k ≡ Some s = sym (c.in-Some.ensures.school ∙ ap (λ (j : ℕ). slice_get (choices_of m j) k) (hand-is m c.args.entrant.now.position i c.requires.stands)) in
+    let s = c.in-Some.school in
+    let here : slice_get (choices_of m i) k ≡ Some s = sym (c.in-Some.ensures ∙ ap (λ (j : ℕ). slice_get (choices_of m j) k) (hand-is m c.args.entrant.now.position i c.requires.stands)) in
     sym (row-held m a i k s up here (held-test a i s c.args.entrant.now.held c.is_held.result true (sym holds) c.is_held.ensures c.if-is_held.true))
 
 pub returns-clause-row : goal.returns-clause-row
@@ -30,18 +30,22 @@ returns-clause-row c a are holds up =
     let m = c.args.papers.now in
     let i = c.args.entrant.now.student in
     let k = c.args.rank in
-    let s = c.in-Some.choice.school in
+    let s = c.in-Some.school in
     let same = hand-is m c.args.entrant.now.position i c.requires.stands in
-    let here : slice_get (choices_of m i) k ≡ Some s = sym (c.in-Some.ensures.school ∙ ap (λ (j : ℕ). slice_get (choices_of m j) k) same) in
+    let here : slice_get (choices_of m i) k ≡ Some s = sym (c.in-Some.ensures ∙ ap (λ (j : ℕ). slice_get (choices_of m j) k) same) in
+    let choice = c.in-Some-proposal.choice in
+    let both : Some choice.school ≡ Some s = c.in-Some-proposal.ensures.school ∙ sym c.in-Some.ensures in
+    let chosen : choice.school ≡ s = cc in
     let row = row-reason m a i s c.reason_of-reason.result
-    (c.reason_of-reason.ensures m a are c.in-Some.ensures.position
-    ∙ ap (reason_by (cutoff m a s)) (c.in-Some.ensures.key ∙ ap (λ (j : ℕ). key_of m j s) same)) in
+    (c.reason_of-reason.ensures m a are c.in-Some-proposal.ensures.position
+    ∙ ap (λ (j : ℕ). reason_by (cutoff m a j) choice.key) chosen
+    ∙ ap (reason_by (cutoff m a s)) (c.in-Some-proposal.ensures.key ∙ ap (λ (j : ℕ). key_of m j choice.school) same ∙ ap (key_of m i) chosen)) in
     ap Some row ∙ sym (row-missed m a i k s up here (held-test a i s c.args.entrant.now.held c.is_held.result false (sym holds) c.is_held.ensures c.if-is_held.false))
 
 pub returns-clause-within : goal.returns-clause-within
 returns-clause-within c some =
     let m = c.args.papers.now in
     let i = c.args.entrant.now.student in
-    let s = c.in-Some.choice.school in
+    let s = c.in-Some.school in
     slice_get_within (choices_of m i) c.args.rank s
-    (sym (c.in-Some.ensures.school ∙ ap (λ (j : ℕ). slice_get (choices_of m j) c.args.rank) (hand-is m c.args.entrant.now.position i c.requires.stands)))
+    (sym (c.in-Some.ensures ∙ ap (λ (j : ℕ). slice_get (choices_of m j) c.args.rank) (hand-is m c.args.entrant.now.position i c.requires.stands)))
