@@ -3,7 +3,8 @@ use Rattle.std.proofs.Common.{◌≡◌, refl, sym, ap, subst, ◌∙◌, ℕ, z
 use Rattle.std.specs.Prelude.{filter_map}
 use Rattle.std.specs.List.{cons_option, range_with_len}
 use Rattle.std.specs.Option.{option_map}
-use Rattle.std.proofs.lemmas.List.{append-nil, length-append, length-map, take-map, take_all}
+use Rattle.std.proofs.lemmas.List.{append-nil, length-append, length-map, map-append, take-map, take_all}
+use Rattle.std.proofs.lemmas.List.FromFn.{length-range_with_len}
 use native.Mathlib.Decide.{dec_lt}
 use Rattle.std.proofs.lemmas.List.Elements.{filter_map-append}
 use Rattle.std.proofs.lemmas.Option.{none-some, same_Some, slice_get-map, slice_get_within}
@@ -11,7 +12,7 @@ use Rattle.sc_papers.specs.EntryOrder.{with_swapped_students}
 use Rattle.sc_papers.specs.Market.{Market}
 use Rattle.sc_stamps.specs.Stamps.{Stamps, with_swapped_stamps}
 use Rattle.sc_stamps.specs.Verdict.{StampedPapers}
-use Rattle.sc_repair.specs.Turns.{AreInTurn, AreTurns, TurnsOfEntry, exchanged, first_turns, in_turn, stamped_in_turn, swapped}
+use Rattle.sc_repair.specs.Turns.{AreInTurn, AreTurns, TurnsOfEntry, entered, exchanged, first_turns, in_turn, stamped_in_turn, swapped}
 use Rattle.sc_repair.proofs.AmendedInTurn.{kept-swapped, swapped-in_turn}
 use Rattle.sc_repair.proofs.EntryTurns.{exchanged-second, turn-of}
 use Rattle.sc_repair.proofs.InTurn.{exchanged-other, take-there}
@@ -222,6 +223,23 @@ ordering-at whole turn place now end s t m n stamps others so places turns paper
     (subst (λ (u : TurnsOfEntry). IsOrdering whole turn place end u n others) (sym turns)
     (subst (λ (p : Market). IsOrdering whole turn place end s p others) (sym papers)
     (subst (λ (q : Stamps). IsOrdering whole turn place end s m q) (sym marks) so)))
+
+-- so many turns, each of a student who stands at the position of the same number
+pub first-made : (count : ℕ) → record { positions = map Some (range_with_len 0 count); turns = range_with_len 0 count } ≡ first_turns count
+first-made zero = refl
+first-made (suc count) =
+    let own = range_with_len 0 count in
+    let many : length own ≡ count = length-range_with_len 0 count in
+    let placed : length (map Some own) ≡ count = length-map own Some ∙ many in
+    let next : suc count ≡ count + 1 = omega arith in
+    let more : range_with_len 0 (suc count) ≡ own ++ count ∷ [] = ap (range_with_len 0) next ∙ range-more 0 count ∙ ap (λ k. own ++ k ∷ []) (plain count) in
+    let positions : map Some (range_with_len 0 (suc count)) ≡ map Some own ++ Some (length own) ∷ [] =
+    ap (map Some) more ∙ map-append Some own (count ∷ []) ∙ ap (λ k. map Some own ++ Some k ∷ []) (sym many) in
+    let turns : range_with_len 0 (suc count) ≡ own ++ length (map Some own) ∷ [] = more ∙ ap (λ k. own ++ k ∷ []) (sym placed) in
+    (λ u. record { positions = positions u; turns = turns u }) ∙ ap entered (first-made count)
+  where
+    plain : (n : ℕ) → 0 + n ≡ n
+    plain n = omega arith
 
 -- whoever enters in the order in which they stand is in order
 pub first-in_turn : {X : Type 0} (xs : List X) → in_turn (first_turns (length xs)).positions xs ≡ xs

@@ -1,4 +1,5 @@
-ghost use Rattle.std.specs.Prelude.{◌≡◌, ◌<◌, Some, length, slice_get, IfOk, OnOk, OnErr};
+ghost use Rattle.std.specs.Prelude.{◌≡◌, ◌<◌, Some, length, map, slice_get, IfOk, OnOk, OnErr};
+ghost use Rattle.std.specs.List.{range_with_len};
 ghost use Rattle.sc_repair.specs.Turns.{TurnsOfEntry, begun_turns, entered, finished_turns, first_turns, left, swapped, AreTurns};
 
 use sc_stamps::Marking;
@@ -23,6 +24,13 @@ impl Model for Turns {
     ghost view = { λ t. record { positions = t.positions.items; turns = t.turns.items } };
 }
 
+/// So many turns, each of a student who stands at the position of the same number.
+fn own_positions(alloc: Global, count: usize) -> Result<Vec<Option<usize>>, AllocError>
+    ensures { IfOk result (λ positions. positions.items ≡ map Some (range_with_len 0 count)) }
+{
+    (0..count).map(Some).collect(alloc)
+}
+
 impl Turns {
     ghost use Rattle.std.specs.Prelude.{◌≡◌, ◌<◌, Some, length, slice_get, IfOk, OnOk, OnErr};
     ghost use Rattle.sc_repair.specs.Turns.{TurnsOfEntry, begun_turns, entered, finished_turns, first_turns, left, swapped, AreTurns};
@@ -31,14 +39,9 @@ impl Turns {
     pub(crate) fn first(alloc: Global, count: usize) -> Result<Self, AllocError>
         ensures { IfOk result (λ turns. turns ≡ first_turns count) }
     {
-        let mut turns = Turns {
-            positions: Vec::with_capacity(alloc, count)?,
-            turns: Vec::with_capacity(alloc, count)?,
-        };
-        for turn in 0..count {
-            turns.enter()?;
-        }
-        Ok(turns)
+        let positions = own_positions(alloc, count)?;
+        let turns = (0..count).collect(alloc)?;
+        Ok(Turns { positions, turns })
     }
 
     /// How many turns there were.
