@@ -1,12 +1,12 @@
 -- A journal replayed, one line more.
-use Rattle.std.proofs.Common.{◌≡◌, ◌≢◌, ℕ, ◌+◌, ◌-◌, ◌<◌, ◌≤◌, List, [], ◌∷◌, ◌++◌, length, get_or, drop, refl, sym, ◌∙◌, ap, arith, append_assoc, inl, inr}
+use Rattle.std.proofs.Common.{◌≡◌, ℕ, ◌+◌, ◌<◌, ◌≤◌, List, [], ◌∷◌, ◌++◌, length, drop, refl, sym, ◌∙◌, ap, arith, append_assoc, inl, inr}
 use Rattle.std.specs.Prelude.{codes, slice_range}
-use Rattle.std.proofs.lemmas.List.{at_drop_all, at_drop_more, drop-drop, length-append, length-drop, take_all, take-append-drop, take_more, get_or-drop}
-use Rattle.std.proofs.lemmas.List.Elements.{All-nil, All-push, All-same}
+use Rattle.std.proofs.lemmas.List.{at_drop_all, at_drop_more, length-append}
+use Rattle.std.proofs.lemmas.List.Elements.{All-nil, All-push}
 use Rattle.sc_papers.specs.Verdict.{verdict}
 use Rattle.sc_stamps.specs.Verdict.{StampedPapers, stamped_after}
 use Rattle.sc_journal.proofs.Stamping.{accepted-after}
-use Rattle.sc_journal.specs.Journal.{IsCause, IsFirstFault, IsReplayed, IsReplayFault, IsUnbroken, journal_text, tail_of}
+use Rattle.sc_journal.specs.Journal.{IsCause, IsFirstFault, IsReplayed, IsReplayFault, journal_text, tail_of}
 use Rattle.sc_journal.specs.Line.{line_text}
 use Rattle.sc_journal.specs.Replaying.{IsCauseOrMemory, IsLineEnd, IsTaken, line_of}
 use Rattle.sc_journal.specs.Spelling.{IsInRanges}
@@ -15,36 +15,6 @@ use Rattle.sc_journal.specs.declared.fault.JournalCause.{JournalCause}
 use Rattle.sc_journal.specs.declared.fault.JournalCause.TheVariants.{Shape, Number, JournalFull, Refused, OutOfMemory}
 use Rattle.sc_journal.specs.declared.fault.JournalFault.{JournalFault}
 use Rattle.sc_journal.specs.declared.journal.Tail.TheVariants.{Torn, Whole}
-
--- one more byte of a line
-slice_range-more : (text : List ℕ) (start i d : ℕ) → start ≤ i → i < length text
-    → slice_range text start (i + 1) ≡ slice_range text start i ++ get_or text i d ∷ []
-slice_range-more text start i d from inside =
-    let span : i + 1 - start ≡ i - start + 1 = omega arith in
-    let index : start + (i - start) ≡ i = omega arith in
-    rw (span, take_more (drop start text) (i - start) d (omega (arith, length-drop start text)), get_or-drop start text (i - start) d, index) refl
-
--- no byte of a line that has not begun
-pub unbroken-start : (bytes : List ℕ) (start : ℕ) → IsUnbroken (slice_range bytes start start)
-unbroken-start bytes start = let none : start - start ≡ 0 = omega arith in rw none (All-nil (λ byte. byte ≢ 10))
-
-pub unbroken-more : (bytes : List ℕ) (start i : ℕ) → start ≤ i → i < length bytes → get_or bytes i 0 ≢ 10 → IsUnbroken (slice_range bytes start i) → IsUnbroken (slice_range bytes start (i + 1))
-unbroken-more bytes start i from inside other free =
-    rw (slice_range-more bytes start i 0 from inside) (All-push (λ byte. byte ≢ 10) (slice_range bytes start i) (get_or bytes i 0) free other)
-
--- all that is left is one line
-pub unbroken-end : (bytes : List ℕ) (start i : ℕ) → start ≤ i → length bytes ≤ i → IsUnbroken (slice_range bytes start i) → IsUnbroken (drop start bytes)
-unbroken-end bytes start i from past free =
-    let all : slice_range bytes start i ≡ drop start bytes = take_all (i - start) (drop start bytes) (omega (arith, length-drop start bytes)) in
-    All-same (λ byte. byte ≢ 10) (drop start bytes) (slice_range bytes start i) (sym all) free
-
--- the bytes from a line on, cut at its newline
-pub line-cut : (bytes : List ℕ) (start i : ℕ) → start ≤ i → i < length bytes → get_or bytes i 0 ≡ 10 → drop start bytes ≡ slice_range bytes start i ++ 10 ∷ drop (i + 1) bytes
-line-cut bytes start i from inside newline =
-    let index : start + (i - start) ≡ i = omega arith in
-    let rest : drop (i - start) (drop start bytes) ≡ drop i bytes = drop-drop (i - start) start bytes ∙ ap (λ n. drop n bytes) index in
-    let next : drop i bytes ≡ 10 ∷ drop (i + 1) bytes = at_drop_more (λ (bs : List ℕ). bs) bytes i 0 inside ∙ ap (λ (b : ℕ). b ∷ drop (i + 1) bytes) newline in
-    sym (take-append-drop (i - start) (drop start bytes)) ∙ ap (λ (bs : List ℕ). slice_range bytes start i ++ bs) (rest ∙ next)
 
 -- bytes that are left are a torn line
 pub tail-torn : (bytes : List ℕ) (i : ℕ) → i < length bytes → Torn ≡ tail_of (drop i bytes)

@@ -10,6 +10,7 @@ ghost use Rattle.sc_repair.specs.Standing.{proposals_from_scratch, IsCertified};
 use crate::fault::{JournalCause, JournalFault};
 use crate::line_no::LineNo;
 use crate::reading::read_line;
+use memchr::memchr;
 use sc_papers::{Amendment, Papers, Refusal};
 use sc_repair::{Clearing, Unsettled};
 use std::alloc::Global;
@@ -28,12 +29,8 @@ fn line_end(bytes: &[u8], start: usize) -> Option<usize>
     requires { start ≤ length bytes.now }
     ensures { MatchOption result (IsUnbroken (drop start bytes.now)) (IsLineEnd bytes.now start) }
 {
-    for index in start..bytes.len() {
-        if bytes[index] == b'\n' {
-            return Some(index);
-        }
-    }
-    None
+    let index = memchr(b'\n', &bytes[start..])?;
+    Some(start + index)
 }
 
 /// The amendment of the line of this number.
