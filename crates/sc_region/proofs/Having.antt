@@ -15,6 +15,7 @@ use Rattle.sc_papers.proofs.Students.{choice-known, lister-among}
 use Rattle.sc_region.specs.Groups.{first_choice, group_of, is_member, joined_students, place_of, positions_in, start_of, students_at, widened}
 use Rattle.sc_region.specs.Districts.{AreDistricts, DistrictsView, firsts_at}
 use Rattle.sc_region.specs.Region.{InRegion}
+use Rattle.sc_region.specs.Telling.{TellRegion}
 use Rattle.std.specs.List.Sorted.{IsStrictlyIncreasing}
 use Rattle.std.specs.Prelude.{slice_index}
 use Rattle.std.proofs.lemmas.List.Kept.{IsStrictlyIncreasing-filter}
@@ -62,14 +63,15 @@ module _ (m : Market) (a : Amendment) (well : WellFormed m) (allowed : verdict m
       (λ j s inside listed. joined-together m well students known j s (enough j inside (among-student m j (lister-among m j s listed))) listed)
       (λ j inside. inside) i within i_known)
 
--- and the same by positions
+-- whoever stands at some positions is in the papers
+at-known : (m : Market) (positions : List ℕ) → ((p : ℕ) → Contains positions p → p < length (students_of m)) → (i : ℕ) → Contains (students_at m positions) i → is_student m i ≡ true
+at-known m positions within i among =
+    let (p, there, is) = map-among (student_at m) positions i among in
+    subst (λ j. is_student m j ≡ true) is (hand-student m p (omega (arith, within p there, length-keys_of m.students)))
+
+-- the lists of students who have all of the region tell it
 module _ (m : Market) (a : Amendment) (well : WellFormed m) (allowed : verdict m a ≡ None) (positions : List ℕ)
     (within : (p : ℕ) → Contains positions p → p < length (students_of m)) (enough : (p : ℕ) → p < length (students_of m) → InRegion m a (student_at m p) → Contains positions p) where
-  at-known : (i : ℕ) → Contains (students_at m positions) i → is_student m i ≡ true
-  at-known i among =
-      let (p, there, is) = map-among (student_at m) positions i among in
-      subst (λ j. is_student m j ≡ true) is (hand-student m p (omega (arith, within p there, length-keys_of m.students)))
-
   at-enough : (i : ℕ) → InRegion m a i → is_student m i ≡ true → Contains (students_at m positions) i
   at-enough i inside known =
       let (p, there) = place-of (students_of m) i (student-among m i known) in
@@ -77,34 +79,68 @@ module _ (m : Market) (a : Amendment) (well : WellFormed m) (allowed : verdict m
       subst (Contains (students_at m positions)) own
       (map-kept (student_at m) positions p (enough p (slice_get_within (students_of m) p i there) (subst (InRegion m a) (sym own) inside)))
 
-  pub positions-exact : (p i : ℕ) → slice_get (students_of m) p ≡ Some i
-      → (Contains (positions_in m (widened m a (joined_students m (students_at m positions))) (group_of m (widened m a (joined_students m (students_at m positions))) (start_of m a)) positions) p ↔ InRegion m a i)
+  pub all-tell : TellRegion m a (widened m a (joined_students m (students_at m positions)))
+  all-tell i known = (
+    λ passes. candidate-in m a well allowed (students_at m positions) (at-known m positions within) at-enough i (student-among m i known) passes,
+    λ inside. in-candidate m a well allowed (students_at m positions) (at-known m positions within) at-enough i inside known,
+  )
+
+-- the groups that the lists of the students at some positions join, and with them the new choices
+abbrev pub few-groups : Market → Amendment → List ℕ → List ℕ
+few-groups m a few = widened m a (joined_students m (students_at m few))
+
+-- so do those of a few of them, where these lists hold the whole district together
+module _ (m : Market) (a : Amendment) (well : WellFormed m) (allowed : verdict m a ≡ None) (few : List ℕ)
+    (within : (p : ℕ) → Contains few p → p < length (students_of m)) (districts : List ℕ) (district : ℕ) (whole : AreWhole m districts)
+    (near : (i : ℕ) → InRegion m a i → is_student m i ≡ true → group_of m districts (first_choice m i) ≡ district) where
+  pub few-tell : ((other : ℕ) → other < length districts → slice_index districts other ≡ district → slice_index (few-groups m a few) other ≡ slice_index (few-groups m a few) (place_of m (start_of m a)))
+      → TellRegion m a (few-groups m a few)
+  unfolding is_member
+  few-tell together i known = (to, from)
+    where
+      to : is_member m (few-groups m a few) (group_of m (few-groups m a few) (start_of m a)) i ≡ true → InRegion m a i
+      to passes =
+          member-in m a well allowed (joined_students m (students_at m few)) (joined-partial m well a (students_at m few) (at-known m few within)) i (student-among m i known) (eqb-true _ _ passes)
+
+      from : InRegion m a i → is_member m (few-groups m a few) (group_of m (few-groups m a few) (start_of m a)) i ≡ true
+      from inside =
+          let first = first_choice m i in
+          let place = (place-within m first (choice-known m well i first (first-listed m well i known))).0 in
+          eq-eqb _ _ (together (place_of m first) (omega (arith, place, whole)) (near i inside known))
+
+-- of positions that have all of the region, those that the groups tell are the region
+module _ (m : Market) (a : Amendment) (groups : List ℕ) (tell : TellRegion m a groups) (positions : List ℕ)
+    (enough : (p : ℕ) → p < length (students_of m) → InRegion m a (student_at m p) → Contains positions p) where
+  pub positions-exact : (p i : ℕ) → slice_get (students_of m) p ≡ Some i → (Contains (positions_in m groups (group_of m groups (start_of m a)) positions) p ↔ InRegion m a i)
   unfolding positions_in
   positions-exact p i here = (to, from)
     where
       test : ℕ → Bool
-      test q = is_member m (widened m a (joined_students m (students_at m positions))) (group_of m (widened m a (joined_students m (students_at m positions))) (start_of m a)) (student_at m q)
+      test q = is_member m groups (group_of m groups (start_of m a)) (student_at m q)
 
       own : student_at m p ≡ i
       own = hand-is m p i here
-
-      low : p < length (students_of m)
-      low = slice_get_within (students_of m) p i here
 
       known : is_student m i ≡ true
       known = among-student m i (contains-at (students_of m) p i here)
 
       to : Contains (filter test positions) p → InRegion m a i
-      to among =
-          candidate-in m a well allowed (students_at m positions) at-known at-enough i (contains-at (students_of m) p i here)
-          (ap (λ j. is_member m (widened m a (joined_students m (students_at m positions))) (group_of m (widened m a (joined_students m (students_at m positions))) (start_of m a)) j) (sym own)
-          ∙ (filter-among test positions p among).1)
+      to among = (tell i known).0 (ap (λ j. is_member m groups (group_of m groups (start_of m a)) j) (sym own) ∙ (filter-among test positions p among).1)
 
       from : InRegion m a i → Contains (filter test positions) p
       from inside =
-          filter-kept test positions p (enough p low (subst (InRegion m a) (sym own) inside))
-          (ap (λ j. is_member m (widened m a (joined_students m (students_at m positions))) (group_of m (widened m a (joined_students m (students_at m positions))) (start_of m a)) j) own
-          ∙ in-candidate m a well allowed (students_at m positions) at-known at-enough i inside known)
+          filter-kept test positions p (enough p (slice_get_within (students_of m) p i here) (subst (InRegion m a) (sym own) inside))
+          (ap (λ j. is_member m groups (group_of m groups (start_of m a)) j) own ∙ (tell i known).1 inside)
+
+-- no list leaves its district, so the region lies in the widened one to begin with
+pub district-near : (m : Market) (a : Amendment) → WellFormed m → verdict m a ≡ None → (d : DistrictsView) → AreDistricts m d
+    → (groups : List ℕ) → groups ≡ widened m a d.groups → (group : ℕ) → group ≡ group_of m groups (start_of m a)
+    → (i : ℕ) → InRegion m a i → is_student m i ≡ true → group_of m groups (first_choice m i) ≡ group
+unfolding is_member
+district-near m a well allowed d districts groups are group its i inside known =
+    let near : group_of m (widened m a d.groups) (first_choice m i) ≡ group_of m (widened m a d.groups) (start_of m a) =
+    eqb-true _ _ (region-near m a well allowed d.groups districts.one_each districts.closed i inside known) in
+    ap (λ g. group_of m g (first_choice m i)) are ∙ near ∙ sym (its ∙ ap (λ g. group_of m g (start_of m a)) are)
 
 -- of the positions of a district's students, those whose first choice is in a group
 pub chosen-rising : (m : Market) (groups : List ℕ) (group : ℕ) (positions : List ℕ) → IsStrictlyIncreasing positions → IsStrictlyIncreasing (positions_in m groups group positions)

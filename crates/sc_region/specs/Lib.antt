@@ -3,3 +3,4 @@ pub mod Groups
 pub mod Marks
 pub mod Roots
 pub mod Districts
+pub mod Telling

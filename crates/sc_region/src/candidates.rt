@@ -2,10 +2,12 @@
 
 ghost use Rattle.std.specs.Prelude.{◌≡◌, ◌<◌, ◌↔◌, ℕ, None, true, length, slice_index, Contains, IfOk, OnOk};
 ghost use Rattle.std.specs.List.Sorted.{IsStrictlyIncreasing};
-ghost use Rattle.sc_papers.specs.Market.{schools_of, is_school, student_at, students_of};
+ghost use Rattle.sc_papers.specs.Market.{schools_of, is_school, is_student, student_at, students_of};
 ghost use Rattle.sc_papers.specs.Verdict.{verdict};
 ghost use Rattle.sc_region.specs.Districts.{firsts_at, lists_in, students_in};
-ghost use Rattle.sc_region.specs.Groups.{group_of, joined_students, positions_in, start_of, students_at, widened};
+ghost use Rattle.sc_region.specs.Groups.{first_choice, group_of, joined_students, positions_in, start_of, students_at, widened};
+ghost use Rattle.sc_region.specs.Telling.{TellRegion};
+ghost use Rattle.sc_region.specs.Region.{InRegion};
 
 use crate::first::First;
 use crate::grouping::{groups_among, join_list, place_of};
@@ -13,6 +15,9 @@ use crate::members::is_member;
 use crate::reach::new_choices;
 use sc_papers::{Amendment, MOST_STUDENTS, Papers, SchoolNo};
 use std::alloc::{AllocError, Global};
+
+// Lists of twelve choices hold a district together with about as many of them as it has schools; short ones take more.
+const LISTS_FOR_SCHOOL: usize = 4;
 
 /// Puts the positions of the students of a list at the end of others; whoever is not in the papers has none.
 fn push_positions(
@@ -85,22 +90,85 @@ fn groups_with(
     papers: &Papers,
     amendment: &Amendment,
     start: SchoolNo,
+    joined: &[usize],
+) -> Result<Vec<usize>, AllocError>
+    requires allowed { verdict papers.now amendment.now ≡ None }
+    requires start { start ≡ start_of papers.now amendment.now }
+    requires known { is_school papers.now start ≡ true }
+    requires within { (p : ℕ) → Contains joined.now p → p < length (students_of papers.now) }
+    ensures joined { IfOk result (λ groups. groups.items ≡ widened papers.now amendment.now (joined_students papers.now (students_at papers.now joined.now))) }
+    ensures one_each { IfOk result (λ groups. length groups.items ≡ length (schools_of papers.now)) }
+{
+    let mut groups = groups_among(alloc, papers, joined)?;
+    join_list(papers, &mut groups, start, new_choices(amendment));
+    Ok(groups.into_numbers())
+}
+
+/// Whether all schools of a district are in one group, that of the school at a position.
+fn hold_together(groups: &[usize], place: usize, districts: &[usize], district: usize) -> bool
+    requires one_each { length groups.now ≡ length districts.now }
+    requires within { place < length groups.now }
+    ensures { result ≡ true → (other : ℕ) → other < length districts.now → slice_index districts.now other ≡ district → slice_index groups.now other ≡ slice_index groups.now place }
+{
+    for other in 0..districts.len() {
+        if districts[other] == district && groups[other] != groups[place] {
+            return false;
+        }
+    }
+    true
+}
+
+/// Of the students who may be in the region, as many as there are lists that most often hold their district together.
+fn first_few<'a>(districts: &[usize], district: usize, candidates: &'a [usize]) -> &'a [usize]
+    ensures { (p : ℕ) → Contains result.now p → Contains candidates.now p }
+{
+    let schools = districts.iter().filter(|other| **other == district).count();
+    let few = schools.saturating_mul(LISTS_FOR_SCHOOL);
+    &candidates[..few.min(candidates.len())]
+}
+
+/// Groups of schools by which students are told who may be in the region: whoever is in it has their first choice in the
+/// group of the school to begin with, and nobody else. The district is that of this school, with those joined that the
+/// new choices join.
+///
+/// The lists of a few students mostly hold the whole district together, and then no others are joined.
+pub(crate) fn region_groups_among(
+    alloc: Global,
+    papers: &Papers,
+    amendment: &Amendment,
+    start: SchoolNo,
+    districts: &[usize],
+    district: usize,
     candidates: &[usize],
 ) -> Result<Vec<usize>, AllocError>
     requires allowed { verdict papers.now amendment.now ≡ None }
     requires start { start ≡ start_of papers.now amendment.now }
     requires known { is_school papers.now start ≡ true }
+    requires one_each { length districts.now ≡ length (schools_of papers.now) }
     requires within { (p : ℕ) → Contains candidates.now p → p < length (students_of papers.now) }
-    ensures joined { IfOk result (λ groups. groups.items ≡ widened papers.now amendment.now (joined_students papers.now (students_at papers.now candidates.now))) }
+    requires enough { (p : ℕ) → p < length (students_of papers.now) → InRegion papers.now amendment.now (student_at papers.now p) → Contains candidates.now p }
+    requires near { (i : ℕ) → InRegion papers.now amendment.now i → is_student papers.now i ≡ true → group_of papers.now districts.now (first_choice papers.now i) ≡ district }
     ensures one_each { IfOk result (λ groups. length groups.items ≡ length (schools_of papers.now)) }
+    ensures region { IfOk result (λ groups. TellRegion papers.now amendment.now groups.items) }
 {
-    let mut groups = groups_among(alloc, papers, candidates)?;
-    join_list(papers, &mut groups, start, new_choices(amendment));
-    Ok(groups.into_numbers())
+    // This call tells that the papers are well-formed.
+    prove!(papers.students_len() <= MOST_STUDENTS);
+    let few = first_few(districts, district, candidates);
+    let groups = groups_with(alloc, papers, amendment, start, few)?;
+    if hold_together(
+        groups.as_slice(),
+        place_of(papers, start),
+        districts,
+        district,
+    ) {
+        return Ok(groups);
+    }
+    let all = groups_with(alloc, papers, amendment, start, candidates)?;
+    Ok(all)
 }
 
 /// Of these positions, those of the students whose first choice is in a group.
-fn positions_in(
+pub(crate) fn positions_in(
     alloc: Global,
     papers: &Papers,
     groups: &[usize],
@@ -111,32 +179,11 @@ fn positions_in(
     requires within { (p : ℕ) → Contains candidates.now p → p < length (students_of papers.now) }
     ensures { IfOk result (λ positions. positions.items ≡ positions_in papers.now groups.now group candidates.now) }
 {
-    let mut positions = Vec::new(alloc);
+    let mut positions = Vec::with_capacity(alloc, candidates.len())?;
     for position in candidates {
         if is_member(papers, groups, group, *position) {
             positions.push(*position)?;
         }
     }
-    Ok(positions)
-}
-
-/// Of these positions, those of the students whom their lists and the new choices join with the school to
-/// begin with.
-pub(crate) fn joined_positions(
-    alloc: Global,
-    papers: &Papers,
-    amendment: &Amendment,
-    start: SchoolNo,
-    candidates: &[usize],
-) -> Result<Vec<usize>, AllocError>
-    requires allowed { verdict papers.now amendment.now ≡ None }
-    requires start { start ≡ start_of papers.now amendment.now }
-    requires known { is_school papers.now start ≡ true }
-    requires within { (p : ℕ) → Contains candidates.now p → p < length (students_of papers.now) }
-    ensures { IfOk result (λ positions. positions.items ≡ positions_in papers.now (widened papers.now amendment.now (joined_students papers.now (students_at papers.now candidates.now))) (group_of papers.now (widened papers.now amendment.now (joined_students papers.now (students_at papers.now candidates.now))) (start_of papers.now amendment.now)) candidates.now) }
-{
-    let groups = groups_with(alloc, papers, amendment, start, candidates)?;
-    let group = groups[place_of(papers, start)];
-    let positions = positions_in(alloc, papers, groups.as_slice(), group, candidates)?;
     Ok(positions)
 }

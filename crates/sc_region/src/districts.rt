@@ -6,7 +6,7 @@ ghost use Rattle.sc_papers.specs.Verdict.{verdict};
 ghost use Rattle.sc_region.specs.Districts.{comer, firsts_at, leaver, lists_in, new_first, students_in};
 ghost use Rattle.sc_region.specs.Groups.{first_choice, place_of};
 
-use crate::candidates::{count_in, joined_positions, listed_in, rising};
+use crate::candidates::{count_in, listed_in, positions_in, region_groups_among, rising};
 use crate::first::First;
 use crate::grouping::{first_place_at, groups_of, join_list, place_of};
 use crate::marks::RegionMarks;
@@ -227,19 +227,23 @@ impl Districts {
     {
         let listed = listed_in(alloc, papers, &self.firsts, groups, group)?;
         let candidates = rising(listed);
+        let all = candidates.as_slice();
         // This call tells that the papers are well-formed.
         prove!(papers.students_len() <= MOST_STUDENTS);
-        let positions = joined_positions(alloc, papers, amendment, start, candidates.as_slice())?;
+        let exact = region_groups_among(alloc, papers, amendment, start, groups, group, all)?;
+        let own = exact[place_of(papers, start)];
+        let positions = positions_in(alloc, papers, exact.as_slice(), own, all)?;
         Ok(positions)
     }
 
     /// What `region_marks` gives, and its errors, found in the district of the amendment alone: that of the
     /// amended school or of the amended student's choices.
     ///
-    /// The cost is one pass over the choices of the district's students, with a look-up by number for each who
-    /// no longer stands where they stood when they came to be listed, and a sort, and one over the schools, for
-    /// each of which memory is taken, as for each student of the district. Where the district has a good part
-    /// of all students, it is that of `region_marks`.
+    /// The cost is a look at each of the district's students, with a look-up by number for each who no longer
+    /// stands where they stood when they came to be listed, and a sort; a few passes over the schools, for each
+    /// of which memory is taken, as for each student of the district; and one over the choices of a few of these
+    /// students, four for each school of the district, or of all of them where those few do not hold it
+    /// together. Where the district has a good part of all students, it is that of `region_marks`.
     pub fn region(
         &self,
         alloc: Global,
