@@ -74,14 +74,14 @@ pub(crate) fn count_in(firsts: &Vec<Vec<First>>, groups: &[usize], group: usize)
     count
 }
 
-/// These positions rising, each once.
-pub(crate) fn rising(mut positions: Vec<usize>) -> Vec<usize>
-    ensures rising { IsStrictlyIncreasing result.items }
-    ensures same { (p : ℕ) → (Contains result.items p ↔ Contains positions.items p) }
+/// These positions rising, each once. Mostly they rise from school to school, and such runs are merged.
+pub(crate) fn rising(mut positions: Vec<usize>) -> Result<Vec<usize>, AllocError>
+    ensures rising { IfOk result (λ rising. IsStrictlyIncreasing rising.items) }
+    ensures same { IfOk result (λ rising. (p : ℕ) → (Contains rising.items p ↔ Contains positions.items p)) }
 {
-    positions.sort_unstable();
+    positions.sort()?;
     positions.dedup();
-    positions
+    Ok(positions)
 }
 
 /// The groups that the lists of the students at these positions join, and with them the new choices.

@@ -226,7 +226,7 @@ impl Districts {
         ensures within { IfOk result (λ positions. (p : ℕ) → Contains positions.items p → p < length papers.now.students) }
     {
         let listed = listed_in(alloc, papers, &self.firsts, groups, group)?;
-        let candidates = rising(listed);
+        let candidates = rising(listed)?;
         let all = candidates.as_slice();
         // This call tells that the papers are well-formed.
         prove!(papers.students_len() <= MOST_STUDENTS);

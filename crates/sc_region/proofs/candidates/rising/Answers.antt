@@ -8,14 +8,14 @@ use Rattle.std.proofs.lemmas.Map.Keys.{IsStrictlyIncreasing-dedup}
 use Rattle.sc_region.proofs.candidates.rising.Goals as goal
 
 pub returns-clause-rising : goal.returns-clause-rising
-returns-clause-rising c = rw (dedup_is _ _ _ c.dedup.ensures.filtered) (IsStrictlyIncreasing-dedup _ c.sort_unstable.ensures.sorted)
+returns-clause-rising c = rw (dedup_is _ _ _ c.dedup.ensures.filtered) (IsStrictlyIncreasing-dedup _ c.in_ok-sort.ensures.sorted)
 
 pub returns-clause-same : goal.returns-clause-same
 returns-clause-same c p =
     let old = c.args.positions.items in
-    let sorted = c.sort_unstable.new.self.items in
+    let sorted = c.sort.new.self.items in
     let new = c.dedup.new.self.items in
     let is : new ≡ dedup nat_eq sorted = dedup_is _ _ _ c.dedup.ensures.filtered in (
-      λ among. Contains-permutation sorted old p (IsPermutation-sym old sorted c.sort_unstable.ensures.permutation) (Contains-from_dedup nat_eq sorted p (subst (λ xs. Contains xs p) is among)),
-      λ among. subst (λ xs. Contains xs p) (sym is) (Contains-dedup_nat sorted p (Contains-permutation old sorted p c.sort_unstable.ensures.permutation among)),
+      λ among. Contains-permutation sorted old p (IsPermutation-sym old sorted c.sort.ensures.permutation) (Contains-from_dedup nat_eq sorted p (subst (λ xs. Contains xs p) is among)),
+      λ among. subst (λ xs. Contains xs p) (sym is) (Contains-dedup_nat sorted p (Contains-permutation old sorted p c.sort.ensures.permutation among)),
     )

@@ -12,7 +12,7 @@ use Rattle.sc_region.proofs.districts.Districts.region_positions.Goals as goal
 
 pub region_groups_among-requires-clause-within : goal.region_groups_among-requires-clause-within
 region_groups_among-requires-clause-within c p among =
-    c.in_ok-listed.ensures.within p ((c.rising-candidates.ensures.same p).0 (subst (λ xs. Contains xs p) c.as_slice-all.ensures.value among))
+    c.in_ok-listed.ensures.within p ((c.in_ok-candidates.ensures.same p).0 (subst (λ xs. Contains xs p) c.as_slice-all.ensures.value among))
 
 pub region_groups_among-requires-clause-enough : goal.region_groups_among-requires-clause-enough
 region_groups_among-requires-clause-enough c q low inside =
@@ -25,7 +25,7 @@ region_groups_among-requires-clause-enough c q low inside =
     district-enough m a c.students_len.ensures.well_formed c.requires.allowed d c.requires.districts c.args.groups.now c.requires.groups c.requires.one_each c.args.group c.requires.group listed
     (λ place r below is r_low among. c.in_ok-listed.ensures.all place r below is r_low (subst (λ fs. Contains (firsts_at fs place) (student_at m r)) (sym firsts) among))
     q low inside in
-    subst (λ xs. Contains xs q) (sym c.as_slice-all.ensures.value) ((c.rising-candidates.ensures.same q).1 there)
+    subst (λ xs. Contains xs q) (sym c.as_slice-all.ensures.value) ((c.in_ok-candidates.ensures.same q).1 there)
 
 pub region_groups_among-requires-clause-near : goal.region_groups_among-requires-clause-near
 region_groups_among-requires-clause-near c =
@@ -33,12 +33,12 @@ region_groups_among-requires-clause-near c =
 
 pub positions_in-requires-clause-within : goal.positions_in-requires-clause-within
 positions_in-requires-clause-within c p among =
-    c.in_ok-listed.ensures.within p ((c.rising-candidates.ensures.same p).0 (subst (λ xs. Contains xs p) c.as_slice-all.ensures.value among))
+    c.in_ok-listed.ensures.within p ((c.in_ok-candidates.ensures.same p).0 (subst (λ xs. Contains xs p) c.as_slice-all.ensures.value among))
 
 pub returns-clause-rising : goal.returns-clause-rising
 returns-clause-rising c =
     subst IsStrictlyIncreasing (sym c.in_ok-positions.ensures)
-    (chosen-rising c.args.papers.now c.as_slice.result.now c.index-own.result.now c.as_slice-all.result.now (subst IsStrictlyIncreasing (sym c.as_slice-all.ensures.value) c.rising-candidates.ensures.rising))
+    (chosen-rising c.args.papers.now c.as_slice.result.now c.index-own.result.now c.as_slice-all.result.now (subst IsStrictlyIncreasing (sym c.as_slice-all.ensures.value) c.in_ok-candidates.ensures.rising))
 
 pub returns-clause-region : goal.returns-clause-region
 returns-clause-region c p i here =
@@ -51,7 +51,7 @@ returns-clause-region c p i here =
     let firsts : lists_in c.self.inside.firsts.items ≡ d.firsts = ap (λ (v : _). v.firsts) c.self.view_is in
     let enough : (q : ℕ) → q < length (students_of m) → InRegion m a (student_at m q) → Contains chosen q =
     λ q low inside.
-    subst (λ xs. Contains xs q) (sym c.as_slice-all.ensures.value) ((c.rising-candidates.ensures.same q).1
+    subst (λ xs. Contains xs q) (sym c.as_slice-all.ensures.value) ((c.in_ok-candidates.ensures.same q).1
     (district-enough m a c.students_len.ensures.well_formed c.requires.allowed d c.requires.districts c.args.groups.now c.requires.groups c.requires.one_each c.args.group c.requires.group listed
     (λ place r below is r_low among. c.in_ok-listed.ensures.all place r below is r_low (subst (λ fs. Contains (firsts_at fs place) (student_at m r)) (sym firsts) among))
     q low inside)) in
@@ -71,5 +71,5 @@ returns-clause-within c p among =
     let m = c.args.papers.now in
     let chosen = c.as_slice-all.result.now in
     let there = chosen-among m c.as_slice.result.now c.index-own.result.now chosen p (subst (λ xs. Contains xs p) c.in_ok-positions.ensures among) in
-    let low = c.in_ok-listed.ensures.within p ((c.rising-candidates.ensures.same p).0 (subst (λ xs. Contains xs p) c.as_slice-all.ensures.value there)) in
+    let low = c.in_ok-listed.ensures.within p ((c.in_ok-candidates.ensures.same p).0 (subst (λ xs. Contains xs p) c.as_slice-all.ensures.value there)) in
     omega (arith, low, length-keys_of m.students)
