@@ -19,3 +19,4 @@ pub mod Growing
 pub mod Forgetting
 pub mod Proposing
 pub mod Newcomers
+mod Clearing

@@ -6,3 +6,4 @@ pub mod Entrants
 pub mod Proposals
 pub mod Newcomers
 pub mod Outcome
+pub mod Noted

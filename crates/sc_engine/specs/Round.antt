@@ -8,7 +8,7 @@ use Rattle.sc_engine.specs.declared.round.Round.{Round}
 -- a round as contracts see it
 abbrev pub view_of : {R : Type 0} → (R → List Key) → (R → ℕ) → Round R → RoundView
 view_of keys seats r = record {
-  ranks = r.ranks.items;
+  ranks = r.ranks;
   rolls = rolls_of keys seats r.rolls.items;
   log = r.log.items;
   proposals = r.proposals;

@@ -6,6 +6,7 @@
 mod batches;
 mod entrants;
 pub mod laws;
+mod rank_table;
 mod round;
 mod settled;
 

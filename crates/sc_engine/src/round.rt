@@ -11,6 +11,7 @@ ghost use Rattle.sc_engine.specs.Rolls.{rolls_of};
 
 mod resume;
 
+use crate::rank_table::RankTable;
 use crate::settled::{Outcome, Settled};
 use sc_checkpoint::Hints;
 use sc_papers::{
@@ -28,7 +29,7 @@ pub struct Round<R: Roll> {
     // By position of the student: the rank in the choices at which the student stands, if it has
     // entered. Nobody has who comes after the last of these positions, and so in order of entry the next
     // to enter stands right after it.
-    ranks: Vec<Option<u8>>,
+    ranks: RankTable,
     // By position of the school.
     rolls: Vec<R>,
     log: Vec<Rejection>,
@@ -151,29 +152,6 @@ fn rank_at(ranks: &[Option<u8>], at: usize) -> Option<usize>
     }
 }
 
-/// Makes room for a position. Nobody stands there yet, nor at those that come before it.
-fn make_room(ranks: &mut Vec<Option<u8>>, at: usize) -> Result<(), AllocError>
-    ensures room { OnOk result (at < length ranks.new.items) }
-    ensures same { OnOk result ((k : ℕ) → slice_index_or ranks.new.items k None ≡ slice_index_or ranks.old.items k None) }
-    ensures within { OnOk result ((n : ℕ) → at < n → length ranks.old.items ≤ n → length ranks.new.items ≤ n) }
-{
-    if ranks.len() < at {
-        ranks.resize(at, None)?;
-    }
-    if ranks.len() == at {
-        ranks.push(None)?;
-    }
-    Ok(())
-}
-
-/// Makes nobody stand at any position.
-fn stand_nowhere(ranks: &mut Vec<Option<u8>>)
-    ensures nobody { StandNowhere ranks.new.items }
-    ensures length { length ranks.new.items ≡ length ranks.old.items }
-{
-    ranks.as_mut_slice().fill(None);
-}
-
 /// The choice at which the student at the position stands.
 fn choice_at(ranks: &[Option<u8>], papers: &Papers, at: usize) -> Option<SchoolNo>
     requires { at < length papers.now.students }
@@ -246,16 +224,6 @@ fn offer_to<R: Roll>(rolls: &mut Vec<R>, at: usize, key: Key) -> Result<Option<K
     Ok(out)
 }
 
-/// The student at the position moves on to the next rank of its choices.
-fn move_on(ranks: &mut Vec<Option<u8>>, at: usize)
-    requires { (rank : ℕ) → slice_index_or ranks.old.items at None ≡ Some rank → rank < LONGEST_LIST }
-    ensures { (rank : ℕ) → slice_index_or ranks.old.items at None ≡ Some rank → ranks.new.items ≡ slice_set ranks.old.items at (Some (rank + 1)) }
-{
-    if let Some(Some(rank)) = ranks.get(at).copied() {
-        ranks[at] = Some(rank + 1);
-    }
-}
-
 impl<R: Roll> Round<R> {
     ghost use Rattle.sc_engine.specs.Round.{view_of, is_spent};
 
@@ -265,7 +233,7 @@ impl<R: Roll> Round<R> {
         requires count_fits { self.old.proposals + 1 < 2 ^ 64 }
         requires new { ¬ Contains (roll_at (view_of R.keys R.seats self.old).rolls at).keys key }
         ensures offered { IfOk result (λ out. OffersAt (view_of R.keys R.seats self.old).rolls (view_of R.keys R.seats self.new).rolls at key out) }
-        ensures ranks { self.new.ranks.items ≡ self.old.ranks.items }
+        ensures ranks { self.new.ranks ≡ self.old.ranks }
         ensures log { self.new.log.items ≡ self.old.log.items }
         ensures proposals { OnOk result (self.new.proposals ≡ self.old.proposals + 1) }
     {
@@ -276,14 +244,14 @@ impl<R: Roll> Round<R> {
 
     /// Notes that the school rejects the student at the position, who moves on to the next choice.
     fn reject(&mut self, at: usize, entry: Rejection) -> Result<(), AllocError>
-        requires { (rank : ℕ) → slice_index_or self.old.ranks.items at None ≡ Some rank → rank < LONGEST_LIST }
+        requires { (rank : ℕ) → slice_index_or self.old.ranks at None ≡ Some rank → rank < LONGEST_LIST }
         ensures log { OnOk result (self.new.log.items ≡ self.old.log.items ++ entry ∷ []) }
-        ensures moved { OnOk result ((rank : ℕ) → slice_index_or self.old.ranks.items at None ≡ Some rank → self.new.ranks.items ≡ slice_set self.old.ranks.items at (Some (rank + 1))) }
+        ensures moved { OnOk result ((rank : ℕ) → slice_index_or self.old.ranks at None ≡ Some rank → self.new.ranks ≡ slice_set self.old.ranks at (Some (rank + 1))) }
         ensures rolls { self.new.rolls.items ≡ self.old.rolls.items }
         ensures proposals { self.new.proposals ≡ self.old.proposals }
     {
         self.log.push(entry)?;
-        move_on(&mut self.ranks, at);
+        self.ranks.move_on(at);
         Ok(())
     }
 
@@ -309,7 +277,7 @@ impl<R: Roll> Round<R> {
     ) -> Result<Option<usize>, AllocError>
         requires within { proposer < length papers.now.students }
         requires fits { FitsBut papers.now (view_of R.keys R.seats self.old) (only (student_at papers.now proposer)) }
-        requires next { IsProposal papers.now (student_at papers.now proposer) (next_of papers.now self.old.ranks.items (student_at papers.now proposer)) proposal }
+        requires next { IsProposal papers.now (student_at papers.now proposer) (next_of papers.now self.old.ranks (student_at papers.now proposer)) proposal }
         ensures within { IfOk result (λ out. IfSome out (λ next. next < length papers.now.students)) }
         ensures proposes { IfOk result (λ out. Proposes papers.now (view_of R.keys R.seats self.old) (view_of R.keys R.seats self.new) (student_at papers.now proposer) (option_map (student_at papers.now) out)) }
     {
@@ -355,7 +323,7 @@ impl<R: Roll> Round<R> {
     ) -> Result<(), AllocError>
         requires within { first < length papers.now.students }
         requires fits { FitsBut papers.now (view_of R.keys R.seats self.old) (only (student_at papers.now first)) }
-        requires next { IsProposal papers.now (student_at papers.now first) (next_of papers.now self.old.ranks.items (student_at papers.now first)) proposal }
+        requires next { IsProposal papers.now (student_at papers.now first) (next_of papers.now self.old.ranks (student_at papers.now first)) proposal }
         ensures { OnOk result (ChainEnds papers.now (view_of R.keys R.seats self.old) (view_of R.keys R.seats self.new) (student_at papers.now first)) }
     {
         if let Some(out) = self.propose_with(papers, first, proposal)? {
@@ -374,13 +342,13 @@ impl<R: Roll> Round<R> {
     ) -> Result<(), AllocError>
         requires fits { Fits papers.now (view_of R.keys R.seats self.old) }
         requires stands { position (nat_eq student) (students_of papers.now) ≡ Some at }
-        requires absent { has_entered papers.now self.old.ranks.items student ≡ false }
+        requires absent { has_entered papers.now self.old.ranks student ≡ false }
         requires first { IsProposal papers.now student (first_choice papers.now student) first }
         ensures { OnOk result (Enters papers.now (view_of R.keys R.seats self.old) (view_of R.keys R.seats self.new) student) }
     {
         self.hints.note(student, at);
-        make_room(&mut self.ranks, at)?;
-        self.ranks[at] = Some(0);
+        self.ranks.make_room(at)?;
+        self.ranks.put(at, 0)?;
         self.chain_with(papers, at, first)?;
         Ok(())
     }
@@ -389,13 +357,13 @@ impl<R: Roll> Round<R> {
     fn of_parts(
         papers: &Papers,
         alloc: Global,
-        ranks: Vec<Option<u8>>,
+        ranks: RankTable,
         rolls: Vec<R>,
         log: Vec<Rejection>,
         hints: Hints,
     ) -> Self
-        requires within { length ranks.items ≤ length papers.now.students }
-        requires nobody { StandNowhere ranks.items }
+        requires within { length ranks ≤ length papers.now.students }
+        requires nobody { StandNowhere ranks }
         requires length { length rolls.items ≡ length papers.now.schools }
         requires empty { AreEmpty papers.now (rolls_of R.keys R.seats rolls.items) (length papers.now.schools) }
         requires log { log.items ≡ [] }
@@ -432,7 +400,7 @@ impl<R: Roll> Round<R> {
         ensures proposals { IfOk result (λ round. (view_of R.keys R.seats round).proposals ≡ 0) }
         ensures ready { IfOk result (λ round. is_spent round ≡ false) }
     {
-        let ranks = Vec::with_capacity(alloc, papers.students_len())?;
+        let ranks = RankTable::with_room(alloc, papers.students_len())?;
         let rolls = empty_rolls(alloc, papers)?;
         let hints = Hints::with_room(alloc, students)?;
         Ok(Round::of_parts(papers, alloc, ranks, rolls, Vec::new(alloc), hints))
@@ -449,8 +417,7 @@ impl<R: Roll> Round<R> {
         ensures ready { IfOk result (λ round. is_spent round ≡ false) }
     {
         let mut ranks = self.ranks;
-        ranks.truncate(papers.students_len());
-        stand_nowhere(&mut ranks);
+        ranks.clear(papers.students_len());
         let mut rolls = self.rolls;
         renew_rolls(self.alloc, &mut rolls, papers)?;
         let mut log = self.log;

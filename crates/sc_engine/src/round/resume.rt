@@ -7,7 +7,7 @@ ghost use Rattle.sc_papers.specs.declared.rejection.Rejection.{Rejection};
 ghost use Rattle.sc_checkpoint.specs.NextChoices.{stands, AreNextChoices};
 ghost use Rattle.sc_engine.specs.RoundView.{Fits, Continues, StandsToo, has_entered, next_of};
 
-use super::{Round, make_room, offer_to, position_near};
+use super::{Round, offer_to, position_near};
 use sc_checkpoint::NextChoice;
 use sc_papers::{LONGEST_LIST, Papers, SchoolNo};
 use sc_seats::Roll;
@@ -45,16 +45,16 @@ impl<R: Roll> Round<R> {
     fn put(&mut self, papers: &Papers, choice: NextChoice, guess: usize) -> Result<(), AllocError>
         requires fits { Fits papers.now (view_of R.keys R.seats self.old) }
         requires student { is_student papers.now choice.student ≡ true }
-        requires absent { has_entered papers.now self.old.ranks.items choice.student ≡ false }
+        requires absent { has_entered papers.now self.old.ranks choice.student ≡ false }
         requires listed { IfSome choice.next (λ s. Contains (choices_of papers.now choice.student) s) }
-        requires room { IfSome choice.next (λ s. held papers.now (next_of papers.now self.old.ranks.items) s < seats_of papers.now s) }
+        requires room { IfSome choice.next (λ s. held papers.now (next_of papers.now self.old.ranks) s < seats_of papers.now s) }
         ensures stands { OnOk result (StandsToo papers.now (view_of R.keys R.seats self.old) (view_of R.keys R.seats self.new) choice.student choice.next) }
         ensures spent { is_spent self.new ≡ is_spent self.old }
     {
         let at = position_near(papers, choice.student, guess);
         self.hints.note(choice.student, at);
-        make_room(&mut self.ranks, at)?;
-        self.ranks[at] = Some(rank_in(papers, at, choice.next) as u8);
+        self.ranks.make_room(at)?;
+        self.ranks.put(at, rank_in(papers, at, choice.next) as u8)?;
         let Some(school) = choice.next else {
             return Ok(());
         };
@@ -99,8 +99,9 @@ impl<R: Roll> Round<R> {
     /// Does what `resume` does, in the memory of a round that is done with, whatever papers it was of and whether or
     /// not it is spent.
     ///
-    /// The cost is a look at each school, two bytes to clear for each student of the papers, and for each student of the
-    /// next choices what it is in `resume`.
+    /// The cost is a look at each school, one at each student who stood in that round, and for each student of the next
+    /// choices what it is in `resume`. A round that never lent its memory before does not know who stood in it, and costs
+    /// two bytes to clear for each student of the papers.
     pub fn resume_in(
         self,
         papers: &Papers,

@@ -9,7 +9,7 @@ use Rattle.sc_repair.proofs.entering.move_on.Goals as goal
 pub loop-rejection-preserved : goal.loop-rejection-preserved
 loop-rejection-preserved g c =
     let log = c.log-rejection-items.result.now in
-    let next = next_of c.args.papers.now c.args.round.now.ranks.items in
+    let next = next_of c.args.papers.now c.args.round.now.ranks in
     let more = take_more log c.loop-rejection.rejection-index c.rejection-item.result c.loop-rejection-test.true
     ∙ ap (λ (e : Rejection). take c.loop-rejection.rejection-index log ++ e ∷ []) (sym c.rejection-item.is) in
     subst (λ l. MovesFirst next l c.args.places.now c.move_near.new.self) (sym more)
@@ -21,6 +21,6 @@ loop-rejection-preserved g c =
 pub returns : goal.returns
 returns g c =
     let log = c.log-rejection-items.result.now in
-    let next = next_of c.args.papers.now c.args.round.now.ranks.items in
+    let next = next_of c.args.papers.now c.args.round.now.ranks in
     subst (λ l. MovesFirst next l c.args.places.now c.loop-rejection.places)
     (take_all c.loop-rejection.rejection-index log c.loop-rejection-test.false ∙ c.log-rejection-items.ensures) c.loop-rejection.invariant

@@ -10,7 +10,7 @@ use Rattle.sc_repair.proofs.placing.move_all.Goals as goal
 
 pub loop-position-preserved : goal.loop-position-preserved
 loop-position-preserved g c =
-    let next = next_of c.args.papers.now c.args.round.now.ranks.items in
+    let next = next_of c.args.papers.now c.args.round.now.ranks in
     let students = students_in c.args.chains.now in
     let movers = c.args.movers.now in
     let index = c.loop-position.position-index in
@@ -25,5 +25,5 @@ loop-position-preserved g c =
 pub returns : goal.returns
 returns g c = λ j.
     c.loop-position.invariant j
-    ∙ ap (λ ps. with_moved (picked (students_in c.args.chains.now) ps) (next_of c.args.papers.now c.args.round.now.ranks.items) (assigned c.args.places.now) j)
+    ∙ ap (λ ps. with_moved (picked (students_in c.args.chains.now) ps) (next_of c.args.papers.now c.args.round.now.ranks) (assigned c.args.places.now) j)
     (take_all c.loop-position.position-index c.args.movers.now c.loop-position-test.false)

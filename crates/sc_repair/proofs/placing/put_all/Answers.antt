@@ -13,7 +13,7 @@ student-student-requires g c = picked-low c.args.region.now c.positions-position
 
 pub loop-position-preserved : goal.loop-position-preserved
 loop-position-preserved g c =
-    let next = next_of c.args.papers.now c.args.round.now.ranks.items in
+    let next = next_of c.args.papers.now c.args.round.now.ranks in
     let students = students_in c.args.chains.now in
     let positions = c.positions-positions.result.now in
     let index = c.loop-position.position-index in
@@ -40,9 +40,9 @@ loop-position-preserved g c =
 pub returns-clause-given : goal.returns-clause-given
 returns-clause-given g c =
     picked-new c.args.region.now c.positions-positions.result.now (students_in c.args.chains.now) c.loop-position.position-index c.positions-positions.ensures.marked
-    (c.requires.one_each ∙ sym (length-map c.args.chains.now (λ (chain : Chain). chain.student))) (next_of c.args.papers.now c.args.round.now.ranks.items) (assigned c.args.places.now) (assigned c.loop-position.places) c.loop-position-test.false c.loop-position.invariant.1
+    (c.requires.one_each ∙ sym (length-map c.args.chains.now (λ (chain : Chain). chain.student))) (next_of c.args.papers.now c.args.round.now.ranks) (assigned c.args.places.now) (assigned c.loop-position.places) c.loop-position-test.false c.loop-position.invariant.1
 
 pub returns-clause-movers : goal.returns-clause-movers
 returns-clause-movers g c =
     picked-movers c.args.region.now c.positions-positions.result.now (students_in c.args.chains.now) c.loop-position.position-index c.positions-positions.ensures.marked
-    (c.requires.one_each ∙ sym (length-map c.args.chains.now (λ (chain : Chain). chain.student))) (picked (students_in c.args.chains.now) c.loop-position.movers.items) (next_of c.args.papers.now c.args.round.now.ranks.items) (assigned c.loop-position.places) c.loop-position-test.false c.loop-position.invariant.2
+    (c.requires.one_each ∙ sym (length-map c.args.chains.now (λ (chain : Chain). chain.student))) (picked (students_in c.args.chains.now) c.loop-position.movers.items) (next_of c.args.papers.now c.args.round.now.ranks) (assigned c.loop-position.places) c.loop-position-test.false c.loop-position.invariant.2

@@ -19,7 +19,7 @@ returns-clause-grown g c =
 pub returns-clause-given : goal.returns-clause-given
 returns-clause-given g c =
     let unplaced : assigned c.args.places.now c.args.student ≡ None = sym c.get_near-had.ensures ∙ is-none c.get_near-had.result (sym c.is_some.ensures ∙ c.if-is_some.false) in
-    given-one (next_of c.args.papers.now c.args.round.now.ranks.items) (assigned c.args.places.now) (assigned c.put.new.self) c.args.student c.in-Some.school
+    given-one (next_of c.args.papers.now c.args.round.now.ranks) (assigned c.args.places.now) (assigned c.put.new.self) c.args.student c.in-Some.school
     unplaced (sym (c.in-Some.ensures c.requires.ready))
     (λ j. ap (λ pairs. assigned pairs j) c.in_ok-put.ensures.put ∙ assigned-with_place c.args.places.now c.args.student c.in-Some.school j)
 

@@ -10,4 +10,4 @@ invariant-loop-out g l =
     × ChainGoesOn l.papers (view_of g.R.Roll.keys g.R.Roll.seats l.fn.self) (view_of g.R.Roll.keys g.R.Roll.seats l.self) (student_at l.papers l.fn.first) (student_at l.papers l.proposer)
 
 abbrev pub decreases-loop-out : goal.decreases-loop-out
-decreases-loop-out g l = choices_left l.papers l.self.ranks.items
+decreases-loop-out g l = choices_left l.papers l.self.ranks

@@ -31,7 +31,7 @@ offer-requires-clause-new g c =
 
 pub offer-requires-clause-count_fits : goal.offer-requires-clause-count_fits
 offer-requires-clause-count_fits g c =
-    omega (arith, c.requires.fits.proposals, standing-most c.args.papers.now c.args.self.now.ranks.items (only (student_at c.args.papers.now c.args.proposer)) c.requires.fits.within_limits, c.args.self.now.log.small, c.args.self.now.log.ok)
+    omega (arith, c.requires.fits.proposals, standing-most c.args.papers.now c.args.self.now.ranks (only (student_at c.args.papers.now c.args.proposer)) c.requires.fits.within_limits, c.args.self.now.log.small, c.args.self.now.log.ok)
 
 pub returns-in_default-2-clause-proposes : goal.returns-in_default-2-clause-proposes
 returns-in_default-2-clause-proposes g c =

@@ -1,8 +1,8 @@
-use Rattle.std.proofs.Common.{◌≡◌, refl, ap, sym, subst, ◌∙◌, ℕ, ◌<◌, Option, None, Contains, IfSome, slice_get, arith}
+use Rattle.std.proofs.Common.{◌≡◌, refl, ap, sym, subst, ◌∙◌, ℕ, ◌<◌, List, Option, None, Contains, IfSome, slice_get, arith}
 use Rattle.sc_papers.specs.Key.{key_of}
 use Rattle.sc_papers.specs.Market.{choices_of, seats_of, student_at}
 use Rattle.sc_papers.specs.Matching.{held}
-use Rattle.sc_engine.specs.RoundView.{next_of}
+use Rattle.sc_engine.specs.RoundView.{next_of, StandsToo}
 use Rattle.sc_engine.specs.Round.{view_of}
 use Rattle.sc_engine.specs.Rolls.{rolls_of}
 use Rattle.sc_engine.proofs.Beginning.{Begun, moved, begins, fits-begun, is_some-none}
@@ -23,13 +23,14 @@ returns-in_default-clause-stands g c =
     let student = c.args.choice.student in
     let at = c.position_near-at.result in
     let rank = c.rank_in.result in
-    let room = c.make_room.new.ranks.items in
+    let room = c.make_room.new.self in
     let old = view_of g.R.Roll.keys g.R.Roll.seats c.args.self.now in
     let there : student_at papers at ≡ student = student-there papers student at c.position_near-at.ensures in
     let here : slice_get (choices_of papers student) rank ≡ c.args.choice.next =
     ap (λ i. slice_get (choices_of papers i) rank) (sym there) ∙ c.rank_in.ensures.rank in
     let begun : Begun papers old (moved old room at rank) student at rank = begins papers old room student at rank c.requires.fits c.position_near-at.ensures c.requires.absent c.in_ok-make_room.ensures.room c.in_ok-make_room.ensures.same c.in_ok-make_room.ensures.within in
-    put-nowhere begun c.args.choice.next here c.in_default.is
+    subst (λ (ranks : List (Option ℕ)). StandsToo papers old (record old { ranks = ranks }) student c.args.choice.next) (sym c.in_ok-put.ensures)
+    (put-nowhere begun c.args.choice.next here c.in_default.is)
 
 pub position_and_key-position-requires-clause-school : goal.position_and_key-position-requires-clause-school
 position_and_key-position-requires-clause-school g c =
@@ -37,7 +38,7 @@ position_and_key-position-requires-clause-school g c =
     let student = c.args.choice.student in
     let at = c.position_near-at.result in
     let rank = c.rank_in.result in
-    let room = c.make_room.new.ranks.items in
+    let room = c.make_room.new.self in
     let old = view_of g.R.Roll.keys g.R.Roll.seats c.args.self.now in
     let there : student_at papers at ≡ student = student-there papers student at c.position_near-at.ensures in
     let here : slice_get (choices_of papers student) rank ≡ c.args.choice.next =
@@ -51,7 +52,7 @@ offer_to-requires-clause-new g c =
     let student = c.args.choice.student in
     let at = c.position_near-at.result in
     let rank = c.rank_in.result in
-    let room = c.make_room.new.ranks.items in
+    let room = c.make_room.new.self in
     let old = view_of g.R.Roll.keys g.R.Roll.seats c.args.self.now in
     let there : student_at papers at ≡ student = student-there papers student at c.position_near-at.ensures in
     let here : slice_get (choices_of papers student) rank ≡ c.args.choice.next =
@@ -78,7 +79,7 @@ returns-clause-stands g c =
     let student = c.args.choice.student in
     let at = c.position_near-at.result in
     let rank = c.rank_in.result in
-    let room = c.make_room.new.ranks.items in
+    let room = c.make_room.new.self in
     let old = view_of g.R.Roll.keys g.R.Roll.seats c.args.self.now in
     let there : student_at papers at ≡ student = student-there papers student at c.position_near-at.ensures in
     let here : slice_get (choices_of papers student) rank ≡ c.args.choice.next =
@@ -86,8 +87,9 @@ returns-clause-stands g c =
     let begun : Begun papers old (moved old room at rank) student at rank = begins papers old room student at rank c.requires.fits c.position_near-at.ensures c.requires.absent c.in_ok-make_room.ensures.room c.in_ok-make_room.ensures.same c.in_ok-make_room.ensures.within in
     let key = c.position_and_key-position.ensures.key ∙ ap (λ i. key_of papers i c.in-Some.school) there in
     let rolls = rolls_of g.R.Roll.keys g.R.Roll.seats c.offer_to.new.rolls.items in
-    put-on_roll begun (record (moved old room at rank) { rolls = rolls }) c.args.choice.next c.in-Some.school c.position_and_key-position.result.0 here c.in-Some.is
+    subst (λ (ranks : List (Option ℕ)). StandsToo papers old (record old { ranks = ranks; rolls = rolls }) student c.args.choice.next) (sym c.in_ok-put.ensures)
+    (put-on_roll begun (record (moved old room at rank) { rolls = rolls }) c.args.choice.next c.in-Some.school c.position_and_key-position.result.0 here c.in-Some.is
     (proposed-told papers (moved old room at rank) student c.in-Some.school c.position_and_key-position.result.0 c.position_and_key-position.result.1 rolls c.in_ok-out.out None
     (fits-begun begun) (next-begun begun c.args.choice.next here ∙ c.in-Some.is) c.position_and_key-position.ensures.position key c.in_ok-out.ensures
     (is_some-none c.in_ok-out.out (sym c.is_some.ensures ∙ c.if-is_some.false)))
-    refl refl refl
+    refl refl refl)
