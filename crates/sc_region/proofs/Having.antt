@@ -108,6 +108,20 @@ module _ (m : Market) (a : Amendment) (well : WellFormed m) (allowed : verdict m
           let place = (place-within m first (choice-known m well i first (first-listed m well i known))).0 in
           eq-eqb _ _ (together (place_of m first) (omega (arith, place, whole)) (near i inside known))
 
+-- or all schools
+pub whole-tell : (m : Market) (a : Amendment) → WellFormed m → verdict m a ≡ None → (few : List ℕ) → ((p : ℕ) → Contains few p → p < length (students_of m))
+    → AreWhole m (few-groups m a few)
+    → ((other : ℕ) → other < length (few-groups m a few) → slice_index (few-groups m a few) other ≡ slice_index (few-groups m a few) (place_of m (start_of m a)))
+    → TellRegion m a (few-groups m a few)
+unfolding is_member
+whole-tell m a well allowed few within whole together i known = (
+  λ passes. member-in m a well allowed (joined_students m (students_at m few)) (joined-partial m well a (students_at m few) (at-known m few within)) i (student-among m i known) (eqb-true _ _ passes),
+  λ inside.
+      let first = first_choice m i in
+      let place = (place-within m first (choice-known m well i first (first-listed m well i known))).0 in
+      eq-eqb _ _ (together (place_of m first) (omega (arith, place, whole))),
+)
+
 -- of positions that have all of the region, those that the groups tell are the region
 module _ (m : Market) (a : Amendment) (groups : List ℕ) (tell : TellRegion m a groups) (positions : List ℕ)
     (enough : (p : ℕ) → p < length (students_of m) → InRegion m a (student_at m p) → Contains positions p) where

@@ -17,7 +17,7 @@ use sc_papers::{Amendment, MOST_STUDENTS, Papers, SchoolNo};
 use std::alloc::{AllocError, Global};
 
 // Lists of twelve choices hold a district together with about as many of them as it has schools; short ones take more.
-const LISTS_FOR_SCHOOL: usize = 4;
+pub(crate) const LISTS_FOR_SCHOOL: usize = 4;
 
 /// Puts the positions of the students of a list at the end of others; whoever is not in the papers has none.
 fn push_positions(
@@ -85,7 +85,7 @@ pub(crate) fn rising(mut positions: Vec<usize>) -> Result<Vec<usize>, AllocError
 }
 
 /// The groups that the lists of the students at these positions join, and with them the new choices.
-fn groups_with(
+pub(crate) fn groups_with(
     alloc: Global,
     papers: &Papers,
     amendment: &Amendment,

@@ -1,12 +1,14 @@
 //! How far an amendment reaches.
 
-ghost use Rattle.std.specs.Prelude.{◌≡◌, ◌↔◌, ℕ, None, Some, true, false, length, map, slice_get, slice_index_or, Contains, IsTrue, OnOk, IfOk, IfErr};
+ghost use Rattle.std.specs.Prelude.{◌≡◌, ◌↔◌, ◌<◌, ℕ, None, Some, true, false, length, slice_get, slice_index, slice_index_or, Contains, IsTrue, OnOk, IfOk, IfErr};
 ghost use Rattle.std.specs.List.Sorted.{IsStrictlyIncreasing};
 ghost use Rattle.sc_papers.specs.Market.{is_school, is_student, schools_of, students_of};
 ghost use Rattle.sc_papers.specs.Verdict.{verdict, IsRefusal};
-ghost use Rattle.sc_region.specs.Groups.{first_choice, group_of, is_member, new_choices, region_groups, region_members, start_of};
+ghost use Rattle.sc_region.specs.Groups.{first_choice, new_choices, region_groups, region_members, start_of};
 ghost use Rattle.sc_region.specs.Region.{InRegion};
+ghost use Rattle.sc_region.specs.Telling.{TellRegion};
 
+use crate::candidates::{LISTS_FOR_SCHOOL, groups_with};
 use crate::grouping::{first_choice_at, groups_of, join_list, place_of};
 use crate::marks::RegionMarks;
 use crate::members::{marks_of, members_of};
@@ -113,6 +115,60 @@ pub fn region(alloc: Global, papers: &Papers, amendment: &Amendment) -> Result<R
     Ok(region)
 }
 
+/// Positions of students that lie evenly among all, a few for each school.
+fn spread_positions(alloc: Global, papers: &Papers) -> Result<Vec<usize>, AllocError>
+    ensures { IfOk result (λ positions. (p : ℕ) → Contains positions.items p → p < length (students_of papers.now)) }
+{
+    let students = papers.students_len();
+    let few = papers.schools_len().saturating_mul(LISTS_FOR_SCHOOL);
+    let step = students.checked_div(few).unwrap_or(0).saturating_add(1);
+    let mut positions = Vec::new(alloc);
+    let mut position: usize = 0;
+    'step: while position < students {
+        positions.push(position)?;
+        position = position.saturating_add(step);
+    }
+    Ok(positions)
+}
+
+/// Whether all schools are in one group, that of the school at a position.
+fn are_all_with(groups: &[usize], place: usize) -> bool
+    requires { place < length groups.now }
+    ensures { result ≡ true → (other : ℕ) → other < length groups.now → slice_index groups.now other ≡ slice_index groups.now place }
+{
+    for other in 0..groups.len() {
+        if groups[other] != groups[place] {
+            return false;
+        }
+    }
+    true
+}
+
+/// Groups of schools that tell the region: the lists of a few students where these join all schools, as those of one city
+/// do, and else the lists of all.
+fn telling_groups(
+    alloc: Global,
+    papers: &Papers,
+    amendment: &Amendment,
+    start: SchoolNo,
+) -> Result<Vec<usize>, AllocError>
+    requires allowed { verdict papers.now amendment.now ≡ None }
+    requires start { start ≡ start_of papers.now amendment.now }
+    requires known { is_school papers.now start ≡ true }
+    ensures one_each { IfOk result (λ groups. length groups.items ≡ length (schools_of papers.now)) }
+    ensures region { IfOk result (λ groups. TellRegion papers.now amendment.now groups.items) }
+{
+    // This call tells that the papers are well-formed.
+    prove!(papers.students_len() <= MOST_STUDENTS);
+    let few = spread_positions(alloc, papers)?;
+    let groups = groups_with(alloc, papers, amendment, start, few.as_slice())?;
+    if are_all_with(groups.as_slice(), place_of(papers, start)) {
+        return Ok(groups);
+    }
+    let all = region_groups(alloc, papers, amendment, start)?;
+    Ok(all)
+}
+
 /// A mark for each student of the papers: whether the lists lead from the amendment to them.
 fn marks_of_region(
     alloc: Global,
@@ -120,10 +176,11 @@ fn marks_of_region(
     amendment: &Amendment,
 ) -> Result<Vec<bool>, AllocError>
     requires { verdict papers.now amendment.now ≡ None }
-    ensures { IfOk result (λ marks. marks.items ≡ map (is_member papers.now (region_groups papers.now amendment.now) (group_of papers.now (region_groups papers.now amendment.now) (start_of papers.now amendment.now))) (students_of papers.now)) }
+    ensures one_each { IfOk result (λ marks. length marks.items ≡ length (students_of papers.now)) }
+    ensures region { IfOk result (λ marks. (position i : ℕ) → slice_get (students_of papers.now) position ≡ Some i → (IsTrue (slice_index_or marks.items position false) ↔ InRegion papers.now amendment.now i)) }
 {
     let start = start_of(papers, amendment);
-    let groups = region_groups(alloc, papers, amendment, start)?;
+    let groups = telling_groups(alloc, papers, amendment, start)?;
     let group = groups[place_of(papers, start)];
     let marks = marks_of(alloc, papers, groups.as_slice(), group)?;
     Ok(marks)
@@ -135,7 +192,8 @@ fn marks_of_region(
 /// Answers the first refusal of the amendment that applies, as `Papers::check` does, or else want of
 /// memory. The papers are not changed.
 ///
-/// The cost is one pass over all choices, by their positions, with steps to the root of each one's group.
+/// The cost is a look at each student, and one pass over the choices of a few, four for each school, or over all
+/// choices where those few leave the schools apart: by their positions, with steps to the root of each one's group.
 /// Memory is taken for each school and each student, and once more for each of the region.
 pub fn region_marks(
     alloc: Global,
