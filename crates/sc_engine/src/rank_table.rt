@@ -104,7 +104,7 @@ impl RankTable {
         self.ranks.as_slice()
     }
 
-    /// How many positions there are, of whom the last have anybody standing there or not.
+    /// How many positions there is room for by now.
     pub(crate) fn len(&self) -> usize
         ensures { result ≡ length self.now }
     {

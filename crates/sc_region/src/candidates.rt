@@ -16,7 +16,8 @@ use crate::reach::new_choices;
 use sc_papers::{Amendment, MOST_STUDENTS, Papers, SchoolNo};
 use std::alloc::{AllocError, Global};
 
-// Lists of twelve choices hold a district together with about as many of them as it has schools; short ones take more.
+// How many lists for each school are tried at first, to see whether they hold all schools together: of lists of twelve choices
+// fewer than one for each school mostly do, of short ones more.
 pub(crate) const LISTS_FOR_SCHOOL: usize = 4;
 
 /// Puts the positions of the students of a list at the end of others; whoever is not in the papers has none.
@@ -127,9 +128,9 @@ fn first_few<'a>(districts: &[usize], district: usize, candidates: &'a [usize]) 
     &candidates[..few.min(candidates.len())]
 }
 
-/// Groups of schools by which students are told who may be in the region: whoever is in it has their first choice in the
-/// group of the school to begin with, and nobody else. The district is that of this school, with those joined that the
-/// new choices join.
+/// Groups of schools that tell the region: whoever is in it has their first choice in the group of the school to begin
+/// with, and nobody else. The candidates have all of the region, and the district is that of this school, with those
+/// joined that the new choices join.
 ///
 /// The lists of a few students mostly hold the whole district together, and then no others are joined.
 pub(crate) fn region_groups_among(
