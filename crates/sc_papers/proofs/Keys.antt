@@ -4,7 +4,7 @@ use Rattle.std.specs.Prelude.{◌==◌, ◌&&◌, ◌||◌, nat_lt}
 use Rattle.std.specs.List.{slice_get, list_any}
 use Rattle.sc_lottery.specs.Draw.{draw}
 use Rattle.sc_papers.specs.Key.{class_by, has_sibling_at, same_zone, key_of, key_at}
-use Rattle.sc_papers.specs.Market.{Market, siblings_of, student_at, student_of, students_of, school_of, schools_of, is_student, is_school}
+use Rattle.sc_papers.specs.Market.{Market, siblings_of, student_at, student_of, students_of, school_of, schools_of, seats_of, is_student, is_school}
 use Rattle.sc_papers.specs.Representation.{rows_of}
 use Rattle.sc_papers.specs.StudentRow.{Row, row_of}
 use Rattle.sc_papers.specs.WellFormed.{WellFormed}
@@ -49,6 +49,12 @@ draw-there seed table es rows place i row are found at =
 pub record-there : (m : Market) (place i : ℕ) (student : Student) → slice_get m.students place ≡ Some (i, student) → student_of m i ≡ Some student
     → Some student ≡ option_and_then (student_of m) (slice_get (students_of m) place)
 record-there m place i student entry known = sym (ap (option_and_then (student_of m)) (key-there m.students place i student entry) ∙ known)
+
+-- the seats of the school at a place
+pub seats-there : (m : Market) (place s : ℕ) (school : School) → slice_get m.schools place ≡ Some (s, school) → school_of m s ≡ Some school
+    → Some school.seats ≡ option_map (seats_of m) (slice_get (schools_of m) place)
+unfolding seats_of
+seats-there m place s school entry known = rw (key-there m.schools place s school entry, known) refl
 
 -- the key that is put together from what stands at two places
 key-of_places : (m : Market) (place at i s class d : ℕ) (student : Student) (school : School)

@@ -255,6 +255,15 @@ impl Papers {
         self.schools.get_index(position).map(|(school, _)| *school)
     }
 
+    /// The seats of the school at a position of the order of entry, from 0, or `None` past the last one. In constant
+    /// time, without a look-up by number.
+    pub fn seats_at(&self, position: usize) -> Option<Seats>
+        ensures { result ≡ option_map (seats_of self.now) (slice_get (schools_of self.now) position) }
+    {
+        let (_, school) = self.schools.get_index(position)?;
+        Some(school.seats)
+    }
+
     /// The student at a position of the order of entry, from 0. In constant time.
     pub fn student_at(&self, position: usize) -> Option<StudentNumber>
         ensures { result ≡ slice_get (students_of self.now) position }

@@ -11,6 +11,9 @@ fn expect_schools(rt: &impl Abort, papers: &Papers) {
     assert!(rt; papers.school_position(school(rt, 20)) == Some(1));
     let ten = papers.school(school(rt, 10)).expect(rt, "school 10");
     assert!(rt; ten.zone.get() == 1);
+    let twenty = papers.seats_at(1).expect(rt, "the seats of school 20");
+    assert!(rt; twenty.get() == 1);
+    assert!(rt; papers.seats_at(2).is_none());
     assert!(rt; Seed::from_hex(&[b'0'; 64]) == Ok(papers.seed()));
 }
 
