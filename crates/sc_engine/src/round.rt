@@ -45,10 +45,10 @@ fn seats_at(papers: &Papers, position: usize) -> Seats
     requires { position < length papers.now.schools }
     ensures { (s : ℕ) → slice_get (schools_of papers.now) position ≡ Some s → result ≡ seats_of papers.now s }
 {
-    let Some(number) = papers.school_at(position) else {
+    let Some(seats) = papers.seats_at(position) else {
         unreachable!()
     };
-    papers.seats_of(number)
+    seats
 }
 
 /// Empties a roll, and gives it these seats. One that is so already stays as it is.
