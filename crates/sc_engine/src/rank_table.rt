@@ -104,7 +104,7 @@ impl RankTable {
         self.ranks.as_slice()
     }
 
-    /// How many positions there is room for by now.
+    /// How many positions the table has room for.
     pub(crate) fn len(&self) -> usize
         ensures { result ≡ length self.now }
     {

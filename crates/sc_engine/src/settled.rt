@@ -56,8 +56,9 @@ pub fn settle(alloc: Global, papers: &Papers) -> Result<Settled, AllocError>
 }
 
 /// Settles papers as `settle` does, to the same assignment and the same count of proposals, and answers no log: the
-/// students enter in the order of their keys at their first choices. So fewer of them are put out again, and most offers are
-/// refused while their rows are at hand. The cost is a sort of numbers more, and no student is put into a table.
+/// students enter by their priority class at their first choice, and within a class by the first byte of their draw. So
+/// fewer of them are put out again, and most offers are refused while their rows are at hand. The cost is a sort of numbers
+/// more, and no student is put into a table.
 pub fn settle_by_first_keys(alloc: Global, papers: &Papers) -> Result<Outcome, AllocError>
     ensures { IfOk result (IsOutcome papers.now) }
 {
