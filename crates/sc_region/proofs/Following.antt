@@ -6,10 +6,9 @@ use Rattle.std.specs.Option.{option_map_or}
 use Rattle.std.proofs.lemmas.Bool.{cases_Bool, cond-true, eqb-true, eq-eqb, false≢true}
 use Rattle.std.proofs.lemmas.Bool.Decides.{nat_tests}
 use Rattle.std.proofs.lemmas.Cmp.{nat_eq_equiv}
-use Rattle.std.proofs.lemmas.List.Elements.{Contains-get_or}
 use Rattle.std.proofs.lemmas.Map.{keys-set_value, lookup-remove_entry}
 use Rattle.std.proofs.lemmas.Option.{none-some}
-use Rattle.sc_papers.specs.Market.{Market, choices_of, is_school, is_student, school_of, schools_of, student_of, students_of}
+use Rattle.sc_papers.specs.Market.{Market, choices_of, is_school, school_of, schools_of, student_of, students_of}
 use Rattle.sc_papers.specs.Verdict.{after, changed_school, changed_student, objections_to_rerank, verdict, with_student, without_student}
 use Rattle.sc_papers.specs.WellFormed.{WellFormed}
 use Rattle.sc_papers.specs.declared.amendment.Amendment.{Amendment}
@@ -22,7 +21,7 @@ use Rattle.sc_papers.proofs.Positions.{among-student, student-among}
 use Rattle.sc_papers.proofs.Students.{lister-among}
 use Rattle.sc_region.specs.Districts.{AreDistricts, DistrictsView, comer, firsts_at, leaver, new_first}
 use Rattle.sc_region.specs.Groups.{first_choice, new_choices, place_of, start_of, widened}
-use Rattle.sc_region.proofs.Changes.{changed-found, changed-own, correct-known, enter-may, is-held, new-known, one-key, push-found, removed-found, rerank-known, withdraw-known}
+use Rattle.sc_region.proofs.Changes.{changed-found, changed-own, correct-known, enter-may, is-held, one-key, push-found, removed-found, rerank-known}
 use Rattle.sc_region.proofs.Choosing.{first-listed}
 use Rattle.sc_region.proofs.Joining.{list-whole}
 use Rattle.sc_region.proofs.Reaching.{region-together}
@@ -141,17 +140,6 @@ comer-some m (Rerank j choices) allowed i is = positive (length choices) (refuse
 comer-some m (Add t count) allowed i is = absurd (none-some i is)
 comer-some m (Close t count) allowed i is = absurd (none-some i is)
 comer-some m (Correct j zone siblings continuing) allowed i is = absurd (none-some i is)
-
-pub comer-known : (m : Market) (a : Amendment) → verdict m a ≡ None → (i : ℕ) → comer a ≡ Some i → is_school m (new_first a) ≡ true
-comer-known m a allowed i is = new-known m a allowed (new_first a) (Contains-get_or (new_choices a) 0 0 (comer-some m a allowed i is))
-
-pub leaver-known : (m : Market) (a : Amendment) → verdict m a ≡ None → (i : ℕ) → leaver a ≡ Some i → is_student m i ≡ true
-leaver-known m (Enter j zone siblings choices continuing) allowed i is = absurd (none-some i is)
-leaver-known m (Withdraw j) allowed i is = let same : j ≡ i = cc in subst (λ k. is_student m k ≡ true) same (withdraw-known m j allowed)
-leaver-known m (Rerank j choices) allowed i is = let same : j ≡ i = cc in subst (λ k. is_student m k ≡ true) same (rerank-known m j choices allowed)
-leaver-known m (Add t count) allowed i is = absurd (none-some i is)
-leaver-known m (Close t count) allowed i is = absurd (none-some i is)
-leaver-known m (Correct j zone siblings continuing) allowed i is = absurd (none-some i is)
 
 -- the widened districts, with the students listed anew, are districts of the papers after the amendment
 pub districts-after : (m : Market) (a : Amendment) → WellFormed m → WellFormed (after m a) → verdict m a ≡ None → (d : DistrictsView) → AreDistricts m d → is_school m (start_of m a) ≡ true

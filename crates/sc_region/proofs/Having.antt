@@ -1,9 +1,9 @@
 -- The region is found among students of whom it is known that they have all of it.
-use Rattle.std.proofs.Common.{◌≡◌, ◌↔◌, inl, inr, ◌<◌, ap, subst, sym, ◌∙◌, ℕ, List, [], ◌∷◌, length, map, Bool, true, Some, None, Contains, filter, slice_get, arith}
+use Rattle.std.proofs.Common.{◌≡◌, ◌↔◌, ◌==◌, inl, inr, ◌<◌, ap, refl, subst, sym, zero-add, ◌∙◌, ℕ, List, [], ◌∷◌, length, map, Bool, true, Some, None, Contains, Global, Vec, filter, slice_get, arith}
 use Rattle.std.proofs.lemmas.Bool.{eqb-true, eq-eqb}
 use Rattle.std.proofs.lemmas.Map.Entries.{length-keys_of}
 use Rattle.std.proofs.lemmas.Option.{slice_get_within}
-use Rattle.sc_papers.specs.Market.{Market, choices_of, is_student, schools_of, student_at, students_of}
+use Rattle.sc_papers.specs.Market.{Market, is_school, is_student, schools_of, student_at, students_of, choices_of}
 use Rattle.sc_papers.specs.Verdict.{verdict}
 use Rattle.sc_papers.specs.WellFormed.{WellFormed}
 use Rattle.sc_papers.specs.declared.amendment.Amendment.{Amendment}
@@ -11,18 +11,24 @@ use Rattle.sc_papers.proofs.Choices.{contains-at, place-of}
 use Rattle.sc_papers.proofs.Counting.{contains-cons, contains-head, contains-tail}
 use Rattle.sc_papers.proofs.Hands.{hand-is, hand-student}
 use Rattle.sc_papers.proofs.Positions.{among-student, student-among}
-use Rattle.sc_papers.proofs.Students.{choice-known, lister-among}
-use Rattle.sc_region.specs.Groups.{first_choice, group_of, is_member, joined_students, place_of, positions_in, start_of, students_at, widened}
-use Rattle.sc_region.specs.Districts.{AreDistricts, DistrictsView, firsts_at}
+use Rattle.sc_papers.proofs.Students.{lister-among}
+use Rattle.sc_region.specs.Groups.{first_choice, group_of, is_member, joined_students, place_of, places_in, positions_in, start_of, students_at, widened}
+use Rattle.sc_region.specs.Districts.{AreDistricts, DistrictsView, firsts_at, lists_in}
 use Rattle.sc_region.specs.Region.{InRegion}
-use Rattle.sc_region.specs.Telling.{TellRegion}
+use Rattle.sc_region.specs.Telling.{AreOfRegion, HeldTogether, TellRegion}
 use Rattle.std.specs.List.Sorted.{IsStrictlyIncreasing}
 use Rattle.std.specs.Prelude.{slice_index}
 use Rattle.std.proofs.lemmas.List.Kept.{IsStrictlyIncreasing-filter}
-use Rattle.sc_region.proofs.Choosing.{first-listed}
+use Rattle.std.specs.List.{range_with_len}
+use Rattle.std.proofs.lemmas.List.Elements.{Contains-get_or}
+use Rattle.std.proofs.lemmas.List.FromFn.{get_or-range_with_len, length-range_with_len}
+use Rattle.sc_region.proofs.Changes.{start-known}
+use Rattle.std.proofs.lemmas.List.{length-map}
+use Rattle.sc_region.specs.declared.first.First.{First}
+use Rattle.sc_region.proofs.Firsts.{names}
 use Rattle.sc_region.proofs.Filtering.{filter-among, filter-kept}
-use Rattle.sc_region.proofs.Joining.{AreWhole, place-within, joined-partial, joined-together}
-use Rattle.sc_region.proofs.Reaching.{in-member, member-in}
+use Rattle.sc_region.proofs.Joining.{AreWhole, first-known, joined-partial, joined-together, place-within}
+use Rattle.sc_region.proofs.Reaching.{in-member, member-in, partial-in}
 
 -- what stands in a list stands, mapped, in the mapped one
 map-kept : (f : ℕ → ℕ) (xs : List ℕ) (x : ℕ) → Contains xs x → Contains (map f xs) (f x)
@@ -85,66 +91,55 @@ module _ (m : Market) (a : Amendment) (well : WellFormed m) (allowed : verdict m
     λ inside. in-candidate m a well allowed (students_at m positions) (at-known m positions within) at-enough i inside known,
   )
 
--- the groups that the lists of the students at some positions join, and with them the new choices
-abbrev pub few-groups : Market → Amendment → List ℕ → List ℕ
-few-groups m a few = widened m a (joined_students m (students_at m few))
+-- whoever's first choice the lists of a few join with the school to begin with, is in the region
+module _ (m : Market) (a : Amendment) (well : WellFormed m) (allowed : verdict m a ≡ None) (few : List ℕ) (within : (p : ℕ) → Contains few p → p < length (students_of m)) where
+  few-in : (i : ℕ) → Contains (students_of m) i → group_of m (joined_students m (students_at m few)) (first_choice m i) ≡ group_of m (joined_students m (students_at m few)) (start_of m a)
+      → InRegion m a i
+  few-in = partial-in m a well allowed (joined_students m (students_at m few)) (joined-partial m well a (students_at m few) (at-known m few within))
 
--- so do those of a few of them, where these lists hold the whole district together
-module _ (m : Market) (a : Amendment) (well : WellFormed m) (allowed : verdict m a ≡ None) (few : List ℕ)
-    (within : (p : ℕ) → Contains few p → p < length (students_of m)) (districts : List ℕ) (district : ℕ) (whole : AreWhole m districts)
-    (near : (i : ℕ) → InRegion m a i → is_student m i ≡ true → group_of m districts (first_choice m i) ≡ district) where
-  pub few-tell : ((other : ℕ) → other < length districts → slice_index districts other ≡ district → slice_index (few-groups m a few) other ≡ slice_index (few-groups m a few) (place_of m (start_of m a)))
-      → TellRegion m a (few-groups m a few)
+  -- so where they join all schools, they tell the region
+  pub whole-tell : AreWhole m (joined_students m (students_at m few))
+      → ((place : ℕ) → place < length (joined_students m (students_at m few)) → slice_index (joined_students m (students_at m few)) place ≡ slice_index (joined_students m (students_at m few)) 0)
+      → TellRegion m a (joined_students m (students_at m few))
   unfolding is_member
-  few-tell together i known = (to, from)
+  whole-tell whole together i known = (
+    λ passes. few-in i (student-among m i known) (eqb-true _ _ passes),
+    λ inside. eq-eqb _ _ (first (first_choice m i) (first-known m well i known) ∙ sym (first (start_of m a) (start-known m a well allowed))),
+  )
     where
-      to : is_member m (few-groups m a few) (group_of m (few-groups m a few) (start_of m a)) i ≡ true → InRegion m a i
-      to passes =
-          member-in m a well allowed (joined_students m (students_at m few)) (joined-partial m well a (students_at m few) (at-known m few within)) i (student-among m i known) (eqb-true _ _ passes)
+      first : (s : ℕ) → is_school m s ≡ true → group_of m (joined_students m (students_at m few)) s ≡ slice_index (joined_students m (students_at m few)) 0
+      first s s_known = together (place_of m s) (omega (arith, (place-within m s s_known).0, whole))
 
-      from : InRegion m a i → is_member m (few-groups m a few) (group_of m (few-groups m a few) (start_of m a)) i ≡ true
-      from inside =
-          let first = first_choice m i in
-          let place = (place-within m first (choice-known m well i first (first-listed m well i known))).0 in
-          eq-eqb _ _ (together (place_of m first) (omega (arith, place, whole)) (near i inside known))
+-- of rising positions that have all of the region, those that the groups tell are the region's
+module _ (m : Market) (a : Amendment) (groups : List ℕ) (tell : TellRegion m a groups) (positions : List ℕ) (rising : IsStrictlyIncreasing positions)
+    (within : (p : ℕ) → Contains positions p → p < length (students_of m)) (enough : (p : ℕ) → p < length (students_of m) → InRegion m a (student_at m p) → Contains positions p) where
+  abbrev told : ℕ → Bool
+  told q = is_member m groups (group_of m groups (start_of m a)) (student_at m q)
 
--- or all schools
-pub whole-tell : (m : Market) (a : Amendment) → WellFormed m → verdict m a ≡ None → (few : List ℕ) → ((p : ℕ) → Contains few p → p < length (students_of m))
-    → AreWhole m (few-groups m a few)
-    → ((other : ℕ) → other < length (few-groups m a few) → slice_index (few-groups m a few) other ≡ slice_index (few-groups m a few) (place_of m (start_of m a)))
-    → TellRegion m a (few-groups m a few)
-unfolding is_member
-whole-tell m a well allowed few within whole together i known = (
-  λ passes. member-in m a well allowed (joined_students m (students_at m few)) (joined-partial m well a (students_at m few) (at-known m few within)) i (student-among m i known) (eqb-true _ _ passes),
-  λ inside.
-      let first = first_choice m i in
-      let place = (place-within m first (choice-known m well i first (first-listed m well i known))).0 in
-      eq-eqb _ _ (together (place_of m first) (omega (arith, place, whole))),
-)
-
--- of positions that have all of the region, those that the groups tell are the region
-module _ (m : Market) (a : Amendment) (groups : List ℕ) (tell : TellRegion m a groups) (positions : List ℕ)
-    (enough : (p : ℕ) → p < length (students_of m) → InRegion m a (student_at m p) → Contains positions p) where
-  pub positions-exact : (p i : ℕ) → slice_get (students_of m) p ≡ Some i → (Contains (positions_in m groups (group_of m groups (start_of m a)) positions) p ↔ InRegion m a i)
-  unfolding positions_in
+  positions-exact : (p i : ℕ) → slice_get (students_of m) p ≡ Some i → (Contains (filter told positions) p ↔ InRegion m a i)
   positions-exact p i here = (to, from)
     where
-      test : ℕ → Bool
-      test q = is_member m groups (group_of m groups (start_of m a)) (student_at m q)
-
       own : student_at m p ≡ i
       own = hand-is m p i here
 
       known : is_student m i ≡ true
       known = among-student m i (contains-at (students_of m) p i here)
 
-      to : Contains (filter test positions) p → InRegion m a i
-      to among = (tell i known).0 (ap (λ j. is_member m groups (group_of m groups (start_of m a)) j) (sym own) ∙ (filter-among test positions p among).1)
+      to : Contains (filter told positions) p → InRegion m a i
+      to among = (tell i known).0 (ap (λ j. is_member m groups (group_of m groups (start_of m a)) j) (sym own) ∙ (filter-among told positions p among).1)
 
-      from : InRegion m a i → Contains (filter test positions) p
+      from : InRegion m a i → Contains (filter told positions) p
       from inside =
-          filter-kept test positions p (enough p (slice_get_within (students_of m) p i here) (subst (InRegion m a) (sym own) inside))
+          filter-kept told positions p (enough p (slice_get_within (students_of m) p i here) (subst (InRegion m a) (sym own) inside))
           (ap (λ j. is_member m groups (group_of m groups (start_of m a)) j) own ∙ (tell i known).1 inside)
+
+  pub region-told : (place : ℕ) → place ≡ place_of m (start_of m a) → AreOfRegion m a (positions_in m groups (slice_index groups place) positions)
+  unfolding positions_in
+  region-told place its = subst (λ q. AreOfRegion m a (positions_in m groups (slice_index groups q) positions)) (sym its) (record {
+    rising = IsStrictlyIncreasing-filter told positions rising;
+    within = λ p among. omega (arith, within p (filter-among told positions p among).0, length-keys_of m.students);
+    exact = positions-exact;
+  })
 
 -- no list leaves its district, so the region lies in the widened one to begin with
 pub district-near : (m : Market) (a : Amendment) → WellFormed m → verdict m a ≡ None → (d : DistrictsView) → AreDistricts m d
@@ -156,28 +151,67 @@ district-near m a well allowed d districts groups are group its i inside known =
     eqb-true _ _ (region-near m a well allowed d.groups districts.one_each districts.closed i inside known) in
     ap (λ g. group_of m g (first_choice m i)) are ∙ near ∙ sym (its ∙ ap (λ g. group_of m g (start_of m a)) are)
 
--- of the positions of a district's students, those whose first choice is in a group
-pub chosen-rising : (m : Market) (groups : List ℕ) (group : ℕ) (positions : List ℕ) → IsStrictlyIncreasing positions → IsStrictlyIncreasing (positions_in m groups group positions)
-unfolding positions_in
-chosen-rising m groups group positions rising = IsStrictlyIncreasing-filter (λ p. is_member m groups group (student_at m p)) positions rising
+-- the positions below a count
+range-has : (count p : ℕ) → p < count → Contains (range_with_len 0 count) p
+range-has count p low =
+    let is : slice_index (range_with_len 0 count) p ≡ p = get_or-range_with_len 0 count p 0 low ∙ zero-add p in
+    subst (Contains (range_with_len 0 count)) is (Contains-get_or (range_with_len 0 count) p 0 (omega (arith, low, length-range_with_len 0 count)))
 
-pub chosen-among : (m : Market) (groups : List ℕ) (group : ℕ) (positions : List ℕ) (p : ℕ) → Contains (positions_in m groups group positions) p → Contains positions p
-unfolding positions_in
-chosen-among m groups group positions p among = (filter-among (λ q. is_member m groups group (student_at m q)) positions p among).0
+range-low : (count p : ℕ) → Contains (range_with_len 0 count) p → p < count
+range-low count p (k, low, at) = let within : k < count = omega (arith, low, length-range_with_len 0 count) in omega (arith, within, at, get_or-range_with_len 0 count k p within)
+
+-- the places of a group
+pub place-among : (groups : List ℕ) (group place : ℕ) → Contains (places_in groups group) place → (place < length groups) × (slice_index groups place ≡ group)
+unfolding places_in
+place-among groups group place among =
+    let (there, passes) = filter-among (λ q. slice_index groups q == group) (range_with_len 0 (length groups)) place among in
+    (range-low (length groups) place there, eqb-true _ _ passes)
+
+pub place-kept : (groups : List ℕ) (group place : ℕ) → place < length groups → slice_index groups place ≡ group → Contains (places_in groups group) place
+unfolding places_in
+place-kept groups group place low is = filter-kept (λ q. slice_index groups q == group) (range_with_len 0 (length groups)) place (range-has (length groups) place low) (eq-eqb _ _ is)
+
+-- each has a list of students
+pub place-listed : (m : Market) (d : DistrictsView) → AreDistricts m d → (groups : List ℕ) → length groups ≡ length (schools_of m) → (lists : List (Vec First Global)) → lists_in lists ≡ d.firsts
+    → (group place : ℕ) → Contains (places_in groups group) place → place < length lists
+place-listed m d districts groups one_each lists are group place among =
+    omega (arith, (place-among groups group place among).0, one_each, districts.firsts_each, ap length are, length-map lists names)
+
+-- the widened districts tell the region, where the lists of a few hold the one to begin with together
+pub held-tell : (m : Market) (a : Amendment) → WellFormed m → verdict m a ≡ None → (d : DistrictsView) → AreDistricts m d
+    → (groups : List ℕ) → groups ≡ widened m a d.groups → length groups ≡ length (schools_of m) → (place : ℕ) → place ≡ place_of m (start_of m a)
+    → HeldTogether m (places_in groups (slice_index groups place)) place → TellRegion m a groups
+unfolding is_member
+held-tell m a well allowed d districts groups are one_each place its held i known = (to, from)
+  where
+    first : ℕ
+    first = first_choice m i
+
+    low : place_of m first < length groups
+    low = omega (arith, (place-within m first (first-known m well i known)).0, one_each)
+
+    to : is_member m groups (group_of m groups (start_of m a)) i ≡ true → InRegion m a i
+    to passes =
+        let own : slice_index groups (place_of m first) ≡ slice_index groups place = eqb-true _ _ passes ∙ ap (slice_index groups) (sym its) in
+        few-in m a well allowed held.few held.within i (student-among m i known)
+        (held.together (place_of m first) (place-kept groups (slice_index groups place) (place_of m first) low own)
+        ∙ ap (slice_index (joined_students m (students_at m held.few))) its)
+
+    from : InRegion m a i → is_member m groups (group_of m groups (start_of m a)) i ≡ true
+    from inside = eq-eqb _ _ (district-near m a well allowed d districts groups are (group_of m groups (start_of m a)) refl i inside known)
 
 -- the students who are listed in the widened district have all of the region
 pub district-enough : (m : Market) (a : Amendment) → WellFormed m → verdict m a ≡ None → (d : DistrictsView) → AreDistricts m d
-    → (groups : List ℕ) → groups ≡ widened m a d.groups → length groups ≡ length (schools_of m) → (group : ℕ) → group ≡ group_of m groups (start_of m a)
-    → (positions : List ℕ)
-    → ((place p : ℕ) → place < length groups → slice_index groups place ≡ group → p < length (students_of m) → Contains (firsts_at d.firsts place) (student_at m p) → Contains positions p)
+    → (groups : List ℕ) → groups ≡ widened m a d.groups → length groups ≡ length (schools_of m) → (place : ℕ) → place ≡ place_of m (start_of m a)
+    → (places : List ℕ) → places ≡ places_in groups (slice_index groups place) → (firsts : List (List ℕ)) → firsts ≡ d.firsts → (positions : List ℕ)
+    → ((other p : ℕ) → Contains places other → p < length (students_of m) → Contains (firsts_at firsts other) (student_at m p) → Contains positions p)
     → (p : ℕ) → p < length (students_of m) → InRegion m a (student_at m p) → Contains positions p
-unfolding is_member
-district-enough m a well allowed d districts groups are one_each group its positions listed p low inside =
+district-enough m a well allowed d districts groups are one_each place its places all_places firsts same positions listed p low inside =
     let known = hand-student m p (omega (arith, low, length-keys_of m.students)) in
     let first = first_choice m (student_at m p) in
-    let near : group_of m (widened m a d.groups) first ≡ group_of m (widened m a d.groups) (start_of m a) =
-    eqb-true _ _ (region-near m a well allowed d.groups districts.one_each districts.closed (student_at m p) inside known) in
-    let place = (place-within m first (choice-known m well (student_at m p) first (first-listed m well (student_at m p) known))).0 in
-    listed (place_of m first) p (omega (arith, place, one_each))
-    (ap (λ g. group_of m g first) are ∙ near ∙ sym (its ∙ ap (λ g. group_of m g (start_of m a)) are))
-    low (districts.listed (student_at m p) (student-among m (student_at m p) known))
+    let within = (place-within m first (first-known m well (student_at m p) known)).0 in
+    listed (place_of m first) p
+    (subst (λ xs. Contains xs (place_of m first)) (sym all_places)
+    (place-kept groups (slice_index groups place) (place_of m first) (omega (arith, within, one_each))
+    (district-near m a well allowed d districts groups are (slice_index groups place) (ap (slice_index groups) its) (student_at m p) inside known)))
+    low (subst (λ fs. Contains (firsts_at fs (place_of m first)) (student_at m p)) (sym same) (districts.listed (student_at m p) (student-among m (student_at m p) known)))

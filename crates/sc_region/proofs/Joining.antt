@@ -70,7 +70,7 @@ AreWhole m groups = length groups ≡ length (schools_of m)
 pub record Coarser (m : Market) (old new : List ℕ) : Type 0 where
   pub kept : (s t : ℕ) → is_school m s ≡ true → is_school m t ≡ true → group_of m old s ≡ group_of m old t → group_of m new s ≡ group_of m new t
 
-joined-whole : (m : Market) (groups : List ℕ) (a b : ℕ) → AreWhole m groups → AreWhole m (joined groups a b)
+pub joined-whole : (m : Market) (groups : List ℕ) (a b : ℕ) → AreWhole m groups → AreWhole m (joined groups a b)
 unfolding joined
 joined-whole m groups a b whole = length-map groups (moved (min (slice_index groups a) (slice_index groups b)) (max (slice_index groups a) (slice_index groups b))) ∙ whole
 

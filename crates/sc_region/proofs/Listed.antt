@@ -1,14 +1,12 @@
 -- The positions of the students whom lists name.
-use Rattle.std.proofs.Common.{◌≡◌, ◌⊎◌, inl, inr, ◌<◌, ◌+◌, ap, sym, subst, ◌∙◌, ℕ, List, [], ◌∷◌, ◌++◌, length, take, get_or, nat_eq, Some, None, Contains, position, arith}
+use Rattle.std.proofs.Common.{◌≡◌, ◌⊎◌, inl, inr, ◌<◌, ◌+◌, sym, subst, ◌∙◌, ℕ, List, [], ◌∷◌, ◌++◌, length, take, get_or, nat_eq, Some, None, Contains, position, arith}
 use Rattle.std.proofs.lemmas.List.{take_more}
 use Rattle.std.proofs.lemmas.List.Elements.{Contains-append_left, Contains-push, Contains-push_cases}
 use Rattle.std.proofs.lemmas.Map.Entries.{length-keys_of}
-use Rattle.std.proofs.lemmas.Bool.{cases_eq}
 use Rattle.sc_papers.specs.Market.{Market, student_at, students_of}
 use Rattle.sc_papers.specs.WellFormed.{WellFormed}
 use Rattle.sc_papers.proofs.Hands.{hand-position, position-low}
 use Rattle.sc_region.specs.Districts.{firsts_at}
-use Rattle.std.specs.Prelude.{slice_index}
 
 -- what the first of a list and one more have
 pub taken-cases : (xs : List ℕ) (at d x : ℕ) → at < length xs → Contains (take (at + 1) xs) x → Contains (take at xs) x ⊎ (get_or xs at d ≡ x)
@@ -58,34 +56,24 @@ module _ (m : Market) (well : WellFormed m) (students old new : List ℕ) (at i 
     ];
   }
 
--- a list of positions that has those of the students who are listed at the first schools of a group
-pub record HasListed (m : Market) (firsts : List (List ℕ)) (groups : List ℕ) (group bound : ℕ) (positions : List ℕ) : Type 0 where
+-- a list of positions that has those of the students who are listed at the schools at these places
+pub record HasListed (m : Market) (firsts : List (List ℕ)) (places : List ℕ) (positions : List ℕ) : Type 0 where
   pub within : (p : ℕ) → Contains positions p → p < length (students_of m)
-  pub all : (place p : ℕ) → place < bound → slice_index groups place ≡ group → p < length (students_of m) → Contains (firsts_at firsts place) (student_at m p) → Contains positions p
+  pub all : (place p : ℕ) → Contains places place → p < length (students_of m) → Contains (firsts_at firsts place) (student_at m p) → Contains positions p
 
-pub listed-begun : (m : Market) (firsts : List (List ℕ)) (groups : List ℕ) (group : ℕ) → HasListed m firsts groups group 0 []
-listed-begun m firsts groups group = record {
+pub listed-begun : (m : Market) (firsts : List (List ℕ)) (places : List ℕ) → HasListed m firsts (take 0 places) []
+listed-begun m firsts places = record {
   within = λ p (k, below, at). absurd (omega (arith, below));
-  all = λ place p low is p_low among. absurd (omega (arith, low));
+  all = λ place p (k, below, at) p_low among. absurd (omega (arith, below));
 }
 
--- one school more, which is in the group or is not
-pub listed-more : (m : Market) (firsts : List (List ℕ)) (groups : List ℕ) (group at : ℕ) (old new : List ℕ) → HasListed m firsts groups group at old
-    → HasPositions m (firsts_at firsts at) old new → HasListed m firsts groups group (at + 1) new
-listed-more m firsts groups group at old new before more = record {
+-- one school more
+pub listed-more : (m : Market) (firsts : List (List ℕ)) (places : List ℕ) (at d : ℕ) (old new : List ℕ) → at < length places → HasListed m firsts (take at places) old
+    → HasPositions m (firsts_at firsts (get_or places at d)) old new → HasListed m firsts (take (at + 1) places) new
+listed-more m firsts places at d old new low before more = record {
   within = more.within;
-  all = λ place p low is p_low among. elim (cases_eq place at) [
-    | inl same ↦ more.all p p_low (subst (λ q. Contains (firsts_at firsts q) (student_at m p)) same among)
-    | inr apart ↦ more.kept p (before.all place p (omega (arith, low, apart)) is p_low among)
-  ];
-}
-
-pub listed-same : (m : Market) (firsts : List (List ℕ)) (groups : List ℕ) (group at : ℕ) (old : List ℕ) → HasListed m firsts groups group at old
-    → (slice_index groups at ≡ group → ⊥) → HasListed m firsts groups group (at + 1) old
-listed-same m firsts groups group at old before other = record {
-  within = before.within;
-  all = λ place p low is p_low among. elim (cases_eq place at) [
-    | inl same ↦ absurd (other (ap (slice_index groups) (sym same) ∙ is))
-    | inr apart ↦ before.all place p (omega (arith, low, apart)) is p_low among
+  all = λ place p one p_low among. elim (taken-cases places at d place low one) [
+    | inl earlier ↦ more.kept p (before.all place p earlier p_low among)
+    | inr same ↦ more.all p p_low (subst (λ q. Contains (firsts_at firsts q) (student_at m p)) (sym same) among)
   ];
 }

@@ -17,14 +17,6 @@ use Rattle.sc_region.proofs.Choosing.{first-listed}
 use Rattle.sc_region.proofs.Joining.{Linked, itself, shared, through, AreWhole, Coarser, IsPartial, grouped-partial, grouped-together, list-coarser, list-partial, list-together}
 
 module _ (m : Market) (a : Amendment) (well : WellFormed m) (allowed : verdict m a ≡ None) where
-  -- who lists a school, lists a school of the papers
-  listed-known : (i s : ℕ) → Lists m a i s → is_school m s ≡ true
-  listed-known i s (inl listed) = choice-known m well i s listed
-  listed-known i s (inr listed) = elim (old-or_new m a well allowed i s listed) [
-    | inl old ↦ choice-known m well i s old
-    | inr (is, new) ↦ new-known m a allowed s new
-  ]
-
   -- what a student lists is an old choice, or a new one of the amended student
   by-old : (i s : ℕ) → Lists m a i s → Contains (choices_of m i) s ⊎ ((amended_student a ≡ Some i) × Contains (new_choices a) s)
   by-old i s (inl listed) = inl listed
@@ -65,18 +57,23 @@ module _ (m : Market) (a : Amendment) (well : WellFormed m) (allowed : verdict m
 
 -- groups of linked schools: whoever's first choice is in the group to begin with, is in the region
 module _ (m : Market) (a : Amendment) (well : WellFormed m) (allowed : verdict m a ≡ None) (groups : List ℕ) (before : IsPartial m a groups) where
+  pub partial-in : (i : ℕ) → Contains (students_of m) i → group_of m groups (first_choice m i) ≡ group_of m groups (start_of m a) → InRegion m a i
+  partial-in i among same =
+      let known = among-student m i among in
+      let listed = first-listed m well i known in
+      linked-in m a well allowed (start_of m a) (first_choice m i)
+      (before.sound (start_of m a) (first_choice m i) (first_known m a well allowed) (choice-known m well i (first_choice m i) listed) (sym same))
+      (start-in m a well allowed) i (inl listed)
+
   widened-partial : IsPartial m a (widened m a groups)
   unfolding widened
   widened-partial =
       list-partial m (start_of m a) (first_known m a well allowed) a groups (new_choices a) (new-known m a allowed) (new-linked m a well allowed) before
 
-  pub member-in : (i : ℕ) → Contains (students_of m) i → group_of m (widened m a groups) (first_choice m i) ≡ group_of m (widened m a groups) (start_of m a) → InRegion m a i
-  member-in i among same =
-      let known = among-student m i among in
-      let listed = first-listed m well i known in
-      linked-in m a well allowed (start_of m a) (first_choice m i)
-      (widened-partial.sound (start_of m a) (first_choice m i) (first_known m a well allowed) (choice-known m well i (first_choice m i) listed) (sym same))
-      (start-in m a well allowed) i (inl listed)
+-- and so it is with the new choices joined
+pub member-in : (m : Market) (a : Amendment) → WellFormed m → verdict m a ≡ None → (groups : List ℕ) → IsPartial m a groups
+    → (i : ℕ) → Contains (students_of m) i → group_of m (widened m a groups) (first_choice m i) ≡ group_of m (widened m a groups) (start_of m a) → InRegion m a i
+member-in m a well allowed groups before = partial-in m a well allowed (widened m a groups) (widened-partial m a well allowed groups before)
 
 -- groups that hold together what some students list before the amendment
 module _ (m : Market) (a : Amendment) (well : WellFormed m) (allowed : verdict m a ≡ None) (groups : List ℕ) (whole : AreWhole m groups)

@@ -290,9 +290,6 @@ pub record AreFlatBelow (parents now : List ℕ) (bound : ℕ) : Type 0 where
   pub below : (k : ℕ) → k < bound → slice_index now k ≡ root_of parents k
   pub from : (k : ℕ) → bound ≤ k → slice_index now k ≡ slice_index parents k
 
-pub flat-none : (parents : List ℕ) → AreFlatBelow parents parents 0
-flat-none parents = record { size = refl; below = λ k before. absurd (omega (arith, before)); from = λ k past. refl }
-
 pub flat-more : (parents now : List ℕ) (at z : ℕ) → AreParents parents → AreFlatBelow parents now at → at < length parents → z ≡ slice_index now (slice_index now at)
     → AreFlatBelow parents (set now at z) (at + 1)
 flat-more parents now at z low flat within is = record {
@@ -398,10 +395,12 @@ moved-nowhere k (g ∷ groups) = λ t. own (g == k) (λ same. eqb-true g k same)
     own true same = sym (same refl)
     own false same = refl
 
-pub joined-one : (parents : List ℕ) (a b : ℕ) → a < length parents → b < length parents → root_of parents a ≡ root_of parents b → joined (roots_of parents) a b ≡ roots_of parents
+pub joined-nothing : (groups : List ℕ) (a b : ℕ) → slice_index groups a ≡ slice_index groups b → joined groups a b ≡ groups
 unfolding joined
-joined-one parents a b first second same =
-    let one : slice_index (roots_of parents) a ≡ slice_index (roots_of parents) b = roots-at parents a first ∙ same ∙ sym (roots-at parents b second) in
-    let least : min (slice_index (roots_of parents) a) (slice_index (roots_of parents) b) ≡ slice_index (roots_of parents) b = omega (arith, one) in
-    let most : max (slice_index (roots_of parents) a) (slice_index (roots_of parents) b) ≡ slice_index (roots_of parents) b = omega (arith, one) in
-    (λ t. map (moved (least t) (most t)) (roots_of parents)) ∙ moved-nowhere (slice_index (roots_of parents) b) (roots_of parents)
+joined-nothing groups a b same =
+    let least : min (slice_index groups a) (slice_index groups b) ≡ slice_index groups b = omega (arith, same) in
+    let most : max (slice_index groups a) (slice_index groups b) ≡ slice_index groups b = omega (arith, same) in
+    (λ t. map (moved (least t) (most t)) groups) ∙ moved-nowhere (slice_index groups b) groups
+
+pub joined-one : (parents : List ℕ) (a b : ℕ) → a < length parents → b < length parents → root_of parents a ≡ root_of parents b → joined (roots_of parents) a b ≡ roots_of parents
+joined-one parents a b first second same = joined-nothing (roots_of parents) a b (roots-at parents a first ∙ same ∙ sym (roots-at parents b second))

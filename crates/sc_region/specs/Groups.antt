@@ -66,6 +66,10 @@ entrants (Add s count) = []
 entrants (Close s count) = []
 entrants (Correct i zone siblings continuing) = []
 
+-- the positions of the schools of a group, rising
+unfoldable pub places_in : List ℕ → ℕ → List ℕ
+places_in groups group = filter (λ place. slice_index groups place == group) (range_with_len 0 (length groups))
+
 -- the groups with the new choices joined to the school to begin with
 unfoldable pub widened : Market → Amendment → List ℕ → List ℕ
 widened m a groups = joined_list m (start_of m a) groups (new_choices a)

@@ -1,11 +1,24 @@
 -- Groups of schools that tell the region of an amendment.
-use Rattle.std.specs.Prelude.{◌≡◌, ◌↔◌, ℕ, List, true}
-use Rattle.sc_papers.specs.Market.{Market, is_student}
+use Rattle.std.specs.Prelude.{◌≡◌, ◌<◌, ◌↔◌, ℕ, List, Some, true, length, slice_get, slice_index, Contains}
+use Rattle.std.specs.List.Sorted.{IsStrictlyIncreasing}
+use Rattle.sc_papers.specs.Market.{Market, is_student, students_of}
 use Rattle.sc_papers.specs.declared.amendment.Amendment.{Amendment}
-use Rattle.sc_region.specs.Groups.{group_of, is_member, start_of}
+use Rattle.sc_region.specs.Groups.{group_of, is_member, joined_students, start_of, students_at}
 use Rattle.sc_region.specs.Region.{InRegion}
 
 -- a student of the papers is in the region just where their first choice is in the group of the school to
 -- begin with
 abbrev pub TellRegion : Market → Amendment → List ℕ → Type 0
 TellRegion m a groups = (i : ℕ) → is_student m i ≡ true → (is_member m groups (group_of m groups (start_of m a)) i ≡ true ↔ InRegion m a i)
+
+-- the lists of some students, who stand at these positions, join the schools at some places with that at another
+pub record HeldTogether (m : Market) (places : List ℕ) (place : ℕ) : Type 0 where
+  pub few : List ℕ
+  pub within : (p : ℕ) → Contains few p → p < length (students_of m)
+  pub together : (other : ℕ) → Contains places other → slice_index (joined_students m (students_at m few)) other ≡ slice_index (joined_students m (students_at m few)) place
+
+-- the positions of the region's students, rising
+pub record AreOfRegion (m : Market) (a : Amendment) (positions : List ℕ) : Type 0 where
+  pub rising : IsStrictlyIncreasing positions
+  pub within : (p : ℕ) → Contains positions p → p < length m.students
+  pub exact : (p i : ℕ) → slice_get (students_of m) p ≡ Some i → (Contains positions p ↔ InRegion m a i)

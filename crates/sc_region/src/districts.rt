@@ -6,12 +6,13 @@ ghost use Rattle.sc_papers.specs.Verdict.{verdict};
 ghost use Rattle.sc_region.specs.Districts.{comer, firsts_at, leaver, lists_in, new_first, students_in};
 ghost use Rattle.sc_region.specs.Groups.{first_choice, place_of};
 
-use crate::candidates::{count_in, listed_in, positions_in, region_groups_among, rising};
+use crate::candidates::{
+    count_at, few_hold_together, groups_with, listed_at, places_in, positions_in,
+};
 use crate::first::First;
-use crate::grouping::{first_place_at, groups_of, join_list, place_of};
+use crate::grouping::{first_place_at, groups_of, joins_nothing, place_of};
 use crate::marks::RegionMarks;
-use crate::reach::{first_choice, new_choices, region_marks, start_of};
-use crate::school_groups::SchoolGroups;
+use crate::reach::{first_choice, new_choices, region_marks, start_of, widen};
 use sc_papers::{Amendment, MOST_STUDENTS, Papers, Refusal, SchoolNo, StudentNo};
 use std::alloc::{AllocError, Global};
 use std::marker::Model;
@@ -27,8 +28,9 @@ const WIDE: usize = 8;
 /// need be: lists that have gone leave joined what they joined.
 #[derive(Drop)]
 pub struct Districts {
-    groups: SchoolGroups,
-    // By the school's position, the students whose first choice it is, each with a guess at where they stand.
+    // By the school's position, the number of its district.
+    groups: Vec<usize>,
+    // Likewise the students whose first choice it is, each with a guess at where they stand.
     firsts: Vec<Vec<First>>,
 }
 
@@ -37,7 +39,7 @@ impl Model for Districts {
 
     ghost Value = { DistrictsView };
 
-    ghost view = { λ d. record { groups = d.groups; firsts = lists_in d.firsts.items } };
+    ghost view = { λ d. record { groups = d.groups.items; firsts = lists_in d.firsts.items } };
 }
 
 /// So many empty lists.
@@ -161,13 +163,13 @@ fn let_come(
 }
 
 impl Districts {
-    ghost use Rattle.std.specs.Prelude.{◌≡◌, ◌↔◌, ℕ, None, Some, false, true, length, slice_get, slice_index_or, Contains, IsTrue, IfErr, IfOk, OnOk};
-    ghost use Rattle.std.specs.List.Sorted.{IsStrictlyIncreasing};
+    ghost use Rattle.std.specs.Prelude.{◌≡◌, ◌↔◌, ◌<◌, ℕ, None, Some, false, true, length, slice_get, slice_index, slice_index_or, Contains, IsTrue, IfErr, IfOk, OnOk};
     ghost use Rattle.sc_papers.specs.Market.{is_school, schools_of, students_of};
     ghost use Rattle.sc_papers.specs.Verdict.{after, verdict, IsRefusal};
     ghost use Rattle.sc_region.specs.Districts.{AreDistricts};
-    ghost use Rattle.sc_region.specs.Groups.{group_of, start_of, widened};
+    ghost use Rattle.sc_region.specs.Groups.{place_of, places_in, start_of, widened};
     ghost use Rattle.sc_region.specs.Region.{InRegion};
+    ghost use Rattle.sc_region.specs.Telling.{AreOfRegion};
 
     /// The districts of the papers. The only error is want of memory.
     ///
@@ -176,7 +178,7 @@ impl Districts {
     pub fn of(alloc: Global, papers: &Papers) -> Result<Self, AllocError>
         ensures { IfOk result (AreDistricts papers.now) }
     {
-        let groups = groups_of(alloc, papers)?;
+        let groups = groups_of(alloc, papers)?.into_numbers();
         let firsts = firsts_of(alloc, papers)?;
         // This call tells that the papers are well-formed.
         prove!(papers.students_len() <= MOST_STUDENTS);
@@ -189,61 +191,89 @@ impl Districts {
         alloc: Global,
         papers: &Papers,
         amendment: &Amendment,
-        start: SchoolNo,
     ) -> Result<Vec<usize>, AllocError>
         requires districts { AreDistricts papers.now self.now }
         requires allowed { verdict papers.now amendment.now ≡ None }
-        requires start { start ≡ start_of papers.now amendment.now }
-        requires known { is_school papers.now start ≡ true }
         ensures joined { IfOk result (λ groups. groups.items ≡ widened papers.now amendment.now self.now.groups) }
         ensures one_each { IfOk result (λ groups. length groups.items ≡ length (schools_of papers.now)) }
     {
-        let mut groups = self.groups.copy(alloc)?;
-        join_list(papers, &mut groups, start, new_choices(amendment));
-        Ok(groups.into_numbers())
+        let mut groups = Vec::from_slice(alloc, self.groups.as_slice())?;
+        widen(papers, amendment, &mut groups);
+        Ok(groups)
     }
 
-    /// The positions of the region's students, rising, by the number of each school's district and that of the
-    /// district to begin with.
+    /// The positions of the region's students, rising. Given are the number of each school's district, the place of
+    /// the school to begin with, and those of the schools of its district.
     fn region_positions(
+        &self,
+        alloc: Global,
+        papers: &Papers,
+        amendment: &Amendment,
+        groups: &[usize],
+        place: usize,
+        places: &[usize],
+    ) -> Result<Vec<usize>, AllocError>
+        requires districts { AreDistricts papers.now self.now }
+        requires allowed { verdict papers.now amendment.now ≡ None }
+        requires groups { groups.now ≡ widened papers.now amendment.now self.now.groups }
+        requires one_each { length groups.now ≡ length (schools_of papers.now) }
+        requires place { place ≡ place_of papers.now (start_of papers.now amendment.now) }
+        requires within { place < length (schools_of papers.now) }
+        requires places { places.now ≡ places_in groups.now (slice_index groups.now place) }
+        ensures { IfOk result (λ positions. AreOfRegion papers.now amendment.now positions.items) }
+    {
+        let candidates = listed_at(alloc, papers, &self.firsts, places)?;
+        let all = candidates.as_slice();
+        // This call tells that the papers are well-formed.
+        prove!(papers.students_len() <= MOST_STUDENTS);
+        if few_hold_together(alloc, papers, places, place, all)? {
+            let positions = positions_in(alloc, papers, groups, groups[place], all)?;
+            return Ok(positions);
+        }
+        let exact = groups_with(alloc, papers, amendment, all)?;
+        let positions = positions_in(alloc, papers, exact.as_slice(), exact[place], all)?;
+        Ok(positions)
+    }
+
+    /// What `region` gives, by the number of each school's district, with those joined that the new choices join.
+    fn region_by(
         &self,
         alloc: Global,
         papers: &Papers,
         amendment: &Amendment,
         start: SchoolNo,
         groups: &[usize],
-        group: usize,
-    ) -> Result<Vec<usize>, AllocError>
+    ) -> Result<RegionMarks, Refusal>
         requires districts { AreDistricts papers.now self.now }
         requires allowed { verdict papers.now amendment.now ≡ None }
         requires start { start ≡ start_of papers.now amendment.now }
         requires known { is_school papers.now start ≡ true }
         requires groups { groups.now ≡ widened papers.now amendment.now self.now.groups }
         requires one_each { length groups.now ≡ length (schools_of papers.now) }
-        requires group { group ≡ group_of papers.now groups.now (start_of papers.now amendment.now) }
-        ensures rising { IfOk result (λ positions. IsStrictlyIncreasing positions.items) }
-        ensures region { IfOk result (λ positions. (p i : ℕ) → slice_get (students_of papers.now) p ≡ Some i → (Contains positions.items p ↔ InRegion papers.now amendment.now i)) }
-        ensures within { IfOk result (λ positions. (p : ℕ) → Contains positions.items p → p < length papers.now.students) }
+        ensures one_each { IfOk result (λ marks. length marks ≡ length papers.now.students) }
+        ensures region { IfOk result (λ marks. (position i : ℕ) → slice_get (students_of papers.now) position ≡ Some i → (IsTrue (slice_index_or marks position false) ↔ InRegion papers.now amendment.now i)) }
+        ensures refused { IfErr result (IsRefusal (verdict papers.now amendment.now)) }
     {
-        let listed = listed_in(alloc, papers, &self.firsts, groups, group)?;
-        let candidates = rising(listed)?;
-        let all = candidates.as_slice();
-        // This call tells that the papers are well-formed.
-        prove!(papers.students_len() <= MOST_STUDENTS);
-        let exact = region_groups_among(alloc, papers, amendment, start, groups, group, all)?;
-        let own = exact[place_of(papers, start)];
-        let positions = positions_in(alloc, papers, exact.as_slice(), own, all)?;
-        Ok(positions)
+        let place = place_of(papers, start);
+        let district = places_in(alloc, groups, groups[place])?;
+        let places = district.as_slice();
+        if count_at(&self.firsts, places) > papers.students_len() / WIDE {
+            return region_marks(alloc, papers, amendment);
+        }
+        let positions = self.region_positions(alloc, papers, amendment, groups, place, places)?;
+        Ok(RegionMarks::at(papers.students_len(), positions))
     }
 
     /// What `region_marks` gives, and its errors, found in the district of the amendment alone: that of the
     /// amended school or of the amended student's choices.
     ///
     /// The cost is a look at each of the district's students, with a look-up by number for each who no longer
-    /// stands where they stood when they came to be listed, and a sort; a few passes over the schools, for each
-    /// of which memory is taken, as for each student of the district; and one over the choices of a few of these
-    /// students, four for each school of the district, or of all of them where those few do not hold it
-    /// together. Where the district has a good part of all students, it is that of `region_marks`.
+    /// stands where they stood when they came to be listed, and a sort; two passes over the schools, for each of
+    /// which memory is taken, as for each student of the district; and one over the choices of a few of these
+    /// students, four for each school of the district. Where those few do not hold the district together, the
+    /// choices of all of them are passed over. Then, and where the new choices join districts, there are a few
+    /// passes more over the schools, and at most two for each new choice. Where the district has a good part of all
+    /// students, the cost is that of `region_marks`.
     pub fn region(
         &self,
         alloc: Global,
@@ -258,21 +288,12 @@ impl Districts {
     {
         papers.check(amendment)?;
         let start = start_of(papers, amendment);
-        let groups = self.widened(alloc, papers, amendment, start)?;
-        let group = groups[place_of(papers, start)];
-        let listed = count_in(&self.firsts, groups.as_slice(), group);
-        if listed > papers.students_len() / WIDE {
-            return region_marks(alloc, papers, amendment);
+        let own = self.groups.as_slice();
+        if joins_nothing(papers, own, start, new_choices(amendment)) {
+            return self.region_by(alloc, papers, amendment, start, own);
         }
-        let positions = self.region_positions(
-            alloc,
-            papers,
-            amendment,
-            start,
-            groups.as_slice(),
-            group,
-        )?;
-        Ok(RegionMarks::at(papers.students_len(), positions))
+        let groups = self.widened(alloc, papers, amendment)?;
+        self.region_by(alloc, papers, amendment, start, groups.as_slice())
     }
 
     /// Brings the districts in step with an amendment of their papers that is not refused, before it is made:
@@ -280,8 +301,8 @@ impl Districts {
     /// so. The only error is want of memory, after which these are the districts of no papers, and to be
     /// given up.
     ///
-    /// The cost is a look at each of the new choices, and one at each student who has the first choice of one
-    /// who withdraws or comes with other choices.
+    /// The cost is a look at each of the new choices, one at each student who has the first choice of one who
+    /// withdraws or comes with other choices, and a pass over the schools for each district that is joined.
     pub fn amend(&mut self, papers: &Papers, amendment: &Amendment) -> Result<(), AllocError>
         requires districts { AreDistricts papers.now self.old }
         requires allowed { verdict papers.now amendment.now ≡ None }
@@ -289,8 +310,7 @@ impl Districts {
     {
         // This call tells that the papers are well-formed.
         prove!(papers.students_len() <= MOST_STUDENTS);
-        let start = start_of(papers, amendment);
-        join_list(papers, &mut self.groups, start, new_choices(amendment));
+        widen(papers, amendment, &mut self.groups);
         let_leave(&mut self.firsts, papers, amendment);
         let_come(&mut self.firsts, papers, amendment)?;
         Ok(())

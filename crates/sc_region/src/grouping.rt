@@ -1,9 +1,9 @@
 //! The groups of schools that students' lists join.
 
-ghost use Rattle.std.specs.Prelude.{◌≡◌, ◌<◌, ℕ, true, length, take, Contains, IfOk};
+ghost use Rattle.std.specs.Prelude.{◌≡◌, ◌<◌, ℕ, true, length, map, Contains, IfOk};
 ghost use Rattle.sc_papers.specs.Market.{choices_of, is_school, schools_of, student_at, students_of};
 ghost use Rattle.sc_papers.specs.WellFormed.{WellFormed};
-ghost use Rattle.sc_region.specs.Groups.{first_choice, joined_choices, joined_list, joined_students, place_of, students_at};
+ghost use Rattle.sc_region.specs.Groups.{first_choice, joined, joined_choices, joined_list, joined_students, moved, place_of, students_at};
 
 use crate::school_groups::SchoolGroups;
 use sc_papers::{Papers, SchoolNo};
@@ -33,23 +33,69 @@ pub(crate) fn first_choice_at(papers: &Papers, position: usize) -> SchoolNo
     papers.choices_at(position)[0]
 }
 
-/// Joins each school of a list to one school.
+/// Puts one number in the place of another.
+fn renumber(groups: &mut Vec<usize>, kept: usize, lost: usize)
+    ensures { groups.new.items ≡ map (moved kept lost) groups.old.items }
+{
+    for place in 0..groups.len() {
+        if groups[place] == lost {
+            groups[place] = kept;
+        }
+    }
+}
+
+/// Makes the groups at two positions one, under the lesser of their numbers.
+fn join(groups: &mut Vec<usize>, a: usize, b: usize)
+    requires first { a < length groups.old.items }
+    requires second { b < length groups.old.items }
+    ensures { groups.new.items ≡ joined groups.old.items a b }
+{
+    let first = groups[a];
+    let second = groups[b];
+    if first != second {
+        renumber(groups, first.min(second), first.max(second));
+    }
+}
+
+/// Joins each school of a list to one school. Each that was in another group costs a pass over the schools: that does for
+/// the few new choices of an amendment, and the lists of many students are joined in `SchoolGroups`.
 pub(crate) fn join_list(
     papers: &Papers,
-    groups: &mut SchoolGroups,
+    groups: &mut Vec<usize>,
     first: SchoolNo,
     list: &[SchoolNo],
 )
-    requires one_each { length groups.old ≡ length (schools_of papers.now) }
+    requires one_each { length groups.old.items ≡ length (schools_of papers.now) }
     requires first { is_school papers.now first ≡ true }
     requires known { (s : ℕ) → Contains list.now s → is_school papers.now s ≡ true }
-    ensures joined { groups.new ≡ joined_list papers.now first groups.old list.now }
-    ensures one_each { length groups.new ≡ length (schools_of papers.now) }
+    ensures joined { groups.new.items ≡ joined_list papers.now first groups.old.items list.now }
+    ensures one_each { length groups.new.items ≡ length (schools_of papers.now) }
 {
     let place = place_of(papers, first);
     for school in list {
-        groups.join(place, place_of(papers, *school));
+        join(groups, place, place_of(papers, *school));
     }
+}
+
+/// Whether each school of a list is in the group of one school, so that it joins nothing.
+pub(crate) fn joins_nothing(
+    papers: &Papers,
+    groups: &[usize],
+    first: SchoolNo,
+    list: &[SchoolNo],
+) -> bool
+    requires one_each { length groups.now ≡ length (schools_of papers.now) }
+    requires first { is_school papers.now first ≡ true }
+    requires known { (s : ℕ) → Contains list.now s → is_school papers.now s ≡ true }
+    ensures { result ≡ true → joined_list papers.now first groups.now list.now ≡ groups.now }
+{
+    let group = groups[place_of(papers, first)];
+    for school in list {
+        if groups[place_of(papers, *school)] != group {
+            return false;
+        }
+    }
+    true
 }
 
 /// The position of the first choice of the student at a position, without a look-up by number.

@@ -4,12 +4,12 @@ ghost use Rattle.std.specs.Prelude.{◌≡◌, ◌↔◌, ◌<◌, ℕ, None, So
 ghost use Rattle.std.specs.List.Sorted.{IsStrictlyIncreasing};
 ghost use Rattle.sc_papers.specs.Market.{is_school, is_student, schools_of, students_of};
 ghost use Rattle.sc_papers.specs.Verdict.{verdict, IsRefusal};
-ghost use Rattle.sc_region.specs.Groups.{first_choice, new_choices, region_groups, region_members, start_of};
+ghost use Rattle.sc_region.specs.Groups.{first_choice, new_choices, region_groups, region_members, start_of, widened};
 ghost use Rattle.sc_region.specs.Region.{InRegion};
 ghost use Rattle.sc_region.specs.Telling.{TellRegion};
 
-use crate::candidates::{LISTS_FOR_SCHOOL, groups_with};
-use crate::grouping::{first_choice_at, groups_of, join_list, place_of};
+use crate::candidates::LISTS_FOR_SCHOOL;
+use crate::grouping::{first_choice_at, groups_among, groups_of, join_list, place_of};
 use crate::marks::RegionMarks;
 use crate::members::{marks_of, members_of};
 use crate::region_list::RegionList;
@@ -53,22 +53,30 @@ pub(crate) fn new_choices(amendment: &Amendment) -> &[SchoolNo]
     }
 }
 
+/// Joins the new choices to the school to begin with.
+pub(crate) fn widen(papers: &Papers, amendment: &Amendment, groups: &mut Vec<usize>)
+    requires allowed { verdict papers.now amendment.now ≡ None }
+    requires one_each { length groups.old.items ≡ length (schools_of papers.now) }
+    ensures widened { groups.new.items ≡ widened papers.now amendment.now groups.old.items }
+    ensures one_each { length groups.new.items ≡ length (schools_of papers.now) }
+{
+    let start = start_of(papers, amendment);
+    join_list(papers, groups, start, new_choices(amendment));
+}
+
 /// The groups that all lists join, those before the amendment and those after it.
 fn region_groups(
     alloc: Global,
     papers: &Papers,
     amendment: &Amendment,
-    start: SchoolNo,
 ) -> Result<Vec<usize>, AllocError>
-    requires allowed { verdict papers.now amendment.now ≡ None }
-    requires start { start ≡ start_of papers.now amendment.now }
-    requires known { is_school papers.now start ≡ true }
+    requires { verdict papers.now amendment.now ≡ None }
     ensures joined { IfOk result (λ groups. groups.items ≡ region_groups papers.now amendment.now) }
     ensures one_each { IfOk result (λ groups. length groups.items ≡ length (schools_of papers.now)) }
 {
-    let mut groups = groups_of(alloc, papers)?;
-    join_list(papers, &mut groups, start, new_choices(amendment));
-    Ok(groups.into_numbers())
+    let mut groups = groups_of(alloc, papers)?.into_numbers();
+    widen(papers, amendment, &mut groups);
+    Ok(groups)
 }
 
 /// The region in order of entry.
@@ -80,9 +88,8 @@ fn region_members(
     requires { verdict papers.now amendment.now ≡ None }
     ensures { IfOk result (λ members. members.items ≡ region_members papers.now amendment.now) }
 {
-    let start = start_of(papers, amendment);
-    let groups = region_groups(alloc, papers, amendment, start)?;
-    let group = groups[place_of(papers, start)];
+    let groups = region_groups(alloc, papers, amendment)?;
+    let group = groups[place_of(papers, start_of(papers, amendment))];
     let mut members = members_of(alloc, papers, groups.as_slice(), group)?;
     if let Amendment::Enter { student, .. } = amendment {
         members.push(*student)?;
@@ -97,8 +104,9 @@ fn region_members(
 /// Answers the first refusal of the amendment that applies, as `Papers::check` does, or else want of
 /// memory. The papers are not changed.
 ///
-/// The cost is one pass over all choices, by their positions, with steps to the root of each one's group, and a
-/// sort of the region. Memory is taken for each school and for each student of the region.
+/// The cost is one pass over all choices, by their positions, with steps to the root of each one's group, one over
+/// the schools for each group that the new choices join, and a sort of the region. Memory is taken for each school
+/// and for each student of the region.
 pub fn region(alloc: Global, papers: &Papers, amendment: &Amendment) -> Result<RegionList, Refusal>
     ensures allowed { OnOk result (verdict papers.now amendment.now ≡ None) }
     ensures rising { IfOk result IsStrictlyIncreasing }
@@ -131,13 +139,12 @@ fn spread_positions(alloc: Global, papers: &Papers) -> Result<Vec<usize>, AllocE
     Ok(positions)
 }
 
-/// Whether all schools are in one group, that of the school at a position.
-fn are_all_with(groups: &[usize], place: usize) -> bool
-    requires { place < length groups.now }
-    ensures { result ≡ true → (other : ℕ) → other < length groups.now → slice_index groups.now other ≡ slice_index groups.now place }
+/// Whether all schools are in one group, that of the first.
+fn are_one(groups: &[usize]) -> bool
+    ensures { result ≡ true → (place : ℕ) → place < length groups.now → slice_index groups.now place ≡ slice_index groups.now 0 }
 {
-    for other in 0..groups.len() {
-        if groups[other] != groups[place] {
+    for place in 0..groups.len() {
+        if groups[place] != groups[0] {
             return false;
         }
     }
@@ -150,22 +157,19 @@ fn telling_groups(
     alloc: Global,
     papers: &Papers,
     amendment: &Amendment,
-    start: SchoolNo,
 ) -> Result<Vec<usize>, AllocError>
-    requires allowed { verdict papers.now amendment.now ≡ None }
-    requires start { start ≡ start_of papers.now amendment.now }
-    requires known { is_school papers.now start ≡ true }
+    requires { verdict papers.now amendment.now ≡ None }
     ensures one_each { IfOk result (λ groups. length groups.items ≡ length (schools_of papers.now)) }
     ensures region { IfOk result (λ groups. TellRegion papers.now amendment.now groups.items) }
 {
     // This call tells that the papers are well-formed.
     prove!(papers.students_len() <= MOST_STUDENTS);
     let few = spread_positions(alloc, papers)?;
-    let groups = groups_with(alloc, papers, amendment, start, few.as_slice())?;
-    if are_all_with(groups.as_slice(), place_of(papers, start)) {
+    let groups = groups_among(alloc, papers, few.as_slice())?.into_numbers();
+    if are_one(groups.as_slice()) {
         return Ok(groups);
     }
-    let all = region_groups(alloc, papers, amendment, start)?;
+    let all = region_groups(alloc, papers, amendment)?;
     Ok(all)
 }
 
@@ -179,9 +183,8 @@ fn marks_of_region(
     ensures one_each { IfOk result (λ marks. length marks.items ≡ length (students_of papers.now)) }
     ensures region { IfOk result (λ marks. (position i : ℕ) → slice_get (students_of papers.now) position ≡ Some i → (IsTrue (slice_index_or marks.items position false) ↔ InRegion papers.now amendment.now i)) }
 {
-    let start = start_of(papers, amendment);
-    let groups = telling_groups(alloc, papers, amendment, start)?;
-    let group = groups[place_of(papers, start)];
+    let groups = telling_groups(alloc, papers, amendment)?;
+    let group = groups[place_of(papers, start_of(papers, amendment))];
     let marks = marks_of(alloc, papers, groups.as_slice(), group)?;
     Ok(marks)
 }
@@ -192,9 +195,10 @@ fn marks_of_region(
 /// Answers the first refusal of the amendment that applies, as `Papers::check` does, or else want of
 /// memory. The papers are not changed.
 ///
-/// The cost is a look at each student, and one pass over the choices of a few, four for each school, or over all
-/// choices where those few leave the schools apart: by their positions, with steps to the root of each one's group.
-/// Memory is taken for each school and each student, and once more for each of the region.
+/// The cost is a look at each student, and one pass over the choices of a few, four for each school: by their
+/// positions, with steps to the root of each one's group. Where those few leave the schools apart, it is a pass over
+/// all choices, and one over the schools for each group that the new choices join. Memory is taken for each school
+/// and each student, and once more for each of the region.
 pub fn region_marks(
     alloc: Global,
     papers: &Papers,

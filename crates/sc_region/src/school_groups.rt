@@ -1,6 +1,6 @@
 //! Groups of schools that are joined step by step.
 
-ghost use Rattle.std.specs.Prelude.{◌≡◌, ◌<◌, true, length, slice_index, IfOk};
+ghost use Rattle.std.specs.Prelude.{◌≡◌, ◌<◌, true, length, IfOk};
 ghost use Rattle.std.specs.List.{range_with_len};
 ghost use Rattle.sc_region.specs.Groups.{joined};
 ghost use Rattle.sc_region.specs.Roots.{root_of, roots_of, AreParents, KeepsRoots};
@@ -76,7 +76,7 @@ fn flatten(parents: &mut Vec<usize>)
 }
 
 impl SchoolGroups {
-    ghost use Rattle.std.specs.Prelude.{◌≡◌, ◌<◌, length, IfOk};
+    ghost use Rattle.std.specs.Prelude.{◌≡◌, ◌<◌, length, slice_index, IfOk};
     ghost use Rattle.std.specs.List.{range_with_len};
     ghost use Rattle.sc_region.specs.Groups.{joined};
 
@@ -105,13 +105,13 @@ impl SchoolGroups {
         self.parents[first.max(second)] = first.min(second);
     }
 
-    /// The same groups once more.
-    pub(crate) fn copy(&self, alloc: Global) -> Result<Self, AllocError>
-        ensures { IfOk result (λ groups. groups ≡ self.now) }
+    /// The number of the group at a position. It costs a climb.
+    pub(crate) fn group_at(&mut self, position: usize) -> usize
+        requires { position < length self.old }
+        ensures group { result ≡ slice_index self.old position }
+        ensures same { self.new ≡ self.old }
     {
-        Ok(SchoolGroups {
-            parents: Vec::from_slice(alloc, self.parents.as_slice())?,
-        })
+        find_root(&mut self.parents, position)
     }
 
     /// The number of the group at each position. One pass over them.

@@ -17,7 +17,7 @@ returns-clause-region c position i here =
     let m = c.args.papers.now in
     let a = c.args.amendment.now in
     let numbers = c.in_ok-groups.groups.items in
-    let place : c.place_of.result ≡ place_of m (start_of m a) = c.place_of.ensures.place ∙ ap (place_of m) c.start_of-start.ensures.start in
+    let place : c.place_of.result ≡ place_of m (start_of m a) = c.place_of.ensures.place ∙ ap (place_of m) c.start_of.ensures.start in
     let low : c.place_of.result < length numbers = omega (arith, c.place_of.ensures.within, c.in_ok-groups.ensures.one_each) in
     let group : c.index-group.result.now ≡ group_of m numbers (start_of m a) =
     get_or_read numbers c.place_of.result c.index-group.result.now low c.index-group.ensures 0 ∙ ap (slice_index numbers) place in

@@ -1,28 +1,21 @@
-use Rattle.std.proofs.Common.{◌≡◌, ℕ, List, sym, subst, ◌∙◌, Contains}
+use Rattle.std.proofs.Common.{ℕ, List, sym, subst, ◌∙◌}
 use Rattle.std.proofs.lemmas.List.{length-map}
 use Rattle.sc_papers.proofs.Amending.{WellFormed-after}
 use Rattle.sc_papers.specs.Verdict.{after}
 use Rattle.sc_region.specs.Districts.{lists_in, AreDistricts, DistrictsView}
-use Rattle.sc_region.specs.Groups.{joined_list, widened}
-use Rattle.sc_region.proofs.Changes.{new-known, start-known}
+use Rattle.sc_region.proofs.Changes.{start-known}
 use Rattle.sc_region.proofs.Firsts.{names}
 use Rattle.sc_region.proofs.Following.{districts-after}
 use Rattle.sc_region.proofs.districts.Districts.amend.Goals as goal
 
-pub join_list-requires-clause-known : goal.join_list-requires-clause-known
-join_list-requires-clause-known c s among =
-    new-known c.args.papers.now c.args.amendment.now c.requires.allowed s (subst (λ list. Contains list s) c.new_choices.ensures among)
-
 pub returns : goal.returns
-unfolding widened
 returns c =
     let m = c.args.papers.now in
     let a = c.args.amendment.now in
     let well = c.students_len.ensures.well_formed in
-    let d : DistrictsView = record { groups = c.self.inside.groups; firsts = lists_in c.self.inside.firsts.items } in
+    let d : DistrictsView = record { groups = c.self.inside.groups.items; firsts = lists_in c.self.inside.firsts.items } in
     let old : AreDistricts m d = subst (AreDistricts m) (sym c.self.view_is) c.requires.districts in
-    let groups : c.join_list.new.groups ≡ widened m a d.groups = c.join_list.ensures.joined ∙ (λ t. joined_list m (c.start_of-start.ensures.start t) d.groups (c.new_choices.ensures t)) in
-    subst (λ (gs : List ℕ). AreDistricts (after m a) (record { groups = gs; firsts = lists_in c.let_come.new.firsts.items })) (sym groups)
+    subst (λ (gs : List ℕ). AreDistricts (after m a) (record { groups = gs; firsts = lists_in c.let_come.new.firsts.items })) (sym c.widen.ensures.widened)
     (districts-after m a well (WellFormed-after m a well c.requires.allowed) c.requires.allowed d old (start-known m a well c.requires.allowed) (lists_in c.let_come.new.firsts.items)
     (length-map c.let_come.new.firsts.items names ∙ c.in_ok-let_come.ensures.one_each ∙ c.let_leave.ensures.one_each ∙ sym (length-map c.self.inside.firsts.items names))
     (λ p i stays among. c.in_ok-let_come.ensures.keeps p i (c.let_leave.ensures.others p i stays among))

@@ -2,74 +2,75 @@ use Rattle.std.proofs.Common.{◌≡◌, ◌<◌, ap, sym, subst, ◌∙◌, ℕ
 use Rattle.std.specs.List.Sorted.{IsStrictlyIncreasing}
 use Rattle.std.specs.Prelude.{slice_index}
 use Rattle.std.proofs.lemmas.List.{get_or_read}
-use Rattle.std.proofs.lemmas.Map.Entries.{length-keys_of}
 use Rattle.sc_papers.specs.Market.{student_at, students_of}
-use Rattle.sc_region.specs.Districts.{firsts_at, lists_in}
-use Rattle.sc_region.specs.Groups.{group_of, place_of, positions_in, start_of}
+use Rattle.sc_region.specs.Districts.{lists_in}
+use Rattle.sc_region.specs.Groups.{positions_in}
 use Rattle.sc_region.specs.Region.{InRegion}
-use Rattle.sc_region.proofs.Having.{chosen-among, chosen-rising, district-enough, district-near, positions-exact}
+use Rattle.sc_region.specs.Telling.{AreOfRegion, HeldTogether, TellRegion}
+use Rattle.sc_region.proofs.Having.{all-tell, district-enough, held-tell, place-among, place-listed, region-told}
 use Rattle.sc_region.proofs.districts.Districts.region_positions.Goals as goal
 
-pub region_groups_among-requires-clause-within : goal.region_groups_among-requires-clause-within
-region_groups_among-requires-clause-within c p among =
-    c.in_ok-listed.ensures.within p ((c.in_ok-candidates.ensures.same p).0 (subst (λ xs. Contains xs p) c.as_slice-all.ensures.value among))
+pub listed_at-requires : goal.listed_at-requires
+listed_at-requires c other among =
+    place-listed c.args.papers.now c.args.self.now c.requires.districts c.args.groups.now c.requires.one_each c.self.inside.firsts.items (ap (λ (v : _). v.firsts) c.self.view_is)
+    (slice_index c.args.groups.now c.args.place) other (subst (λ xs. Contains xs other) c.requires.places among)
 
-pub region_groups_among-requires-clause-enough : goal.region_groups_among-requires-clause-enough
-region_groups_among-requires-clause-enough c q low inside =
-    let m = c.args.papers.now in
-    let a = c.args.amendment.now in
-    let d = c.args.self.now in
-    let listed = c.in_ok-listed.listed.items in
-    let firsts : lists_in c.self.inside.firsts.items ≡ d.firsts = ap (λ (v : _). v.firsts) c.self.view_is in
-    let there =
-    district-enough m a c.students_len.ensures.well_formed c.requires.allowed d c.requires.districts c.args.groups.now c.requires.groups c.requires.one_each c.args.group c.requires.group listed
-    (λ place r below is r_low among. c.in_ok-listed.ensures.all place r below is r_low (subst (λ fs. Contains (firsts_at fs place) (student_at m r)) (sym firsts) among))
-    q low inside in
-    subst (λ xs. Contains xs q) (sym c.as_slice-all.ensures.value) ((c.in_ok-candidates.ensures.same q).1 there)
+pub few_hold_together-requires-clause-places : goal.few_hold_together-requires-clause-places
+few_hold_together-requires-clause-places c other among =
+    omega (arith, (place-among c.args.groups.now (slice_index c.args.groups.now c.args.place) other (subst (λ xs. Contains xs other) c.requires.places among)).0, c.requires.one_each)
 
-pub region_groups_among-requires-clause-near : goal.region_groups_among-requires-clause-near
-region_groups_among-requires-clause-near c =
-    district-near c.args.papers.now c.args.amendment.now c.students_len.ensures.well_formed c.requires.allowed c.args.self.now c.requires.districts c.args.groups.now c.requires.groups c.args.group c.requires.group
+pub few_hold_together-requires-clause-within : goal.few_hold_together-requires-clause-within
+few_hold_together-requires-clause-within c p among = c.in_ok-candidates.ensures.within p (subst (λ xs. Contains xs p) c.as_slice-all.ensures.value among)
 
 pub positions_in-requires-clause-within : goal.positions_in-requires-clause-within
-positions_in-requires-clause-within c p among =
-    c.in_ok-listed.ensures.within p ((c.in_ok-candidates.ensures.same p).0 (subst (λ xs. Contains xs p) c.as_slice-all.ensures.value among))
+positions_in-requires-clause-within c p among = c.in_ok-candidates.ensures.within p (subst (λ xs. Contains xs p) c.as_slice-all.ensures.value among)
 
-pub returns-clause-rising : goal.returns-clause-rising
-returns-clause-rising c =
-    subst IsStrictlyIncreasing (sym c.in_ok-positions.ensures)
-    (chosen-rising c.args.papers.now c.as_slice.result.now c.index-own.result.now c.as_slice-all.result.now (subst IsStrictlyIncreasing (sym c.as_slice-all.ensures.value) c.in_ok-candidates.ensures.rising))
+pub groups_with-requires-clause-within : goal.groups_with-requires-clause-within
+groups_with-requires-clause-within c p among = c.in_ok-candidates.ensures.within p (subst (λ xs. Contains xs p) c.as_slice-all.ensures.value among)
 
-pub returns-clause-region : goal.returns-clause-region
-returns-clause-region c p i here =
+pub positions_in-requires-2-clause-within : goal.positions_in-requires-2-clause-within
+positions_in-requires-2-clause-within c p among = c.in_ok-candidates.ensures.within p (subst (λ xs. Contains xs p) c.as_slice-all.ensures.value among)
+
+pub returns-then-branch : goal.returns-then-branch
+returns-then-branch c =
     let m = c.args.papers.now in
     let a = c.args.amendment.now in
     let d = c.args.self.now in
+    let well = c.students_len.ensures.well_formed in
+    let groups = c.args.groups.now in
+    let place = c.args.place in
     let chosen = c.as_slice-all.result.now in
-    let numbers = c.in_ok-exact.exact.items in
-    let listed = c.in_ok-listed.listed.items in
-    let firsts : lists_in c.self.inside.firsts.items ≡ d.firsts = ap (λ (v : _). v.firsts) c.self.view_is in
     let enough : (q : ℕ) → q < length (students_of m) → InRegion m a (student_at m q) → Contains chosen q =
-    λ q low inside.
-    subst (λ xs. Contains xs q) (sym c.as_slice-all.ensures.value) ((c.in_ok-candidates.ensures.same q).1
-    (district-enough m a c.students_len.ensures.well_formed c.requires.allowed d c.requires.districts c.args.groups.now c.requires.groups c.requires.one_each c.args.group c.requires.group listed
-    (λ place r below is r_low among. c.in_ok-listed.ensures.all place r below is r_low (subst (λ fs. Contains (firsts_at fs place) (student_at m r)) (sym firsts) among))
-    q low inside)) in
-    let place : c.place_of.result ≡ place_of m (start_of m a) = c.place_of.ensures.place ∙ ap (place_of m) c.requires.start in
-    let low : c.place_of.result < length numbers = omega (arith, c.place_of.ensures.within, c.in_ok-exact.ensures.one_each) in
-    let own : c.index-own.result.now ≡ group_of m numbers (start_of m a) =
-    get_or_read numbers c.place_of.result c.index-own.result.now low c.index-own.ensures 0 ∙ ap (slice_index numbers) place in
-    let is : c.in_ok-positions.positions.items ≡ positions_in m numbers (group_of m numbers (start_of m a)) chosen =
-    c.in_ok-positions.ensures ∙ (λ t. positions_in m (c.as_slice.ensures.value t) (own t) chosen) in
-    let exact = positions-exact m a numbers c.in_ok-exact.ensures.region chosen enough p i here in (
-      λ among. exact.0 (subst (λ xs. Contains xs p) is among),
-      λ inside. subst (λ xs. Contains xs p) (sym is) (exact.1 inside),
-    )
+    district-enough m a well c.requires.allowed d c.requires.districts groups c.requires.groups c.requires.one_each place c.requires.place c.args.places.now c.requires.places
+    (lists_in c.self.inside.firsts.items) (ap (λ (v : _). v.firsts) c.self.view_is) chosen
+    (λ other r among r_low listed. subst (λ xs. Contains xs r) (sym c.as_slice-all.ensures.value) (c.in_ok-candidates.ensures.all other r among r_low listed)) in
+    let held = subst (λ xs. HeldTogether m xs place) c.requires.places (c.in_ok-few_hold_together.ensures c.if-branch.true) in
+    subst (AreOfRegion m a) (sym c.in_ok-positions.ensures)
+    (region-told m a groups (held-tell m a well c.requires.allowed d c.requires.districts groups c.requires.groups c.requires.one_each place c.requires.place held) chosen
+    (subst IsStrictlyIncreasing (sym c.as_slice-all.ensures.value) c.in_ok-candidates.ensures.rising)
+    (λ p among. c.in_ok-candidates.ensures.within p (subst (λ xs. Contains xs p) c.as_slice-all.ensures.value among))
+    enough place c.requires.place)
 
-pub returns-clause-within : goal.returns-clause-within
-returns-clause-within c p among =
+pub returns : goal.returns
+returns c =
     let m = c.args.papers.now in
+    let a = c.args.amendment.now in
+    let d = c.args.self.now in
+    let well = c.students_len.ensures.well_formed in
+    let groups = c.args.groups.now in
+    let place = c.args.place in
+    let numbers = c.in_ok-exact.exact.items in
     let chosen = c.as_slice-all.result.now in
-    let there = chosen-among m c.as_slice.result.now c.index-own.result.now chosen p (subst (λ xs. Contains xs p) c.in_ok-positions.ensures among) in
-    let low = c.in_ok-listed.ensures.within p ((c.in_ok-candidates.ensures.same p).0 (subst (λ xs. Contains xs p) c.as_slice-all.ensures.value there)) in
-    omega (arith, low, length-keys_of m.students)
+    let enough : (q : ℕ) → q < length (students_of m) → InRegion m a (student_at m q) → Contains chosen q =
+    district-enough m a well c.requires.allowed d c.requires.districts groups c.requires.groups c.requires.one_each place c.requires.place c.args.places.now c.requires.places
+    (lists_in c.self.inside.firsts.items) (ap (λ (v : _). v.firsts) c.self.view_is) chosen
+    (λ other r among r_low listed. subst (λ xs. Contains xs r) (sym c.as_slice-all.ensures.value) (c.in_ok-candidates.ensures.all other r among r_low listed)) in
+    let within : (p : ℕ) → Contains chosen p → p < length (students_of m) =
+    λ p among. c.in_ok-candidates.ensures.within p (subst (λ xs. Contains xs p) c.as_slice-all.ensures.value among) in
+    let low : place < length numbers = omega (arith, c.requires.within, c.in_ok-exact.ensures.one_each) in
+    let own : c.index.result.now ≡ slice_index numbers place = get_or_read numbers place c.index.result.now low c.index.ensures 0 in
+    let is : c.in_ok-positions-2.positions.items ≡ positions_in m numbers (slice_index numbers place) chosen =
+    c.in_ok-positions-2.ensures ∙ (λ t. positions_in m (c.as_slice.ensures.value t) (own t) chosen) in
+    subst (AreOfRegion m a) (sym is)
+    (region-told m a numbers (subst (TellRegion m a) (sym c.in_ok-exact.ensures.joined) (all-tell m a well c.requires.allowed chosen within enough)) chosen
+    (subst IsStrictlyIncreasing (sym c.as_slice-all.ensures.value) c.in_ok-candidates.ensures.rising) within enough place c.requires.place)

@@ -1,6 +1,0 @@
-use Rattle.sc_region.specs.Districts.{lists_in}
-use Rattle.sc_region.proofs.Listed.{HasListed}
-use Rattle.sc_region.proofs.candidates.listed_in.Given as goal
-
-abbrev pub invariant-loop-place : goal.invariant-loop-place
-invariant-loop-place l = HasListed l.papers (lists_in l.firsts.items) l.groups l.group l.place l.positions.items

@@ -1,0 +1,33 @@
+use Rattle.std.proofs.Common.{◌≡◌, ◌<◌, ◌≤◌, ◌++◌, ◌+◌, ◌==◌, ap, sym, ◌∙◌, drop, length, map, set, take, take_all, arith}
+use Rattle.std.proofs.lemmas.Bool.{cond-false, cond-true, eq-eqb, ne_eqb}
+use Rattle.std.proofs.lemmas.List.{append-nil, drop_all, set-get_or}
+use Rattle.std.proofs.lemmas.List.Edits.{map_over_more}
+use Rattle.sc_region.specs.Groups.{moved}
+use Rattle.sc_region.proofs.grouping.renumber.Goals as goal
+use Rattle.sc_region.proofs.grouping.renumber.Goals.{then-index-lost, else-index-lost}
+
+pub loop-place-preserved : goal.loop-place-preserved
+loop-place-preserved c =
+    let kept = c.args.kept in
+    let lost = c.args.lost in
+    let old = c.args.groups.now.items in
+    let now = c.loop-place.groups.items in
+    let at = c.loop-place.place in
+    let x = c.index.result.now in
+    let low : at < length old = omega (arith, c.loop-place-test.true, c.len-place-end.ensures, c.args.groups.now.ok.0) in
+    let more : set now at (moved kept lost x) ≡ map (moved kept lost) (take (at + 1) old) ++ drop (at + 1) old =
+    map_over_more (moved kept lost) old now at x low c.loop-place.invariant c.index.ensures in
+    elim c.if-index-lost.branch [
+      | then-index-lost w ↦
+          ap (λ (v : _). v.items) w.groups-is ∙ ap (set now at) (sym (cond-true (x == lost) kept x (eq-eqb x lost w.if-index-lost.true))) ∙ more
+      | else-index-lost w ↦
+          ap (λ (v : _). v.items) w.groups-is ∙ sym (set-get_or now at x) ∙ ap (set now at) (sym c.index.ensures ∙ sym (cond-false (x == lost) kept x (ne_eqb x lost w.if-index-lost.false))) ∙ more
+    ]
+
+pub returns : goal.returns
+returns c =
+    let old = c.args.groups.now.items in
+    let past : length old ≤ c.loop-place.place = omega (arith, c.loop-place-test.false, c.len-place-end.ensures, c.args.groups.now.ok.0) in
+    c.loop-place.invariant
+    ∙ (λ t. map (moved c.args.kept c.args.lost) (take_all c.loop-place.place old past t) ++ drop_all c.loop-place.place old past t)
+    ∙ append-nil (map (moved c.args.kept c.args.lost) old)
