@@ -1,13 +1,15 @@
 //! What the texts of a run come to. Each function does nothing: its contract is the law.
 ghost use Rattle.std.specs.Prelude.{◌≡◌, ℕ, ◌≤◌, List, length, Result, Ok};
 ghost use Rattle.sc_papers.specs.Market.{Market};
+ghost use Rattle.sc_papers.specs.Reordering.{IsReordering};
+ghost use Rattle.sc_papers.specs.WellFormed.{WellFormed};
 ghost use Rattle.sc_papers.specs.declared.amendment.Refusal.{Refusal};
 ghost use Rattle.sc_papers.specs.declared.amendment.Stamped.{Stamped};
 ghost use Rattle.sc_stamps.specs.Verdict.{unamended};
 ghost use Rattle.sc_intake.specs.Script.{script_in};
 ghost use Rattle.sc_journal.specs.Journal.{journal_text, IsReplay};
 ghost use Rattle.sc_journal.specs.declared.journal.Tail.TheVariants.{Whole};
-ghost use Rattle.sc_runs.specs.Run.{accepted, after_script};
+ghost use Rattle.sc_runs.specs.Run.{accepted, after_script, answers};
 
 use sc_journal::LineNo;
 
@@ -21,4 +23,12 @@ pub fn journal_of_a_run_is_replayed()
 /// The journal of a run never has more lines than there are numbers for.
 pub fn journal_of_a_run_is_never_full()
     ensures { (m : Market) (script : List (Result Stamped Refusal)) → length (accepted (unamended m) script) ≤ LineNo.GREATEST }
+{}
+
+/// The order of entry decides nothing of what a run writes: over the same papers in another order, each record of the
+/// script is answered alike, with the same lines, and the papers after it are the same up to order, so that they have
+/// one report (`order_of_entry_decides_no_text` of `sc_report`).
+pub fn order_of_entry_decides_no_run()
+    ensures answers { (m n : Market) (script : List (Result Stamped Refusal)) → WellFormed m → IsReordering m n → answers 1 (unamended n) script ≡ answers 1 (unamended m) script }
+    ensures papers { (m n : Market) (script : List (Result Stamped Refusal)) → WellFormed m → IsReordering m n → IsReordering (after_script (unamended n) script).papers (after_script (unamended m) script).papers }
 {}
