@@ -5,9 +5,11 @@
 
 Each market is made four times by generate.py: as one city whose students' lists connect all schools, as 200 districts that
 share none, whose students stand among each other in the roster, as these with the students of each district together, and as a
-market that is one such district alone. A run with the script is timed beside one with an empty script,
-`--times` times each; the difference of the least processor times, divided by the number of amendments, is what one costs. So
-the opening, the reading and the report do not count. The last column is the run with the empty script, whole.
+market that is one such district alone. The district alone gets as many amendments as each district of the others does, so that its
+seats run short as theirs do. A run with the script is timed beside one whose script has a few lines that are refused, as many as
+it takes for the students of a district to be put together; the difference of the least processor times, divided by the number of
+amendments, is what one costs. So the opening, the putting together and the report do not count. The last column is the run with
+the refused lines, whole. Each run is made `--times` times, and that of a district alone forty times as often.
 """
 import argparse
 import os
@@ -22,18 +24,20 @@ SCHOOLS = {20_000: 200, 80_000: 700, 200_000: 2_000}
 CHOICES = 12
 DISTRICTS = 200
 MOST_STUDENTS = 200_000  # A roster has no room for more, so that newcomers to so many would be refused.
+STUDENTS_FOR_LINE = 500  # A script with so many lines has the students of each district put together.
+IN_DISTRICTS = 4_000  # Amendments behind a figure of districts: for each of them 20.
 KINDS = ("newcomer", "withdrawal of the last", "withdrawal of a random one", "rerank", "correction", "a seat more", "a seat less")
 
 
-def count_of(kind, students, districts):
-    """How many amendments of a kind stand behind a figure: as many as take about a second, for a figure that is told closely."""
+def count_of(kind, students, districts, alone):
+    """How many amendments of a kind stand behind a figure: in one city as many as take about a second."""
+    if alone:
+        return IN_DISTRICTS // DISTRICTS
     if kind == "newcomer":
         return 5_000
     if districts > 1:
-        return 4_000
-    # Students and seats that go are used up; anything else may come again and again.
-    most = students // 4 if kind.startswith("withdrawal") or kind == "a seat less" else 4_000
-    return max(20, min(most, 1_000_000 // students))
+        return IN_DISTRICTS
+    return max(20, 1_000_000 // students)
 
 
 def market(folder, students, districts, together=False):
@@ -85,6 +89,11 @@ def script_of(kind, folder, districts, count):
             stamps[school] = turn + 1
 
 
+def refused(students):
+    """A script whose lines are refused, as many as have the students of each district put together."""
+    return ["0,withdraw,99999999"] * (students // STUDENTS_FOR_LINE + 1)
+
+
 def processor(words):
     """Processor milliseconds of a run."""
     process = subprocess.Popen(words, stdout=subprocess.DEVNULL)
@@ -121,12 +130,14 @@ def main():
             def run(lines):
                 with open(script, "w") as file:
                     file.write("".join(f"{line}\n" for line in lines))
-                return min(processor([given.program, "run", *opening, "--script", script, "--journal", journal]) for _ in range(given.times))
+                times = given.times * (40 if alone else 1)
+                return min(processor([given.program, "run", *opening, "--script", script, "--journal", journal]) for _ in range(times))
 
-            empty = run([])
+            alone = whole < students
+            empty = run(refused(whole))
 
             def cost(kind):
-                count = count_of(kind, whole, districts)
+                count = count_of(kind, whole, districts, alone)
                 if kind == "newcomer" and whole + count > MOST_STUDENTS:
                     return "-"
                 return f"{max((run(script_of(kind, folder, districts, count)) - empty) / count, 0):.3f}"
