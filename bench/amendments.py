@@ -61,17 +61,20 @@ def script_of(kind, folder, districts, count):
     roster = rows(folder, "roster")
     schools = [row[0] for row in rows(folder, "schools")]
     near = [schools[first::districts] for first in range(districts)]
+    district = {school: first for first in range(districts) for school in near[first]}
+    # In the order of entry that a run keeps, with the students of each district together.
+    together = sorted(roster, key=lambda row: district[lists[row[0]].split(" ")[0]])
     leaving = source.sample(roster, min(count, len(roster)))
     stamps = {}
     for turn in range(count):
         student, zone, siblings = source.choice(roster)
         stamp = stamps.get(student, 0)
         if kind == "newcomer":
-            district = near[turn % districts]
-            choices = source.sample(district, min(CHOICES, len(district)))
+            listed = near[turn % districts]
+            choices = source.sample(listed, min(CHOICES, len(listed)))
             yield f"0,enter,{20_000_000 + turn},{zone},,{' '.join(choices)}"
         elif kind == "withdrawal of the last":
-            yield f"0,withdraw,{roster[-1 - turn][0]}"
+            yield f"0,withdraw,{together[-1 - turn][0]}"
         elif kind == "withdrawal of a random one":
             yield f"0,withdraw,{leaving[turn][0]}"
         elif kind == "rerank":

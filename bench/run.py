@@ -10,15 +10,18 @@ The last line is the exponent of the program's growth from the smallest market t
 
 With --phases it lays a workspace out in FOLDER (the repository's crates with `stopwatch/`, whose files end in .txt here since
 the gate refuses sources that no crate of its own owns), proves and builds the stopwatch there, and times each phase of both, the
-audit of the log that certifies each market, the rolls, and a thousand amendments, by wall time.
+audit of the log that certifies each market, the rolls, and amendments beside what they may cost, by wall time.
 """
 import argparse
 import math
 import os
+import re
 import shutil
 import subprocess
 import sys
 import tempfile
+
+import amendments
 
 HERE = os.path.dirname(os.path.abspath(__file__))
 ROOT = os.path.dirname(HERE)
@@ -32,6 +35,7 @@ MARKETS = {
 }
 PHASES = ["read", "settle", "write"]
 AUDITS = ["audit", "check_stable"]
+KINDS = {"rerank": "rerank", "correction": "correction", "more": "a seat more", "less": "a seat less", "withdrawal": "withdrawal"}
 
 
 def market(name, folder):
@@ -118,7 +122,7 @@ def build_stopwatch(folder):
     lay_out(os.path.join(HERE, "stopwatch"), crate, ".txt")
     with open(os.path.join(workspace, "crates.txt"), "w") as file:
         file.writelines(lines)
-        file.write("stopwatch: sc_lottery sc_papers sc_audit sc_intake sc_seats sc_repair sc_report anyhow\n")
+        file.write("stopwatch: sc_lottery sc_papers sc_audit sc_intake sc_seats sc_region sc_engine sc_repair sc_report anyhow\n")
     subprocess.run(["rt", "run", "--", "nothing"], cwd=crate, stdout=subprocess.DEVNULL, stderr=subprocess.DEVNULL)
     return os.path.join(crate, "out", "stopwatch")
 
@@ -147,7 +151,52 @@ def time_phases(peer, folder, names, times):
         for phase in AUDITS:
             print(f"| {name} | {phase} | {min(run[phase] for run in ours):.1f} | |")
     subprocess.run([stopwatch, "rolls"], check=True)
-    subprocess.run([stopwatch, market("20,000", folder), "amendments"], check=True, stdout=subprocess.DEVNULL)
+    time_amendments(stopwatch, folder, times)
+
+
+def told(stopwatch, files, what, pattern):
+    """What the stopwatch says, line by line, where a line fits the pattern."""
+    ran = subprocess.run([stopwatch, files, what], check=True, capture_output=True, text=True)
+    return [match.groups() for match in map(re.compile(pattern).fullmatch, ran.stderr.splitlines()) if match]
+
+
+def settlings_of(stopwatch, files, times):
+    """By the number of students, from all of them down, the least microseconds that settling the first so many takes."""
+    least = {0: 0}
+    for _ in range(times):
+        for students, took in told(stopwatch, files, "settlings", r"settle (\d+) students: (\d+) us, .*"):
+            least[int(students)] = min(int(took), least.get(int(students), int(took)))
+    return least
+
+
+def cost_from(settlings, position):
+    """What those cost in a settling who stand at the position or after it: between two that were timed, in proportion."""
+    known = sorted(settlings)
+    low = max(students for students in known if students <= position)
+    high = min((students for students in known if students > position), default=low)
+    part = (position - low) / (high - low) if high > low else 0
+    return settlings[known[-1]] - settlings[low] - part * (settlings[high] - settlings[low])
+
+
+def amendments_of(stopwatch, files, kind):
+    """From which position on each amendment of a kind settled anew, and the microseconds that it took."""
+    return [tuple(map(int, figures)) for figures in told(stopwatch, files, kind, r"from (\d+): (\d+) us, .*")]
+
+
+def time_amendments(stopwatch, folder, times):
+    """Prints what amendments of a city cost, beside what the proposals from their rewind point on cost in `settle`, and a
+    pass over all choices."""
+    print("| students | kind | an amendment, ms | its proposals in `settle`, ms | a pass, ms | times, less the pass |")
+    print("|---|---|---|---|---|---|")
+    for students in amendments.SCHOOLS:
+        files = amendments.market(folder, students, 1)
+        settlings = settlings_of(stopwatch, files, times)
+        passed = min(int(took) for _ in range(times) for (took,) in told(stopwatch, files, "settlings", r"pass: (\d+) us, .*")) / 1e3
+        for kind, name in KINDS.items():
+            runs = [amendments_of(stopwatch, files, kind) for _ in range(times)]
+            took = sum(min(figures[1] for figures in turn) for turn in zip(*runs)) / 20e3
+            own = sum(cost_from(settlings, point) for point, _ in runs[0]) / 20e3
+            print(f"| {students:,} | {name} | {took:.2f} | {own:.2f} | {passed:.2f} | {(took - passed) / own:.2f} |", flush=True)
 
 
 def main():
