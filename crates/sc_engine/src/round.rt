@@ -51,13 +51,13 @@ fn seats_at(papers: &Papers, position: usize) -> Seats
     seats
 }
 
-/// Empties a roll, and gives it these seats. One that is so already stays as it is.
-fn renew_roll<R: Roll>(alloc: Global, roll: &mut R, seats: Seats)
+/// Empties a roll in the memory that it has, and gives it these seats. One that is so already stays as it is.
+fn renew_roll<R: Roll>(roll: &mut R, seats: Seats)
     ensures keys { R.keys roll.new ≡ [] }
     ensures seats { R.seats roll.new ≡ seats }
 {
     if roll.len() > 0 || roll.capacity() != seats {
-        *roll = R::with_capacity(alloc, seats);
+        roll.renew(seats);
     }
 }
 
@@ -75,7 +75,7 @@ fn put_empty_roll<R: Roll>(
     ensures within { OnOk result ((n : ℕ) → at < n → length rolls.old.items ≤ n → length rolls.new.items ≤ n) }
 {
     if at < rolls.len() {
-        renew_roll(alloc, &mut rolls[at], seats);
+        renew_roll(&mut rolls[at], seats);
         return Ok(());
     }
     rolls.push(R::with_capacity(alloc, seats))?;

@@ -6,7 +6,7 @@ use Rattle.sc_seats.specs.declared.held.Held.TheVariants.{Nobody, Listed, Heaped
 
 -- the keys, in the order in which they are kept
 abbrev pub keys_of : Held → List Key
-keys_of Nobody = []
+keys_of (Nobody memory) = []
 keys_of (Listed keys) = keys
 keys_of (Heaped keys) = keys
 
@@ -14,4 +14,4 @@ keys_of (Heaped keys) = keys
 abbrev pub is_heap : Held → Bool
 is_heap (Heaped keys) = true
 is_heap (Listed keys) = false
-is_heap Nobody = false
+is_heap (Nobody memory) = false

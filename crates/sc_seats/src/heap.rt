@@ -59,9 +59,14 @@ impl Roll for HeapRoll {
     fn with_capacity(alloc: Global, capacity: Seats) -> Self {
         HeapRoll {
             alloc,
-            held: Held::Nobody,
+            held: Held::nobody(alloc),
             capacity,
         }
+    }
+
+    fn renew(&mut self, capacity: Seats) {
+        self.held.clear(self.alloc);
+        self.capacity = capacity;
     }
 
     fn offer(&mut self, key: Key) -> Result<Option<Key>, AllocError> {
@@ -70,7 +75,7 @@ impl Roll for HeapRoll {
             return Ok(None);
         }
         if is_ahead_of_last(&self.held.last(), &key) {
-            return Ok(Some(self.held.replace_last(key)));
+            return Ok(Some(self.held.replace_last(self.alloc, key)));
         }
         Ok(Some(key))
     }
@@ -94,7 +99,7 @@ impl Roll for HeapRoll {
     fn copy(&self) -> Result<Self, AllocError> {
         Ok(HeapRoll {
             alloc: self.alloc,
-            held: self.held.copy()?,
+            held: self.held.copy(self.alloc)?,
             capacity: self.capacity,
         })
     }

@@ -6,6 +6,7 @@ ghost use Rattle.sc_papers.specs.declared.key.Key.{Key as Priority};
 ghost use Rattle.sc_seats.specs.Last.{IsLastOf};
 
 use crate::held_key::HeldKey;
+use crate::key_memory::KeyMemory;
 use sc_papers::Key;
 use std::alloc::{AllocError, Global};
 use std::collections::BinaryHeap;
@@ -89,6 +90,11 @@ impl KeyHeap {
         ensures { IsLastOf (Some result) self.now }
     {
         self.last.key()
+    }
+
+    /// The memory of the keys, which are let go. In constant time.
+    pub(crate) fn into_memory(self) -> KeyMemory {
+        KeyMemory::of(self.keys.into_vec())
     }
 
     /// An equal heap, or the error of a refused growth. The cost is its length.

@@ -87,6 +87,11 @@ impl Roll for SortedRoll {
         }
     }
 
+    fn renew(&mut self, capacity: Seats) {
+        self.keys.clear();
+        self.capacity = capacity;
+    }
+
     fn offer(&mut self, key: Key) -> Result<Option<Key>, AllocError> {
         let place = place_of(self.keys.as_slice(), &key);
         put_in(&mut self.keys, place, key)?;
