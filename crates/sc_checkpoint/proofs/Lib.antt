@@ -5,3 +5,4 @@ mod Finding
 mod Passing
 pub mod Rising
 pub mod Replacing
+pub mod Spanned

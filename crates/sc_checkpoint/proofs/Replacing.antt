@@ -1,11 +1,16 @@
 -- Chains that give way to renewed ones.
-use Rattle.std.proofs.Common.{◌≡◌, refl, ap, subst, sym, ◌∙◌, ℕ, zero, suc, ◌+◌, ◌<◌, List, [], ◌∷◌, ◌++◌, length, drop, get_or, set, Some, Contains, slice_get, length-set, arith}
+use Rattle.std.proofs.Common.{◌≡◌, refl, ap, subst, sym, ◌∙◌, ℕ, zero, suc, ◌+◌, ◌<◌, List, [], ◌∷◌, ◌++◌, length, map, drop, get_or, set, Some, Contains, slice_get, length-set, arith}
 use Rattle.std.proofs.lemmas.List.{at_drop_more}
 use Rattle.sc_papers.proofs.Counting.{contains-head, contains-tail}
-use Rattle.sc_checkpoint.specs.Chains.{replaced, Chain}
+use Rattle.sc_checkpoint.specs.Chains.{replaced}
 
 drop-next : (xs : List ℕ) (k d : ℕ) → k < length xs → drop k xs ≡ get_or xs k d ∷ drop (k + 1) xs
 drop-next xs k d low = at_drop_more (λ ys. ys) xs k d low
+
+map-set : {X Y : Type 0} (f : X → Y) (xs : List X) (k : ℕ) (x : X) → map f (set xs k x) ≡ set (map f xs) k (f x)
+map-set f [] k x = refl
+map-set f (y ∷ ys) zero x = refl
+map-set f (y ∷ ys) (suc k) x = ap (λ rest. f y ∷ rest) (map-set f ys k x)
 
 -- what stands at an index after a write
 pub get-set-same : {X : Type 0} (xs : List X) (k : ℕ) (x : X) → k < length xs → slice_get (set xs k x) k ≡ Some x
@@ -20,33 +25,41 @@ get-set-other (y ∷ ys) zero (suc at) x apart = refl
 get-set-other (y ∷ ys) (suc k) zero x apart = refl
 get-set-other (y ∷ ys) (suc k) (suc at) x apart = get-set-other ys k at x (λ same. apart (ap suc same))
 
--- there are as many chains as before, and those elsewhere stay
-pub replaced-length : (chains : List Chain) (positions : List ℕ) (renewed : List Chain) → length (replaced chains positions renewed) ≡ length chains
-replaced-length chains [] renewed = refl
-replaced-length chains (position ∷ positions) [] = refl
-replaced-length chains (position ∷ positions) (chain ∷ renewed) = replaced-length (set chains position chain) positions renewed ∙ length-set chains position chain
+-- there are as many as before, and those elsewhere stay
+pub replaced-length : {X : Type 0} (xs : List X) (positions : List ℕ) (renewed : List X) → length (replaced xs positions renewed) ≡ length xs
+replaced-length xs [] renewed = refl
+replaced-length xs (position ∷ positions) [] = refl
+replaced-length xs (position ∷ positions) (x ∷ renewed) = replaced-length (set xs position x) positions renewed ∙ length-set xs position x
 
-pub replaced-other : (chains : List Chain) (positions : List ℕ) (renewed : List Chain) (at : ℕ) → (Contains positions at → ⊥) → slice_get (replaced chains positions renewed) at ≡ slice_get chains at
-replaced-other chains [] renewed at apart = refl
-replaced-other chains (position ∷ positions) [] at apart = refl
-replaced-other chains (position ∷ positions) (chain ∷ renewed) at apart =
-    replaced-other (set chains position chain) positions renewed at (λ later. apart (contains-tail position positions at later))
-    ∙ get-set-other chains position at chain (λ same. apart (subst (λ p. Contains (p ∷ positions) at) same (contains-head at positions)))
+pub replaced-other : {X : Type 0} (xs : List X) (positions : List ℕ) (renewed : List X) (at : ℕ) → (Contains positions at → ⊥) → slice_get (replaced xs positions renewed) at ≡ slice_get xs at
+replaced-other xs [] renewed at apart = refl
+replaced-other xs (position ∷ positions) [] at apart = refl
+replaced-other xs (position ∷ positions) (x ∷ renewed) at apart =
+    replaced-other (set xs position x) positions renewed at (λ later. apart (contains-tail position positions at later))
+    ∙ get-set-other xs position at x (λ same. apart (subst (λ p. Contains (p ∷ positions) at) same (contains-head at positions)))
 
 -- one more gives way
-pub replaced-push : (chains : List Chain) (positions : List ℕ) (renewed : List Chain) (at : ℕ) (chain : Chain) → length positions ≡ length renewed
-    → replaced chains (positions ++ at ∷ []) (renewed ++ chain ∷ []) ≡ set (replaced chains positions renewed) at chain
-replaced-push chains [] [] at chain same = refl
-replaced-push chains [] (c ∷ renewed) at chain same = absurd (omega (arith, same))
-replaced-push chains (p ∷ positions) [] at chain same = absurd (omega (arith, same))
-replaced-push chains (p ∷ positions) (c ∷ renewed) at chain same = replaced-push (set chains p c) positions renewed at chain (omega (arith, same))
+pub replaced-push : {X : Type 0} (xs : List X) (positions : List ℕ) (renewed : List X) (at : ℕ) (x : X) → length positions ≡ length renewed
+    → replaced xs (positions ++ at ∷ []) (renewed ++ x ∷ []) ≡ set (replaced xs positions renewed) at x
+replaced-push xs [] [] at x same = refl
+replaced-push xs [] (c ∷ renewed) at x same = absurd (omega (arith, same))
+replaced-push xs (p ∷ positions) [] at x same = absurd (omega (arith, same))
+replaced-push xs (p ∷ positions) (c ∷ renewed) at x same = replaced-push (set xs p c) positions renewed at x (omega (arith, same))
 
--- the next of the positions, and the next of the renewed chains
-pub replaced-next : (chains after : List Chain) (positions : List ℕ) (k at : ℕ) (renewed rest : List Chain) (chain : Chain) → k < length positions → get_or positions k 0 ≡ at → renewed ≡ chain ∷ rest → after ≡ set chains at chain
-    → replaced chains (drop k positions) renewed ≡ replaced after (drop (k + 1) positions) rest
-replaced-next chains after positions k at renewed rest chain low is next write =
-    (λ t. replaced chains (split t) (next t))
+-- the next of the positions, and the next of the renewed
+pub replaced-next : {X : Type 0} (xs after : List X) (positions : List ℕ) (k at : ℕ) (renewed rest : List X) (x : X) → k < length positions → get_or positions k 0 ≡ at → renewed ≡ x ∷ rest → after ≡ set xs at x
+    → replaced xs (drop k positions) renewed ≡ replaced after (drop (k + 1) positions) rest
+replaced-next xs after positions k at renewed rest x low is next write =
+    (λ t. replaced xs (split t) (next t))
     ∙ ap (λ cs. replaced cs (drop (k + 1) positions) rest) (sym write)
   where
     split : drop k positions ≡ at ∷ drop (k + 1) positions
     split = drop-next positions k 0 low ∙ ap (λ p. p ∷ drop (k + 1) positions) is
+
+-- what each of them is seen as gives way alike
+pub map-replaced : {X Y : Type 0} (f : X → Y) (xs : List X) (positions : List ℕ) (renewed : List X) → map f (replaced xs positions renewed) ≡ replaced (map f xs) positions (map f renewed)
+map-replaced f xs [] renewed = refl
+map-replaced f xs (position ∷ positions) [] = refl
+map-replaced f xs (position ∷ positions) (x ∷ renewed) =
+    map-replaced f (set xs position x) positions renewed
+    ∙ ap (λ ys. replaced ys positions (map f renewed)) (map-set f xs position x)

@@ -23,8 +23,8 @@ with_chain chains i log = chains ++ record { student = i; rejections = log } ∷
 abbrev pub logs_at : List ℕ → List Chain → List (List Rejection)
 logs_at positions chains = map (λ position. slice_index_or (logs_in chains) position []) positions
 
--- the chains, of which those at these positions have given way to the renewed ones, in turn
-abbrev pub replaced : List Chain → List ℕ → List Chain → List Chain
-replaced chains [] renewed = chains
-replaced chains (position ∷ positions) [] = chains
-replaced chains (position ∷ positions) (chain ∷ renewed) = replaced (slice_set chains position chain) positions renewed
+-- the list, of which what stands at these positions has given way to the renewed, in turn
+abbrev pub replaced : {X : Type 0} → List X → List ℕ → List X → List X
+replaced xs [] renewed = xs
+replaced xs (position ∷ positions) [] = xs
+replaced xs (position ∷ positions) (x ∷ renewed) = replaced (slice_set xs position x) positions renewed

@@ -1,3 +1,4 @@
 pub mod NextChoices
 pub mod Chains
 pub mod Ranks
+pub mod Spans

@@ -10,7 +10,7 @@ ghost use Rattle.sc_checkpoint.specs.NextChoices.{next_choices_after};
 ghost use Rattle.sc_checkpoint.specs.Ranks.{AreTabled};
 
 use crate::hints::Hints;
-use crate::next_choice::NextChoice;
+use crate::next_choice::{NextChoice, NextChoices};
 use crate::next_choices::first_outside;
 use crate::rank_set::RankSet;
 use crate::segments::Segments;
@@ -175,20 +175,22 @@ pub(crate) fn next_choices_at_positions(
     papers: &Papers,
     segments: &Segments,
     positions: &[usize],
-) -> Result<Vec<NextChoice>, AllocError>
+) -> Result<NextChoices, AllocError>
     requires rising { IsStrictlyIncreasing positions.now }
     requires within { (k : ℕ) → k < length positions.now → slice_index positions.now k < length (students_of papers.now) }
     requires held { (k : ℕ) → k < length positions.now → slice_index positions.now k < length segments.now }
-    ensures { IfOk result (λ next_choices. next_choices.items ≡ next_choices_after papers.now (joined (logs_at positions.now segments.now)) (map (student_at papers.now) positions.now)) }
+    ensures { IfOk result (λ stands. stands.choices.items ≡ next_choices_after papers.now (joined (logs_at positions.now segments.now)) (map (student_at papers.now) positions.now)) }
 {
     let rejected = rejected_ranks_at(alloc, papers, segments, positions)?;
-    let mut next_choices = Vec::with_capacity(alloc, positions.len())?;
+    let mut choices = Vec::with_capacity(alloc, positions.len())?;
+    let mut ranks = Vec::with_capacity(alloc, positions.len())?;
     for (place, position) in positions.iter().enumerate() {
         let Some(student) = papers.student_at(*position) else {
             unreachable!()
         };
         let next = first_outside(papers, *position, rejected[place]);
-        next_choices.push_reserved(NextChoice { student, next });
+        choices.push_reserved(NextChoice { student, next });
+        ranks.push(rejected[place].first_outside())?;
     }
-    Ok(next_choices)
+    Ok(NextChoices { choices, ranks })
 }

@@ -7,9 +7,10 @@ mod hints;
 mod next_choice;
 mod next_choices;
 mod rank_set;
-mod segment;
 mod segments;
+mod span;
 
 pub use hints::Hints;
-pub use next_choice::NextChoice;
+pub use next_choice::{NextChoice, NextChoices};
 pub use segments::Segments;
+pub use span::Spans;

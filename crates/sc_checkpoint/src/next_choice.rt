@@ -6,3 +6,12 @@ pub struct NextChoice {
     pub student: StudentNo,
     pub next: Option<SchoolNo>,
 }
+
+/// Where some students stand, one after the other.
+#[derive(Debug, Drop)]
+pub struct NextChoices {
+    pub choices: Vec<NextChoice>,
+    /// At which rank of their list each of them may stand: a guess, which whoever uses it has to test. Where it is right, it
+    /// spares a look-up. So no contract speaks of it.
+    pub ranks: Vec<u8>,
+}

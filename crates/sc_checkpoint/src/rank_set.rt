@@ -24,6 +24,11 @@ impl RankSet {
         self.bits >> rank & 1 == 1
     }
 
+    /// How many ranks there are in the set from the first on without a gap, as a guess at the first that is not in it.
+    pub(crate) fn first_outside(self) -> u8 {
+        u8::try_from(self.bits.trailing_ones()).unwrap_or(0)
+    }
+
     /// The set with one more rank.
     pub(crate) fn with(self, rank: usize) -> Self
         requires { rank < 32 }

@@ -1,7 +1,7 @@
 use crate::at_positions::next_choices_at_positions;
-use crate::next_choice::NextChoice;
+use crate::next_choice::{NextChoice, NextChoices};
 use crate::next_choices::next_choices_of_first;
-use crate::segment::{Segment, replace_at};
+use crate::span::{Span, Spans, push_span, replace_spans};
 use sc_papers::{Papers, Rejection, StudentNo};
 use std::alloc::{AllocError, Global};
 use std::marker::Model;
@@ -10,20 +10,28 @@ use std::marker::Model;
 /// the student's chain. A checkpoint is a position from 0 to their number, and nothing is stored for
 /// it: the log after the first k students entered is the first k segments, joined.
 ///
-/// Each segment lies apart from the others, so that one can be renewed while they stay where they are.
+/// All entries lie in one piece of memory, and a renewed segment is put at its end, so that the others stay where
+/// they are. Once the entries of segments that have gone are twice as many as all others and the segments, these are put
+/// together, so that each amendment bears its part of that.
 #[derive(Drop)]
 pub struct Segments {
     alloc: Global,
-    segments: Vec<Segment>,
+    spans: Vec<Span>,
+    entries: Vec<Rejection>,
+    // How many entries belong to no segment any more. Nothing but the cost depends on it.
+    gone: usize,
 }
 
 impl Model for Segments {
     ghost use Rattle.std.specs.Prelude.{List};
     ghost use Rattle.sc_checkpoint.specs.Chains.{Chain};
+    ghost use Rattle.sc_checkpoint.specs.Spans.{chains_in, AreWithin};
 
     ghost Value = { List Chain };
 
-    ghost view = { λ s. s.segments.items };
+    ghost view = { λ s. chains_in s.entries.items s.spans.items };
+
+    ghost invariant = { λ s. AreWithin s.entries.items s.spans.items };
 }
 
 impl Segments {
@@ -32,6 +40,7 @@ impl Segments {
     ghost use Rattle.sc_papers.specs.Restriction.{joined};
     ghost use Rattle.sc_checkpoint.specs.Chains.{students_in, logs_in, logs_at, replaced, with_chain};
     ghost use Rattle.sc_checkpoint.specs.NextChoices.{next_choices_after};
+    ghost use Rattle.sc_checkpoint.specs.Spans.{chains_in, AreWithin};
     ghost use Rattle.sc_papers.specs.Market.{student_at, students_of};
 
     /// No segments. It takes no memory.
@@ -40,8 +49,32 @@ impl Segments {
     {
         Segments {
             alloc,
-            segments: Vec::new(alloc),
+            spans: Vec::new(alloc),
+            entries: Vec::new(alloc),
+            gone: 0,
         }
+    }
+
+    /// No segments, and room for so many of them and so many rejections. The only error is a refused growth.
+    fn with_room(alloc: Global, students: usize, rejections: usize) -> Result<Self, AllocError>
+        ensures { IfOk result (λ segments. segments ≡ []) }
+    {
+        Ok(Segments {
+            alloc,
+            spans: Vec::with_capacity(alloc, students)?,
+            entries: Vec::with_capacity(alloc, rejections)?,
+            gone: 0,
+        })
+    }
+
+    /// How many entries belong to segments.
+    fn kept(&self) -> usize {
+        self.entries.len().saturating_sub(self.gone)
+    }
+
+    /// Whether so many entries have gone that a copy of the others costs less than what made them go.
+    fn is_untidy(&self) -> bool {
+        self.gone / 2 > self.kept().saturating_add(self.spans.len())
     }
 
     /// Puts the student's segment at the end. A refused growth changes nothing. The cost is the
@@ -50,9 +83,7 @@ impl Segments {
         ensures pushed { OnOk result (self.new ≡ with_chain self.old student rejections.now) }
         ensures unchanged { OnErr result (self.new ≡ self.old) }
     {
-        self.segments.reserve(1)?;
-        let segment = Segment::new(self.alloc, student, rejections)?;
-        self.segments.push_reserved(segment);
+        push_span(&mut self.spans, &mut self.entries, student, rejections)?;
         Ok(())
     }
 
@@ -60,7 +91,7 @@ impl Segments {
     pub fn len(&self) -> usize
         ensures { result ≡ length self.now }
     {
-        self.segments.len()
+        self.spans.len()
     }
 
     /// How many rejections the segments have, all together, or the greatest number where they have more. One
@@ -81,7 +112,8 @@ impl Segments {
         requires { k < length self.now }
         ensures { slice_get (logs_in self.now) k ≡ Some result.now }
     {
-        self.segments[k].rejections()
+        let span = self.spans[k];
+        &self.entries[span.start..span.end]
     }
 
     /// The student whose segment stands at a position, from 0. In constant time.
@@ -89,7 +121,7 @@ impl Segments {
         requires { k < length self.now }
         ensures { slice_get (students_in self.now) k ≡ Some result }
     {
-        self.segments[k].student()
+        self.spans[k].student
     }
 
     /// The whole log as a value of its own: the segments joined. The only error is a refused growth. The cost
@@ -120,7 +152,7 @@ impl Segments {
         requires { k ≤ length self.now }
         ensures { IfOk result (λ segments. segments ≡ take k self.now) }
     {
-        let mut copy = Segments::new(self.alloc);
+        let mut copy = Segments::with_room(self.alloc, k, self.kept())?;
         for position in 0..k {
             copy.push(self.student(position), self.segment(position))?;
         }
@@ -152,23 +184,55 @@ impl Segments {
         &self,
         papers: &Papers,
         positions: &[usize],
-    ) -> Result<Vec<NextChoice>, AllocError>
+    ) -> Result<NextChoices, AllocError>
         requires rising { IsStrictlyIncreasing positions.now }
         requires within { (k : ℕ) → k < length positions.now → slice_index positions.now k < length (students_of papers.now) }
         requires held { (k : ℕ) → k < length positions.now → slice_index positions.now k < length self.now }
-        ensures { IfOk result (λ next_choices. next_choices.items ≡ next_choices_after papers.now (joined (logs_at positions.now self.now)) (map (student_at papers.now) positions.now)) }
+        ensures { IfOk result (λ stands. stands.choices.items ≡ next_choices_after papers.now (joined (logs_at positions.now self.now)) (map (student_at papers.now) positions.now)) }
     {
         next_choices_at_positions(self.alloc, papers, self, positions)
     }
 
-    /// Gives the segments at some positions up for renewed ones, in turn: one at each position. It takes no memory;
-    /// the cost is that of the positions.
-    pub fn replace(&mut self, positions: &[usize], renewed: Segments)
+    /// Gives the segments at some positions up for renewed ones, in turn: one at each position. Their entries are those of
+    /// the log. A refused growth changes nothing.
+    ///
+    /// The cost is that of the positions and of the log. The entries of the segments that are given up keep their room
+    /// until they are twice as many as the segments and all other entries; then these are copied, which takes a look at
+    /// each segment, and where there is no room for a copy they stay where they are.
+    pub fn replace(
+        &mut self,
+        positions: &[usize],
+        renewed: &Spans,
+        log: &[Rejection],
+    ) -> Result<(), AllocError>
         requires within { (k : ℕ) → k < length positions.now → slice_index positions.now k < length self.old }
-        requires one_each { length renewed ≡ length positions.now }
-        ensures { self.new ≡ replaced self.old positions.now renewed }
+        requires one_each { length renewed.now ≡ length positions.now }
+        requires log { AreWithin log.now renewed.now }
+        ensures replaced { OnOk result (self.new ≡ replaced self.old positions.now (chains_in log.now renewed.now)) }
+        ensures unchanged { OnErr result (self.new ≡ self.old) }
     {
-        replace_at(&mut self.segments, positions, renewed.segments);
+        let gone = replace_spans(
+            &mut self.spans,
+            &mut self.entries,
+            positions,
+            renewed.as_slice(),
+            log,
+        )?;
+        self.gone = self.gone.saturating_add(gone);
+        self.tidy();
+        Ok(())
+    }
+
+    /// Puts the entries together that belong to segments, where many do not.
+    fn tidy(&mut self)
+        ensures { self.new ≡ self.old }
+    {
+        if !self.is_untidy() {
+            return;
+        }
+        if let Ok(copy) = self.copy_prefix(self.len()) {
+            *self = copy;
+        }
     }
 
     /// Takes out the segment at a position. It takes no memory; whoever stands behind moves up by one.
@@ -176,6 +240,7 @@ impl Segments {
         requires { position < length self.old }
         ensures { self.new ≡ remove self.old position }
     {
-        self.segments.remove(position);
+        let span = self.spans.remove(position);
+        self.gone = self.gone.saturating_add(span.len());
     }
 }

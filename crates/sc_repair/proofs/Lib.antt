@@ -14,6 +14,7 @@ pub mod Resettled
 pub mod Regional
 pub mod Moves
 pub mod Entry
+mod Everybody
 pub mod Told
 pub mod Newcomer
 pub mod Admitted

@@ -1,5 +1,5 @@
 -- The students at the marked positions, one position after the other.
-use Rattle.std.proofs.Common.{◌≡◌, ◌↔◌, inl, inr, ap, refl, sym, subst, ◌∙◌, ℕ, nat_eq, zero, suc, ◌+◌, ◌<◌, ◌≤◌, Bool, true, false, not, ◌&&◌, cond, List, [], ◌∷◌, ◌++◌, get_or, is_some, length, map, take, Contains, IsTrue, Some, slice_get, arith}
+use Rattle.std.proofs.Common.{◌≡◌, ◌↔◌, inl, inr, ap, refl, sym, subst, ◌∙◌, ℕ, nat_eq, ◌+◌, ◌<◌, ◌≤◌, Bool, true, false, not, ◌&&◌, cond, List, [], ◌∷◌, ◌++◌, get_or, is_some, length, map, take, Contains, IsTrue, Some, slice_get, arith}
 use Rattle.std.proofs.lemmas.Bool.{cases_Bool, eqb-true, false_from_ne_true, false≢true}
 use Rattle.std.proofs.lemmas.Cmp.{nat_eq_equiv}
 use Rattle.std.proofs.lemmas.List.{get_or-map, get_or_default, length-map, map_push, take_all, take_more}
@@ -72,29 +72,11 @@ picked-movers marks positions students n told one_each movers next a past are = 
     same : (j : ℕ) → is_among (picked students (take n positions)) j ≡ is_among (marked marks students) j
     same j = ap (λ ps. is_among (picked students ps) j) (take_all n positions past) ∙ picked-among marks positions told students one_each j
 
--- a position put at the end of a list
-pub picked-put : (students positions : List ℕ) (at i : ℕ) → slice_get students at ≡ Some i → picked students (positions ++ at ∷ []) ≡ picked students positions ++ i ∷ []
-picked-put students positions at i here =
-    map_push (λ p. get_or students p 0) positions at ∙ ap (λ x. picked students positions ++ x ∷ []) (get_or_from_slice_get students at i 0 here)
-
 -- the movers after one more student, who is one of them or has by now what the next matching gives them
-pub picked-mover : (elsewhere : Bool) (students positions : List ℕ) (at i : ℕ) → slice_get students at ≡ Some i → (these : List ℕ) (next middle after : Matching) → AreMovers these (picked students positions) next middle
+pub picked-mover : (elsewhere : Bool) (movers after_movers : List ℕ) (i : ℕ) → after_movers ≡ cond elsewhere (movers ++ i ∷ []) movers → (these : List ℕ) (next middle after : Matching) → AreMovers these movers next middle
     → ((j : ℕ) → after j ≡ cond (nat_eq j i && not (is_some (middle j))) (next j) (middle j)) → (elsewhere ≡ false → after i ≡ next i)
-    → AreMovers (these ++ i ∷ []) (picked students (cond elsewhere (positions ++ at ∷ []) positions)) next after
-picked-mover true students positions at i here these next middle after are given there =
-    subst (λ movers. AreMovers (these ++ i ∷ []) movers next after) (sym (picked-put students positions at i here))
-    (movers-more these (picked students positions) next middle after i are given)
-picked-mover false students positions at i here these next middle after are given there =
-    movers-stay these (picked students positions) next middle after i are given (there refl)
-
--- and all of them stand below a limit
-pub mover-low : (elsewhere : Bool) (positions : List ℕ) (at limit : ℕ) → at < limit → ((k : ℕ) → k < length positions → get_or positions k 0 < limit)
-    → (k : ℕ) → k < length (cond elsewhere (positions ++ at ∷ []) positions) → get_or (cond elsewhere (positions ++ at ∷ []) positions) k 0 < limit
-mover-low true positions at limit low below k within = put-low positions k below within
-  where
-    put-low : (ps : List ℕ) (k : ℕ) → ((k : ℕ) → k < length ps → get_or ps k 0 < limit) → k < length (ps ++ at ∷ []) → get_or (ps ++ at ∷ []) k 0 < limit
-    put-low [] zero below within = low
-    put-low [] (suc k) below within = absurd (omega (arith, within))
-    put-low (p ∷ ps) zero below within = below zero (omega arith)
-    put-low (p ∷ ps) (suc k) below within = put-low ps k (λ k few. below (suc k) (omega (arith, few))) (omega (arith, within))
-mover-low false positions at limit low below k within = below k within
+    → AreMovers (these ++ i ∷ []) after_movers next after
+picked-mover true movers after_movers i is these next middle after are given there =
+    subst (λ ms. AreMovers (these ++ i ∷ []) ms next after) (sym is) (movers-more these movers next middle after i are given)
+picked-mover false movers after_movers i is these next middle after are given there =
+    subst (λ ms. AreMovers (these ++ i ∷ []) ms next after) (sym is) (movers-stay these movers next middle after i are given (there refl))

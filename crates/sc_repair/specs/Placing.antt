@@ -1,8 +1,8 @@
 -- Students who are given other places, one after the other.
-use Rattle.std.specs.Prelude.{◌≡◌, ℕ, ◌&&◌, true, false, not, List, map, is_some, slice_index, if◌then◌else◌}
+use Rattle.std.specs.Prelude.{◌≡◌, ℕ, ◌&&◌, true, false, not, List, map, is_some, if◌then◌else◌}
 use Rattle.sc_papers.specs.Matching.{Matching}
-use Rattle.sc_checkpoint.specs.Chains.{students_in, Chain}
 use Rattle.sc_repair.specs.Locality.{is_among}
+use Rattle.sc_repair.specs.declared.placing.Mover.{Mover}
 
 -- those among these who have nothing are given what another matching gives them
 abbrev pub with_new : List ℕ → Matching → Matching → Matching
@@ -12,9 +12,9 @@ with_new students next a = λ i. if is_among students i && not (is_some (a i)) t
 abbrev pub with_moved : List ℕ → Matching → Matching → Matching
 with_moved students next a = λ i. if is_among students i && is_some (a i) then next i else a i
 
--- the students of the chains at these positions
-abbrev pub students_at : List Chain → List ℕ → List ℕ
-students_at chains positions = map (λ p. slice_index (students_in chains) p) positions
+-- who they are
+abbrev pub students_of_movers : List Mover → List ℕ
+students_of_movers movers = map (λ mover. mover.student) movers
 
 -- of some students, these are to be given other places: each of the others has by now what the next matching gives them
 pub record AreMovers (students movers : List ℕ) (next a : Matching) : Type 0 where

@@ -51,6 +51,7 @@ fn standing<R: Roll>(
         papers,
         next_choices.as_slice(),
         &[],
+        &[],
         papers.students_len(),
     )?;
     Ok(round)

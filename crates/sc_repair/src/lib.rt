@@ -11,6 +11,7 @@ mod pair_hints;
 mod places;
 mod placing;
 mod region_positions;
+mod renewal;
 mod resettling;
 mod rewind;
 mod settlement;

@@ -1,35 +1,61 @@
 //! Settling the students of a region anew, while all others stay.
 
-ghost use Rattle.std.specs.Prelude.{◌≡◌, ◌≤◌, ◌<◌, ◌+◌, ◌-◌, ℕ, List, Some, [], nat_eq, false, length, slice_get, take, drop, ◌++◌, IfOk, OnErr, OnOk};
+ghost use Rattle.std.specs.Prelude.{◌≡◌, ◌≤◌, ◌<◌, ◌+◌, ◌-◌, ℕ, List, Some, [], nat_eq, false, true, length, slice_get, take, drop, ◌++◌, Contains, IfOk, IfSome, OnErr, OnOk};
 ghost use Rattle.std.specs.List.{IsDistinct};
 ghost use Rattle.sc_papers.specs.Assignment.{assigned};
-ghost use Rattle.sc_papers.specs.Market.{students_of};
+ghost use Rattle.sc_papers.specs.Market.{is_student, students_of};
 ghost use Rattle.sc_papers.specs.Restriction.{cut, outside, AreApart, IsSegmented};
 ghost use Rattle.sc_papers.specs.WellFormed.{WellFormed};
-ghost use Rattle.sc_checkpoint.specs.Chains.{logs_in, students_in};
+ghost use Rattle.sc_checkpoint.specs.Chains.{logs_in, students_in, with_chain};
+ghost use Rattle.sc_checkpoint.specs.Spans.{chains_in, AreWithin};
 ghost use Rattle.sc_checkpoint.specs.NextChoices.{stands, AreNextChoices};
 ghost use Rattle.sc_papers.specs.declared.rejection.Rejection.{Rejection};
 ghost use Rattle.sc_engine.specs.Round.{is_spent, view_of};
-ghost use Rattle.sc_engine.specs.RoundView.{has_entered, Continues, Fits};
+ghost use Rattle.sc_engine.specs.RoundView.{has_entered, without_log, Continues, Enters, Fits};
 ghost use Rattle.sc_repair.specs.Changed.{standing_of, HaveChanged};
 ghost use Rattle.sc_repair.specs.Course.{GoesOnInside};
 ghost use Rattle.sc_repair.specs.Locality.{chains_of, is_among, marked_in};
+ghost use Rattle.sc_repair.specs.Newcomer.{StandsAfter};
 ghost use Rattle.sc_repair.specs.Standing.{CountsInside, IsCertified};
 ghost use Rattle.sc_repair.specs.Renewed.{marked_from, renewed_from};
 
 use crate::places::Places;
 use crate::placing::place_inside;
 use crate::region_positions::{positions_before, positions_from};
-use crate::settling::enter_next;
-use sc_checkpoint::{NextChoice, Segments};
+use sc_checkpoint::{NextChoice, Segments, Spans};
 use sc_engine::Round;
-use sc_papers::Papers;
+use sc_papers::{Papers, StudentNo};
 use sc_region::RegionMarks;
 use sc_seats::Roll;
 use std::alloc::{AllocError, Global};
 
-/// The students of the region have their turn from the point on, in order of entry: each enters the round, and the
-/// chain is put at the end of the renewed ones. All others stay where they are, and so do their old chains. Where
+/// Enters a student, who often stands at the guessed position, into a round, and puts them at the end of the spans of its
+/// log.
+fn enter_turn<R: Roll>(
+    round: &mut Round<R>,
+    papers: &Papers,
+    spans: &mut Spans,
+    student: StudentNo,
+    guess: usize,
+) -> Result<(), AllocError>
+    requires fits { Fits papers.now (view_of R.keys R.seats round.old) }
+    requires student { is_student papers.now student ≡ true }
+    requires absent { has_entered papers.now (view_of R.keys R.seats round.old).ranks student ≡ false }
+    requires ready { is_spent round.old ≡ false }
+    requires within { AreWithin (view_of R.keys R.seats round.old).log spans.old }
+    ensures enters { OnOk result (Enters papers.now (view_of R.keys R.seats round.old) (view_of R.keys R.seats round.new) student) }
+    ensures chain { OnOk result ((chain : List Rejection) × ((view_of R.keys R.seats round.new).log ≡ (view_of R.keys R.seats round.old).log ++ chain) × (chains_in (view_of R.keys R.seats round.new).log spans.new ≡ with_chain (chains_in (view_of R.keys R.seats round.old).log spans.old) student chain)) }
+    ensures within { OnOk result (AreWithin (view_of R.keys R.seats round.new).log spans.new) }
+    ensures ready { OnOk result (is_spent round.new ≡ false) }
+{
+    let before = round.log().len();
+    round.enter_near(papers, student, guess)?;
+    spans.push(student, round.log(), before)?;
+    Ok(())
+}
+
+/// The students of the region have their turn from the point on, in order of entry: each enters the round, whose log is
+/// their renewed chains, one after the other. All others stay where they are, and so do their old chains. Where
 /// a student leaves, these are one more than the students up to the end.
 fn take_turns<R: Roll>(
     round: &mut Round<R>,
@@ -38,7 +64,7 @@ fn take_turns<R: Roll>(
     region: &RegionMarks,
     point: usize,
     old: &Segments,
-    renewed: &mut Segments,
+    renewed: &mut Spans,
 ) -> Result<(), AllocError>
     requires point { point ≤ end }
     requires end { end ≤ length papers.now.students }
@@ -49,8 +75,9 @@ fn take_turns<R: Roll>(
     requires none { renewed.old ≡ [] }
     requires on { GoesOnInside papers.now (is_among (marked_in region.now old.now)) old.now point (length old.now - end) (view_of R.keys R.seats round.old) (take point old.now) point }
     requires ready { is_spent round.old ≡ false }
-    ensures on { OnOk result (GoesOnInside papers.now (is_among (marked_in region.now old.now)) old.now point (length old.now - end) (view_of R.keys R.seats round.new) (renewed_from old.now region.now point (length old.now - end) renewed.new) end) }
+    ensures on { OnOk result (GoesOnInside papers.now (is_among (marked_in region.now old.now)) old.now point (length old.now - end) (view_of R.keys R.seats round.new) (renewed_from old.now region.now point (length old.now - end) (chains_in (view_of R.keys R.seats round.new).log renewed.new)) end) }
     ensures one_each { OnOk result (length renewed.new ≡ length (marked_from region.now (point + (length old.now - end)))) }
+    ensures within { OnOk result (AreWithin (view_of R.keys R.seats round.new).log renewed.new) }
     ensures ready { OnOk result (is_spent round.new ≡ false) }
 {
     let gap = old.len() - end;
@@ -61,7 +88,7 @@ fn take_turns<R: Roll>(
         let Some(student) = papers.student_at(place) else {
             unreachable!()
         };
-        enter_next(round, papers, renewed, student, place)?;
+        enter_turn(round, papers, renewed, student, place)?;
     }
     Ok(())
 }
@@ -74,6 +101,7 @@ fn resumed<R: Roll>(
     papers: &Papers,
     next_choices: &[NextChoice],
     near: &[usize],
+    ranks: &[u8],
     expected: usize,
 ) -> Result<Round<R>, AllocError>
     requires { (earlier : List Rejection) × AreNextChoices papers.now earlier next_choices.now }
@@ -85,8 +113,8 @@ fn resumed<R: Roll>(
     ensures ready { IfOk result (λ round. is_spent round ≡ false) }
 {
     match spare {
-        Some(round) => round.resume_in(papers, next_choices, near, expected),
-        None => Round::resume(alloc, papers, next_choices, near, expected),
+        Some(round) => round.resume_in(papers, next_choices, near, ranks, expected),
+        None => Round::resume(alloc, papers, next_choices, near, ranks, expected),
     }
 }
 
@@ -107,7 +135,7 @@ fn settle_region<R: Roll>(
     region: &RegionMarks,
     point: usize,
     old: &Segments,
-    renewed: &mut Segments,
+    renewed: &mut Spans,
 ) -> Result<Round<R>, AllocError>
     requires well_formed { WellFormed papers.now }
     requires apart { AreApart papers.now (is_among (marked_in region.now old.now)) }
@@ -121,55 +149,33 @@ fn settle_region<R: Roll>(
     requires theirs { students_in (take point old.now) ≡ take point (students_of papers.now) }
     requires segmented { IsSegmented (cut papers.now point) (logs_in (take point old.now)) }
     requires none { renewed.old ≡ [] }
-    ensures on { IfOk result (λ round. GoesOnInside papers.now (is_among (marked_in region.now old.now)) old.now point (length old.now - end) (view_of R.keys R.seats round) (renewed_from old.now region.now point (length old.now - end) renewed.new) end) }
+    ensures on { IfOk result (λ round. GoesOnInside papers.now (is_among (marked_in region.now old.now)) old.now point (length old.now - end) (view_of R.keys R.seats round) (renewed_from old.now region.now point (length old.now - end) (chains_in (view_of R.keys R.seats round).log renewed.new)) end) }
     ensures one_each { OnOk result (length renewed.new ≡ length (marked_from region.now (point + (length old.now - end)))) }
+    ensures within { IfOk result (λ round. AreWithin (view_of R.keys R.seats round).log renewed.new) }
     ensures ready { IfOk result (λ round. is_spent round ≡ false) }
 {
     let positions = positions_before(region, point);
     let expected = hints_for(papers, region);
-    let next_choices = old.next_choices_of(papers, positions)?;
+    let stands = old.next_choices_of(papers, positions)?;
     let mut round = resumed(
         spare,
         alloc,
         papers,
-        next_choices.as_slice(),
+        stands.choices.as_slice(),
         positions,
+        stands.ranks.as_slice(),
         expected,
     )?;
     take_turns(&mut round, papers, end, region, point, old, renewed)?;
     Ok(round)
 }
 
-/// The position of the student who leaves, if one does.
-fn leaver_at(point: usize, gap: usize) -> Option<usize> {
-    if gap > 0 {
-        return Some(point);
-    }
-    None
-}
-
-/// Puts the renewed chains into the place of the region's old ones, and takes out that of who leaves, if one does.
-/// It takes no memory.
-fn renew(segments: &mut Segments, region: &RegionMarks, point: usize, gap: usize, renewed: Segments)
-    requires gap { gap ≤ 1 }
-    requires within { point + gap ≤ length segments.old }
-    requires marks { length region.now ≡ length segments.old }
-    requires one_each { length renewed ≡ length (marked_from region.now (point + gap)) }
-    ensures { segments.new ≡ renewed_from segments.old region.now point gap renewed }
-{
-    // This call tells that the positions can be counted.
-    prove!(segments.len() <= usize::MAX);
-    segments.replace(positions_from(region, point + gap), renewed);
-    if gap > 0 {
-        segments.remove(point);
-    }
-}
-
 /// Settles anew the first students of papers, up to the end that is given, where these papers changed only in a region
 /// and from a point on, and nobody entered. The places and the segments are those of the papers before; marked are the
 /// region's, with a mark for each segment. The students of the region are settled from the point on, and all others
 /// keep their places and their segments. Whoever comes after the end is not settled. The answer is how many proposals
-/// that took. The only error is want of memory, which changes nothing.
+/// that took. The only error is want of memory, which changes nothing. Where the region is everybody, everybody stands in
+/// the spare round afterwards, once it forgets its log.
 ///
 /// The cost is that of a round of the region's students: a look at the segments of those before the point, an offer
 /// for each proposal of the others, and some look-ups for each; and where a student leaves, whoever stands behind
@@ -193,12 +199,14 @@ pub(crate) fn resettle<R: Roll>(
     ensures stays { OnOk result (take point (logs_in segments.new) ≡ take point (logs_in segments.old)) }
     ensures others { OnOk result ((i : ℕ) → is_among (marked_in region.now segments.old) i ≡ false → assigned places.new i ≡ assigned places.old i) }
     ensures proposals { IfOk result (λ made. CountsInside (is_among (marked_in region.now segments.old)) point (standing_of (cut papers.now end) places.new segments.new made)) }
+    ensures ready { OnOk result (IfSome spare.new (λ round. is_spent round ≡ false)) }
+    ensures stands { OnOk result (IfSome spare.new (λ round. ((i : ℕ) → Contains (students_in segments.new) i → is_among (marked_in region.now segments.old) i ≡ true) → StandsAfter papers.now segments.new (without_log (view_of R.keys R.seats round)))) }
     ensures places_unchanged { OnErr result (places.new ≡ places.old) }
     ensures segments_unchanged { OnErr result (segments.new ≡ segments.old) }
 {
     // Where a student leaves, the segments of those behind stand one position further back.
     let gap = segments.len() - end;
-    let mut renewed = Segments::new(alloc);
+    let mut renewed = Spans::with_room(alloc, positions_from(region, point).len())?;
     let round = settle_region(
         spare.take(),
         alloc,
@@ -209,10 +217,10 @@ pub(crate) fn resettle<R: Roll>(
         segments,
         &mut renewed,
     )?;
-    let leaver = leaver_at(point, gap);
-    place_inside(alloc, &round, papers, region, segments, leaver, places)?;
+    place_inside(
+        alloc, &round, papers, region, point, gap, &renewed, places, segments,
+    )?;
     let proposals = round.proposals();
-    renew(segments, region, point, gap, renewed);
     *spare = Some(round);
     Ok(proposals)
 }

@@ -99,6 +99,7 @@ pub(crate) fn settle_on<R: Roll>(
         papers,
         next_choices.as_slice(),
         &[],
+        &[],
         papers.students_len(),
     )?;
     enter_rest(&mut round, papers, segments)?;

@@ -93,6 +93,18 @@ fn few_seats<R: Roll>(rt: &impl Abort, alloc: Global) -> Result<(), AllocError> 
     let mut roll = R::with_capacity(alloc, seats(rt, 1));
     assert_eq!(rt; offer(rt, &mut roll, &mut seen, eight)?, None);
     assert_eq!(rt; offer(rt, &mut roll, &mut seen, seven)?, Some(eight));
+    renewed(rt, alloc, roll)
+}
+
+/// A roll that is renewed holds nobody, and has the seats that it is given.
+fn renewed<R: Roll>(rt: &impl Abort, alloc: Global, roll: R) -> Result<(), AllocError> {
+    let mut roll = roll;
+    roll.renew(seats(rt, 2));
+    assert_eq!(rt; roll.len(), 0);
+    assert_eq!(rt; roll.capacity(), seats(rt, 2));
+    let mut seen = Vec::new(alloc);
+    assert_eq!(rt; offer(rt, &mut roll, &mut seen, key(rt, 3, 5, 7))?, None);
+    assert_eq!(rt; roll.len(), 1);
     Ok(())
 }
 

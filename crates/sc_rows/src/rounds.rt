@@ -154,13 +154,14 @@ fn resume_with_the_third<R: Roll>(alloc: Global, papers: &Papers) -> Result<Sett
         papers,
         &next_choices,
         &[],
+        &[],
         papers.students_len(),
     )?;
     round.enter_one(papers, three)?;
     round.into_settled(papers)
 }
 
-/// Does so in the memory of a round that is done with, where nobody is found by a guess at where they stand.
+/// Does so in the memory of a round that is done with, where nobody is found by a guess at where they or their choices stand.
 fn resume_again_with_the_third<R: Roll>(
     alloc: Global,
     papers: &Papers,
@@ -175,7 +176,7 @@ fn resume_again_with_the_third<R: Roll>(
     let next_choices = first_two_stand::<R>(alloc, papers, one, two)?;
     let mut done: Round<R> = Round::start(alloc, papers)?;
     done.enter_one(papers, three)?;
-    let mut round = done.resume_in(papers, &next_choices, &[1, 2], 0)?;
+    let mut round = done.resume_in(papers, &next_choices, &[1, 2], &[19, 1], 0)?;
     round.enter_near(papers, three, 1)?;
     round.into_settled(papers)
 }

@@ -1,11 +1,12 @@
 //! Checkpoints of Market B and its newcomer: schools 10 in zone 1 and 20, with a seat each, and three
 //! students, of whom the last sets off a chain of three rejections.
-ghost use Rattle.std.specs.Prelude.{◌≡◌, ◌∷◌, ◌++◌, [], IfOk, IfSome, OnOk};
+ghost use Rattle.std.specs.Prelude.{◌≡◌, ◌∷◌, ◌++◌, [], length, IfOk, IfSome, OnOk};
 ghost use Rattle.sc_papers.specs.Market.{students_of};
 ghost use Rattle.sc_checkpoint.specs.Chains.{students_in};
+ghost use Rattle.sc_checkpoint.specs.Spans.{AreWithin};
 
 use crate::given::{school, student};
-use sc_checkpoint::{Hints, NextChoice, Segments};
+use sc_checkpoint::{Hints, NextChoice, Segments, Spans};
 use sc_papers::{
     Amendment, Papers, Refusal, Rejection, SchoolList, SchoolRefusal, Seats, Seed, Zone,
 };
@@ -221,6 +222,59 @@ fn students_stand_at_their_next_choices(rt: HostRuntime) {
     drop(segments);
 }
 
+/// Of the last chain, the first rejection as the segment of the first student, and the others as that of the third.
+fn spans_of_two(rt: &impl Abort, alloc: Global, chain: &[Rejection]) -> Result<Spans, AllocError>
+    requires { length chain.now ≡ 3 }
+    ensures within { IfOk result (AreWithin chain.now) }
+    ensures two { IfOk result (λ spans. length spans ≡ 2) }
+{
+    let mut spans = Spans::with_room(alloc, 2)?;
+    spans.push(student(rt, 1), &chain[..1], 0)?;
+    spans.push(student(rt, 3), chain, 1)?;
+    Ok(spans)
+}
+
+/// Renews the segments of the first and the third student, where there is memory for that.
+fn renew_two(
+    rt: &impl Abort,
+    alloc: Global,
+    segments: &mut Segments,
+    log: &[Rejection],
+) -> Result<(), AllocError>
+    requires three { length segments.old ≡ 3 }
+    requires log { length log.now ≡ 3 }
+    ensures { length segments.new ≡ 3 }
+{
+    let spans = spans_of_two(rt, alloc, log)?;
+    let renewed = segments.replace(&[0, 2], &spans, log);
+    drop(spans);
+    renewed
+}
+
+/// Renews two segments so often that those that have gone are put away.
+fn renew(rt: &impl Abort, alloc: Global, segments: &mut Segments)
+    requires { length segments.old ≡ 3 }
+{
+    let chain = last_chain(rt);
+    let log = chain.as_slice();
+    for _turn in 0..8 {
+        assert!(rt; renew_two(rt, alloc, segments, log).is_ok());
+    }
+    assert_eq!(rt; segments.segment(0), &log[..1]);
+    assert_eq!(rt; segments.segment(1).len(), 0);
+    assert_eq!(rt; segments.segment(2), &log[1..]);
+    segments.remove(0);
+    assert_eq!(rt; segments.len(), 2);
+    assert_eq!(rt; segments.log_len(), 2);
+}
+
+#[test]
+fn segments_give_way_to_renewed_ones(rt: HostRuntime) {
+    let mut segments = segments_of_three(&rt, rt.alloc());
+    renew(&rt, rt.alloc(), &mut segments);
+    drop(segments);
+}
+
 /// How many a call gave, or as many as are wanted where memory was refused.
 fn given_or(given: Option<usize>, wanted: usize) -> usize {
     match given {
@@ -270,12 +324,15 @@ fn hints_of_two_students(rt: HostRuntime) {
     assert_eq!(&rt; shared.guess(student(&rt, 2)), 9);
 }
 
-fn expect_growths(rt: &impl Abort, segments: &mut Segments)
+fn expect_growths(rt: &impl Abort, alloc: Global, segments: &mut Segments)
     requires { students_in segments.old ≡ 1 ∷ 2 ∷ 3 ∷ [] }
 {
     assert!(rt; given_or(rejections(segments.flat()), 3) == 3);
     assert!(rt; given_or(rejections(segments.prefix(3)), 3) == 3);
     assert!(rt; given_or(copied(segments), 3) == 3);
+    let chain = last_chain(rt);
+    let renewed = renew_two(rt, alloc, segments, &chain).is_ok();
+    assert!(rt; segments.segment(0).len() == if renewed { 1 } else { 0 });
     let pushed = segments.push(student(rt, 4), &last_chain(rt)).is_ok();
     assert!(rt; segments.len() == if pushed { 4 } else { 3 });
     assert!(rt; segments.log_len() == if pushed { 6 } else { 3 });
@@ -285,6 +342,6 @@ fn expect_growths(rt: &impl Abort, segments: &mut Segments)
 #[test]
 fn each_growth_refused(rt: HostRuntime) {
     let mut segments = segments_of_three(&rt, rt.alloc());
-    expect_growths(&rt, &mut segments);
+    expect_growths(&rt, rt.alloc(), &mut segments);
     drop(segments);
 }

@@ -1,7 +1,8 @@
 //! Rounds that go on from where students stand.
 
-ghost use Rattle.std.specs.Prelude.{◌≡◌, ℕ, ◌<◌, ◌≤◌, length, true, false, List, [], Contains, Option, slice_get, IfOk, OnOk, IfSome};
-ghost use Rattle.sc_papers.specs.Market.{choices_of, is_student, seats_of, student_at};
+ghost use Rattle.std.specs.Prelude.{◌≡◌, ℕ, ◌<◌, ◌≤◌, length, nat_eq, position, true, false, List, [], Contains, Option, Some, slice_get, IfOk, OnOk, IfSome};
+ghost use Rattle.sc_papers.specs.Key.{key_of};
+ghost use Rattle.sc_papers.specs.Market.{choices_of, is_student, schools_of, seats_of, student_at};
 ghost use Rattle.sc_papers.specs.Matching.{held};
 ghost use Rattle.sc_papers.specs.declared.rejection.Rejection.{Rejection};
 ghost use Rattle.sc_checkpoint.specs.NextChoices.{stands, AreNextChoices};
@@ -9,18 +10,21 @@ ghost use Rattle.sc_engine.specs.RoundView.{Fits, Continues, StandsToo, has_ente
 
 use super::{Round, offer_to, position_near};
 use sc_checkpoint::NextChoice;
-use sc_papers::{LONGEST_LIST, Papers, SchoolNo};
+use sc_papers::{Key, LONGEST_LIST, Papers, SchoolNo};
 use sc_seats::Roll;
 use std::alloc::{AllocError, Global};
 
-/// The rank of the school among the choices of the student at the position, or the rank after the last where there is no
-/// school. The student's row is read, and no record.
-fn rank_in(papers: &Papers, at: usize, school: Option<SchoolNo>) -> usize
+/// The rank of the school among the choices of the student at the position, or a rank after the last where there is no
+/// school. Often it is the guessed one, and then one choice alone is looked at. The student's row is read, and no record.
+fn rank_in(papers: &Papers, at: usize, school: Option<SchoolNo>, guess: usize) -> usize
     requires student { at < length papers.now.students }
     requires listed { IfSome school (λ s. Contains (choices_of papers.now (student_at papers.now at)) s) }
     ensures rank { slice_get (choices_of papers.now (student_at papers.now at)) result ≡ school }
     ensures within { result ≤ LONGEST_LIST }
 {
+    if guess <= LONGEST_LIST && papers.choice_at(at, guess) == school {
+        return guess;
+    }
     // This call tells that the choices are few enough.
     prove!(papers.choices_at(at).len() <= LONGEST_LIST);
     let Some(school) = school else {
@@ -32,9 +36,28 @@ fn rank_in(papers: &Papers, at: usize, school: Option<SchoolNo>) -> usize
     rank
 }
 
-/// Where the student of one of the next choices may stand: at the position that is told, if there is one.
-fn guess_of(near: &[usize], turn: usize, otherwise: usize) -> usize {
-    near.get(turn).copied().unwrap_or(otherwise)
+/// The position of the school that stands at a rank of the choices of the student at a position, and the student's key
+/// there. The school is not looked up.
+fn position_and_key(papers: &Papers, at: usize, rank: usize, school: SchoolNo) -> (usize, Key)
+    requires student { at < length papers.now.students }
+    requires listed { slice_get (choices_of papers.now (student_at papers.now at)) rank ≡ Some school }
+    ensures position { position (nat_eq school) (schools_of papers.now) ≡ Some result.0 }
+    ensures key { result.1 ≡ key_of papers.now (student_at papers.now at) school }
+{
+    let Some(proposal) = papers.proposal(at, rank) else {
+        unreachable!()
+    };
+    (proposal.position, proposal.key)
+}
+
+/// What is told of one of the next choices, if anything is, and else this.
+fn guess_of(told: &[usize], turn: usize, otherwise: usize) -> usize {
+    told.get(turn).copied().unwrap_or(otherwise)
+}
+
+/// At which rank of their list the student of one of the next choices may stand: the first, where nothing is told.
+fn rank_guess_of(told: &[u8], turn: usize) -> usize {
+    told.get(turn).copied().map_or(0, usize::from)
 }
 
 impl<R: Roll> Round<R> {
@@ -42,7 +65,13 @@ impl<R: Roll> Round<R> {
 
     /// Puts the student at its next choice, and on the roll of that school, which has room. That is no
     /// proposal: it was made before.
-    fn put(&mut self, papers: &Papers, choice: NextChoice, guess: usize) -> Result<(), AllocError>
+    fn put(
+        &mut self,
+        papers: &Papers,
+        choice: NextChoice,
+        position_guess: usize,
+        rank_guess: usize,
+    ) -> Result<(), AllocError>
         requires fits { Fits papers.now (view_of R.keys R.seats self.old) }
         requires student { is_student papers.now choice.student ≡ true }
         requires absent { has_entered papers.now self.old.ranks choice.student ≡ false }
@@ -51,14 +80,15 @@ impl<R: Roll> Round<R> {
         ensures stands { OnOk result (StandsToo papers.now (view_of R.keys R.seats self.old) (view_of R.keys R.seats self.new) choice.student choice.next) }
         ensures spent { is_spent self.new ≡ is_spent self.old }
     {
-        let at = position_near(papers, choice.student, guess);
+        let at = position_near(papers, choice.student, position_guess);
         self.hints.note(choice.student, at);
         self.ranks.make_room(at)?;
-        self.ranks.put(at, rank_in(papers, at, choice.next) as u8)?;
+        let rank = rank_in(papers, at, choice.next, rank_guess);
+        self.ranks.put(at, rank as u8)?;
         let Some(school) = choice.next else {
             return Ok(());
         };
-        let (position, key) = papers.position_and_key(at, school);
+        let (position, key) = position_and_key(papers, at, rank, school);
         let out = offer_to(&mut self.rolls, position, key)?;
         if out.is_some() {
             unreachable!()
@@ -71,16 +101,18 @@ impl<R: Roll> Round<R> {
     /// log that leaves them there the round goes on as if it had made that log itself.
     ///
     /// It takes memory for each student and each school of the papers and for the seats held. The cost
-    /// is a look-up of a school by number, a search among the student's choices and an offer for each of them. `near` may
-    /// tell, for each next choice in turn, at which position of the order of entry its student stands; where it tells
-    /// nothing, that is taken to be right after the student before, and a student who stands elsewhere is looked up by
-    /// number. `expected` is how many students are to stand in the round at last; where it is too small, more of them are
-    /// looked up by number. Nothing else depends on either.
+    /// is a look at the student's row and an offer for each of them. `near` may tell, for each next choice in turn, at which
+    /// position of the order of entry its student stands; where it tells nothing, that is taken to be right after the
+    /// student before, and a student who stands elsewhere is looked up by number. `ranks` may tell likewise at which rank of
+    /// the student's choices the next choice stands; one that stands elsewhere is looked up, and looked for among them.
+    /// `expected` is how many students are to stand in the round at last; where it is too small, more of them are
+    /// looked up by number. Nothing else depends on any of these.
     pub fn resume(
         alloc: Global,
         papers: &Papers,
         next_choices: &[NextChoice],
         near: &[usize],
+        ranks: &[u8],
         expected: usize,
     ) -> Result<Self, AllocError>
         // Some earlier log is settled for the papers of these students alone, who are different
@@ -93,7 +125,7 @@ impl<R: Roll> Round<R> {
         ensures proposals { IfOk result (λ round. (view_of R.keys R.seats round).proposals ≡ 0) }
         ensures ready { IfOk result (λ round. is_spent round ≡ false) }
     {
-        Round::with_room(alloc, papers, expected)?.stand(papers, next_choices, near)
+        Round::with_room(alloc, papers, expected)?.stand(papers, next_choices, near, ranks)
     }
 
     /// Does what `resume` does, in the memory of a round that is done with, whatever papers it was of and whether or
@@ -107,6 +139,7 @@ impl<R: Roll> Round<R> {
         papers: &Papers,
         next_choices: &[NextChoice],
         near: &[usize],
+        ranks: &[u8],
         expected: usize,
     ) -> Result<Self, AllocError>
         requires { (earlier : List Rejection) × AreNextChoices papers.now earlier next_choices.now }
@@ -118,7 +151,7 @@ impl<R: Roll> Round<R> {
         ensures ready { IfOk result (λ round. is_spent round ≡ false) }
     {
         self.again(papers, expected)?
-            .stand(papers, next_choices, near)
+            .stand(papers, next_choices, near, ranks)
     }
 
     /// Puts each student of these next choices at theirs, in a round in which nobody has entered.
@@ -127,6 +160,7 @@ impl<R: Roll> Round<R> {
         papers: &Papers,
         next_choices: &[NextChoice],
         near: &[usize],
+        ranks: &[u8],
     ) -> Result<Self, AllocError>
         requires after { (earlier : List Rejection) × AreNextChoices papers.now earlier next_choices.now }
         requires fits { Fits papers.now (view_of R.keys R.seats self) }
@@ -144,7 +178,7 @@ impl<R: Roll> Round<R> {
         let mut round = self;
         for (turn, choice) in next_choices.iter().enumerate() {
             let guess = guess_of(near, turn, round.ranks.len());
-            round.put(papers, *choice, guess)?;
+            round.put(papers, *choice, guess, rank_guess_of(ranks, turn))?;
         }
         Ok(round)
     }

@@ -7,5 +7,5 @@ use Rattle.sc_checkpoint.proofs.at_positions.next_choices_at_positions.Given as 
 
 abbrev pub invariant-loop-place : goal.invariant-loop-place
 invariant-loop-place l =
-    (l.next_choices.items ≡ next_choices_after l.papers (joined (logs_at l.positions l.segments)) (take l.place (map (student_at l.papers) l.positions)))
-    × (vec_len l.next_choices ≡ l.place) × (vec_capacity l.next_choices ≡ length l.positions)
+    (l.choices.items ≡ next_choices_after l.papers (joined (logs_at l.positions l.segments)) (take l.place (map (student_at l.papers) l.positions)))
+    × (vec_len l.choices ≡ l.place) × (vec_capacity l.choices ≡ length l.positions)

@@ -33,7 +33,7 @@ resumed-requires g c =
     let test = is_among (marked_in marks old) in
     let first = take c.args.point old in
     let standing : c.as_slice.result.now ≡ next_choices_after m (log_of test first) (filter test (take c.args.point (students_of m))) =
-    c.as_slice.ensures.value ∙ c.in_ok-next_choices.ensures
+    c.as_slice.ensures.value ∙ c.in_ok-stands.ensures
     ∙ ap (λ ps. next_choices_after m (joined (logs_at ps old)) (map (student_at m) ps)) c.positions_before-positions.ensures
     ∙ before-stand m old marks c.args.point c.args.end c.requires.point c.requires.end c.requires.nobody_new c.requires.one_each c.requires.differ c.requires.theirs in
     (log_of test first, subst (AreNextChoices m (log_of test first)) (sym standing) (stand-inside m test first c.args.point c.requires.well_formed c.requires.apart c.requires.theirs c.requires.segmented))
@@ -46,7 +46,7 @@ take_turns-requires-clause-on g c =
     let test = is_among (marked_in marks old) in
     let first = take c.args.point old in
     let standing : c.as_slice.result.now ≡ next_choices_after m (log_of test first) (filter test (take c.args.point (students_of m))) =
-    c.as_slice.ensures.value ∙ c.in_ok-next_choices.ensures
+    c.as_slice.ensures.value ∙ c.in_ok-stands.ensures
     ∙ ap (λ ps. next_choices_after m (joined (logs_at ps old)) (map (student_at m) ps)) c.positions_before-positions.ensures
     ∙ before-stand m old marks c.args.point c.args.end c.requires.point c.requires.end c.requires.nobody_new c.requires.one_each c.requires.differ c.requires.theirs in
     inside-begins m test old first (length old - c.args.end) (view_of g.R.Roll.keys g.R.Roll.seats c.in_ok-round.round) c.args.point c.requires.apart

@@ -1,7 +1,12 @@
-use Rattle.std.proofs.Common.{◌≡◌, ◌<◌, ◌+◌, ◌-◌, ap, sym, ◌∙◌, ℕ, List, get_or, length, slice_get, arith}
+use Rattle.std.proofs.Common.{◌≡◌, ◌<◌, ◌+◌, ◌-◌, ap, sym, subst, ◌∙◌, ℕ, List, get_or, length, slice_get, arith}
+use Rattle.std.proofs.lemmas.List.{length-map}
 use Rattle.sc_papers.specs.Market.{students_of}
 use Rattle.sc_papers.proofs.Choices.{contains-at}
 use Rattle.sc_papers.proofs.Positions.{among-student}
+use Rattle.sc_checkpoint.specs.Spans.{chain_in, chains_in, AreWithin}
+use Rattle.sc_checkpoint.specs.declared.span.Span.{Span}
+use Rattle.sc_checkpoint.proofs.Spanned.{none-within}
+use Rattle.sc_engine.specs.Round.{view_of}
 use Rattle.sc_repair.specs.Locality.{is_among, marked_in}
 use Rattle.sc_repair.specs.Renewed.{marked_from}
 use Rattle.sc_repair.proofs.Regions.{are-turns}
@@ -11,11 +16,13 @@ use Rattle.sc_repair.proofs.resettling.take_turns.Goals as goal
 pub loop-position-init : goal.loop-position-init
 loop-position-init g c =
     let m = c.args.papers.now in
+    let log = (view_of g.R.Roll.keys g.R.Roll.seats c.args.round.now).log in
     let old = c.args.old.now in
     let marks = c.args.region.now in
     let are = are-turns m old marks c.args.point c.args.end c.requires.point c.requires.end c.requires.nobody_new c.requires.one_each c.requires.differ c.requires.step in (
-      turns-begin m (is_among (marked_in marks old)) old marks c.args.point (length old - c.args.end) c.args.end are _ c.args.renewed.now c.requires.none c.requires.on,
+      turns-begin m (is_among (marked_in marks old)) old marks c.args.point (length old - c.args.end) c.args.end are _ (chains_in log c.args.renewed.now) (ap (chains_in log) c.requires.none) c.requires.on,
       c.requires.ready,
+      subst (λ (spans : List Span). AreWithin log spans) (sym c.requires.none) (none-within log),
     )
 
 pub unreachable-requires : goal.unreachable-requires
@@ -32,14 +39,14 @@ unreachable-requires g c =
     (λ t. slice_get (students_of m) (get_or (sym turns_are t) at 0 - (sym c.len.ensures t - c.args.end))) ∙ sym c.student_at.ensures in
     turn-missing m (is_among (marked_in marks old)) old marks c.args.point (length old - c.args.end) c.args.end are at low (there ∙ c.in_default.is)
 
-pub enter_next-requires-clause-fits : goal.enter_next-requires-clause-fits
-enter_next-requires-clause-fits g c = c.loop-position.invariant.0.on.fits
+pub enter_turn-requires-clause-fits : goal.enter_turn-requires-clause-fits
+enter_turn-requires-clause-fits g c = c.loop-position.invariant.0.on.fits
 
-pub enter_next-requires-clause-student : goal.enter_next-requires-clause-student
-enter_next-requires-clause-student g c = among-student c.args.papers.now c.in-Some.student (contains-at (students_of c.args.papers.now) _ c.in-Some.student (sym c.student_at.ensures ∙ c.in-Some.is))
+pub enter_turn-requires-clause-student : goal.enter_turn-requires-clause-student
+enter_turn-requires-clause-student g c = among-student c.args.papers.now c.in-Some.student (contains-at (students_of c.args.papers.now) _ c.in-Some.student (sym c.student_at.ensures ∙ c.in-Some.is))
 
-pub enter_next-requires-clause-absent : goal.enter_next-requires-clause-absent
-enter_next-requires-clause-absent g c =
+pub enter_turn-requires-clause-absent : goal.enter_turn-requires-clause-absent
+enter_turn-requires-clause-absent g c =
     let m = c.args.papers.now in
     let old = c.args.old.now in
     let marks = c.args.region.now in
@@ -51,7 +58,7 @@ enter_next-requires-clause-absent g c =
     let there : slice_get (students_of m) (get_or (marked_from marks (c.args.point + (length old - c.args.end))) at 0 - (length old - c.args.end)) ≡ c.student_at.result =
     (λ t. slice_get (students_of m) (get_or (sym turns_are t) at 0 - (sym c.len.ensures t - c.args.end))) ∙ sym c.student_at.ensures in
     let own = turn-own m (is_among (marked_in marks old)) old marks c.args.point (length old - c.args.end) c.args.end are at c.in-Some.student low (there ∙ c.in-Some.is) in
-    turn-absent m (is_among (marked_in marks old)) old marks c.args.point (length old - c.args.end) c.args.end are at c.in-Some.student c.loop-position.renewed _ c.loop-position.invariant.0 low own
+    turn-absent m (is_among (marked_in marks old)) old marks c.args.point (length old - c.args.end) c.args.end are at c.in-Some.student (chains_in (view_of g.R.Roll.keys g.R.Roll.seats c.loop-position.round).log c.loop-position.renewed) _ c.loop-position.invariant.0 low own
 
 pub loop-position-preserved : goal.loop-position-preserved
 loop-position-preserved g c =
@@ -66,9 +73,10 @@ loop-position-preserved g c =
     let there : slice_get (students_of m) (get_or (marked_from marks (c.args.point + (length old - c.args.end))) at 0 - (length old - c.args.end)) ≡ c.student_at.result =
     (λ t. slice_get (students_of m) (get_or (sym turns_are t) at 0 - (sym c.len.ensures t - c.args.end))) ∙ sym c.student_at.ensures in
     let own = turn-own m (is_among (marked_in marks old)) old marks c.args.point (length old - c.args.end) c.args.end are at c.in-Some.student low (there ∙ c.in-Some.is) in (
-      turn-next m (is_among (marked_in marks old)) old marks c.args.point (length old - c.args.end) c.args.end are at c.in-Some.student c.loop-position.renewed c.enter_next.new.segments _ _
-          c.loop-position.invariant.0 low own c.in_ok-enter_next.ensures.enters c.in_ok-enter_next.ensures.chain,
-      c.in_ok-enter_next.ensures.ready,
+      turn-next m (is_among (marked_in marks old)) old marks c.args.point (length old - c.args.end) c.args.end are at c.in-Some.student (chains_in (view_of g.R.Roll.keys g.R.Roll.seats c.loop-position.round).log c.loop-position.renewed) (chains_in (view_of g.R.Roll.keys g.R.Roll.seats c.enter_turn.new.round).log c.enter_turn.new.spans) _ _
+          c.loop-position.invariant.0 low own c.in_ok-enter_turn.ensures.enters c.in_ok-enter_turn.ensures.chain,
+      c.in_ok-enter_turn.ensures.ready,
+      c.in_ok-enter_turn.ensures.within,
     )
 
 pub returns-clause-on : goal.returns-clause-on
@@ -79,7 +87,7 @@ returns-clause-on g c =
     let are = are-turns m old marks c.args.point c.args.end c.requires.point c.requires.end c.requires.nobody_new c.requires.one_each c.requires.differ c.requires.step in
     let turns_are : c.positions_from-turns.result.now ≡ marked_from marks (c.args.point + (length old - c.args.end)) =
     c.positions_from-turns.ensures ∙ ap (λ n. marked_from marks (c.args.point + (n - c.args.end))) c.len.ensures in
-    turns-end m (is_among (marked_in marks old)) old marks c.args.point (length old - c.args.end) c.args.end are c.loop-position.position-index c.loop-position.renewed _ c.loop-position.invariant.0
+    turns-end m (is_among (marked_in marks old)) old marks c.args.point (length old - c.args.end) c.args.end are c.loop-position.position-index (chains_in (view_of g.R.Roll.keys g.R.Roll.seats c.loop-position.round).log c.loop-position.renewed) _ c.loop-position.invariant.0
     (omega (arith, ap (λ (ps : List ℕ). length ps) turns_are, c.loop-position-test.false, c.loop-position.auto.position-index-end))
 
 pub returns-clause-one_each : goal.returns-clause-one_each
@@ -88,4 +96,4 @@ returns-clause-one_each g c =
     let marks = c.args.region.now in
     let turns_are : c.positions_from-turns.result.now ≡ marked_from marks (c.args.point + (length old - c.args.end)) =
     c.positions_from-turns.ensures ∙ ap (λ n. marked_from marks (c.args.point + (n - c.args.end))) c.len.ensures in
-    omega (arith, c.loop-position.invariant.0.count, ap (λ (ps : List ℕ). length ps) turns_are, c.loop-position-test.false, c.loop-position.auto.position-index-end)
+    omega (arith, length-map c.loop-position.renewed (chain_in (view_of g.R.Roll.keys g.R.Roll.seats c.loop-position.round).log), c.loop-position.invariant.0.count, ap (λ (ps : List ℕ). length ps) turns_are, c.loop-position-test.false, c.loop-position.auto.position-index-end)

@@ -1,4 +1,5 @@
 use Rattle.std.proofs.Common.{◌≡◌, ◌+◌, ◌-◌, false, length}
+use Rattle.sc_checkpoint.specs.Spans.{chains_in, AreWithin}
 use Rattle.sc_engine.specs.Round.{is_spent, view_of}
 use Rattle.sc_repair.specs.Locality.{is_among, marked_in}
 use Rattle.sc_repair.specs.Renewed.{marked_from}
@@ -7,5 +8,6 @@ use Rattle.sc_repair.proofs.resettling.take_turns.Given as goal
 
 abbrev pub invariant-loop-position : goal.invariant-loop-position
 invariant-loop-position g l =
-    HadTurns l.papers (is_among (marked_in l.region l.old)) l.old l.point (length l.old - l.end) l.end (marked_from l.region (l.point + (length l.old - l.end))) l.position-index l.renewed (view_of g.R.Roll.keys g.R.Roll.seats l.round)
+    HadTurns l.papers (is_among (marked_in l.region l.old)) l.old l.point (length l.old - l.end) l.end (marked_from l.region (l.point + (length l.old - l.end))) l.position-index (chains_in (view_of g.R.Roll.keys g.R.Roll.seats l.round).log l.renewed) (view_of g.R.Roll.keys g.R.Roll.seats l.round)
     × (is_spent l.round ≡ false)
+    × AreWithin (view_of g.R.Roll.keys g.R.Roll.seats l.round).log l.renewed

@@ -8,11 +8,11 @@ use Rattle.sc_engine.specs.Rolls.{rolls_of}
 use Rattle.sc_engine.proofs.Beginning.{Begun, moved, begins, fits-begun, is_some-none}
 use Rattle.sc_papers.proofs.Hands.{student-there}
 use Rattle.sc_engine.proofs.Moves.{roll-new, proposed-told}
-use Rattle.sc_engine.proofs.Putting.{next-begun, put-nowhere, put-school, roll-open, put-on_roll}
+use Rattle.sc_engine.proofs.Putting.{next-begun, put-nowhere, roll-open, put-on_roll}
 use Rattle.sc_engine.proofs.round.Round.put.Goals as goal
 
-pub rank_in-requires-clause-listed : goal.rank_in-requires-clause-listed
-rank_in-requires-clause-listed g c =
+pub rank_in-rank-requires-clause-listed : goal.rank_in-rank-requires-clause-listed
+rank_in-rank-requires-clause-listed g c =
     let papers = c.args.papers.now in
     subst (λ (i : ℕ). IfSome c.args.choice.next (λ s. Contains (choices_of papers i) s))
     (sym (student-there papers c.args.choice.student c.position_near-at.result c.position_near-at.ensures)) c.requires.listed
@@ -22,41 +22,30 @@ returns-in_default-clause-stands g c =
     let papers = c.args.papers.now in
     let student = c.args.choice.student in
     let at = c.position_near-at.result in
-    let rank = c.rank_in.result in
+    let rank = c.rank_in-rank.result in
     let room = c.make_room.new.self in
     let old = view_of g.R.Roll.keys g.R.Roll.seats c.args.self.now in
     let there : student_at papers at ≡ student = student-there papers student at c.position_near-at.ensures in
     let here : slice_get (choices_of papers student) rank ≡ c.args.choice.next =
-    ap (λ i. slice_get (choices_of papers i) rank) (sym there) ∙ c.rank_in.ensures.rank in
+    ap (λ i. slice_get (choices_of papers i) rank) (sym there) ∙ c.rank_in-rank.ensures.rank in
     let begun : Begun papers old (moved old room at rank) student at rank = begins papers old room student at rank c.requires.fits c.position_near-at.ensures c.requires.absent c.in_ok-make_room.ensures.room c.in_ok-make_room.ensures.same c.in_ok-make_room.ensures.within in
     subst (λ (ranks : List (Option ℕ)). StandsToo papers old (record old { ranks = ranks }) student c.args.choice.next) (sym c.in_ok-put.ensures)
     (put-nowhere begun c.args.choice.next here c.in_default.is)
 
-pub position_and_key-position-requires-clause-school : goal.position_and_key-position-requires-clause-school
-position_and_key-position-requires-clause-school g c =
-    let papers = c.args.papers.now in
-    let student = c.args.choice.student in
-    let at = c.position_near-at.result in
-    let rank = c.rank_in.result in
-    let room = c.make_room.new.self in
-    let old = view_of g.R.Roll.keys g.R.Roll.seats c.args.self.now in
-    let there : student_at papers at ≡ student = student-there papers student at c.position_near-at.ensures in
-    let here : slice_get (choices_of papers student) rank ≡ c.args.choice.next =
-    ap (λ i. slice_get (choices_of papers i) rank) (sym there) ∙ c.rank_in.ensures.rank in
-    let begun : Begun papers old (moved old room at rank) student at rank = begins papers old room student at rank c.requires.fits c.position_near-at.ensures c.requires.absent c.in_ok-make_room.ensures.room c.in_ok-make_room.ensures.same c.in_ok-make_room.ensures.within in
-    put-school papers old student rank c.in-Some.school c.requires.fits (here ∙ c.in-Some.is)
+pub position_and_key-position-requires-clause-listed : goal.position_and_key-position-requires-clause-listed
+position_and_key-position-requires-clause-listed g c = c.rank_in-rank.ensures.rank ∙ c.in-Some.is
 
 pub offer_to-requires-clause-new : goal.offer_to-requires-clause-new
 offer_to-requires-clause-new g c =
     let papers = c.args.papers.now in
     let student = c.args.choice.student in
     let at = c.position_near-at.result in
-    let rank = c.rank_in.result in
+    let rank = c.rank_in-rank.result in
     let room = c.make_room.new.self in
     let old = view_of g.R.Roll.keys g.R.Roll.seats c.args.self.now in
     let there : student_at papers at ≡ student = student-there papers student at c.position_near-at.ensures in
     let here : slice_get (choices_of papers student) rank ≡ c.args.choice.next =
-    ap (λ i. slice_get (choices_of papers i) rank) (sym there) ∙ c.rank_in.ensures.rank in
+    ap (λ i. slice_get (choices_of papers i) rank) (sym there) ∙ c.rank_in-rank.ensures.rank in
     let begun : Begun papers old (moved old room at rank) student at rank = begins papers old room student at rank c.requires.fits c.position_near-at.ensures c.requires.absent c.in_ok-make_room.ensures.room c.in_ok-make_room.ensures.same c.in_ok-make_room.ensures.within in
     let key = c.position_and_key-position.ensures.key ∙ ap (λ i. key_of papers i c.in-Some.school) there in
     roll-new papers (moved old room at rank) student c.in-Some.school c.position_and_key-position.result.0 c.position_and_key-position.result.1 (fits-begun begun) c.position_and_key-position.ensures.position key
@@ -78,12 +67,12 @@ returns-clause-stands g c =
     let papers = c.args.papers.now in
     let student = c.args.choice.student in
     let at = c.position_near-at.result in
-    let rank = c.rank_in.result in
+    let rank = c.rank_in-rank.result in
     let room = c.make_room.new.self in
     let old = view_of g.R.Roll.keys g.R.Roll.seats c.args.self.now in
     let there : student_at papers at ≡ student = student-there papers student at c.position_near-at.ensures in
     let here : slice_get (choices_of papers student) rank ≡ c.args.choice.next =
-    ap (λ i. slice_get (choices_of papers i) rank) (sym there) ∙ c.rank_in.ensures.rank in
+    ap (λ i. slice_get (choices_of papers i) rank) (sym there) ∙ c.rank_in-rank.ensures.rank in
     let begun : Begun papers old (moved old room at rank) student at rank = begins papers old room student at rank c.requires.fits c.position_near-at.ensures c.requires.absent c.in_ok-make_room.ensures.room c.in_ok-make_room.ensures.same c.in_ok-make_room.ensures.within in
     let key = c.position_and_key-position.ensures.key ∙ ap (λ i. key_of papers i c.in-Some.school) there in
     let rolls = rolls_of g.R.Roll.keys g.R.Roll.seats c.offer_to.new.rolls.items in

@@ -5,7 +5,7 @@ use Rattle.sc_engine.proofs.Resuming.{absent-put, listed-after, room-put_if, put
 use Rattle.sc_engine.proofs.round.Round.stand.Goals as goal
 
 -- the choice in hand
-here : (g : _) (c : goal.After-put-arg-1 g) → slice_get c.args.next_choices.now c.loop-turn.turn ≡ Some c.index-next_choices-turn.result
+here : (g : _) (c : goal.After-rank_guess_of g) → slice_get c.args.next_choices.now c.loop-turn.turn ≡ Some c.index-next_choices-turn.result
 here g c = slice_get_read c.args.next_choices.now (length c.args.next_choices.now) c.loop-turn.turn c.index-next_choices-turn.result refl c.loop-turn-test.true c.index-next_choices-turn.is
 
 pub put-requires-clause-absent : goal.put-requires-clause-absent

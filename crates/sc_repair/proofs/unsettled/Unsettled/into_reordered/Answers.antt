@@ -1,5 +1,4 @@
-use Rattle.std.proofs.Common.{ap, subst, ◌≡◌}
-use Rattle.sc_papers.specs.Market.{Market}
+use Rattle.std.proofs.Common.{subst}
 use Rattle.sc_papers.specs.Reordering.{IsReordering}
 use Rattle.sc_stamps.specs.Verdict.{StampedPapers}
 use Rattle.sc_repair.proofs.Reordered.{reordered-in_turn}
