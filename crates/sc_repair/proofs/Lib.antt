@@ -32,3 +32,4 @@ pub mod Picked
 pub mod Regions
 pub mod FirstAmong
 pub mod Reordered
+pub mod KeptRound

@@ -6,6 +6,7 @@ mod clearing;
 mod districts;
 mod entering;
 mod entry_order;
+mod kept_round;
 mod open_refused;
 mod pair_hints;
 mod places;

@@ -1,6 +1,6 @@
 //! The positions of a region before a point of the order of entry, and those from one on.
 
-ghost use Rattle.std.specs.Prelude.{◌≡◌, ℕ, ◌<◌, ◌≤◌, length, slice_index};
+ghost use Rattle.std.specs.Prelude.{◌≡◌, ℕ, ◌<◌, ◌≤◌, true, length, slice_index, Contains};
 ghost use Rattle.std.specs.List.Sorted.{IsStrictlyIncreasing};
 ghost use Rattle.sc_repair.specs.Renewed.{marked_before, marked_from};
 
@@ -33,4 +33,16 @@ pub(crate) fn positions_from(region: &RegionMarks, from: usize) -> &[usize]
 {
     let positions = region.positions();
     &positions[count_before(positions, from)..]
+}
+
+/// Whether these are all positions before one, in order.
+pub(crate) fn are_all(positions: &[usize], count: usize) -> bool
+    ensures { result ≡ true → (position : ℕ) → position < count → Contains positions.now position }
+{
+    for (place, position) in positions.iter().enumerate() {
+        if *position != place {
+            return false;
+        }
+    }
+    positions.len() == count
 }

@@ -31,8 +31,8 @@ pub(crate) struct Settlement {
     places: Places,
     segments: Segments,
     proposals: u64,
-    // Where there is one, the round in which everybody stands: it is kept from newcomer to newcomer, and made
-    // again when it is wanted.
+    // Where there is one, the round in which everybody stands: it is kept from newcomer to newcomer, and where an
+    // amendment settles everybody anew, and made again when it is wanted.
     round: Option<Round<HeapRoll>>,
     // Where there is one, a round that is done with, whose memory serves the next amendment but an entry.
     spare: Option<Round<HeapRoll>>,

@@ -209,7 +209,9 @@ pub fn run_texts<W: Write, J: Recorder>(
 ///
 /// `settling` says when the papers are settled, and changes no byte: after each amendment that is accepted, or
 /// once, after the last record. The second costs one `match`, and for each record the cost of `Papers::apply` and
-/// of its line and its reply. Where a growth is refused, what was written before it may differ.
+/// of its line and its reply. Where a growth is refused, what was written before it may differ. Before a script with a
+/// line for each 500 students the students of each district are put together in the order of entry, which changes no
+/// byte either.
 ///
 /// The journal is never full: from 999,999,999 accepted amendments on, every amendment is refused as `Spent`.
 ///

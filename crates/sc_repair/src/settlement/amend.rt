@@ -37,8 +37,9 @@ impl Settlement {
     ///
     /// An `Enter` costs its `check` and an offer for each proposal of the newcomer's chain, however many students
     /// there are, but for a table that grows now and then. It changes what stands in place, and takes that
-    /// back where a growth is refused. The first `Enter` after another amendment or after a refused growth also costs
-    /// an offer for each student and a look at each entry of the log, by which everybody is put back where they stand.
+    /// back where a growth is refused. The first `Enter` after a withdrawal, after another amendment whose region is not
+    /// everybody, or after a refused growth also costs an offer for each student and a look at each entry of the log, by
+    /// which everybody is put back where they stand.
     ///
     /// Any other amendment costs that of finding the region, a look at each school, a look at each
     /// segment of the region's students before the rewind point, and an offer for each proposal of the others; a

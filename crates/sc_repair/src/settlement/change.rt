@@ -9,6 +9,7 @@ ghost use Rattle.sc_repair.specs.Standing.{CountsRegion, IsCertified, KeepsOther
 
 use super::Settlement;
 use crate::districts::{exchange, give_up, reach};
+use crate::kept_round::{kept, lend};
 use crate::resettling::resettle;
 use crate::rewind::point_in;
 use sc_papers::{Amendment, Refusal};
@@ -33,6 +34,7 @@ impl Settlement {
         let point = point_in(&self.papers, &region, &amendment);
         let back = exchange(&mut self.papers, &mut self.districts, amendment)?;
         let end = self.papers.students_len();
+        lend(&mut self.round, &mut self.spare);
         let settled = resettle(
             &mut self.spare,
             self.alloc,
@@ -47,7 +49,7 @@ impl Settlement {
             Ok(proposals) => {
                 drop(back);
                 self.proposals = proposals;
-                self.round = None;
+                self.round = kept(&mut self.spare, &self.papers, &region, &self.segments);
                 Ok(())
             }
             Err(_) => {

@@ -9,6 +9,7 @@ ghost use Rattle.sc_repair.specs.Standing.{CountsRegion, IsCertified, KeepsOther
 
 use super::Settlement;
 use crate::districts::{follow, give_up, reach};
+use crate::kept_round::lend;
 use crate::resettling::resettle;
 use crate::rewind::rewind_point;
 use sc_papers::{Amendment, Refusal, StudentNo};
@@ -51,6 +52,7 @@ impl Settlement {
         let last = self.papers.students_len() - 1;
         follow(&mut self.districts, &self.papers, &amendment);
         self.papers.move_student(point, last);
+        lend(&mut self.round, &mut self.spare);
         // All but the last student are settled.
         let settled = resettle(
             &mut self.spare,

@@ -1,15 +1,20 @@
-use Rattle.std.proofs.Common.{◌≡◌, ℕ, List, ap, sym, subst, subst₂, ◌∙◌, IfSome, take}
+use Rattle.std.proofs.Common.{◌≡◌, ℕ, List, true, Contains, ap, sym, subst, subst₂, ◌∙◌, IfSome, take}
 use Rattle.sc_papers.specs.Market.{Market, students_of}
 use Rattle.sc_checkpoint.specs.Chains.{logs_in, students_in, Chain}
+use Rattle.sc_engine.specs.Round.{view_of}
+use Rattle.sc_engine.specs.RoundView.{without_log}
 use Rattle.sc_region.specs.Marks.{marked}
 use Rattle.sc_repair.specs.Changed.{standing_of}
 use Rattle.sc_repair.specs.Locality.{is_among, marked_in, TellsRegion}
 use Rattle.sc_region.specs.Districts.{AreDistricts}
 use Rattle.sc_repair.specs.Representation.{IsKept}
+use Rattle.sc_repair.specs.Newcomer.{StandsAfter}
 use Rattle.sc_repair.specs.Rewinding.{rewind_point}
 use Rattle.sc_repair.specs.Standing.{Standing, CountsInside, CountsRegion, IsCertified, KeepsOthers}
 use Rattle.sc_repair.proofs.Admitted.{still-certified}
 use Rattle.sc_repair.proofs.Changed.{in-place-changed, whole-cut-of}
+use Rattle.sc_repair.proofs.InStep.{students-stay}
+use Rattle.sc_repair.proofs.KeptRound.{kept-round, lent-round}
 use Rattle.sc_repair.proofs.Regional.{counts-region, keeps-others, marks-count, marks-tell}
 use Rattle.sc_repair.proofs.settlement.Settlement.change.Goals as goal
 
@@ -31,11 +36,22 @@ resettle-settled-requires c =
       one_each = marks-count m c.in_ok-region.region c.self.inside.segments c.in_ok-region.ensures.one_each c.self.invariant.theirs;
     }
 
+pub kept-requires-clause-stands : goal.kept-requires-clause-stands
+kept-requires-clause-stands c =
+    let new = c.resettle-settled.new.segments in
+    let theirs : students_in new ≡ students_in c.self.inside.segments =
+    c.in-Ok.ensures.theirs
+    ∙ ap students_of (whole-cut-of c.exchange.new.papers c.students_len-end.result c.students_len-end.ensures.count ∙ c.in_ok-back.ensures.accepted)
+    ∙ students-stay c.self.inside.papers c.args.amendment c.requires.no_entry c.requires.no_withdrawal
+    ∙ sym c.self.invariant.theirs in
+    subst (λ (is : List ℕ). IfSome c.resettle-settled.new.spare (λ round. ((i : ℕ) → Contains (students_in new) i → is_among (marked c.in_ok-region.region is) i ≡ true) → StandsAfter c.exchange.new.papers new (without_log (view_of (λ roll. roll.keys) (λ roll. roll.seats) round))))
+    (sym theirs) c.in-Ok.ensures.stands
+
 pub invariant_of-self-in-Ok : goal.invariant_of-self-in-Ok
 invariant_of-self-in-Ok c = record {
   certified = subst (λ n. IsCertified (standing_of n c.resettle-settled.new.places c.resettle-settled.new.segments c.in-Ok.proposals)) (whole-cut-of c.exchange.new.papers c.students_len-end.result c.students_len-end.ensures.count) c.in-Ok.ensures.certified;
   theirs = c.in-Ok.ensures.theirs ∙ ap students_of (whole-cut-of c.exchange.new.papers c.students_len-end.result c.students_len-end.ensures.count);
-  round = tt;
+  round = kept-round (λ roll. roll.keys) (λ roll. roll.seats) c.exchange.new.papers c.resettle-settled.new.segments c.kept.result c.kept.ensures.ready c.kept.ensures.stands;
   districts = c.in_ok-back.ensures.districts;
 }
 
@@ -46,7 +62,7 @@ invariant_of-self-in-Err c =
       certified = still-certified c.self.inside.papers c.take_back.new.self c.self.inside.segments c.resettle-settled.new.segments c.self.inside.places c.resettle-settled.new.places c.self.inside.proposals
           papers c.in-Err.ensures.places_unchanged c.in-Err.ensures.segments_unchanged c.self.invariant.certified;
       theirs = ap students_in c.in-Err.ensures.segments_unchanged ∙ c.self.invariant.theirs ∙ ap students_of (sym papers);
-      round = subst₂ (λ m chains. IfSome c.self.inside.round (IsKept m chains)) (sym papers) (sym c.in-Err.ensures.segments_unchanged) c.self.invariant.round;
+      round = subst₂ (λ m chains. IfSome c.lend.new.round (IsKept m chains)) (sym papers) (sym c.in-Err.ensures.segments_unchanged) (lent-round (IsKept c.self.inside.papers c.self.inside.segments) c.self.inside.round c.lend.new.round c.lend.ensures c.self.invariant.round);
       districts = subst (λ o. IfSome o (AreDistricts c.take_back.new.self)) (sym c.give_up.ensures) tt;
     }
 
