@@ -18,6 +18,7 @@ use Rattle.sc_papers.proofs.Amending.{WellFormed-after}
 use Rattle.sc_papers.proofs.EntryOrder.{WellFormed-swapped}
 use Rattle.sc_papers.proofs.Objections.{first_of-none}
 use Rattle.sc_papers.proofs.TakingBack.{known-student}
+use Rattle.sc_stamps.proofs.Given.{given-swapped}
 use Rattle.sc_stamps.proofs.Places.{length-put}
 use Rattle.sc_stamps.proofs.Step.{in-step-after}
 use Rattle.sc_stamps.specs.declared.marking.Marking.{Marking}
@@ -132,7 +133,12 @@ module _ (t : TurnsOfEntry) (m : Market) (stamps : Stamps) (kept : AreInTurn t m
   pub kept-swapped : (a b : ℕ) → a < length m.students → b < length m.students → AreInTurn (swapped a b t) (with_swapped_students m a b) (with_swapped_stamps stamps a b)
   kept-swapped a b low high = record {
     well_formed = WellFormed-swapped m a b low high kept.well_formed;
-    in_step = record { students = length-swap stamps.students a b ∙ kept.in_step.students ∙ sym (length-swap m.students a b); schools = kept.in_step.schools };
+    in_step = record {
+      students = length-swap stamps.students a b ∙ kept.in_step.students ∙ sym (length-swap m.students a b);
+      schools = kept.in_step.schools;
+      students_given = given-swapped stamps.accepted stamps.students a b (omega (arith, kept.in_step.students, low)) (omega (arith, kept.in_step.students, high)) kept.in_step.students_given;
+      schools_given = kept.in_step.schools_given;
+    };
     turns = AreTurns-swapped t a b (omega (arith, kept.count, low)) (omega (arith, kept.count, high)) kept.turns;
     count = length-swap t.turns a b ∙ kept.count ∙ sym (length-swap m.students a b);
   }

@@ -1,12 +1,13 @@
 -- Papers and stamps in order of turn: what the rules say of them, and what an amendment makes of them.
-use Rattle.std.proofs.Common.{◌≡◌, refl, sym, ap, subst, ◌∙◌, ℕ, ◌-◌, ◌<◌, nat_eq, List, [], ◌∷◌, length, map, remove, position, slice_get, slice_set, slice_index_or, Option, Some, None, arith}
+use Rattle.std.proofs.Common.{◌≡◌, refl, sym, ap, subst, ◌∙◌, ℕ, ◌-◌, ◌<◌, ◌≤◌, nat_eq, List, [], ◌∷◌, length, map, remove, position, slice_get, slice_set, slice_index_or, Option, Some, None, arith}
 use Rattle.std.specs.Prelude.{is_some, nat_le, not}
-use Rattle.std.specs.List.{IsDistinct}
+use Rattle.std.specs.List.{IsDistinct, cons_option}
 use Rattle.std.specs.Map.{keys_of, lookup, remove_entry, set_value}
 use Rattle.std.specs.Option.{option_and_then}
 use Rattle.std.proofs.lemmas.Cmp.{nat_eq_equiv}
 use Rattle.std.proofs.lemmas.Bool.{false≢true}
 use Rattle.std.proofs.lemmas.List.{append-nil, map-id}
+use Rattle.std.proofs.lemmas.List.Elements.{All-cons, All-nil}
 use Rattle.std.proofs.lemmas.List.Sorted.{IsPermutation-map, length_permutation}
 use Rattle.std.proofs.lemmas.Map.Keys.{IsDistinct-IsPermutation}
 use Rattle.std.proofs.lemmas.Option.{get_or_from_slice_get, slice_get-get_or, slice_get_within}
@@ -22,13 +23,24 @@ use Rattle.sc_papers.specs.declared.amendment.Refusal.TheVariants.{RosterFull, S
 use Rattle.sc_papers.specs.declared.amendment.Stamped.{Stamped}
 use Rattle.sc_papers.specs.declared.limits.TheConstants.{MOST_STUDENTS}
 use Rattle.sc_stamps.specs.Record.{record_of}
-use Rattle.sc_stamps.specs.Stamps.{IsInStep, Stamps, stamp_at, stamp_of}
+use Rattle.sc_stamps.specs.Stamps.{AreGiven, IsInStep, Stamps, stamp_at, stamp_of}
 use Rattle.sc_stamps.specs.Verdict.{stamp_verdict, stamped_verdict}
 use Rattle.sc_stamps.specs.declared.record.Record.{Record}
 use Rattle.sc_stamps.specs.declared.record.Record.TheVariants.{OfStudent, OfSchool}
 use Rattle.sc_repair.specs.Turns.{AreInTurn, AreTurns, TurnsOfEntry, unless_at, in_turn, left, papers_in_turn, stamped_in_turn, stamps_in_turn}
 use Rattle.sc_repair.proofs.EntryTurns.{turn-alone, turn-of, turns-each}
 use Rattle.sc_repair.proofs.InTurn.{Alone, Each, earlier, earlier-same, in_turn-left, in_turn-length, in_turn-permutes, in_turn-set, last-apart, remove-seam, turn-there}
+
+-- in order of turn no stamp is greater than the number of accepted amendments
+given-one : (n : ℕ) (stamps : List ℕ) (p : ℕ) (rest : List ℕ) → AreGiven n stamps → AreGiven n rest → (found : Option ℕ) → slice_get stamps p ≡ found → AreGiven n (cons_option found rest)
+given-one n stamps p rest given others None none = others
+given-one n stamps p rest given others (Some stamp) here =
+    All-cons (λ one. one ≤ n) stamp rest (omega (arith, given p stamp (slice_get_within stamps p stamp here), get_or_from_slice_get stamps p stamp stamp here)) others
+
+given-in_turn : (n : ℕ) (positions : List (Option ℕ)) (stamps : List ℕ) → AreGiven n stamps → AreGiven n (in_turn positions stamps)
+given-in_turn n [] stamps given = All-nil (λ stamp. stamp ≤ n)
+given-in_turn n (None ∷ positions) stamps given = given-in_turn n positions stamps given
+given-in_turn n (Some p ∷ positions) stamps given = given-one n stamps p (in_turn positions stamps) given (given-in_turn n positions stamps given) (slice_get stamps p) refl
 
 -- what stands at the position of a number
 pub entry-at : {X : Type 0} (i p : ℕ) (es : List (ℕ × X)) → position (nat_eq i) (keys_of es) ≡ Some p → (v : X) × (lookup (nat_eq i) es ≡ Some v) × (slice_get es p ≡ Some (i, v))
@@ -166,9 +178,11 @@ module _ (t : TurnsOfEntry) (m : Market) (stamps : Stamps) (kept : AreInTurn t m
   stamped_verdict-in_turn stamped =
       (λ u. first_of (verdict-in_turn stamped.amendment u ∷ stamp_verdict (stamp-in_turn (record_of stamped.amendment) u) stamped.stamp stamps.accepted ∷ []))
 
-  -- in order of turn, each has a stamp too
+  -- in order of turn, the stamps are in step too
   pub step-in_turn : IsInStep (papers_in_turn t.positions m) (stamps_in_turn t.positions stamps)
   step-in_turn = record {
     students = in_turn-length t.positions stamps.students m.students stamps-many;
     schools = kept.in_step.schools;
+    students_given = given-in_turn stamps.accepted t.positions stamps.students kept.in_step.students_given;
+    schools_given = kept.in_step.schools_given;
   }

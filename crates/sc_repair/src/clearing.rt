@@ -39,9 +39,9 @@ impl Clearing {
     ghost use Rattle.sc_repair.specs.Stamped.{stamped_papers};
     ghost use Rattle.sc_repair.specs.Standing.{CountsRegion, IsCertified, IsOptimal, KeepsOthers, held_at, log_of, matching_of, papers_after, place_of, proposals_from_scratch};
 
-    /// Settles papers that were amended before, whose records have these stamps, one for each: the standing assignment is
-    /// their student-optimal stable matching, and the log certifies it. The only error is want of memory, which
-    /// gives the papers back unchanged.
+    /// Settles papers that were amended before, whose records have these stamps, one for each and none greater than the
+    /// number of accepted amendments: the standing assignment is their student-optimal stable matching, and the log
+    /// certifies it. The only error is want of memory, which gives the papers back unchanged.
     ///
     /// The cost is an offer for each proposal, and memory is taken in proportion to the students, the
     /// schools and the rejections.
@@ -146,9 +146,11 @@ impl Clearing {
         self.settlement.proposals_last()
     }
 
-    /// How many amendments were accepted since the opening: the stamp that the last of them gave its record.
+    /// How many amendments were accepted since the opening: the stamp that the last of them gave its record. Whichever
+    /// clearing this is, its stamps are in step with its papers, so that none is greater than this number.
     pub fn accepted(&self) -> Stamp
-        ensures { result ≡ self.now.stamps.accepted }
+        ensures count { result ≡ self.now.stamps.accepted }
+        ensures in_step { IsInStep self.now.standing.papers self.now.stamps }
     {
         self.stamps.accepted()
     }

@@ -40,7 +40,7 @@ impl Unsettled {
     ghost use Rattle.sc_papers.specs.declared.amendment.Refusal.TheVariants.{OutOfMemory};
     ghost use Rattle.sc_papers.specs.declared.stamp.TheConstants.Stamp.{GREATEST};
     ghost use Rattle.sc_stamps.specs.Record.{record_of};
-    ghost use Rattle.sc_stamps.specs.Stamps.{stamp_of};
+    ghost use Rattle.sc_stamps.specs.Stamps.{stamp_of, IsInStep};
     ghost use Rattle.sc_stamps.specs.Verdict.{stamped_after, stamped_verdict, unamended};
     ghost use Rattle.sc_repair.specs.Stamped.{stamped_papers};
     ghost use Rattle.sc_repair.specs.Standing.{matching_of, proposals_from_scratch, IsCertified};
@@ -90,9 +90,11 @@ impl Unsettled {
         papers
     }
 
-    /// How many amendments were accepted: the stamp that the last of them gave its record.
+    /// How many amendments were accepted: the stamp that the last of them gave its record. Whichever papers these are,
+    /// their stamps are in step with them, so that none is greater than this number.
     pub fn accepted(&self) -> Stamp
-        ensures { result ≡ self.now.stamps.accepted }
+        ensures count { result ≡ self.now.stamps.accepted }
+        ensures in_step { IsInStep self.now.papers self.now.stamps }
     {
         self.stamps.accepted()
     }

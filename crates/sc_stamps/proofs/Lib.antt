@@ -1,4 +1,5 @@
 pub mod Places
+pub mod Given
 pub mod Step
 pub mod Stamping
 pub mod Turns

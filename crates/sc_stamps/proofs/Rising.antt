@@ -1,50 +1,30 @@
 -- The stamps that accepted amendments of one record carried rise.
-use Rattle.std.proofs.Common.{◌≡◌, inl, inr, sym, ap, subst, ◌∙◌, ℕ, zero, suc, ◌+◌, ◌<◌, ◌≤◌, Bool, true, false, List, [], ◌∷◌, None, Some, slice_get, arith}
+use Rattle.std.proofs.Common.{◌≡◌, inl, inr, sym, ap, subst, ◌∙◌, ℕ, zero, suc, ◌+◌, ◌<◌, ◌≤◌, true, false, List, [], ◌∷◌, None, Some, slice_get, arith}
 use Rattle.std.proofs.lemmas.Bool.{cases_Bool}
-use Rattle.sc_papers.specs.Market.{Market}
-use Rattle.sc_papers.specs.Verdict.{after, verdict}
+use Rattle.sc_papers.specs.Verdict.{verdict}
 use Rattle.sc_papers.specs.WellFormed.{WellFormed}
 use Rattle.sc_papers.specs.declared.amendment.Stamped.{Stamped}
 use Rattle.sc_papers.proofs.Amending.{WellFormed-after}
 use Rattle.sc_stamps.specs.History.{accepted_among, is_entry}
 use Rattle.sc_stamps.specs.Record.{is_record, is_same, record_of}
 use Rattle.sc_stamps.specs.Stamps.{IsInStep, stamp_of}
-use Rattle.sc_stamps.specs.Verdict.{StampedPapers, stamped_after, stamped_verdict, unamended}
+use Rattle.sc_stamps.specs.Verdict.{StampedPapers, stamped_after, stamped_verdict}
 use Rattle.sc_stamps.specs.declared.record.Record.{Record}
-use Rattle.sc_stamps.proofs.Places.{marked}
-use Rattle.sc_stamps.proofs.Stamping.{counted-after, known-accepted, known-after, stamp-after, stamp-new, stamp-old}
+use Rattle.sc_stamps.proofs.Given.{stamp-given}
+use Rattle.sc_stamps.proofs.Stamping.{counted-after, known-accepted, known-after, stamp-new, stamp-old}
 use Rattle.sc_stamps.proofs.Step.{in-step-after}
-use Rattle.sc_stamps.proofs.Turns.{accepted-or-refused, allowed-carried, among-accepted, among-refused, in-step-opening, stamp-opening}
+use Rattle.sc_stamps.proofs.Turns.{accepted-or-refused, allowed-carried, among-accepted, among-refused}
 
--- well-formed papers with a stamp for each record, none greater than the number accepted
+-- well-formed papers with stamps in step
 record IsSound (p : StampedPapers) : Type 0 where
   well : WellFormed p.papers
   step : IsInStep p.papers p.stamps
-  within : (r : Record) → stamp_of p.papers p.stamps r ≤ p.stamps.accepted
-
-sound-opening : (m : Market) → WellFormed m → IsSound (unamended m)
-sound-opening m well = record {
-  well = well;
-  step = in-step-opening m;
-  within = λ r. omega (arith, stamp-opening m r);
-}
 
 -- an accepted amendment leaves them so
-marked-within : (known same : Bool) (new old : ℕ) → old ≤ new → marked known same new old ≤ new
-marked-within false same new old low = omega arith
-marked-within true true new old low = omega arith
-marked-within true false new old low = low
-
 sound-after : (p : StampedPapers) (stamped : Stamped) → IsSound p → verdict p.papers stamped.amendment ≡ None → IsSound (stamped_after p stamped.amendment)
 sound-after p stamped sound allowed = record {
   well = WellFormed-after p.papers stamped.amendment sound.well allowed;
   step = in-step-after p.papers p.stamps stamped.amendment sound.step;
-  within = λ r. omega (
-    arith,
-    stamp-after p.papers p.stamps stamped.amendment r sound.well allowed sound.step,
-    marked-within (is_record (after p.papers stamped.amendment) r) (is_same (record_of stamped.amendment) r) (p.stamps.accepted + 1) (stamp_of p.papers p.stamps r) (omega (arith, sound.within r)),
-    counted-after p.papers p.stamps stamped.amendment,
-  );
 }
 
 -- while the record is in the papers its stamp is not less than this
@@ -116,7 +96,7 @@ carried-first p earlier rest k later sound accepted here same no_entry =
     omega (
       arith,
       both.1,
-      sound.within (record_of earlier.amendment),
+      stamp-given p.papers p.stamps (record_of earlier.amendment) sound.step,
       carried-later (p.stamps.accepted + 1) (stamped_after p earlier.amendment) rest k later (sound-after p earlier sound both.0)
           (omega (arith, counted-after p.papers p.stamps earlier.amendment)) least here no_entry,
     )
@@ -151,8 +131,8 @@ rising p (stamped ∷ rest) (suc j) (suc k) earlier later sound before first sec
           (ap (λ l. slice_get l (suc k)) (sym (among-refused p stamped rest refusal refused)) ∙ second) same no_entry
     ]
 
-pub rising-opening : (m : Market) (list : List Stamped) (j k : ℕ) (earlier later : Stamped) → WellFormed m → j < k
-    → slice_get (accepted_among (unamended m) list) j ≡ Some earlier → slice_get (accepted_among (unamended m) list) k ≡ Some later
+pub rising-in-step : (p : StampedPapers) (list : List Stamped) (j k : ℕ) (earlier later : Stamped) → WellFormed p.papers → IsInStep p.papers p.stamps → j < k
+    → slice_get (accepted_among p list) j ≡ Some earlier → slice_get (accepted_among p list) k ≡ Some later
     → is_same (record_of earlier.amendment) (record_of later.amendment) ≡ true → is_entry later.amendment ≡ false → earlier.stamp < later.stamp
-rising-opening m list j k earlier later well before first second same no_entry =
-    rising (unamended m) list j k earlier later (sound-opening m well) before first second same no_entry
+rising-in-step p list j k earlier later well step before first second same no_entry =
+    rising p list j k earlier later (record { well = well; step = step }) before first second same no_entry

@@ -1,4 +1,4 @@
--- There is a stamp for each record after each amendment.
+-- The stamps are in step after each amendment.
 use Rattle.std.proofs.Common.{◌≡◌, refl, sym, ap, ◌∙◌, ℕ, ◌+◌, nat_eq, [], ◌∷◌, length, Option, Some, None, position, length-append, arith}
 use Rattle.std.proofs.lemmas.Map.{length-set_value}
 use Rattle.sc_papers.specs.Market.{Market, school_of, schools_of, student_of, students_of}
@@ -8,6 +8,7 @@ use Rattle.sc_papers.specs.declared.amendment.Amendment.TheVariants.{Enter, With
 use Rattle.sc_papers.specs.declared.records.School.{School}
 use Rattle.sc_papers.specs.declared.records.Student.{Student}
 use Rattle.sc_stamps.specs.Stamps.{IsInStep, Stamps, stamps_after, with_stamp}
+use Rattle.sc_stamps.proofs.Given.{given-more, given-out, given-pushed, given-put}
 use Rattle.sc_stamps.proofs.Places.{length-out, length-put}
 
 -- to change a student or a school adds and removes none
@@ -40,33 +41,41 @@ students-changed_school m s change = by_case (school_of m s) refl
     by_case (Some school) e = rw e refl
 
 -- the stamps stay in step where a student or a school gets a new stamp
-in-step-student : (m : Market) (stamps : Stamps) (i accepted : ℕ) (place : Option ℕ) (change : Student → Student) → IsInStep m stamps
-    → IsInStep (changed_student m i change) (record stamps { accepted = accepted; students = with_stamp stamps.students place accepted })
-in-step-student m stamps i accepted place change step = record {
-  students = length-put stamps.students place accepted ∙ step.students ∙ sym (length-changed_student m i change);
+in-step-student : (m : Market) (stamps : Stamps) (i : ℕ) (place : Option ℕ) (change : Student → Student) → IsInStep m stamps
+    → IsInStep (changed_student m i change) (record stamps { accepted = stamps.accepted + 1; students = with_stamp stamps.students place (stamps.accepted + 1) })
+in-step-student m stamps i place change step = record {
+  students = length-put stamps.students place (stamps.accepted + 1) ∙ step.students ∙ sym (length-changed_student m i change);
   schools = step.schools ∙ sym (ap length (schools-changed_student m i change));
+  students_given = given-put stamps.accepted stamps.students place step.students_given;
+  schools_given = given-more stamps.accepted stamps.schools step.schools_given;
 }
 
-in-step-school : (m : Market) (stamps : Stamps) (s accepted : ℕ) (place : Option ℕ) (change : School → School) → IsInStep m stamps
-    → IsInStep (changed_school m s change) (record stamps { accepted = accepted; schools = with_stamp stamps.schools place accepted })
-in-step-school m stamps s accepted place change step = record {
+in-step-school : (m : Market) (stamps : Stamps) (s : ℕ) (place : Option ℕ) (change : School → School) → IsInStep m stamps
+    → IsInStep (changed_school m s change) (record stamps { accepted = stamps.accepted + 1; schools = with_stamp stamps.schools place (stamps.accepted + 1) })
+in-step-school m stamps s place change step = record {
   students = step.students ∙ sym (ap length (students-changed_school m s change));
-  schools = length-put stamps.schools place accepted ∙ step.schools ∙ sym (length-changed_school m s change);
+  schools = length-put stamps.schools place (stamps.accepted + 1) ∙ step.schools ∙ sym (length-changed_school m s change);
+  students_given = given-more stamps.accepted stamps.students step.students_given;
+  schools_given = given-put stamps.accepted stamps.schools place step.schools_given;
 }
 
--- so there is a stamp for each student and each school of the papers after an amendment
+-- so they are in step with the papers after an amendment
 pub in-step-after : (m : Market) (stamps : Stamps) (a : Amendment) → IsInStep m stamps → IsInStep (after m a) (stamps_after m a stamps)
 in-step-after m stamps (Enter i zone siblings choices continuing) step =
     let student : Student = record { zone = zone; siblings = siblings; choices = choices; continuing = continuing } in
     record {
       students = omega (arith, step.students, length-append stamps.students ((stamps.accepted + 1) ∷ []), length-append m.students ((i, student) ∷ []));
       schools = step.schools;
+      students_given = given-pushed stamps.accepted stamps.students step.students_given;
+      schools_given = given-more stamps.accepted stamps.schools step.schools_given;
     }
 in-step-after m stamps (Withdraw i) step = record {
   students = length-out (nat_eq i) m.students stamps.students step.students;
   schools = step.schools;
+  students_given = given-out stamps.accepted stamps.students (position (nat_eq i) (students_of m)) step.students_given;
+  schools_given = given-more stamps.accepted stamps.schools step.schools_given;
 }
-in-step-after m stamps (Rerank i choices) step = in-step-student m stamps i (stamps.accepted + 1) (position (nat_eq i) (students_of m)) _ step
-in-step-after m stamps (Add s count) step = in-step-school m stamps s (stamps.accepted + 1) (position (nat_eq s) (schools_of m)) _ step
-in-step-after m stamps (Close s count) step = in-step-school m stamps s (stamps.accepted + 1) (position (nat_eq s) (schools_of m)) _ step
-in-step-after m stamps (Correct i zone siblings continuing) step = in-step-student m stamps i (stamps.accepted + 1) (position (nat_eq i) (students_of m)) _ step
+in-step-after m stamps (Rerank i choices) step = in-step-student m stamps i (position (nat_eq i) (students_of m)) _ step
+in-step-after m stamps (Add s count) step = in-step-school m stamps s (position (nat_eq s) (schools_of m)) _ step
+in-step-after m stamps (Close s count) step = in-step-school m stamps s (position (nat_eq s) (schools_of m)) _ step
+in-step-after m stamps (Correct i zone siblings continuing) step = in-step-student m stamps i (position (nat_eq i) (students_of m)) _ step

@@ -18,6 +18,7 @@ use Rattle.sc_stamps.specs.Stamps.{IsInStep, no_stamps, stamp_at, stamp_of, stam
 use Rattle.sc_stamps.specs.Verdict.{StampedPapers, after_stamped_verdict, stamp_verdict, stamped_after, stamped_verdict}
 use Rattle.sc_stamps.specs.declared.record.Record.{Record}
 use Rattle.sc_stamps.specs.declared.record.Record.TheVariants.{OfStudent, OfSchool}
+use Rattle.sc_stamps.proofs.Given.{given-zeros}
 use Rattle.sc_stamps.proofs.Stamping.{counted-after, known-after, stamp-absent, stamp-new, stamp-old}
 use Rattle.sc_stamps.proofs.Step.{in-step-after}
 
@@ -175,7 +176,7 @@ stamp-list p (stamped ∷ rest) r found well step is =
           ∙ sym (λ t. cond (is_record (same t).papers r) (last_from (p.stamps.accepted + 1) r (among-refused p stamped rest refusal refused t) found) 0)
     ]
 
--- at the opening each stamp is 0, and there is one for each record
+-- at the opening each stamp is 0, and they are in step
 zero-at : (n k : ℕ) → ◌≡◌ {A = ℕ} (slice_index_or (replicate n 0) k 0) 0
 zero-at zero k = refl
 zero-at (suc n) zero = refl
@@ -190,4 +191,9 @@ stamp-opening m (OfStudent i) = zero-stamp (length m.students) _
 stamp-opening m (OfSchool s) = zero-stamp (length m.schools) _
 
 pub in-step-opening : (m : Market) → IsInStep m (no_stamps m)
-in-step-opening m = record { students = length-replicate (length m.students) 0; schools = length-replicate (length m.schools) 0 }
+in-step-opening m = record {
+  students = length-replicate (length m.students) 0;
+  schools = length-replicate (length m.schools) 0;
+  students_given = given-zeros 0 (length m.students);
+  schools_given = given-zeros 0 (length m.schools);
+}

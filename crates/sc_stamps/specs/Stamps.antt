@@ -1,5 +1,5 @@
 -- The stamps of the records of papers.
-use Rattle.std.specs.Prelude.{◌≡◌, ℕ, ◌+◌, nat_eq, List, [], ◌∷◌, ◌++◌, length, position, remove, replicate, slice_index_or, slice_set, swap, Option, None, Some}
+use Rattle.std.specs.Prelude.{◌≡◌, ◌≤◌, ℕ, ◌+◌, ◌-◌, nat_eq, List, [], ◌∷◌, ◌++◌, All, length, position, remove, replicate, slice_index_or, slice_set, swap, take, Option, None, Some}
 use Rattle.sc_papers.specs.Market.{Market, schools_of, students_of}
 use Rattle.sc_papers.specs.declared.amendment.Amendment.{Amendment}
 use Rattle.sc_papers.specs.declared.amendment.Amendment.TheVariants.{Enter, Withdraw, Rerank, Add, Close, Correct}
@@ -18,10 +18,16 @@ pub record Stamps : Type 0 where
 abbrev pub no_stamps : Market → Stamps
 no_stamps m = record { accepted = 0; students = replicate (length m.students) 0; schools = replicate (length m.schools) 0 }
 
--- there is a stamp for each student and for each school
+-- so many amendments were accepted that each of these stamps can have been given
+abbrev pub AreGiven : ℕ → List ℕ → Type 0
+AreGiven accepted stamps = All (λ stamp. stamp ≤ accepted) stamps
+
+-- there is a stamp for each student and for each school, and none is greater than the last that was given
 pub record IsInStep (m : Market) (stamps : Stamps) : Type 0 where
   pub students : length stamps.students ≡ length m.students
   pub schools : length stamps.schools ≡ length m.schools
+  pub students_given : AreGiven stamps.accepted stamps.students
+  pub schools_given : AreGiven stamps.accepted stamps.schools
 
 -- the stamp at a position, 0 where there is none
 abbrev pub stamp_at : List ℕ → Option ℕ → ℕ
@@ -58,6 +64,13 @@ begun Newcomer stamps = record stamps { students = stamps.students ++ (stamps.ac
 begun (StudentLeaves k) stamps = stamps
 begun (StudentStays k) stamps = stamps
 begun (School k) stamps = stamps
+
+-- the stamps when nobody enters after all: the last student's goes
+abbrev pub given_up : Marking → Stamps → Stamps
+given_up Newcomer stamps = record stamps { students = take (length stamps.students - 1) stamps.students }
+given_up (StudentLeaves k) stamps = stamps
+given_up (StudentStays k) stamps = stamps
+given_up (School k) stamps = stamps
 
 -- the stamps once the amendment is accepted: it is counted, and its record has its number, unless it is gone
 abbrev pub finished : Marking → Stamps → Stamps

@@ -12,7 +12,8 @@ ghost use Rattle.sc_stamps.specs.Stamps.{Stamps, no_stamps, stamp_of, stamps_aft
 ghost use Rattle.sc_stamps.specs.Verdict.{StampedPapers, stamped_after, stamped_verdict, unamended};
 ghost use Rattle.sc_stamps.specs.declared.record.Record.{Record};
 
-/// There is a stamp for each student and each school, at the opening and after each amendment.
+/// There is a stamp for each student and each school, at the opening and after each amendment, and none is
+/// greater than the number of accepted amendments.
 pub fn stamps_stay_in_step()
     ensures opening { (m : Market) → IsInStep m (no_stamps m) }
     ensures after { (m : Market) (stamps : Stamps) (a : Amendment) → IsInStep m stamps → IsInStep (after m a) (stamps_after m a stamps) }
@@ -40,10 +41,10 @@ pub fn stamp_is_the_number_of_the_last_amendment()
 {}
 
 /// No two accepted amendments of one record carried the same stamp, entries aside: the later one carried the
-/// greater.
+/// greater. So it is from whatever papers on, with whatever stamps in step.
 pub fn accepted_amendments_of_a_record_carry_rising_stamps()
-    ensures { (m : Market) (list : List Stamped) (j k : ℕ) (earlier later : Stamped) → WellFormed m → j < k
-        → slice_get (accepted_among (unamended m) list) j ≡ Some earlier → slice_get (accepted_among (unamended m) list) k ≡ Some later
+    ensures { (p : StampedPapers) (list : List Stamped) (j k : ℕ) (earlier later : Stamped) → WellFormed p.papers → IsInStep p.papers p.stamps → j < k
+        → slice_get (accepted_among p list) j ≡ Some earlier → slice_get (accepted_among p list) k ≡ Some later
         → is_same (record_of earlier.amendment) (record_of later.amendment) ≡ true → is_entry later.amendment ≡ false
         → earlier.stamp < later.stamp }
 {}

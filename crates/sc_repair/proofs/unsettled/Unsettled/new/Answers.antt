@@ -1,8 +1,9 @@
 use Rattle.std.proofs.Common.{◌≡◌, ℕ, length, replicate, ap, sym, subst, ◌∙◌}
 use Rattle.std.proofs.lemmas.List.{length-replicate}
-use Rattle.sc_stamps.specs.Stamps.{IsInStep, Stamps, no_stamps}
+use Rattle.sc_stamps.specs.Stamps.{Stamps, no_stamps}
 use Rattle.sc_stamps.specs.Verdict.{StampedPapers}
 use Rattle.sc_repair.specs.Turns.{AreInTurn, TurnsOfEntry, first_turns, in_turn, stamped_in_turn}
+use Rattle.sc_stamps.proofs.Turns.{in-step-opening}
 use Rattle.sc_repair.proofs.AmendedInTurn.{kept-first}
 use Rattle.sc_repair.proofs.InOrder.{first-in_turn}
 use Rattle.sc_repair.proofs.unsettled.Unsettled.new.Goals as goal
@@ -11,9 +12,8 @@ pub invariant_of-result : goal.invariant_of-result
 invariant_of-result c =
     let m = c.args.papers in
     let turns : c.in_ok-turns.turns ≡ first_turns (length m.students) = c.in_ok-turns.ensures ∙ ap first_turns c.students_len-students.ensures.count in
-    let step : IsInStep m (no_stamps m) = record { students = length-replicate (length m.students) 0; schools = length-replicate (length m.schools) 0 } in
     subst (λ (t : TurnsOfEntry). AreInTurn t m c.in_ok-stamps.stamps) (sym turns)
-    (subst (λ (s : Stamps). AreInTurn (first_turns (length m.students)) m s) (sym c.in_ok-stamps.ensures) (kept-first m (no_stamps m) c.students_len-students.ensures.well_formed step))
+    (subst (λ (s : Stamps). AreInTurn (first_turns (length m.students)) m s) (sym c.in_ok-stamps.ensures) (kept-first m (no_stamps m) c.students_len-students.ensures.well_formed (in-step-opening m)))
 
 pub returns-clause-unamended : goal.returns-clause-unamended
 returns-clause-unamended c =
