@@ -11,7 +11,39 @@ ghost use Rattle.sc_journal.specs.Journal.{journal_text, IsReplay};
 ghost use Rattle.sc_journal.specs.declared.journal.Tail.TheVariants.{Whole};
 ghost use Rattle.sc_runs.specs.Run.{accepted, after_script, answers};
 
+use sc_intake::MOST_BYTES;
 use sc_journal::LineNo;
+use sc_papers::{
+    Count, LONGEST_LIST, MOST_SCHOOLS, MOST_STUDENTS, SchoolNo, Seats, Stamp, StudentNo, Zone,
+};
+
+/// The greatest numbers: of students and of lines of the journal up to 999,999,999, and stamps as far; of schools up to
+/// 99,999, zones up to 9,999; 10,000 seats of a school, and as many in one amendment; 20 schools on a list, 5,000 schools
+/// and 200,000 students; 64 MiB of one input. Every other clause cites them by name.
+pub fn greatest_numbers_are_these()
+    ensures student { StudentNo.GREATEST ≡ 999999999 }
+    ensures school { SchoolNo.GREATEST ≡ 99999 }
+    ensures zone { Zone.GREATEST ≡ 9999 }
+    ensures seats { Seats.GREATEST ≡ 10000 }
+    ensures count { Count.GREATEST ≡ 10000 }
+    ensures list { LONGEST_LIST ≡ 20 }
+    ensures schools { MOST_SCHOOLS ≡ 5000 }
+    ensures students { MOST_STUDENTS ≡ 200000 }
+    ensures bytes { MOST_BYTES ≡ 67108864 }
+    ensures line { LineNo.GREATEST ≡ 999999999 }
+    ensures stamp { Stamp.GREATEST ≡ 999999999 }
+{}
+
+/// Which numbers are taken, from the least to the greatest: each of these and no other.
+pub fn numbers_are_taken_in_these_ranges(number: u32) {
+    prove!(StudentNo::new(number).is_some() == (1 <= number && number <= 999_999_999));
+    prove!(SchoolNo::new(number).is_some() == (1 <= number && number <= 99_999));
+    prove!(Zone::new(number).is_some() == (number <= 9_999));
+    prove!(Seats::new(number).is_some() == (number <= 10_000));
+    prove!(Count::new(number).is_some() == (1 <= number && number <= 10_000));
+    prove!(LineNo::new(number).is_some() == (1 <= number && number <= 999_999_999));
+    prove!(Stamp::new(number).is_some() == (number <= 999_999_999));
+}
 
 /// The journal of a run is replayed, over the papers of the opening, to the papers after the run, order
 /// of entry included, and to the stamps after it, and no line of it is torn.
