@@ -13,3 +13,4 @@ pub mod TwoWriters
 pub mod Verdicts
 pub mod LastReport
 pub mod Journaling
+pub mod DeskOrder

@@ -156,7 +156,7 @@ seed-changed_school m s change = by_case (school_of m s) refl
     by_case None none = rw none refl
     by_case (Some school) some = rw some refl
 
-seed-after : (m : Market) (a : Amendment) → (after m a).seed ≡ m.seed
+pub seed-after : (m : Market) (a : Amendment) → (after m a).seed ≡ m.seed
 seed-after m (Enter i zone siblings choices continuing) = refl
 seed-after m (Withdraw i) = refl
 seed-after m (Rerank i choices) = seed-changed_student m i (λ student. record student { choices = choices })

@@ -14,3 +14,4 @@ pub mod Explaining
 pub mod FaultLine
 pub mod Exporting
 pub mod Checking
+pub mod Desks

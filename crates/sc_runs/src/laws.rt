@@ -1,6 +1,8 @@
 //! What the texts of a run come to. Each function does nothing: its contract is the law.
 ghost use Rattle.std.specs.Prelude.{◌≡◌, ℕ, ◌≤◌, List, length, Result, Ok};
 ghost use Rattle.sc_papers.specs.Market.{Market};
+ghost use Rattle.sc_papers.specs.Interleaving.{IsInterleaving};
+ghost use Rattle.sc_papers.specs.Matching.{IsStudentOptimal, Matching};
 ghost use Rattle.sc_papers.specs.Reordering.{IsReordering};
 ghost use Rattle.sc_papers.specs.WellFormed.{WellFormed};
 ghost use Rattle.sc_papers.specs.declared.amendment.Refusal.{Refusal};
@@ -9,6 +11,8 @@ ghost use Rattle.sc_stamps.specs.Verdict.{unamended};
 ghost use Rattle.sc_intake.specs.Script.{script_in};
 ghost use Rattle.sc_journal.specs.Journal.{journal_text, IsReplay};
 ghost use Rattle.sc_journal.specs.declared.journal.Tail.TheVariants.{Whole};
+ghost use Rattle.sc_report.specs.Text.{report_text};
+ghost use Rattle.sc_runs.specs.Desks.{papers_after, AreSameUpToOrder};
 ghost use Rattle.sc_runs.specs.Run.{accepted, after_script, answers};
 
 use sc_intake::MOST_BYTES;
@@ -63,4 +67,17 @@ pub fn journal_of_a_run_is_never_full()
 pub fn order_of_entry_decides_no_run()
     ensures answers { (m n : Market) (script : List (Result Stamped Refusal)) → WellFormed m → IsReordering m n → answers 1 (unamended n) script ≡ answers 1 (unamended m) script }
     ensures papers { (m n : Market) (script : List (Result Stamped Refusal)) → WellFormed m → IsReordering m n → IsReordering (after_script (unamended n) script).papers (after_script (unamended m) script).papers }
+{}
+
+/// The order of stamped amendments decides nothing where it leaves the same papers: two lists of them over the same
+/// papers of an opening, or two interleavings of several desks' lists, refused ones among them, after which the schools
+/// and the students are the same up to order, leave every student the same, and one report.
+pub fn stamped_amendments_that_leave_the_same_papers_leave_one_report()
+    ensures matching { (m : Market) (first second : List Stamped) (a b : Matching) → WellFormed m → AreSameUpToOrder (papers_after m first) (papers_after m second)
+        → IsStudentOptimal (papers_after m first) a → IsStudentOptimal (papers_after m second) b → (i : ℕ) → a i ≡ b i }
+    ensures report { (m : Market) (first second : List Stamped) (a b : Matching) → WellFormed m → AreSameUpToOrder (papers_after m first) (papers_after m second)
+        → IsStudentOptimal (papers_after m first) a → IsStudentOptimal (papers_after m second) b → report_text (papers_after m first) a ≡ report_text (papers_after m second) b }
+    ensures desks { (m : Market) (desks : List (List Stamped)) (first second : List Stamped) (a b : Matching) → WellFormed m → IsInterleaving desks first → IsInterleaving desks second
+        → AreSameUpToOrder (papers_after m first) (papers_after m second) → IsStudentOptimal (papers_after m first) a → IsStudentOptimal (papers_after m second) b
+        → ((i : ℕ) → a i ≡ b i) × (report_text (papers_after m first) a ≡ report_text (papers_after m second) b) }
 {}
