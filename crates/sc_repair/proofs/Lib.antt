@@ -33,3 +33,4 @@ pub mod Regions
 pub mod FirstAmong
 pub mod Reordered
 pub mod KeptRound
+pub mod Bounded

@@ -7,6 +7,7 @@ mod districts;
 mod entering;
 mod entry_order;
 mod kept_round;
+pub mod laws;
 mod open_refused;
 mod pair_hints;
 mod places;
