@@ -1,6 +1,7 @@
 //! Amendments taking effect.
 
-ghost use Rattle.std.specs.Prelude.{◌≡◌, None, OnOk, OnErr, IfErr};
+ghost use Rattle.std.specs.Prelude.{◌≡◌, None, Some, false, OnOk, OnErr, IfErr};
+ghost use Rattle.sc_papers.specs.TakingBack.{is_entry};
 ghost use Rattle.sc_papers.specs.Verdict.{after, IsRefusal, verdict};
 
 use crate::amendment::{Amendment, Refusal};
@@ -13,11 +14,13 @@ impl Papers {
     /// of memory. After a refusal the papers are as before; the amendment is given up.
     ///
     /// The cost is that of `check`, with one draw of the lottery for a student who enters, and for one
-    /// who withdraws the shift that keeps the order. Only `Enter` takes memory.
+    /// who withdraws the shift that keeps the order. Only `Enter` takes memory, so no other amendment is
+    /// answered by want of it.
     pub fn apply(&mut self, amendment: Amendment) -> Result<(), Refusal>
         ensures allowed { OnOk result (verdict self.old amendment ≡ None) }
         ensures accepted { OnOk result (self.new ≡ after self.old amendment) }
         ensures refused { IfErr result (IsRefusal (verdict self.old amendment)) }
+        ensures memory { IfErr result (λ refusal. is_entry amendment ≡ false → verdict self.old amendment ≡ Some refusal) }
         ensures unchanged { OnErr result (self.new ≡ self.old) }
     {
         match amendment {

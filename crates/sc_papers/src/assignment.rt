@@ -102,9 +102,10 @@ impl Assignment {
     }
 
     /// Takes the last pair away, such as the one that was put last: so a growth that is refused later can
-    /// leave what was there before. It takes no memory. In constant time.
+    /// leave what was there before. Where there is none, it does nothing. It takes no memory. In constant time.
     pub fn take_last(&mut self)
-        ensures { (pairs : List (ℕ × ℕ)) (student school : ℕ) → self.old ≡ pairs ++ (student, school) ∷ [] → self.new ≡ pairs }
+        ensures pair { (pairs : List (ℕ × ℕ)) (student school : ℕ) → self.old ≡ pairs ++ (student, school) ∷ [] → self.new ≡ pairs }
+        ensures none { self.old ≡ [] → self.new ≡ [] }
     {
         let _ = self.places.pop();
     }

@@ -1,8 +1,8 @@
 //! Amendments taking effect so that they can be taken back.
 
-ghost use Rattle.std.specs.Prelude.{◌≡◌, false, None, OnOk, OnErr, IfErr, IfOk};
+ghost use Rattle.std.specs.Prelude.{◌≡◌, false, None, Some, OnOk, OnErr, IfErr, IfOk};
 ghost use Rattle.sc_papers.specs.Market.{Market};
-ghost use Rattle.sc_papers.specs.TakingBack.{TakesBack, is_withdrawal};
+ghost use Rattle.sc_papers.specs.TakingBack.{TakesBack, is_entry, is_withdrawal};
 ghost use Rattle.sc_papers.specs.Verdict.{after, verdict, IsRefusal};
 
 use crate::amendment::{Amendment, Refusal};
@@ -24,6 +24,7 @@ impl Papers {
         ensures accepted { OnOk result (self.new ≡ after self.old amendment) }
         ensures back { IfOk result (λ back. TakesBack self.old self.new back) }
         ensures refused { IfErr result (IsRefusal (verdict self.old amendment)) }
+        ensures memory { IfErr result (λ refusal. is_entry amendment ≡ false → verdict self.old amendment ≡ Some refusal) }
         ensures unchanged { OnErr result (self.new ≡ self.old) }
     {
         // This call tells that the papers are well-formed and within their limits, and so are the lists that
