@@ -146,9 +146,16 @@ fn settle(rt: &impl Abort, alloc: Global, unsettled: Unsettled) -> Result<String
 }
 
 pub fn amended_unsettled(rt: &impl Abort, alloc: Global) -> Result<String, AllocError> {
-    let mut unsettled = Unsettled::new(alloc, papers_of_b(rt, alloc))?;
-    enter_unsettled(rt, alloc, &mut unsettled);
-    settle(rt, alloc, unsettled)
+    match Unsettled::new(alloc, papers_of_b(rt, alloc)) {
+        Ok(mut unsettled) => {
+            enter_unsettled(rt, alloc, &mut unsettled);
+            settle(rt, alloc, unsettled)
+        }
+        Err(refused) => {
+            assert_eq!(rt; refused.papers.students_len(), 2);
+            Err(AllocError)
+        }
+    }
 }
 
 #[test]

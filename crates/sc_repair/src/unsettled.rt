@@ -6,7 +6,7 @@ use crate::open_refused::OpenRefused;
 use crate::turns::Turns;
 use sc_papers::{Amendment, Papers, Refusal, Stamp, Stamped};
 use sc_stamps::{Stamps, marking_of};
-use std::alloc::{AllocError, Global};
+use std::alloc::Global;
 use std::marker::Model;
 
 /// Papers that are amended and not settled, and the stamps of their records: for those who make many
@@ -46,15 +46,20 @@ impl Unsettled {
     ghost use Rattle.sc_repair.specs.Standing.{matching_of, proposals_from_scratch, IsCertified};
 
     /// Papers that no amendment was accepted for: each stamp is 0. Papers are always well-formed, and this
-    /// call tells its callers so. The only error is want of memory.
-    pub fn new(alloc: Global, papers: Papers) -> Result<Self, AllocError>
+    /// call tells its callers so. The only error is want of memory, which gives the papers back unchanged.
+    pub fn new(alloc: Global, papers: Papers) -> Result<Self, OpenRefused>
         ensures unamended { IfOk result (λ unsettled. unsettled ≡ unamended papers) }
         ensures well_formed { WellFormed papers }
+        ensures refused { IfErr result (λ refused. refused.papers ≡ papers) }
     {
         // Papers tell that they are well-formed where they tell how many students there are.
         let students = papers.students_len();
-        let turns = Turns::first(alloc, students)?;
-        let stamps = Stamps::new(alloc, &papers)?;
+        let Ok(turns) = Turns::first(alloc, students) else {
+            return Err(OpenRefused { papers });
+        };
+        let Ok(stamps) = Stamps::new(alloc, &papers) else {
+            return Err(OpenRefused { papers });
+        };
         Ok(Unsettled {
             papers,
             stamps,
@@ -122,15 +127,34 @@ impl Unsettled {
         ensures unchanged { OnErr result (self.new ≡ self.old) }
     {
         self.check(&stamped)?;
-        self.apply(stamped.amendment)
+        self.make_in_turn(stamped.amendment)
     }
 
     /// Makes an amendment that has no stamp of its own, so that it is never stale, and gives its record the next
-    /// stamp, or answers the first refusal of the papers, as `Papers::check` does, or in its place want of
+    /// stamp, or answers the first refusal of the papers, as `Papers::check` does, or else want of
     /// memory. After a refusal the papers and the stamps are as before; the amendment is given up.
     ///
-    /// The cost is that of `amend`, with one check.
+    /// The cost is that of `amend`.
     pub fn apply(&mut self, amendment: Amendment) -> Result<(), Refusal>
+        requires room { self.old.stamps.accepted < GREATEST }
+        ensures allowed { OnOk result (verdict self.old.papers amendment ≡ None) }
+        ensures accepted { OnOk result (self.new ≡ stamped_after self.old amendment) }
+        ensures refused { IfErr result (IsRefusal (verdict self.old.papers amendment)) }
+        ensures unchanged { OnErr result (self.new ≡ self.old) }
+    {
+        self.check_rules(&amendment)?;
+        self.make_in_turn(amendment)
+    }
+
+    /// The first refusal of the papers. It takes no memory.
+    fn check_rules(&self, amendment: &Amendment) -> Result<(), Refusal>
+        ensures { result ≡ unless_refused (verdict self.now.papers amendment.now) }
+    {
+        self.papers.check(amendment)
+    }
+
+    /// Does what `apply` does, but that want of memory may be answered in the place of the refusal of the papers.
+    fn make_in_turn(&mut self, amendment: Amendment) -> Result<(), Refusal>
         requires room { self.old.stamps.accepted < GREATEST }
         ensures allowed { OnOk result (verdict self.old.papers amendment ≡ None) }
         ensures accepted { OnOk result (self.new ≡ stamped_after self.old amendment) }

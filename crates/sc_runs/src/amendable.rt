@@ -84,7 +84,10 @@ impl Amendable for Unsettled {
     ghost stands = { λ unsettled. unsettled };
 
     fn open(alloc: Global, papers: Papers) -> Result<Self, AllocError> {
-        Unsettled::new(alloc, papers)
+        match Unsettled::new(alloc, papers) {
+            Ok(unsettled) => Ok(unsettled),
+            Err(_) => Err(AllocError),
+        }
     }
 
     fn accepted(&self) -> Stamp {

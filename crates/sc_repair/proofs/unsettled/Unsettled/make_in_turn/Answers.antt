@@ -4,7 +4,7 @@ use Rattle.sc_stamps.specs.Verdict.{StampedPapers, stamped_after}
 use Rattle.sc_stamps.specs.declared.marking.Marking.{Marking}
 use Rattle.sc_repair.specs.Turns.{AreInTurn, AreTurns, TurnsOfEntry, begun_turns, finished_turns, leaver, stamped_in_turn}
 use Rattle.sc_repair.proofs.AmendedInTurn.{done-in_turn, done-kept, kept-along, ready-kept, ready-same, ready-verdict, turns-begun}
-use Rattle.sc_repair.proofs.unsettled.Unsettled.apply.Goals as goal
+use Rattle.sc_repair.proofs.unsettled.Unsettled.make_in_turn.Goals as goal
 
 -- what holds in any case holds after an error
 either-way : {A E P : Type 0} (r : Result A E) → P → OnErr r P
