@@ -1,24 +1,36 @@
 -- How the readers of records keep where they stand in a text. Other contracts see the cursor alone.
-use Rattle.std.specs.Prelude.{◌≡◌, ℕ, true, false, List, [], map}
+use Rattle.std.specs.Prelude.{◌≡◌, ℕ, true, false, Box, List, [], Option, None, Some, map}
+use Rattle.std.specs.Global.{Global}
 use Rattle.std.specs.Borrow.{Bor}
-use Rattle.csv.specs.Reading.{reader_state}
+use Rattle.csv.specs.Reading.{default_config, reader_state, records, strip_bom}
 use Rattle.csv.specs.Records.{fields_of}
+use Rattle.csv.specs.declared.reader.Reader.{Reader}
 use Rattle.sc_intake.specs.Cursor.{Cursor}
 use Rattle.sc_intake.specs.Plain.{plain_records}
 use Rattle.sc_intake.specs.Reading.{IsReading, records_of, unread}
 use Rattle.sc_intake.specs.declared.plain_records.PlainRecords.TheInside as plain
 use Rattle.sc_intake.specs.declared.quoted_records.QuotedRecords.TheInside as quoted
 
+-- the records that are left of a text to a reader of it, which is made by the first read
+abbrev pub left_of : List ℕ → Option (Box (Reader (Bor (List ℕ))) Global) → List (List (List ℕ))
+left_of text None = records default_config (strip_bom text)
+left_of text (Some reader) = records_of (reader_state reader.value) (unread reader.value)
+
+-- a reader that is there reads on
+abbrev pub ReadsOn : Option (Box (Reader (Bor (List ℕ))) Global) → Type 0
+ReadsOn None = Unit {0}
+ReadsOn (Some reader) = IsReading reader.value
+
 -- the cursor of `csv`'s reader: the record read last, and the records that are left
 abbrev pub quoted_cursor_of : quoted.Inside → Cursor
 quoted_cursor_of i = record {
   current = fields_of i.fields;
-  left = elim i.stopped [ true ↦ [] | false ↦ records_of (reader_state i.reader) (unread i.reader) ];
+  left = elim i.stopped [ true ↦ [] | false ↦ left_of i.text.now i.reader ];
 }
 
 -- what is true of its fields: a reader that has not stopped reads on
 abbrev pub IsSound : quoted.Inside → Type 0
-IsSound i = i.stopped ≡ false → IsReading i.reader
+IsSound i = i.stopped ≡ false → ReadsOn i.reader
 
 -- the fields that slices of a text are
 abbrev pub fields_in : List (Bor (List ℕ)) → List (List ℕ)

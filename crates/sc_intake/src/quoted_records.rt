@@ -1,7 +1,7 @@
 //! The records of a text that may have quotes, as `csv` reads them.
 
 ghost use Rattle.std.specs.Prelude.{◌≡◌, true, [], IfOk, MatchBool};
-ghost use Rattle.csv.specs.Reading.{error_kind, reader_state, stops_reader};
+ghost use Rattle.csv.specs.Reading.{default_config, error_kind, reader_state, records, stops_reader, strip_bom};
 ghost use Rattle.csv.specs.Records.{fields_of};
 ghost use Rattle.sc_intake.specs.Reading.{IsReading, Moves, records_of, unread};
 
@@ -13,7 +13,11 @@ use std::marker::Model;
 /// again, so that the memory does not grow with the text.
 #[derive(Drop)]
 pub(crate) struct QuotedRecords<'a> {
-    reader: Reader<&'a [u8]>,
+    alloc: Global,
+    text: &'a [u8],
+    // Made by the first read. It holds the tables of a state machine, so it is kept out of the frames of the
+    // functions that hand these records on: where memory is wanting a stack cannot grow, and nothing can be told.
+    reader: Option<Box<Reader<&'a [u8]>>>,
     fields: ByteRecord,
     stopped: bool,
 }
@@ -38,6 +42,27 @@ fn want_of_memory(error: csv::Error) -> AllocError
     AllocError
 }
 
+/// A reader of a text, whose first byte order mark is passed over.
+fn reader_of(alloc: Global, text: &[u8]) -> Reader<&[u8]>
+    ensures reading { IsReading result }
+    ensures left { records_of (reader_state result) (unread result) ≡ records default_config (strip_bom text.now) }
+{
+    ReaderBuilder::new()
+        .has_headers(false)
+        .flexible(true)
+        .from_reader(alloc, text)
+}
+
+/// A reader of a text in memory of its own, so that no other function has a place for it on the stack.
+#[inline(never)]
+fn boxed_reader_of(alloc: Global, text: &[u8]) -> Result<Box<Reader<&[u8]>>, AllocError>
+    ensures reading { IfOk result (λ reader. IsReading reader.value) }
+    ensures left { IfOk result (λ reader. records_of (reader_state reader.value) (unread reader.value) ≡ records default_config (strip_bom text.now)) }
+{
+    let boxed = Box::new(alloc, reader_of(alloc, text))?;
+    Ok(boxed)
+}
+
 /// Reads the next record of a text, and says whether there was one.
 fn read(reader: &mut Reader<&[u8]>, fields: &mut ByteRecord) -> Result<bool, AllocError>
     requires { IsReading reader.old }
@@ -59,10 +84,9 @@ impl<'a> QuotedRecords<'a> {
         ensures { result.left ≡ records default_config (strip_bom text.now) }
     {
         QuotedRecords {
-            reader: ReaderBuilder::new()
-                .has_headers(false)
-                .flexible(true)
-                .from_reader(alloc, text),
+            alloc,
+            text,
+            reader: None,
             fields: ByteRecord::new(alloc),
             stopped: false,
         }
@@ -77,7 +101,12 @@ impl<'a> QuotedRecords<'a> {
             return Ok(false);
         }
         self.stopped = true;
-        let found = read(&mut self.reader, &mut self.fields)?;
+        let mut reader = match self.reader.take() {
+            Some(reader) => reader,
+            None => boxed_reader_of(self.alloc, self.text)?,
+        };
+        let found = read(&mut reader, &mut self.fields)?;
+        self.reader = Some(reader);
         self.stopped = !found;
         Ok(found)
     }
