@@ -1,5 +1,5 @@
 -- The papers that the rows of the three files make, or the first fault.
-use Rattle.std.specs.Prelude.{◌≡◌, ℕ, nat_eq, Bool, not, List, [], ◌∷◌, map, find, slice_get, Option, None, Some, option_and_then, Result, Ok, Err}
+use Rattle.std.specs.Prelude.{◌≡◌, ◌⊎◌, ℕ, nat_eq, Bool, not, List, [], ◌∷◌, map, find, slice_get, Option, None, Some, option_and_then, Result, Ok, Err}
 use Rattle.std.specs.BTreeMap.{BTreeMap, get}
 use Rattle.std.specs.Ordering.{nat_cmp}
 use Rattle.std.specs.List.{list_any}
@@ -9,12 +9,12 @@ use Rattle.sc_papers.specs.declared.amendment.Amendment.{Amendment}
 use Rattle.sc_papers.specs.declared.amendment.Amendment.TheVariants.{Enter}
 use Rattle.sc_papers.specs.declared.amendment.Refusal.{Refusal}
 use Rattle.sc_papers.specs.declared.amendment.Refusal.TheVariants.{Shape, UnknownStudent, StudentExists, EmptyList, ListTooLong, UnknownSchool, SchoolTwice, RosterFull, TooManySeats, TooFewSeats, OutOfMemory, Stale, Spent}
-use Rattle.sc_intake.specs.Fault.{◌>>=◌, fault_at}
+use Rattle.sc_intake.specs.Fault.{◌>>=◌, fault_at, no_memory}
 use Rattle.sc_intake.specs.File.{in_row}
 use Rattle.sc_intake.specs.declared.fault.Cause.{Cause}
 use Rattle.sc_intake.specs.declared.fault.Cause.TheVariants.{NoList, NotInRoster, Refused, OutOfMemory as no_room}
 use Rattle.sc_intake.specs.declared.fault.IntakeFault.{IntakeFault}
-use Rattle.sc_intake.specs.declared.fault.Source.TheVariants.{Roster, Lists}
+use Rattle.sc_intake.specs.declared.fault.Source.TheVariants.{Schools, Roster, Lists}
 use Rattle.sc_intake.specs.declared.lists.ListRow.{ListRow}
 use Rattle.sc_intake.specs.declared.roster.RosterRow.{RosterRow}
 use Rattle.sc_intake.specs.declared.schools.SchoolRow.{SchoolRow}
@@ -101,6 +101,10 @@ papers_in seed schools roster lists = do
   roster_rows ← roster_in roster
   list_rows ← lists_in lists
   papers_of seed school_rows roster_rows list_rows
+
+-- want of memory in reading one of the three files, or in making their papers, which is told of the roster
+abbrev pub IsWantOfMemory : IntakeFault → Type 0
+IsWantOfMemory fault = (fault ≡ no_memory Schools) ⊎ ((fault ≡ no_memory Roster) ⊎ (fault ≡ no_memory Lists))
 
 -- the map gives the position of each student's row of the lists
 abbrev pub ArePositions : BTreeMap ℕ ℕ → List ListRow → List ListRow → Type 0

@@ -3,11 +3,10 @@
 ghost use Rattle.std.specs.Prelude.{◌≡◌, ◌⊎◌, ◌∷◌, [], Err, IfErr, IfOk, IfSome, MatchBool, Ok};
 ghost use Rattle.std.specs.Bool.{OnTrue};
 ghost use Rattle.sc_intake.specs.Lists.{choices_of};
-ghost use Rattle.sc_intake.specs.Papers.{papers_in};
+ghost use Rattle.sc_intake.specs.Papers.{papers_in, IsWantOfMemory};
 ghost use Rattle.sc_intake.specs.Roster.{student_of};
 ghost use Rattle.sc_intake.specs.Rows.{row_at};
 ghost use Rattle.sc_intake.specs.Together.{papers_below, records_below, AreReadTo, EntersBoth};
-ghost use Rattle.sc_intake.specs.declared.fault.Cause.TheVariants.{OutOfMemory};
 
 use crate::byte_count::count_of;
 use crate::fault::IntakeFault;
@@ -139,7 +138,7 @@ fn papers_together(
 
 /// The papers that the texts of the three files make under a seed, or the first fault: of the schools, the roster, the
 /// lists, and then of what they say together, as `papers_of` tells it. Beside that the only error is want of memory, of
-/// one of the files and row 0.
+/// row 0 and the file in whose reading it was wanted, or of the roster where it was in making the papers.
 ///
 /// Where the lists stand in the order of the roster, row by row, and nothing is wrong, both are read together: no row is
 /// kept, no list is copied and none is looked up. Then the cost is the length of the texts, a look-up for each school
@@ -153,7 +152,7 @@ pub fn read_papers(
     lists: &[u8],
 ) -> Result<Papers, IntakeFault>
     ensures read { IfOk result (λ papers. papers_in seed schools.now roster.now lists.now ≡ Ok papers) }
-    ensures fault { IfErr result (λ fault. (papers_in seed schools.now roster.now lists.now ≡ Err fault) ⊎ (fault.cause ≡ OutOfMemory)) }
+    ensures fault { IfErr result (λ fault. (papers_in seed schools.now roster.now lists.now ≡ Err fault) ⊎ IsWantOfMemory fault) }
 {
     let schools = read_schools(alloc, schools)?;
     if let Some(papers) = papers_together(alloc, seed, &schools, roster, lists) {
