@@ -61,6 +61,16 @@ impl<'a> Records<'a> {
         }
     }
 
+    /// No records.
+    #[tactic(auto, unfolding(crate::specs::Plain::plain_records, crate::specs::Plain::lines_from))]
+    pub(crate) fn none(alloc: Global) -> Self
+        ensures { result.left ≡ [] }
+    {
+        Records {
+            cutter: Cutter::Plain(PlainRecords::new(alloc, &[])),
+        }
+    }
+
     /// Reads the next record, and says whether there was one. The only error is want of memory.
     pub(crate) fn read(&mut self) -> Result<bool, AllocError>
         ensures { IfOk result (λ found. MatchBool found (self.old.left ≡ self.new.current ∷ self.new.left) (self.old.left ≡ [])) }

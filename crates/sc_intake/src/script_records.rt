@@ -28,7 +28,7 @@ impl<'a> Model for ScriptRecords<'a> {
 }
 
 impl<'a> ScriptRecords<'a> {
-    ghost use Rattle.std.specs.Prelude.{◌≡◌, ◌≤◌, ◌+◌, [], ◌∷◌, length, IfOk, MatchOption, MatchResult, Ok, Err};
+    ghost use Rattle.std.specs.Prelude.{◌≡◌, ◌≤◌, ◌+◌, [], ◌∷◌, length, IfOk, MatchOption, MatchResult, OnErr, Ok, Err};
     ghost use Rattle.sc_intake.specs.Script.{script_in};
     ghost use Rattle.sc_intake.specs.declared.input.TheConstants.{MOST_BYTES};
 
@@ -44,11 +44,23 @@ impl<'a> ScriptRecords<'a> {
         Ok(ScriptRecords { alloc, records })
     }
 
-    /// The next record, or `None` where there is none left. The only error is want of memory, after which the records
-    /// that are left are not known.
+    /// The next record, or `None` where there is none left. The only error is want of memory, after which no record is
+    /// left: nobody goes on with a script of which a record was lost.
     ///
     /// The cost is the length of the record, and the memory that of its amendment.
     pub fn next_record(&mut self) -> Result<Option<Result<Stamped, Refusal>>, AllocError>
+        ensures next { IfOk result (λ found. MatchOption found (self.old ≡ []) (λ entry. self.old ≡ entry ∷ self.new)) }
+        ensures ended { OnErr result (self.new ≡ []) }
+    {
+        let found = self.read_next();
+        if found.is_err() {
+            self.records = Records::none(self.alloc);
+        }
+        found
+    }
+
+    /// Does what `next_record` does, but for what an error leaves.
+    fn read_next(&mut self) -> Result<Option<Result<Stamped, Refusal>>, AllocError>
         ensures { IfOk result (λ found. MatchOption found (self.old ≡ []) (λ entry. self.old ≡ entry ∷ self.new)) }
     {
         match self.records.advance(Source::Script) {
