@@ -8,7 +8,7 @@ use Rattle.sc_papers.specs.declared.rejection.Rejection.{Rejection}
 use Rattle.sc_papers.proofs.Choices.{found-is, found-none, places-end}
 use Rattle.sc_checkpoint.specs.Ranks.{has_rank, AreRejectedRanks}
 use Rattle.sc_checkpoint.specs.NextChoices.{next_choices_after}
-use Rattle.sc_checkpoint.specs.declared.next_choice.NextChoice.{NextChoice}
+use Rattle.sc_checkpoint.specs.declared.standing.Standing.{Standing}
 use Rattle.sc_checkpoint.specs.declared.rank_set.RankSet.{RankSet}
 
 -- up to this rank, each rank is in the set
@@ -35,13 +35,13 @@ outside-at set choices rank test agree below outside =
     go (Some s) here = outside-found set choices rank s test agree below here outside
 
 -- one more student who stands
-pub standings-more : (m : Market) (log : List Rejection) (students : List ℕ) (at i : ℕ) (choice : NextChoice) → slice_get students at ≡ Some i → choice ≡ record { student = i; next = next_choice m log i } → next_choices_after m log (take at students) ++ choice ∷ [] ≡ next_choices_after m log (take (at + 1) students)
+pub standings-more : (m : Market) (log : List Rejection) (students : List ℕ) (at i : ℕ) (choice : Standing) → slice_get students at ≡ Some i → choice ≡ record { student = i; next = next_choice m log i } → next_choices_after m log (take at students) ++ choice ∷ [] ≡ next_choices_after m log (take (at + 1) students)
 standings-more m log students at i choice here stands =
     let more : take (at + 1) students ≡ take at students ++ i ∷ [] =
     take_more students at i (slice_get_within students at i here)
     ∙ ap (λ j. take at students ++ j ∷ []) (get_or_from_slice_get students at i i here) in
     ap (λ last. next_choices_after m log (take at students) ++ last ∷ []) stands
-    ∙ sym (map_push (λ (j : ℕ). let s : NextChoice = record { student = j; next = next_choice m log j } in s) (take at students) i)
+    ∙ sym (map_push (λ (j : ℕ). let s : Standing = record { student = j; next = next_choice m log j } in s) (take at students) i)
     ∙ ap (next_choices_after m log) (sym more)
 
 -- the first of a student's choices that is not among those that rejected them is their next choice
@@ -56,4 +56,4 @@ pub stands-more : (m : Market) (log : List Rejection) (students : List ℕ) (i :
     → next_choices_after m log students ++ record { student = i; next = next } ∷ [] ≡ next_choices_after m log (students ++ i ∷ [])
 stands-more m log students i next is =
     ap (λ choice. next_choices_after m log students ++ record { student = i; next = choice } ∷ []) is
-    ∙ sym (map_push (λ (j : ℕ). let s : NextChoice = record { student = j; next = next_choice m log j } in s) students i)
+    ∙ sym (map_push (λ (j : ℕ). let s : Standing = record { student = j; next = next_choice m log j } in s) students i)

@@ -10,10 +10,10 @@ ghost use Rattle.sc_checkpoint.specs.NextChoices.{next_choices_after};
 ghost use Rattle.sc_checkpoint.specs.Ranks.{AreTabled};
 
 use crate::hints::Hints;
-use crate::next_choice::{NextChoice, NextChoices};
 use crate::next_choices::first_outside;
 use crate::rank_set::RankSet;
 use crate::segments::Segments;
+use crate::standing::{Standing, Standings};
 use sc_papers::{MOST_STUDENTS, Papers, Rejection, StudentNo};
 use std::alloc::{AllocError, Global};
 
@@ -175,7 +175,7 @@ pub(crate) fn next_choices_at_positions(
     papers: &Papers,
     segments: &Segments,
     positions: &[usize],
-) -> Result<NextChoices, AllocError>
+) -> Result<Standings, AllocError>
     requires rising { IsStrictlyIncreasing positions.now }
     requires within { (k : ℕ) → k < length positions.now → slice_index positions.now k < length (students_of papers.now) }
     requires held { (k : ℕ) → k < length positions.now → slice_index positions.now k < length segments.now }
@@ -189,8 +189,8 @@ pub(crate) fn next_choices_at_positions(
             unreachable!()
         };
         let next = first_outside(papers, *position, rejected[place]);
-        choices.push_reserved(NextChoice { student, next });
+        choices.push_reserved(Standing { student, next });
         ranks.push(rejected[place].first_outside())?;
     }
-    Ok(NextChoices { choices, ranks })
+    Ok(Standings { choices, ranks })
 }

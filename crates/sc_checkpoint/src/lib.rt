@@ -4,13 +4,13 @@
 
 mod at_positions;
 mod hints;
-mod next_choice;
 mod next_choices;
 mod rank_set;
 mod segments;
 mod span;
+mod standing;
 
 pub use hints::Hints;
-pub use next_choice::{NextChoice, NextChoices};
 pub use segments::Segments;
 pub use span::Spans;
+pub use standing::{Standing, Standings};

@@ -9,9 +9,9 @@ ghost use Rattle.sc_checkpoint.specs.Chains.{logs_in};
 ghost use Rattle.sc_checkpoint.specs.Ranks.{has_rank, AreRejectedRanks, AreTabled};
 ghost use Rattle.sc_checkpoint.specs.NextChoices.{next_choices_after};
 
-use crate::next_choice::NextChoice;
 use crate::rank_set::RankSet;
 use crate::segments::Segments;
+use crate::standing::Standing;
 use sc_papers::{LONGEST_LIST, Papers, Rejection, SchoolNo, StudentNo};
 use std::alloc::{AllocError, Global};
 
@@ -26,7 +26,7 @@ pub(crate) fn next_choices_of_first(
     papers: &Papers,
     segments: &Segments,
     k: usize,
-) -> Result<Vec<NextChoice>, AllocError>
+) -> Result<Vec<Standing>, AllocError>
     requires within { k ≤ length segments.now }
     requires students { k ≤ length (students_of papers.now) }
     ensures { IfOk result (λ next_choices. next_choices.items ≡ next_choices_after papers.now (joined (take k (logs_in segments.now))) (take k (students_of papers.now))) }
@@ -38,7 +38,7 @@ pub(crate) fn next_choices_of_first(
             unreachable!()
         };
         let next = first_outside(papers, position, rejected[position]);
-        next_choices.push_reserved(NextChoice { student, next });
+        next_choices.push_reserved(Standing { student, next });
     }
     Ok(next_choices)
 }

@@ -1,7 +1,7 @@
 use crate::at_positions::next_choices_at_positions;
-use crate::next_choice::{NextChoice, NextChoices};
 use crate::next_choices::next_choices_of_first;
 use crate::span::{Span, Spans, push_span, replace_spans};
+use crate::standing::{Standing, Standings};
 use sc_papers::{Papers, Rejection, StudentNo};
 use std::alloc::{AllocError, Global};
 use std::marker::Model;
@@ -166,7 +166,7 @@ impl Segments {
     /// The cost is a pass over one student's row in the papers for each entry of that log, with a look-up by number
     /// where the entry is not of the segment's own student, and a look at one row for each of the `k` students.
     /// Memory is taken for the `k` alone.
-    pub fn next_choices_at(&self, papers: &Papers, k: usize) -> Result<Vec<NextChoice>, AllocError>
+    pub fn next_choices_at(&self, papers: &Papers, k: usize) -> Result<Vec<Standing>, AllocError>
         requires within { k ≤ length self.now }
         requires students { take k (students_in self.now) ≡ take k (students_of papers.now) }
         ensures { IfOk result (λ next_choices. next_choices.items ≡ next_choices_after papers.now (joined (take k (logs_in self.now))) (take k (students_of papers.now))) }
@@ -184,7 +184,7 @@ impl Segments {
         &self,
         papers: &Papers,
         positions: &[usize],
-    ) -> Result<NextChoices, AllocError>
+    ) -> Result<Standings, AllocError>
         requires rising { IsStrictlyIncreasing positions.now }
         requires within { (k : ℕ) → k < length positions.now → slice_index positions.now k < length (students_of papers.now) }
         requires held { (k : ℕ) → k < length positions.now → slice_index positions.now k < length self.now }

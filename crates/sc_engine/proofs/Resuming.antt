@@ -17,7 +17,7 @@ use Rattle.sc_papers.proofs.Restriction.{restricted-restricts, next-kept, next-d
 use Rattle.sc_papers.proofs.Students.{how_many-lt}
 use Rattle.sc_papers.proofs.Validity.{next-listed, next-among}
 use Rattle.sc_checkpoint.specs.NextChoices.{stands, AreNextChoices}
-use Rattle.sc_checkpoint.specs.declared.next_choice.NextChoice.{NextChoice}
+use Rattle.sc_checkpoint.specs.declared.standing.Standing.{Standing}
 use Rattle.sc_engine.specs.RoundView.{RoundView, Fits, has_entered, rank_of, next_of, StandsToo, Continues, entered_papers}
 use Rattle.sc_engine.proofs.Tables.{next-entered, next-none}
 use Rattle.sc_engine.proofs.Beginning.{is_some-none}
@@ -25,17 +25,17 @@ use Rattle.sc_engine.proofs.Proposals.{has-none}
 use Rattle.sc_engine.proofs.Settling.{among_first, first-apart, first-more}
 
 -- the first k of those who stand have entered, and nobody else, and each stands at its choice
-pub record PutFirst (m : Market) (next_choices : List NextChoice) (r : RoundView) (spent : Bool) (k : ℕ) : Type 0 where
+pub record PutFirst (m : Market) (next_choices : List Standing) (r : RoundView) (spent : Bool) (k : ℕ) : Type 0 where
   pub fits : Fits m r
   pub entered : (i : ℕ) → has_entered m r.ranks i ≡ stands (take k next_choices) i
-  pub next : (at : ℕ) (choice : NextChoice) → at < k → slice_get next_choices at ≡ Some choice → next_of m r.ranks choice.student ≡ choice.next
+  pub next : (at : ℕ) (choice : Standing) → at < k → slice_get next_choices at ≡ Some choice → next_of m r.ranks choice.student ≡ choice.next
   pub log : r.log ≡ []
   pub proposals : r.proposals ≡ 0
   pub ready : spent ≡ false
 
 -- the students of the next choices
-abbrev numbers : List NextChoice → List ℕ
-numbers next_choices = map (λ (choice : NextChoice). choice.student) next_choices
+abbrev numbers : List Standing → List ℕ
+numbers next_choices = map (λ (choice : Standing). choice.student) next_choices
 
 get-mapped : {X Y : Type 0} (f : X → Y) (xs : List X) (k : ℕ) (x : X) → slice_get xs k ≡ Some x → slice_get (map f xs) k ≡ Some (f x)
 get-mapped f [] k x here = absurd (none-some x here)
@@ -46,26 +46,26 @@ contains-read : {X : Type 0} (xs : List X) (k : ℕ) (x : X) → slice_get xs k 
 contains-read xs k x here = (k, slice_get_within xs k x here, get_or_from_slice_get xs k x x here)
 
 -- who is among the first next choices is among the first of their students
-stands-first : (next_choices : List NextChoice) (k i : ℕ) → stands (take k next_choices) i ≡ among_first (numbers next_choices) k i
+stands-first : (next_choices : List Standing) (k i : ℕ) → stands (take k next_choices) i ≡ among_first (numbers next_choices) k i
 stands-first next_choices zero i = refl
 stands-first [] (suc k) i = refl
 stands-first (choice ∷ rest) (suc k) i = λ t. nat_eq_equiv.symm choice.student i t || stands-first rest k i t
 
 -- one more
-stands-more : (next_choices : List NextChoice) (k : ℕ) (choice : NextChoice) → slice_get next_choices k ≡ Some choice → (i : ℕ) → stands (take (k + 1) next_choices) i ≡ and_one (stands (take k next_choices)) choice.student i
+stands-more : (next_choices : List Standing) (k : ℕ) (choice : Standing) → slice_get next_choices k ≡ Some choice → (i : ℕ) → stands (take (k + 1) next_choices) i ≡ and_one (stands (take k next_choices)) choice.student i
 stands-more next_choices k choice here i =
     stands-first next_choices (k + 1) i
-    ∙ first-more (numbers next_choices) k choice.student (get-mapped (λ (s : NextChoice). s.student) next_choices k choice here) i
+    ∙ first-more (numbers next_choices) k choice.student (get-mapped (λ (s : Standing). s.student) next_choices k choice here) i
     ∙ ap (λ b. b || i == choice.student) (sym (stands-first next_choices k i))
 
 -- the next one is not among them
-stands-apart : (next_choices : List NextChoice) (k : ℕ) (choice : NextChoice) → IsDistinct nat_eq (numbers next_choices) → slice_get next_choices k ≡ Some choice → stands (take k next_choices) choice.student ≡ false
+stands-apart : (next_choices : List Standing) (k : ℕ) (choice : Standing) → IsDistinct nat_eq (numbers next_choices) → slice_get next_choices k ≡ Some choice → stands (take k next_choices) choice.student ≡ false
 stands-apart next_choices k choice different here =
     stands-first next_choices k choice.student
-    ∙ first-apart (numbers next_choices) k choice.student different (get-mapped (λ (s : NextChoice). s.student) next_choices k choice here)
+    ∙ first-apart (numbers next_choices) k choice.student different (get-mapped (λ (s : Standing). s.student) next_choices k choice here)
 
 -- who stands has a choice
-stands-rank : (next_choices : List NextChoice) (k i : ℕ) → stands (take k next_choices) i ≡ true → (at : ℕ) × (choice : NextChoice) × (at < k) × (slice_get next_choices at ≡ Some choice) × (choice.student ≡ i)
+stands-rank : (next_choices : List Standing) (k i : ℕ) → stands (take k next_choices) i ≡ true → (at : ℕ) × (choice : Standing) × (at < k) × (slice_get next_choices at ≡ Some choice) × (choice.student ≡ i)
 stands-rank next_choices zero i there = absurd (false≢true there)
 stands-rank [] (suc k) i there = absurd (false≢true there)
 stands-rank (choice ∷ rest) (suc k) i there = elim (or_cases (choice.student == i) (stands (take k rest) i) there) [
@@ -76,21 +76,21 @@ stands-rank (choice ∷ rest) (suc k) i there = elim (or_cases (choice.student =
 ]
 
 -- and who has one stands
-rank-stands : (next_choices : List NextChoice) (k at : ℕ) (choice : NextChoice) → at < k → slice_get next_choices at ≡ Some choice → stands (take k next_choices) choice.student ≡ true
+rank-stands : (next_choices : List Standing) (k at : ℕ) (choice : Standing) → at < k → slice_get next_choices at ≡ Some choice → stands (take k next_choices) choice.student ≡ true
 rank-stands next_choices zero at choice low here = absurd (omega (arith, low))
 rank-stands [] (suc k) at choice low here = absurd (none-some choice here)
 rank-stands (first ∷ rest) (suc k) zero choice low here =
-    or_left (first.student == choice.student) (stands (take k rest) choice.student) (eq-eqb first.student choice.student (ap (λ (s : NextChoice). s.student) (same_Some first choice here)))
+    or_left (first.student == choice.student) (stands (take k rest) choice.student) (eq-eqb first.student choice.student (ap (λ (s : Standing). s.student) (same_Some first choice here)))
 rank-stands (first ∷ rest) (suc k) (suc at) choice low here =
     or_right (first.student == choice.student) (stands (take k rest) choice.student) (rank-stands rest k at choice (omega (arith, low)) here)
 
-module _ {m : Market} {earlier : List Rejection} {next_choices : List NextChoice} (after : AreNextChoices m earlier next_choices) where
+module _ {m : Market} {earlier : List Rejection} {next_choices : List Standing} (after : AreNextChoices m earlier next_choices) where
   -- where a choice says that its student stands
-  pub next-after : (at : ℕ) (choice : NextChoice) → slice_get next_choices at ≡ Some choice → choice.next ≡ next_choice m earlier choice.student
-  next-after at choice here = All-contains (λ (s : NextChoice). s.next ≡ next_choice m earlier s.student) next_choices choice after.next (contains-read next_choices at choice here)
+  pub next-after : (at : ℕ) (choice : Standing) → slice_get next_choices at ≡ Some choice → choice.next ≡ next_choice m earlier choice.student
+  next-after at choice here = All-contains (λ (s : Standing). s.next ≡ next_choice m earlier s.student) next_choices choice after.next (contains-read next_choices at choice here)
 
   -- the student lists the school
-  pub listed-after : (at : ℕ) (choice : NextChoice) → slice_get next_choices at ≡ Some choice → IfSome choice.next (λ s. Contains (choices_of m choice.student) s)
+  pub listed-after : (at : ℕ) (choice : Standing) → slice_get next_choices at ≡ Some choice → IfSome choice.next (λ s. Contains (choices_of m choice.student) s)
   listed-after at choice here = go choice.next (next-after at choice here)
     where
       go : (o : Option ℕ) → o ≡ next_choice m earlier choice.student → IfSome o (λ s. Contains (choices_of m choice.student) s)
@@ -105,11 +105,11 @@ module _ {m : Market} {earlier : List Rejection} {next_choices : List NextChoice
         ap (next_of m r.ranks) (sym is) ∙ put.next at choice low here ∙ next-after at choice here ∙ ap (next_choice m earlier) is
 
     -- the next one has not entered
-    pub absent-put : (choice : NextChoice) → slice_get next_choices k ≡ Some choice → has_entered m r.ranks choice.student ≡ false
+    pub absent-put : (choice : Standing) → slice_get next_choices k ≡ Some choice → has_entered m r.ranks choice.student ≡ false
     absent-put choice here = put.entered choice.student ∙ stands-apart next_choices k choice after.different here
 
     -- and its school has room
-    pub room-put : (choice : NextChoice) (s : ℕ) → slice_get next_choices k ≡ Some choice → choice.next ≡ Some s → held m (next_of m r.ranks) s < seats_of m s
+    pub room-put : (choice : Standing) (s : ℕ) → slice_get next_choices k ≡ Some choice → choice.next ≡ Some s → held m (next_of m r.ranks) s < seats_of m s
     room-put choice s here is =
         let i : ℕ = choice.student in
         let test : ℕ → Bool = stands next_choices in
@@ -135,7 +135,7 @@ module _ {m : Market} {earlier : List Rejection} {next_choices : List NextChoice
         (passes i here_too own) in
         omega (arith, fewer, after.settled.within_seats s, counts-restricted m test (has (matching_of n earlier) s), seats-restricted m test s)
 
-    pub room-put_if : (choice : NextChoice) → slice_get next_choices k ≡ Some choice → IfSome choice.next (λ s. held m (next_of m r.ranks) s < seats_of m s)
+    pub room-put_if : (choice : Standing) → slice_get next_choices k ≡ Some choice → IfSome choice.next (λ s. held m (next_of m r.ranks) s < seats_of m s)
     room-put_if choice here = go choice.next refl
       where
         go : (o : Option ℕ) → choice.next ≡ o → IfSome o (λ s. held m (next_of m r.ranks) s < seats_of m s)
@@ -143,7 +143,7 @@ module _ {m : Market} {earlier : List Rejection} {next_choices : List NextChoice
         go (Some s) is = room-put choice s here is
 
     -- one more
-    pub put-more : (r' : RoundView) (spent' : Bool) (choice : NextChoice) → slice_get next_choices k ≡ Some choice → StandsToo m r r' choice.student choice.next → spent' ≡ spent → PutFirst m next_choices r' spent' (k + 1)
+    pub put-more : (r' : RoundView) (spent' : Bool) (choice : Standing) → slice_get next_choices k ≡ Some choice → StandsToo m r r' choice.student choice.next → spent' ≡ spent → PutFirst m next_choices r' spent' (k + 1)
     put-more r' spent' choice here too same = record {
       fits = too.fits;
       entered = λ i. too.entered i ∙ ap (λ b. b || i == choice.student) (put.entered i) ∙ sym (stands-more next_choices k choice here i);
@@ -152,7 +152,7 @@ module _ {m : Market} {earlier : List Rejection} {next_choices : List NextChoice
         | inr past ↦
             let at_k : at ≡ k = omega (arith, past, low) in
             let same_one : found ≡ choice = same_Some found choice (sym rank ∙ ap (slice_get next_choices) at_k ∙ here) in
-            ap (λ (s : NextChoice). next_of m r'.ranks s.student) same_one ∙ too.own ∙ ap (λ (s : NextChoice). s.next) (sym same_one)
+            ap (λ (s : Standing). next_of m r'.ranks s.student) same_one ∙ too.own ∙ ap (λ (s : Standing). s.next) (sym same_one)
       ];
       log = too.log ∙ put.log;
       proposals = too.proposals ∙ put.proposals;
@@ -160,7 +160,7 @@ module _ {m : Market} {earlier : List Rejection} {next_choices : List NextChoice
     }
 
 -- all of them have entered, and the round goes on from the earlier log
-pub continues-put : (m : Market) (earlier : List Rejection) (next_choices : List NextChoice) (r : RoundView) (spent : Bool) (k : ℕ) → k ≡ length next_choices → PutFirst m next_choices r spent k → AreNextChoices m earlier next_choices → Continues m earlier r
+pub continues-put : (m : Market) (earlier : List Rejection) (next_choices : List Standing) (r : RoundView) (spent : Bool) (k : ℕ) → k ≡ length next_choices → PutFirst m next_choices r spent k → AreNextChoices m earlier next_choices → Continues m earlier r
 continues-put m earlier next_choices r spent k all put after =
     let test : ℕ → Bool = stands next_choices in
     let n : Market = restricted m test in

@@ -19,7 +19,7 @@ use Rattle.sc_papers.proofs.Students.{how_many-agree}
 use Rattle.sc_papers.proofs.Subsets.{well-cut, well-restricted}
 use Rattle.sc_checkpoint.specs.Chains.{logs_in, students_in, Chain}
 use Rattle.sc_checkpoint.specs.NextChoices.{next_choices_after, stands, AreNextChoices}
-use Rattle.sc_checkpoint.specs.declared.next_choice.NextChoice.{NextChoice}
+use Rattle.sc_checkpoint.specs.declared.standing.Standing.{Standing}
 use Rattle.sc_engine.specs.RoundView.{RoundView, entered_papers, has_entered, next_of, nobody, standing_but, Continues, Fits}
 use Rattle.sc_engine.proofs.Proposals.{stays}
 use Rattle.sc_weave.proofs.Counts.{apart-cut, students-restricted}
@@ -58,18 +58,18 @@ stand-inside m test chains k well apart theirs segmented =
     let apart_first = apart-cut m test k well apart in
     let part = part-inside (cut m k) test chains (well-cut m k well) apart_first first segmented in
     record {
-      known = All-map (λ (s : NextChoice). is_student m s.student ≡ true) stand students
+      known = All-map (λ (s : Standing). is_student m s.student ≡ true) stand students
           (All-filter test (λ i. is_student m i ≡ true) (take k (students_of m))
           (All-take (λ i. is_student m i ≡ true) k (students_of m) (All-weaker (Contains (students_of m)) (λ i. is_student m i ≡ true) (among-student m) (students_of m) (All-contains_itself (students_of m)))));
       different = subst (IsDistinct nat_eq) (sym (students-next m (log_of test chains) students)) differ;
-      next = All-map (λ (s : NextChoice). s.next ≡ next_choice m (log_of test chains) s.student) stand students
+      next = All-map (λ (s : Standing). s.next ≡ next_choice m (log_of test chains) s.student) stand students
           (All-weaker (λ i. test i ≡ true) (λ i. next_choice m (log_of test chains) i ≡ next_choice m (log_of test chains) i) (λ i passes. refl) students (each-passes test (take k (students_of m))));
       settled = subst (λ n. IsSettled n (log_of test chains))
           (sym (entered-inside m test (stands (next_choices_after m (log_of test chains) students)) k well (λ i. stands-inside m (log_of test chains) test (take k (students_of m)) i)))
           (segments-settled (restricted (cut m k) test) (logs_in (chains_of test chains)) part);
     }
   where
-    stand : ℕ → NextChoice
+    stand : ℕ → Standing
     stand i = record { student = i; next = next_choice m (log_of test chains) i }
 
     differ : IsDistinct nat_eq (filter test (take k (students_of m)))

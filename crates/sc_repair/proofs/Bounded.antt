@@ -22,7 +22,7 @@ use Rattle.sc_repair.specs.Course.{placed_of}
 use Rattle.sc_repair.specs.Locality.{TellsRegion}
 use Rattle.sc_repair.specs.Rewinding.{rewind_point}
 use Rattle.sc_repair.specs.Standing.{log_of, matching_of, CountsRegion, IsCertified, Standing}
-use Rattle.sc_repair.proofs.Region.{region-apart_after}
+use Rattle.sc_repair.proofs.LiesApart.{region-apart_after}
 
 -- the segments from a position on have no more entries than all
 part-none : (students : List ℕ) (test : ℕ → Bool) → part_of students test [] ≡ []

@@ -17,7 +17,7 @@ use Rattle.sc_repair.specs.Locality.{ChangesInside, TellsRegion}
 use Rattle.sc_repair.specs.Newcomer.{newcomer}
 use Rattle.sc_repair.specs.Rewinding.{position_of, rewind_point}
 use Rattle.sc_repair.proofs.InStep.{changes-in-place, changes-inside, none-new}
-use Rattle.sc_repair.proofs.Region.{region-apart}
+use Rattle.sc_repair.proofs.LiesApart.{region-apart}
 use Rattle.sc_repair.proofs.Resumption.{length-students}
 
 -- papers cut at their end

@@ -18,7 +18,7 @@ use Rattle.sc_papers.proofs.Entering.{is_some-false, MayEnter-allowed, MayEnter,
 use Rattle.sc_papers.proofs.Positions.{among-student}
 use Rattle.sc_checkpoint.specs.Chains.{logs_in, students_in, Chain}
 use Rattle.sc_checkpoint.specs.NextChoices.{next_choices_after, stands, AreNextChoices}
-use Rattle.sc_checkpoint.specs.declared.next_choice.NextChoice.{NextChoice}
+use Rattle.sc_checkpoint.specs.declared.standing.Standing.{Standing}
 use Rattle.sc_engine.specs.RoundView.{RoundView, entered_papers, has_entered, next_of, rank_of, without_log, Continues, Fits}
 use Rattle.sc_engine.proofs.Growing.{continues-grown, entered-grown, fits-grown}
 use Rattle.sc_engine.proofs.Settling.{first-apart}
@@ -86,13 +86,13 @@ newcomer-unplaced m chains places i r turn stands =
     ∙ next-none m r.ranks i (is_some-false (rank_of m r.ranks i) (newcomer-absent m chains places i r turn stands))
 
 -- a round that begins where the chains leave their students
-pub chains-stand : (m : Market) (chains : List Chain) (next_choices : List NextChoice) (k : ℕ) → WellFormed m → IsSegmented (cut m (length chains)) (logs_in chains) → k ≡ length chains
+pub chains-stand : (m : Market) (chains : List Chain) (next_choices : List Standing) (k : ℕ) → WellFormed m → IsSegmented (cut m (length chains)) (logs_in chains) → k ≡ length chains
     → next_choices ≡ next_choices_after m (joined (take k (logs_in chains))) (take k (students_of m)) → AreNextChoices m (joined (logs_in chains)) next_choices
 chains-stand m chains next_choices k well segmented count is =
     stand-segments m k (logs_in chains) next_choices well (length-map chains (λ (c : Chain). c.rejections) ∙ sym count)
     (subst (λ j. IsSegmented (cut m j) (logs_in chains)) (sym count) segmented) is
 
-pub stands-resumed : (m : Market) (chains : List Chain) (next_choices : List NextChoice) (r : RoundView) (k : ℕ) → students_in chains ≡ take (length chains) (students_of m) → k ≡ length chains
+pub stands-resumed : (m : Market) (chains : List Chain) (next_choices : List Standing) (r : RoundView) (k : ℕ) → students_in chains ≡ take (length chains) (students_of m) → k ≡ length chains
     → next_choices ≡ next_choices_after m (joined (take k (logs_in chains))) (take k (students_of m))
     → Fits m r → ((i : ℕ) → has_entered m r.ranks i ≡ stands next_choices i) → Continues m (joined (logs_in chains)) r → r.log ≡ [] → r.proposals ≡ 0
     → StandsAfter m chains r

@@ -23,7 +23,7 @@ use Rattle.sc_checkpoint.specs.Chains.{students_in, Chain}
 use Rattle.sc_region.specs.Region.{amended}
 use Rattle.sc_repair.specs.Locality.{ChangesInside, KeepsStep, TellsRegion}
 use Rattle.sc_repair.specs.Newcomer.{newcomer}
-use Rattle.sc_repair.proofs.Region.{region-alike, region-apart, region-apart_after}
+use Rattle.sc_repair.proofs.LiesApart.{region-alike, region-apart, region-apart_after}
 use Rattle.sc_repair.proofs.Resumption.{length-students}
 use Rattle.sc_repair.proofs.Rewinding.{alike-after, rewind-within, rewind-within_after}
 use Rattle.sc_repair.specs.Rewinding.{rewind_point}

@@ -2,7 +2,7 @@ pub mod Positions
 pub mod Rewinding
 pub mod Resumption
 pub mod Kept
-pub mod Region
+pub mod LiesApart
 pub mod Chains
 pub mod Course
 pub mod Parts

@@ -26,7 +26,7 @@ use Rattle.sc_repair.specs.Newcomer.{newcomer}
 use Rattle.sc_repair.specs.Locality.{is_among, TellsRegion}
 use Rattle.sc_repair.specs.Rewinding.{rewind_point}
 use Rattle.sc_repair.specs.Standing.{matching_of, Standing, CountsInside, CountsRegion, KeepsOthers}
-use Rattle.sc_repair.proofs.Region.{region-alike}
+use Rattle.sc_repair.proofs.LiesApart.{region-alike}
 use Rattle.sc_repair.proofs.Resumption.{length-students}
 
 -- a list that has exactly the students of the region tells it

@@ -18,7 +18,7 @@ use Rattle.sc_papers.proofs.Students.{how_many-agree}
 use Rattle.sc_papers.proofs.Subsets.{well-cut}
 use Rattle.sc_checkpoint.specs.Chains.{logs_in, students_in, with_chain, Chain}
 use Rattle.sc_checkpoint.specs.NextChoices.{next_choices_after, stands, AreNextChoices}
-use Rattle.sc_checkpoint.specs.declared.next_choice.NextChoice.{NextChoice}
+use Rattle.sc_checkpoint.specs.declared.standing.Standing.{Standing}
 use Rattle.sc_engine.specs.RoundView.{RoundView, entered_papers, has_entered, next_of, nobody, standing_but, Continues, Enters, Fits}
 use Rattle.sc_papers.proofs.Positions.{among-student}
 use Rattle.sc_engine.proofs.Proposals.{stays}
@@ -40,7 +40,7 @@ pub stands-among : (m : Market) (log : List Rejection) (students : List ℕ) (i 
 stands-among m log [] i = refl
 stands-among m log (x ∷ xs) i = ap (λ b. (x == i) || b) (stands-among m log xs i)
 
-pub students-next : (m : Market) (log : List Rejection) (students : List ℕ) → map (λ (s : NextChoice). s.student) (next_choices_after m log students) ≡ students
+pub students-next : (m : Market) (log : List Rejection) (students : List ℕ) → map (λ (s : Standing). s.student) (next_choices_after m log students) ≡ students
 students-next m log [] = refl
 students-next m log (x ∷ xs) = ap (λ ys. x ∷ ys) (students-next m log xs)
 
@@ -48,13 +48,13 @@ students-next m log (x ∷ xs) = ap (λ ys. x ∷ ys) (students-next m log xs)
 pub stand-after : (m : Market) (k : ℕ) (log : List Rejection) → WellFormed m → IsSettled (cut m k) log → AreNextChoices m log (next_choices_after m log (take k (students_of m)))
 unfolding cut
 stand-after m k log well settled = record {
-  known = All-map (λ (s : NextChoice). is_student m s.student ≡ true) stand (take k (students_of m)) (All-take (λ i. is_student m i ≡ true) k (students_of m) (All-weaker (Contains (students_of m)) (λ i. is_student m i ≡ true) (among-student m) (students_of m) (All-contains_itself (students_of m))));
+  known = All-map (λ (s : Standing). is_student m s.student ≡ true) stand (take k (students_of m)) (All-take (λ i. is_student m i ≡ true) k (students_of m) (All-weaker (Contains (students_of m)) (λ i. is_student m i ≡ true) (among-student m) (students_of m) (All-contains_itself (students_of m))));
   different = subst (IsDistinct nat_eq) (sym (students-next m log (take k (students_of m)))) first_differ;
-  next = All-map (λ (s : NextChoice). s.next ≡ next_choice m log s.student) stand (take k (students_of m)) (all-refl (take k (students_of m)));
+  next = All-map (λ (s : Standing). s.next ≡ next_choice m log s.student) stand (take k (students_of m)) (all-refl (take k (students_of m)));
   settled = subst (λ n. IsSettled n log) (cut-restricted m k well ∙ ap (restricted m) (λ t i. (sym (stands-among m log (take k (students_of m)) i)) t)) settled;
 }
   where
-    stand : ℕ → NextChoice
+    stand : ℕ → Standing
     stand i = record { student = i; next = next_choice m log i }
 
     all-refl : (xs : List ℕ) → All (λ i. next_choice m log i ≡ next_choice m log i) xs
@@ -144,7 +144,7 @@ proposals-all m kept r students segments given on is =
     omega (arith, on.counted, same, ap (λ (l : List Rejection). length l) on.log, length-append (joined kept) r.log)
 
 -- the segments that are kept
-pub stand-segments : (m : Market) (k : ℕ) (kept : List (List Rejection)) (next_choices : List NextChoice) → WellFormed m → length kept ≡ k → IsSegmented (cut m k) kept
+pub stand-segments : (m : Market) (k : ℕ) (kept : List (List Rejection)) (next_choices : List Standing) → WellFormed m → length kept ≡ k → IsSegmented (cut m k) kept
     → next_choices ≡ next_choices_after m (joined (take k kept)) (take k (students_of m)) → AreNextChoices m (joined kept) next_choices
 stand-segments m k kept next_choices well count segmented is =
     subst (AreNextChoices m (joined kept)) (ap (λ l. next_choices_after m (joined l) (take k (students_of m))) (sym (take_all k kept (omega (arith, count)))) ∙ sym is)

@@ -46,14 +46,7 @@ fn standing<R: Roll>(
     ensures ready { IfOk result (λ round. is_spent round ≡ false) }
 {
     let next_choices = segments.next_choices_at(papers, segments.len())?;
-    let round: Round<R> = Round::resume(
-        alloc,
-        papers,
-        next_choices.as_slice(),
-        &[],
-        &[],
-        papers.students_len(),
-    )?;
+    let round: Round<R> = Round::resume(alloc, papers, next_choices.as_slice())?;
     Ok(round)
 }
 

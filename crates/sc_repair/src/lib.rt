@@ -24,4 +24,5 @@ mod unsettled;
 pub use clearing::Clearing;
 pub use open_refused::OpenRefused;
 pub use rewind::rewind_point;
+pub use sc_region::{RegionList, region};
 pub use unsettled::Unsettled;

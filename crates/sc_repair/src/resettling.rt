@@ -22,7 +22,7 @@ ghost use Rattle.sc_repair.specs.Renewed.{marked_from, renewed_from};
 use crate::places::Places;
 use crate::placing::place_inside;
 use crate::region_positions::{positions_before, positions_from};
-use sc_checkpoint::{NextChoice, Segments, Spans};
+use sc_checkpoint::{Segments, Spans, Standing};
 use sc_engine::Round;
 use sc_papers::{Papers, StudentNo};
 use sc_region::RegionMarks;
@@ -93,13 +93,13 @@ fn take_turns<R: Roll>(
     Ok(())
 }
 
-/// A round in which students stand at their next choices, as `Round::resume` makes it: in the memory of one that is done
+/// A round in which students stand at their next choices, as `Round::resume_near` makes it: in the memory of one that is done
 /// with, if there is one.
 fn resumed<R: Roll>(
     spare: Option<Round<R>>,
     alloc: Global,
     papers: &Papers,
-    next_choices: &[NextChoice],
+    next_choices: &[Standing],
     near: &[usize],
     ranks: &[u8],
     expected: usize,
@@ -114,7 +114,7 @@ fn resumed<R: Roll>(
 {
     match spare {
         Some(round) => round.resume_in(papers, next_choices, near, ranks, expected),
-        None => Round::resume(alloc, papers, next_choices, near, ranks, expected),
+        None => Round::resume_near(alloc, papers, next_choices, near, ranks, expected),
     }
 }
 

@@ -94,14 +94,7 @@ pub(crate) fn settle_on<R: Roll>(
     ensures proposals { IfOk result (λ made. made.proposals + proposals_of_first papers.now (length segments.old) (joined (logs_in segments.old)) ≡ length (joined (logs_in segments.new)) + placed papers.now (assigned made.places)) }
 {
     let next_choices = segments.next_choices_at(papers, segments.len())?;
-    let mut round: Round<R> = Round::resume(
-        alloc,
-        papers,
-        next_choices.as_slice(),
-        &[],
-        &[],
-        papers.students_len(),
-    )?;
+    let mut round: Round<R> = Round::resume(alloc, papers, next_choices.as_slice())?;
     enter_rest(&mut round, papers, segments)?;
     let assignment = round.assignment(papers)?;
     let places = Places::of(alloc, papers, assignment)?;

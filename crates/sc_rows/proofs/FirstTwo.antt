@@ -13,7 +13,7 @@ use Rattle.sc_papers.specs.WellFormed.{WellFormed}
 use Rattle.sc_papers.proofs.Choices.{contains-at}
 use Rattle.sc_papers.proofs.Restriction.{restricted-restricts, next-kept}
 use Rattle.sc_checkpoint.specs.NextChoices.{stands, AreNextChoices}
-use Rattle.sc_checkpoint.specs.declared.next_choice.NextChoice.{NextChoice}
+use Rattle.sc_checkpoint.specs.declared.standing.Standing.{Standing}
 use Rattle.sc_engine.specs.RoundView.{RoundView, has_entered, next_of, SettlesFirst}
 use Rattle.sc_papers.proofs.Positions.{among-student}
 use Rattle.sc_engine.proofs.Settling.{first-apart}
@@ -27,12 +27,12 @@ first-two [] one two here next = absurd (none-some one here)
 first-two (x ∷ []) one two here next = absurd (none-some two next)
 first-two (x ∷ y ∷ rest) one two here next = λ t. same_Some x one here t ∷ same_Some y two next t ∷ []
 
-stands-numbers : (next_choices : List NextChoice) (i : ℕ) → stands next_choices i ≡ list_any (nat_eq i) (map (λ (choice : NextChoice). choice.student) next_choices)
+stands-numbers : (next_choices : List Standing) (i : ℕ) → stands next_choices i ≡ list_any (nat_eq i) (map (λ (choice : Standing). choice.student) next_choices)
 stands-numbers [] i = refl
 stands-numbers (choice ∷ rest) i = λ t. nat_eq_equiv.symm choice.student i t || stands-numbers rest i t
 
 -- the third student is not among the first two
-pub third-apart : (m : Market) (next_choices : List NextChoice) (one two three : ℕ) → WellFormed m → slice_get (students_of m) 0 ≡ Some one → slice_get (students_of m) 1 ≡ Some two → slice_get (students_of m) 2 ≡ Some three → map (λ (choice : NextChoice). choice.student) next_choices ≡ one ∷ two ∷ [] → stands next_choices three ≡ false
+pub third-apart : (m : Market) (next_choices : List Standing) (one two three : ℕ) → WellFormed m → slice_get (students_of m) 0 ≡ Some one → slice_get (students_of m) 1 ≡ Some two → slice_get (students_of m) 2 ≡ Some three → map (λ (choice : Standing). choice.student) next_choices ≡ one ∷ two ∷ [] → stands next_choices three ≡ false
 third-apart m next_choices one two three well first second third are =
     stands-numbers next_choices three ∙ ap (list_any (nat_eq three)) (are ∙ sym (first-two (students_of m) one two first second))
     ∙ first-apart (students_of m) 2 three well.students_differ third
@@ -42,19 +42,19 @@ pub after-two : (m : Market) (r : RoundView) (one two : ℕ) (next_one next_two 
     → AreNextChoices m r.log (record { student = one; next = next_one } ∷ record { student = two; next = next_two } ∷ [])
 unfolding IsDistinct
 after-two m r one two next_one next_two first second settles is_one is_two = record {
-  known = All-cons (λ (s : NextChoice). is_student m s.student ≡ true) choice_one (choice_two ∷ []) (student-at m 0 one first)
-      (All-cons (λ (s : NextChoice). is_student m s.student ≡ true) choice_two [] (student-at m 1 two second) (All-nil (λ (s : NextChoice). is_student m s.student ≡ true)));
+  known = All-cons (λ (s : Standing). is_student m s.student ≡ true) choice_one (choice_two ∷ []) (student-at m 0 one first)
+      (All-cons (λ (s : Standing). is_student m s.student ≡ true) choice_two [] (student-at m 1 two second) (All-nil (λ (s : Standing). is_student m s.student ≡ true)));
   different = ((apart, tt), (tt, tt));
-  next = All-cons (λ (s : NextChoice). s.next ≡ next_choice m r.log s.student) choice_one (choice_two ∷ []) (is_one ∙ next-first one (or_left (nat_eq one one) (nat_eq one two || false) (eq-eqb one one refl)))
-      (All-cons (λ (s : NextChoice). s.next ≡ next_choice m r.log s.student) choice_two [] (is_two ∙ next-first two (or_right (nat_eq two one) (nat_eq two two || false) (or_left (nat_eq two two) false (eq-eqb two two refl))))
-      (All-nil (λ (s : NextChoice). s.next ≡ next_choice m r.log s.student)));
+  next = All-cons (λ (s : Standing). s.next ≡ next_choice m r.log s.student) choice_one (choice_two ∷ []) (is_one ∙ next-first one (or_left (nat_eq one one) (nat_eq one two || false) (eq-eqb one one refl)))
+      (All-cons (λ (s : Standing). s.next ≡ next_choice m r.log s.student) choice_two [] (is_two ∙ next-first two (or_right (nat_eq two one) (nat_eq two two || false) (or_left (nat_eq two two) false (eq-eqb two two refl))))
+      (All-nil (λ (s : Standing). s.next ≡ next_choice m r.log s.student)));
   settled = subst (λ n. IsSettled n r.log) (λ t. restricted m (λ i. alike i t)) settles.settled.settled;
 }
   where
-    choice_one : NextChoice
+    choice_one : Standing
     choice_one = record { student = one; next = next_one }
 
-    choice_two : NextChoice
+    choice_two : Standing
     choice_two = record { student = two; next = next_two }
 
     entered : (i : ℕ) → has_entered m r.ranks i ≡ list_any (nat_eq i) (one ∷ two ∷ [])

@@ -7,7 +7,7 @@ ghost use Rattle.sc_engine.specs.Round.{view_of, is_spent};
 ghost use Rattle.sc_engine.specs.RoundView.{Fits, has_entered, SettlesFirst};
 
 use crate::given::{papers_of, school, student};
-use sc_checkpoint::NextChoice;
+use sc_checkpoint::Standing;
 use sc_engine::{Outcome, Round, Settled, settle, settle_by_first_keys};
 use sc_markets::{
     FIVE_STUDENTS, Files, MARKET_A, MARKET_B, MARKET_B_AND_NEWCOMER, TWO_STUDENTS, log_text,
@@ -59,7 +59,7 @@ fn expect_settled(
 }
 
 /// Both kinds of rolls came to what is wanted.
-fn expect_both(
+pub(super) fn expect_both(
     rt: &impl Abort,
     alloc: Global,
     sorted: Result<Settled, AllocError>,
@@ -118,7 +118,7 @@ fn first_two_stand<R: Roll>(
     papers: &Papers,
     one: StudentNo,
     two: StudentNo,
-) -> Result<[NextChoice; 2], AllocError>
+) -> Result<[Standing; 2], AllocError>
     requires one { slice_get (students_of papers.now) 0 ≡ Some one }
     requires two { slice_get (students_of papers.now) 1 ≡ Some two }
     ensures after { IfOk result (λ next_choices. (earlier : List Rejection) × AreNextChoices papers.now earlier next_choices) }
@@ -128,19 +128,24 @@ fn first_two_stand<R: Roll>(
     round.enter_one(papers, one)?;
     round.enter_one(papers, two)?;
     Ok([
-        NextChoice {
+        Standing {
             student: one,
             next: round.next_choice(papers, one),
         },
-        NextChoice {
+        Standing {
             student: two,
             next: round.next_choice(papers, two),
         },
     ])
 }
 
-/// Enters the third student into a round that goes on from where the first two stand.
-fn resume_with_the_third<R: Roll>(alloc: Global, papers: &Papers) -> Result<Settled, AllocError> {
+/// Enters the third student into a round that goes on from where the first two stand, which is told by a checkpoint.
+pub(super) fn resume_with_the_third<R: Roll>(
+    rt: &impl Abort,
+    alloc: Global,
+    papers: &Papers,
+    told: &[Standing],
+) -> Result<Settled, AllocError> {
     let (Some(one), Some(two), Some(three)) = (
         papers.student_at(0),
         papers.student_at(1),
@@ -149,14 +154,8 @@ fn resume_with_the_third<R: Roll>(alloc: Global, papers: &Papers) -> Result<Sett
         return Err(AllocError);
     };
     let next_choices = first_two_stand::<R>(alloc, papers, one, two)?;
-    let mut round: Round<R> = Round::resume(
-        alloc,
-        papers,
-        &next_choices,
-        &[],
-        &[],
-        papers.students_len(),
-    )?;
+    assert_eq!(rt; next_choices.as_slice(), told);
+    let mut round: Round<R> = Round::resume(alloc, papers, &next_choices)?;
     round.enter_one(papers, three)?;
     round.into_settled(papers)
 }
@@ -187,16 +186,6 @@ fn a_newcomer_to_a_round_in_old_memory(rt: HostRuntime) {
     let want = "(1,10)(2,20)(2,10) 3: 1 at 20 3 at 10";
     let sorted = resume_again_with_the_third::<SortedRoll>(rt.alloc(), &papers);
     let heap = resume_again_with_the_third::<HeapRoll>(rt.alloc(), &papers);
-    expect_both(&rt, rt.alloc(), sorted, heap, want);
-    drop(papers);
-}
-
-#[test]
-fn a_newcomer_to_a_resumed_round(rt: HostRuntime) {
-    let papers = papers_of(&rt, rt.alloc(), MARKET_B_AND_NEWCOMER);
-    let want = "(1,10)(2,20)(2,10) 3: 1 at 20 3 at 10";
-    let sorted = resume_with_the_third::<SortedRoll>(rt.alloc(), &papers);
-    let heap = resume_with_the_third::<HeapRoll>(rt.alloc(), &papers);
     expect_both(&rt, rt.alloc(), sorted, heap, want);
     drop(papers);
 }

@@ -6,10 +6,12 @@ ghost use Rattle.sc_checkpoint.specs.Chains.{students_in};
 ghost use Rattle.sc_checkpoint.specs.Spans.{AreWithin};
 
 use crate::given::{school, student};
-use sc_checkpoint::{Hints, NextChoice, Segments, Spans};
+use crate::rounds::{expect_both, resume_with_the_third};
+use sc_checkpoint::{Hints, Segments, Spans, Standing};
 use sc_papers::{
     Amendment, Papers, Refusal, Rejection, SchoolList, SchoolRefusal, Seats, Seed, Zone,
 };
+use sc_seats::{HeapRoll, SortedRoll};
 use std::alloc::{AllocError, Global};
 use std::process::Abort;
 
@@ -159,7 +161,7 @@ fn checkpoints_are_copied(rt: HostRuntime) {
 }
 
 /// The students stand at these schools, in order: 0 is none.
-fn expect_each(rt: &impl Abort, next_choices: &[NextChoice], wanted: &[(u32, u32)]) {
+fn expect_each(rt: &impl Abort, next_choices: &[Standing], wanted: &[(u32, u32)]) {
     assert_eq!(rt; next_choices.len(), wanted.len());
     for (choice, (number, at)) in next_choices.iter().zip(wanted.iter()) {
         assert_eq!(rt; choice.student, student(rt, *number));
@@ -219,6 +221,27 @@ fn expect_of_papers(rt: &impl Abort, alloc: Global, segments: &Segments)
 fn students_stand_at_their_next_choices(rt: HostRuntime) {
     let segments = segments_of_three(&rt, rt.alloc());
     expect_of_papers(&rt, rt.alloc(), &segments);
+    drop(segments);
+}
+
+/// A round that goes on from where the first two students stand after their segments, and which the third enters, has
+/// the third's chain as its log, and makes three proposals.
+fn expect_resumed(rt: &impl Abort, alloc: Global, segments: &Segments)
+    requires { students_in segments.now ≡ 1 ∷ 2 ∷ 3 ∷ [] }
+{
+    let papers = papers_of_three(rt, alloc);
+    let told = segments.next_choices_at(&papers, 2).expect(rt, "memory");
+    let want = "(1,10)(2,20)(2,10) 3: 1 at 20 3 at 10";
+    let sorted = resume_with_the_third::<SortedRoll>(rt, alloc, &papers, told.as_slice());
+    let heap = resume_with_the_third::<HeapRoll>(rt, alloc, &papers, told.as_slice());
+    expect_both(rt, alloc, sorted, heap, want);
+    drop(papers);
+}
+
+#[test]
+fn a_round_goes_on_from_a_checkpoint(rt: HostRuntime) {
+    let segments = segments_of_three(&rt, rt.alloc());
+    expect_resumed(&rt, rt.alloc(), &segments);
     drop(segments);
 }
 

@@ -9,7 +9,7 @@ ghost use Rattle.sc_checkpoint.specs.NextChoices.{stands, AreNextChoices};
 ghost use Rattle.sc_engine.specs.RoundView.{Fits, Continues, StandsToo, has_entered, next_of};
 
 use super::{Round, offer_to, position_near};
-use sc_checkpoint::NextChoice;
+use sc_checkpoint::Standing;
 use sc_papers::{Key, LONGEST_LIST, Papers, SchoolNo};
 use sc_seats::Roll;
 use std::alloc::{AllocError, Global};
@@ -68,7 +68,7 @@ impl<R: Roll> Round<R> {
     fn put(
         &mut self,
         papers: &Papers,
-        choice: NextChoice,
+        choice: Standing,
         position_guess: usize,
         rank_guess: usize,
     ) -> Result<(), AllocError>
@@ -101,19 +101,12 @@ impl<R: Roll> Round<R> {
     /// log that leaves them there the round goes on as if it had made that log itself.
     ///
     /// It takes memory for each student and each school of the papers and for the seats held. The cost
-    /// is a look at the student's row and an offer for each of them. `near` may tell, for each next choice in turn, at which
-    /// position of the order of entry its student stands; where it tells nothing, that is taken to be right after the
-    /// student before, and a student who stands elsewhere is looked up by number. `ranks` may tell likewise at which rank of
-    /// the student's choices the next choice stands; one that stands elsewhere is looked up, and looked for among them.
-    /// `expected` is how many students are to stand in the round at last; where it is too small, more of them are
-    /// looked up by number. Nothing else depends on any of these.
+    /// is a look at the student's row and an offer for each of them. A student who does not stand right after the one before
+    /// in the order of entry is looked up by number, and so is a next choice other than the first.
     pub fn resume(
         alloc: Global,
         papers: &Papers,
-        next_choices: &[NextChoice],
-        near: &[usize],
-        ranks: &[u8],
-        expected: usize,
+        next_choices: &[Standing],
     ) -> Result<Self, AllocError>
         // Some earlier log is settled for the papers of these students alone, who are different
         // students of the papers, and leaves them these next choices.
@@ -125,19 +118,44 @@ impl<R: Roll> Round<R> {
         ensures proposals { IfOk result (λ round. (view_of R.keys R.seats round).proposals ≡ 0) }
         ensures ready { IfOk result (λ round. is_spent round ≡ false) }
     {
+        Round::resume_near(alloc, papers, next_choices, &[], &[], papers.students_len())
+    }
+
+    /// Does what `resume` does, told where the students and their choices may stand. `near` may tell, for each next choice
+    /// in turn, at which position of the order of entry its student stands; where it tells nothing, that is taken to be right
+    /// after the student before, and a student who stands elsewhere is looked up by number. `ranks` may tell likewise at which
+    /// rank of the student's choices the next choice stands; one that stands elsewhere is looked up, and looked for among them.
+    /// `expected` is how many students are to stand in the round at last; where it is too small, more of them are
+    /// looked up by number. Nothing else depends on any of these.
+    pub fn resume_near(
+        alloc: Global,
+        papers: &Papers,
+        next_choices: &[Standing],
+        near: &[usize],
+        ranks: &[u8],
+        expected: usize,
+    ) -> Result<Self, AllocError>
+        requires { (earlier : List Rejection) × AreNextChoices papers.now earlier next_choices.now }
+        ensures fits { IfOk result (λ round. Fits papers.now (view_of R.keys R.seats round)) }
+        ensures entered { IfOk result (λ round. (i : ℕ) → has_entered papers.now (view_of R.keys R.seats round).ranks i ≡ stands next_choices.now i) }
+        ensures continues { IfOk result (λ round. (earlier : List Rejection) → AreNextChoices papers.now earlier next_choices.now → Continues papers.now earlier (view_of R.keys R.seats round)) }
+        ensures log { IfOk result (λ round. (view_of R.keys R.seats round).log ≡ []) }
+        ensures proposals { IfOk result (λ round. (view_of R.keys R.seats round).proposals ≡ 0) }
+        ensures ready { IfOk result (λ round. is_spent round ≡ false) }
+    {
         Round::with_room(alloc, papers, expected)?.stand(papers, next_choices, near, ranks)
     }
 
-    /// Does what `resume` does, in the memory of a round that is done with, whatever papers it was of and whether or
+    /// Does what `resume_near` does, in the memory of a round that is done with, whatever papers it was of and whether or
     /// not it is spent.
     ///
     /// The cost is a look at each school, one at each student who stood in that round, and for each student of the next
-    /// choices what it is in `resume`. A round that never lent its memory before does not know who stood in it, and costs
+    /// choices what it is in `resume_near`. A round that never lent its memory before does not know who stood in it, and costs
     /// two bytes to clear for each student of the papers.
     pub fn resume_in(
         self,
         papers: &Papers,
-        next_choices: &[NextChoice],
+        next_choices: &[Standing],
         near: &[usize],
         ranks: &[u8],
         expected: usize,
@@ -158,7 +176,7 @@ impl<R: Roll> Round<R> {
     fn stand(
         self,
         papers: &Papers,
-        next_choices: &[NextChoice],
+        next_choices: &[Standing],
         near: &[usize],
         ranks: &[u8],
     ) -> Result<Self, AllocError>
