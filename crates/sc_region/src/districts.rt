@@ -296,23 +296,23 @@ impl Districts {
         self.region_by(alloc, papers, amendment, start, groups.as_slice())
     }
 
-    /// Brings the districts in step with an amendment of their papers that is not refused, before it is made:
-    /// they come to be those of the papers after it. Districts that the new choices join become one, and stay
-    /// so. The only error is want of memory, after which these are the districts of no papers, and to be
-    /// given up.
+    /// The districts in step with an amendment of their papers that is not refused, before it is made: those of the
+    /// papers after it. Districts that the new choices join become one, and stay so. The only error is want of
+    /// memory, with which the districts are given up.
     ///
     /// The cost is a look at each of the new choices, one at each student who has the first choice of one who
     /// withdraws or comes with other choices, and a pass over the schools for each district that is joined.
-    pub fn amend(&mut self, papers: &Papers, amendment: &Amendment) -> Result<(), AllocError>
-        requires districts { AreDistricts papers.now self.old }
+    pub fn amend(self, papers: &Papers, amendment: &Amendment) -> Result<Self, AllocError>
+        requires districts { AreDistricts papers.now self }
         requires allowed { verdict papers.now amendment.now ≡ None }
-        ensures { OnOk result (AreDistricts (after papers.now amendment.now) self.new) }
+        ensures { IfOk result (AreDistricts (after papers.now amendment.now)) }
     {
         // This call tells that the papers are well-formed.
         prove!(papers.students_len() <= MOST_STUDENTS);
-        widen(papers, amendment, &mut self.groups);
-        let_leave(&mut self.firsts, papers, amendment);
-        let_come(&mut self.firsts, papers, amendment)?;
-        Ok(())
+        let mut districts = self;
+        widen(papers, amendment, &mut districts.groups);
+        let_leave(&mut districts.firsts, papers, amendment);
+        let_come(&mut districts.firsts, papers, amendment)?;
+        Ok(districts)
     }
 }

@@ -37,11 +37,7 @@ fn followed(
     requires allowed { verdict papers.now amendment.now ≡ None }
     ensures { IfSome result (AreDistricts (after papers.now amendment.now)) }
 {
-    let mut districts = districts?;
-    match districts.amend(papers, amendment) {
-        Ok(()) => Some(districts),
-        Err(_) => None,
-    }
+    districts?.amend(papers, amendment).ok()
 }
 
 /// Brings districts of the papers in step with an amendment that is not refused, before it is made; where there

@@ -1,7 +1,7 @@
 //! Districts in a market of a few districts: schools 10 and 20, which students 1 and 2 list, school 40, which
 //! student 3 lists, and school 30, which all others list. Where memory is refused, a test asks again.
 
-ghost use Rattle.std.specs.Prelude.{OnOk};
+ghost use Rattle.std.specs.Prelude.{IfOk};
 ghost use Rattle.sc_region.specs.Districts.{AreDistricts};
 
 use super::regions::{enter, entry, no_papers, rerank, school, student};
@@ -59,17 +59,17 @@ fn expect_positions(
 
 /// The papers are amended, and the districts with them.
 fn follow(
-    districts: &mut Districts,
+    districts: Districts,
     papers: &mut Papers,
     amendment: Amendment,
-) -> Result<(), Refusal>
-    requires { AreDistricts papers.old districts.old }
-    ensures { OnOk result (AreDistricts papers.new districts.new) }
+) -> Result<Districts, Refusal>
+    requires { AreDistricts papers.old districts }
+    ensures { IfOk result (AreDistricts papers.new) }
 {
     papers.check(&amendment)?;
-    districts.amend(papers, &amendment)?;
+    let followed = districts.amend(papers, &amendment)?;
     papers.apply(amendment)?;
-    Ok(())
+    Ok(followed)
 }
 
 fn expect_regions(rt: &impl Abort, alloc: Global, papers: &mut Papers) -> Result<(), Refusal> {
@@ -81,12 +81,12 @@ fn expect_regions(rt: &impl Abort, alloc: Global, papers: &mut Papers) -> Result
     // The new choices join two districts.
     let joining = rerank(rt, alloc, 3, &[10])?;
     expect_positions(rt, alloc, &districts, papers, &joining, &[0, 1, 2])?;
-    follow(&mut districts, papers, joining)?;
+    districts = follow(districts, papers, joining)?;
     expect_positions(rt, alloc, &districts, papers, &withdrawal, &[0, 1, 2])?;
     // They stay joined once nobody's list does it, and the region is exact all the same.
     let parting = rerank(rt, alloc, 3, &[40])?;
     expect_positions(rt, alloc, &districts, papers, &parting, &[0, 1, 2])?;
-    follow(&mut districts, papers, parting)?;
+    districts = follow(districts, papers, parting)?;
     expect_positions(rt, alloc, &districts, papers, &withdrawal, &[0, 1])?;
     Ok(())
 }
@@ -107,7 +107,7 @@ fn expect_moves(rt: &impl Abort, alloc: Global, papers: &mut Papers) -> Result<(
     let withdrawal = Amendment::Withdraw {
         student: student(rt, 1),
     };
-    follow(&mut districts, papers, withdrawal)?;
+    districts = follow(districts, papers, withdrawal)?;
     let last = Amendment::Withdraw {
         student: student(rt, 3),
     };
@@ -115,7 +115,7 @@ fn expect_moves(rt: &impl Abort, alloc: Global, papers: &mut Papers) -> Result<(
     expect_positions(rt, alloc, &districts, papers, &last, &[1])?;
     let newcomer = entry(rt, alloc, 4, &[40, 10])?;
     expect_positions(rt, alloc, &districts, papers, &newcomer, &[0, 1])?;
-    follow(&mut districts, papers, newcomer)?;
+    districts = follow(districts, papers, newcomer)?;
     expect_positions(rt, alloc, &districts, papers, &last, &[0, 1, 23])?;
     Ok(())
 }

@@ -13,10 +13,10 @@ returns c =
     let m = c.args.papers.now in
     let a = c.args.amendment.now in
     let well = c.students_len.ensures.well_formed in
-    let d : DistrictsView = record { groups = c.self.inside.groups.items; firsts = lists_in c.self.inside.firsts.items } in
-    let old : AreDistricts m d = subst (AreDistricts m) (sym c.self.view_is) c.requires.districts in
+    let d : DistrictsView = record { groups = c.districts.inside.groups.items; firsts = lists_in c.districts.inside.firsts.items } in
+    let old : AreDistricts m d = subst (AreDistricts m) (sym c.districts.view_is) c.requires.districts in
     subst (λ (gs : List ℕ). AreDistricts (after m a) (record { groups = gs; firsts = lists_in c.let_come.new.firsts.items })) (sym c.widen.ensures.widened)
     (districts-after m a well (WellFormed-after m a well c.requires.allowed) c.requires.allowed d old (start-known m a well c.requires.allowed) (lists_in c.let_come.new.firsts.items)
-    (length-map c.let_come.new.firsts.items names ∙ c.in_ok-let_come.ensures.one_each ∙ c.let_leave.ensures.one_each ∙ sym (length-map c.self.inside.firsts.items names))
+    (length-map c.let_come.new.firsts.items names ∙ c.in_ok-let_come.ensures.one_each ∙ c.let_leave.ensures.one_each ∙ sym (length-map c.districts.inside.firsts.items names))
     (λ p i stays among. c.in_ok-let_come.ensures.keeps p i (c.let_leave.ensures.others p i stays among))
     c.in_ok-let_come.ensures.moved)
