@@ -3,8 +3,10 @@
 use sc_papers::{Papers, StudentNo};
 use std::alloc::{AllocError, Global};
 
-/// By students' numbers: the position at which a student of such a number stands. It is a guess, which whoever uses
-/// it has to test. Where numbers are near each other it is right, and spares a look-up.
+/// By students' numbers: the position at which a student of such a number stands.
+///
+/// No call here promises anything of what it answers, and none has a clause: it is a guess, which its reader tests before
+/// it is used. Where numbers are near each other it is right, and spares a look-up; nothing else depends on it.
 #[derive(Drop)]
 pub(crate) struct Guesses {
     positions: Vec<u32>,
@@ -43,7 +45,7 @@ impl Guesses {
         }
     }
 
-    /// Where the student may stand.
+    /// Where the student may stand: any number, which its reader tests.
     pub(crate) fn guess(&self, student: StudentNo) -> usize {
         let guess = self.positions.get(self.place(student));
         guess.map_or(0, |position| *position as usize)

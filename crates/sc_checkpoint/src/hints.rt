@@ -3,8 +3,11 @@
 use sc_papers::StudentNo;
 use std::alloc::{AllocError, Global};
 
-/// By students' numbers: the position that was noted last for a student with such a number. It is a guess, which
-/// whoever uses it has to test; where it is right, it spares a look-up. So no contract speaks of it.
+/// By students' numbers: the position that was noted last for a student with such a number.
+///
+/// No call here promises anything of what it answers, and none has a clause: a hint is a guess, which its reader tests
+/// before it is used, and which may be wrong of any student. Where it is right, it spares a look-up; nothing else depends
+/// on it.
 #[derive(Drop)]
 pub struct Hints {
     positions: Vec<u32>,
@@ -17,7 +20,7 @@ fn places_for(students: usize) -> usize {
 
 impl Hints {
     /// Room for so many students' hints, and for less than twice as many: where it is too small, or where numbers lie far
-    /// apart, some hints take the place of others. The only error is want of memory.
+    /// apart, some hints take the place of others. The only error is want of memory. Nothing is promised of the hints.
     pub fn with_room(alloc: Global, students: usize) -> Result<Self, AllocError> {
         Ok(Hints {
             positions: Vec::from_elem(alloc, 0, places_for(students))?,
@@ -29,7 +32,8 @@ impl Hints {
         student.get() as usize & self.positions.len().wrapping_sub(1)
     }
 
-    /// Keeps the student's position. In constant time.
+    /// Keeps the student's position, unless another's takes its place. Nothing is promised of what `guess` answers then. In
+    /// constant time.
     pub fn note(&mut self, student: StudentNo, position: usize) {
         let place = self.place(student);
         if let Some(hint) = self.positions.get_mut(place) {
@@ -37,7 +41,8 @@ impl Hints {
         }
     }
 
-    /// The position at which the student may be. In constant time.
+    /// The position at which the student may be: any number, also none of a position, which its reader tests. In constant
+    /// time.
     pub fn guess(&self, student: StudentNo) -> usize {
         let hint = self.positions.get(self.place(student));
         hint.map_or(0, |position| *position as usize)

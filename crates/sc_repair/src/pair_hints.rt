@@ -3,9 +3,10 @@
 use sc_papers::{Assignment, Papers, StudentNo};
 use std::alloc::{AllocError, Global};
 
-/// By a student's position in the order of entry: where their pair may stand in the order of an assignment. It is a
-/// guess, which whoever uses it has to test; where it is right, it spares a look-up by number. So no contract speaks
-/// of it.
+/// By a student's position in the order of entry: where their pair may stand in the order of an assignment.
+///
+/// No call here promises anything of what it answers, and none has a clause: a hint is a guess, which its reader tests
+/// before it is used. Where it is right, it spares a look-up by number; nothing else depends on it.
 #[derive(Drop)]
 pub(crate) struct PairHints {
     pairs: Vec<u32>,
@@ -45,7 +46,7 @@ impl PairHints {
         Ok(PairHints { pairs })
     }
 
-    /// Where the pair of the student at the position may stand.
+    /// Where the pair of the student at the position may stand: any number, which its reader tests.
     pub(crate) fn guess(&self, position: usize) -> usize {
         self.pairs.get(position).map_or(0, |pair| *pair as usize)
     }

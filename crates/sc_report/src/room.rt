@@ -3,6 +3,9 @@ use crate::entrants::Entrant;
 use sc_papers::Papers;
 
 /// The most digits of a student's number and of a school's.
+///
+/// No call here promises anything of what it answers, and none has a clause: it is a guess at how much room a text takes. Where
+/// it is too small, the text takes more as it grows; where it is too great, room stays unused.
 #[derive(Clone, Copy)]
 pub(crate) struct Widths {
     student: usize,
