@@ -1,5 +1,6 @@
-//! The auditor: a second reading of the rules, which shares no code with what settles papers. It takes
-//! a log or an assignment from anybody, and answers what the papers alone say of it.
+//! The auditor: a second reading of the rules. It takes a log or an assignment from anybody, and answers what the
+//! papers alone say of it. With what settles papers it shares the papers and nothing else: their keys, and the look-up of
+//! a student's choice at a rank with the key there.
 #![tactic(auto)]
 
 mod audit_state;
