@@ -5,11 +5,11 @@
 //! last settling then made, and the standing that is left.
 use crate::given::{papers_of, school, student};
 use sc_markets::{
-    FIVE_STUDENTS, Files, MARKET_A, MARKET_B, MARKET_B_CONTINUING, TWO_STUDENTS, amendment, seen,
-    standing,
+    FIVE_STUDENTS, Files, MARKET_A, MARKET_B, MARKET_B_CONTINUING, TWO_STUDENTS, amendment,
+    places_text, seen, standing,
 };
-use sc_papers::{Refusal, Rejection};
-use sc_repair::Clearing;
+use sc_papers::{Papers, Refusal, Rejection};
+use sc_repair::{Clearing, RegionList, region};
 use std::alloc::{AllocError, Global};
 use std::process::Abort;
 
@@ -25,21 +25,41 @@ fn expect_standing(rt: &impl Abort, alloc: Global, clearing: &Clearing, want: &s
     assert_eq!(rt; text.as_str(), want);
 }
 
-/// What the clearing answers to an amendment with the stamp that its record has: its refusal or `ok`.
-fn answer(alloc: Global, clearing: &mut Clearing, record: &str) -> Result<String, Refusal> {
+/// What the clearing answers to an amendment with the stamp that its record has, its refusal or `ok`, which is what
+/// `check` says beforehand.
+fn answer(
+    rt: &impl Abort,
+    alloc: Global,
+    clearing: &mut Clearing,
+    record: &str,
+) -> Result<String, Refusal> {
     let stamped = seen(clearing, amendment(alloc, record)?);
-    match clearing.amend(stamped) {
+    let checked = clearing.check(&stamped);
+    let answered = clearing.amend(stamped);
+    assert!(rt; checked == answered, "{record}");
+    match answered {
         Ok(()) => Ok(String::from_str(alloc, "ok")?),
         Err(refusal) => Ok(refusal.to_string(alloc)?),
     }
 }
 
 /// What an amendment leaves, with the answer to it.
-fn left_by(alloc: Global, clearing: &mut Clearing, record: &str) -> Result<String, Refusal> {
-    let answer = answer(alloc, clearing, record)?;
+fn left_by(
+    rt: &impl Abort,
+    alloc: Global,
+    clearing: &mut Clearing,
+    record: &str,
+) -> Result<String, Refusal> {
+    let answer = answer(rt, alloc, clearing, record)?;
     let standing = standing(alloc, clearing)?;
     let proposals = clearing.proposals_last();
     Ok(format!(in alloc; "{answer}, {proposals}: {standing}")?)
+}
+
+/// The record leaves what is wanted.
+fn expect_left(rt: &impl Abort, alloc: Global, clearing: &mut Clearing, record: &str, want: &str) {
+    let left = left_by(rt, alloc, clearing, record).expect(rt, "memory");
+    assert_eq!(rt; left.as_str(), want, "{record}");
 }
 
 /// The clearing of the market has this standing, and the records leave what is wanted, one after another.
@@ -48,8 +68,7 @@ fn walk(rt: &impl Abort, alloc: Global, files: Files<'_>, opening: &str, script:
     expect_standing(rt, alloc, &clearing, opening);
     for line in script.lines() {
         let (record, want) = line.split_once(" => ").expect(rt, "a record and an answer");
-        let left = left_by(alloc, &mut clearing, record).expect(rt, "memory");
-        assert_eq!(rt; left.as_str(), want, "{record}");
+        expect_left(rt, alloc, &mut clearing, record, want);
     }
     drop(clearing);
 }
@@ -120,6 +139,76 @@ enter,5,0,10,10 => ok, 1: 1:0 2:20 4:20 5:10 |(1,10)
     walk(&rt, rt.alloc(), TWO_PARTS, opening, script);
 }
 
+/// Market B and school 30, which two other students choose.
+const TWO_REGIONS: Files<'static> = Files {
+    schools: "10,1,1\n20,0,1\n30,0,1\n",
+    students: "1,0,20\n2,0,10\n6,0,\n7,0,\n",
+    lists: "1,10 20\n2,20 10\n6,30\n7,30\n",
+};
+
+/// The numbers of a region's students, in its order.
+fn numbers_text(alloc: Global, region: &RegionList) -> Result<String, AllocError> {
+    let mut text = String::new(alloc);
+    for position in 0..region.len() {
+        if let Some(student) = region.at(position) {
+            write!(text, "{} ", student.get())?;
+        }
+    }
+    Ok(text)
+}
+
+/// The region of an amendment of the papers, before it is made.
+fn region_text(alloc: Global, papers: &Papers, record: &str) -> Result<String, Refusal> {
+    let amendment = amendment(alloc, record)?;
+    let region = region(alloc, papers, &amendment)?;
+    let text = numbers_text(alloc, &region)?;
+    Ok(text)
+}
+
+/// The amendment has a region of these students.
+fn expect_region(rt: &impl Abort, alloc: Global, clearing: &Clearing, record: &str, want: &str) {
+    let region = region_text(alloc, clearing.papers(), record).expect(rt, "memory");
+    assert_eq!(rt; region.as_str(), want, "{record}");
+}
+
+/// The students have these places, in order of entry.
+fn expect_places(rt: &impl Abort, alloc: Global, clearing: &Clearing, want: &str) {
+    let places = places_text(alloc, clearing).expect(rt, "memory");
+    assert_eq!(rt; places.as_str(), want);
+}
+
+/// Student 3 enters beside a region apart, whose students keep what they have. From scratch the chains make seven
+/// proposals.
+fn expect_newcomer_beside_a_region(rt: &impl Abort, alloc: Global, clearing: &mut Clearing) {
+    let record = "enter,3,1,10,10";
+    expect_region(rt, alloc, clearing, record, "1 2 3 ");
+    let answer = answer(rt, alloc, clearing, record).expect(rt, "memory");
+    assert_eq!(rt; answer.as_str(), "ok");
+    expect_places(rt, alloc, clearing, "1:20 2:0 6:0 7:30 3:10 ");
+    assert!(rt; clearing.proposals_last() <= 5);
+}
+
+#[test]
+fn a_region_apart(rt: HostRuntime) {
+    let mut clearing = open(&rt, rt.alloc(), TWO_REGIONS);
+    expect_places(&rt, rt.alloc(), &clearing, "1:10 2:20 6:0 7:30 ");
+    expect_newcomer_beside_a_region(&rt, rt.alloc(), &mut clearing);
+    drop(clearing);
+}
+
+#[test]
+fn rerank_in_its_region(rt: HostRuntime) {
+    let mut clearing = open(&rt, rt.alloc(), TWO_REGIONS);
+    expect_newcomer_beside_a_region(&rt, rt.alloc(), &mut clearing);
+    let before = "1:20 2:0 6:0 7:30 3:10 |(6,30)(1,10)(2,20)(2,10)";
+    expect_standing(&rt, rt.alloc(), &clearing, before);
+    let record = "rerank,1,10 20";
+    expect_region(&rt, rt.alloc(), &clearing, record, "1 2 3 ");
+    let want = "ok, 5: 1:20 2:0 6:0 7:30 3:10 |(6,30)(1,10)(2,20)(2,10)";
+    expect_left(&rt, rt.alloc(), &mut clearing, record, want);
+    drop(clearing);
+}
+
 #[test]
 fn rerank_to_the_same(rt: HostRuntime) {
     let script = "\
@@ -139,6 +228,24 @@ withdraw,1 => ok, 1: 2:1 |
 enter,1,0,,1 => ok, 1: 2:1 1:0 |(1,1)
 ";
     walk(&rt, rt.alloc(), TWO_STUDENTS, "1:0 2:1 |(1,1)", script);
+}
+
+/// Student 2 goes and comes back, with the same key at school 1.
+fn expect_the_same_key(rt: &impl Abort, alloc: Global, clearing: &mut Clearing) {
+    let (two, one_school) = (student(rt, 2), school(rt, 1));
+    let before = clearing.papers().key(two, one_school);
+    assert!(rt; before.is_some());
+    expect_left(rt, alloc, clearing, "withdraw,2", "ok, 0: 1:1 |");
+    assert!(rt; clearing.papers().key(two, one_school).is_none());
+    expect_left(rt, alloc, clearing, "enter,2,0,,1", "ok, 1: 1:0 2:1 |(1,1)");
+    assert!(rt; clearing.papers().key(two, one_school) == before);
+}
+
+#[test]
+fn withdraw_and_return_with_the_same_key(rt: HostRuntime) {
+    let mut clearing = open(&rt, rt.alloc(), TWO_STUDENTS);
+    expect_the_same_key(&rt, rt.alloc(), &mut clearing);
+    drop(clearing);
 }
 
 #[test]

@@ -1,8 +1,11 @@
 //! What the papers refuse, and in which order it is tested. Each line of a script is a record and, after
 //! `=>`, the answer that is wanted.
-use crate::given::{papers_of, school, student};
+use crate::given::{amend, papers_of, school, student};
 use sc_markets::{MARKET_B, amendment};
-use sc_papers::{Amendment, Papers, Refusal, SchoolList, SchoolRefusal, Seats, Seed, Zone};
+use sc_papers::{
+    Amendment, Papers, Refusal, SchoolList, SchoolNo, SchoolRefusal, Seats, Seed, Stamp, Student,
+    Zone,
+};
 use std::alloc::{AllocError, Global};
 use std::process::Abort;
 
@@ -106,6 +109,132 @@ fn expect_of_market_b(rt: &impl Abort, alloc: Global, script: &str, left: u32) {
     assert!(rt; seats(rt, &papers, 10) == left);
     assert!(rt; seats(rt, &papers, 20) == 1);
     drop(papers);
+}
+
+/// A list's schools as a text: `10 20 `.
+fn list_text(alloc: Global, list: &[SchoolNo]) -> Result<String, AllocError> {
+    let mut text = String::new(alloc);
+    for school in list {
+        write!(text, "{} ", school.get())?;
+    }
+    Ok(text)
+}
+
+/// A student of the papers as a text: the zone, the siblings and the choices, and the school at which they continue, or 0.
+fn student_text(alloc: Global, student: &Student) -> Result<String, AllocError> {
+    let siblings = list_text(alloc, student.siblings.as_slice())?;
+    let choices = list_text(alloc, student.choices.as_slice())?;
+    let continuing = student.continuing.map_or(0, |school| school.get());
+    let zone = student.zone.get();
+    format!(in alloc; "{zone},{siblings},{choices},{continuing}")
+}
+
+/// The students of the papers, in order of entry, a line each.
+fn students_text(alloc: Global, papers: &Papers) -> Result<String, AllocError> {
+    let mut text = String::new(alloc);
+    for position in 0..papers.students_len() {
+        if let Some(number) = papers.student_at(position) {
+            if let Some(student) = papers.student(number) {
+                let line = student_text(alloc, student)?;
+                write!(text, "{},{line}\n", number.get())?;
+            }
+        }
+    }
+    Ok(text)
+}
+
+/// The papers are those of Market B with its newcomer.
+fn expect_unchanged(rt: &impl Abort, alloc: Global, papers: &Papers) {
+    let students = students_text(alloc, papers).expect(rt, "memory");
+    assert_eq!(rt;
+        students.as_str(),
+        "1,0,20 ,10 20 ,0\n2,0,10 ,20 10 ,0\n3,1,10 ,10 ,0\n"
+    );
+    assert!(rt; papers.schools_len() == 2);
+    assert!(rt; seats(rt, papers, 10) == 1);
+    assert!(rt; seats(rt, papers, 20) == 1);
+}
+
+// The list of 21 schools begins with an unknown one: its length comes first.
+#[test]
+fn each_refusal_once(rt: HostRuntime) {
+    let script = "\
+withdraw,99 => UnknownStudent
+enter,1,0,, => StudentExists
+enter,4,0,, => EmptyList
+enter,4,0,,77 1 2 3 4 5 6 7 8 9 10 11 12 13 14 15 16 17 18 19 20 => ListTooLong
+enter,4,0,,77 => UnknownSchool 77
+enter,4,0,,77 10 10 => UnknownSchool 77
+enter,4,0,77,10 10 => UnknownSchool 77
+enter,4,0,10 10,10 => SchoolTwice 10
+add,77,1 => UnknownSchool 77
+";
+    let mut papers = papers_of(&rt, rt.alloc(), MARKET_B);
+    amend(&rt, rt.alloc(), &mut papers, "enter,3,1,10,10");
+    for line in script.lines() {
+        expect_answers(&rt, rt.alloc(), &mut papers, line);
+        expect_unchanged(&rt, rt.alloc(), &papers);
+    }
+    drop(papers);
+}
+
+/// The refusal has this text.
+fn expect_text(
+    rt: &impl Abort,
+    alloc: Global,
+    refusal: Refusal,
+    want: &str,
+) -> Result<(), AllocError> {
+    let text = refusal.to_string(alloc)?;
+    assert_eq!(rt; text.as_str(), want);
+    Ok(())
+}
+
+#[test]
+fn texts_of_refusals(rt: HostRuntime) -> Result<(), AllocError> {
+    let school = school(&rt, 99_999);
+    let stamp = Stamp::new(999_999_999).expect(&rt, "a stamp");
+    for (refusal, want) in [
+        (Refusal::Shape, "Shape"),
+        (Refusal::UnknownStudent, "UnknownStudent"),
+        (Refusal::StudentExists, "StudentExists"),
+        (Refusal::EmptyList, "EmptyList"),
+        (Refusal::ListTooLong, "ListTooLong"),
+        (Refusal::UnknownSchool { school }, "UnknownSchool 99999"),
+        (Refusal::SchoolTwice { school }, "SchoolTwice 99999"),
+        (Refusal::RosterFull, "RosterFull"),
+        (Refusal::TooManySeats, "TooManySeats"),
+        (Refusal::TooFewSeats, "TooFewSeats"),
+        (Refusal::OutOfMemory, "OutOfMemory"),
+        (Refusal::Stale { stamp }, "Stale 999999999"),
+        (Refusal::Spent, "Spent"),
+    ] {
+        expect_text(&rt, rt.alloc(), refusal, want)?;
+    }
+    Ok(())
+}
+
+#[test]
+fn texts_of_refusals_of_schools(rt: HostRuntime) -> Result<(), AllocError> {
+    for (refusal, want) in [
+        (
+            SchoolRefusal::SchoolExists,
+            "the school is already in the papers",
+        ),
+        (
+            SchoolRefusal::TooManySchools,
+            "there are as many schools as there may be",
+        ),
+        (
+            SchoolRefusal::SchoolsClosed,
+            "no school is added once a student has entered",
+        ),
+        (SchoolRefusal::OutOfMemory, "out of memory"),
+    ] {
+        let text = refusal.to_string(rt.alloc())?;
+        assert_eq!(rt; text.as_str(), want);
+    }
+    Ok(())
 }
 
 // A list of 21 schools has an unknown one, too: its length comes first. A list of 20 is not too long.
