@@ -12,5 +12,6 @@ pub mod Replies
 pub mod TwoWriters
 pub mod Verdicts
 pub mod LastReport
+pub mod LineFirst
 pub mod Journaling
 pub mod DeskOrder

@@ -82,7 +82,7 @@ pub GrowsByPrefix-longer : (xs ys : List Piece) (a b : Contents) → GrowsByPref
 GrowsByPrefix-longer xs ys a b (j, o, prefix, grown) = (j, o, IsPrefix-longer xs ys j o prefix, grown)
 
 -- all the writes are their own prefix
-IsPrefix-all : (xs : List Piece) → IsPrefix xs (journal_of xs) (output_of xs)
+pub IsPrefix-all : (xs : List Piece) → IsPrefix xs (journal_of xs) (output_of xs)
 IsPrefix-all [] = (refl, refl)
 IsPrefix-all (x ∷ xs) = inr (journal_of xs, output_of xs, refl, refl, IsPrefix-all xs)
 

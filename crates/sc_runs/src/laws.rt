@@ -1,5 +1,6 @@
 //! What the texts of a run come to. Each function does nothing: its contract is the law.
-ghost use Rattle.std.specs.Prelude.{◌≡◌, ℕ, ◌≤◌, List, length, Result, Ok};
+ghost use Rattle.std.specs.Io.{StartsWith};
+ghost use Rattle.std.specs.Prelude.{◌≡◌, ℕ, ◌≤◌, ◌++◌, [], List, length, Result, Ok, Some};
 ghost use Rattle.sc_papers.specs.Market.{Market};
 ghost use Rattle.sc_papers.specs.Interleaving.{IsInterleaving};
 ghost use Rattle.sc_papers.specs.Matching.{IsStudentOptimal, Matching};
@@ -13,7 +14,8 @@ ghost use Rattle.sc_journal.specs.Journal.{journal_text, IsReplay};
 ghost use Rattle.sc_journal.specs.declared.journal.Tail.TheVariants.{Whole};
 ghost use Rattle.sc_report.specs.Text.{report_text};
 ghost use Rattle.sc_runs.specs.Desks.{papers_after, AreSameUpToOrder};
-ghost use Rattle.sc_runs.specs.Run.{accepted, after_script, answers};
+ghost use Rattle.sc_runs.specs.Run.{accepted, after_script, answers, replies, Opened, WritesRun};
+ghost use Rattle.sc_runs.specs.declared.fault.RunFault.{RunFault};
 
 use sc_intake::MOST_BYTES;
 use sc_journal::LineNo;
@@ -59,6 +61,15 @@ pub fn journal_of_a_run_is_replayed()
 /// The journal of a run never has more lines than there are numbers for.
 pub fn journal_of_a_run_is_never_full()
     ensures { (m : Market) (script : List (Result Stamped Refusal)) → length (accepted (unamended m) script) ≤ LineNo.GREATEST }
+{}
+
+/// Each `ok` that stands whole in the output has its line whole in the journal, whatever ended the run. However much of what it writes
+/// two empty writers were given: where the output has the replies to the first records of the script, the journal has the lines of
+/// all those among them that were accepted.
+pub fn no_reply_before_its_line()
+    ensures { (opened : Opened) (first rest : List (Result Stamped Refusal)) (journal output : List ℕ) (result : Result (Unit {0}) RunFault) → opened.script ≡ first ++ rest
+        → WritesRun (Ok opened) (record { journal = Some []; output = Some [] }) (record { journal = Some journal; output = Some output }) result
+        → StartsWith output (replies 1 (unamended opened.papers) first) → StartsWith journal (journal_text 1 (accepted (unamended opened.papers) first)) }
 {}
 
 /// The order of entry decides nothing of what a run writes: over the same papers in another order, each record of the
