@@ -255,6 +255,12 @@ def wrong_words(rng):
 # ---- running both ------------------------------------------------------------------------------------------------
 
 def expected(case):
+    """What a call gives by the rules. Of a run that made no journal, the journal is None; of a call that keeps none, it is empty."""
+    output, journal, line, status = told(case)
+    return output, journal if case.kind == "run" else journal or b"", line, status
+
+
+def told(case):
     if case.kind == "bundle":
         return reference.told(reference.call_bundle, case.texts["bundle"])
     call = {"check": reference.call_check, "match": reference.call_match, "run": reference.call_run, "audit": reference.call_audit, "replay": reference.call_replay,
@@ -296,9 +302,10 @@ def actual(case, program, folder):
     done = subprocess.run([program, *words, *case.words], stdin=subprocess.DEVNULL, capture_output=True, cwd=folder)
     if case.kind == "export":
         return done.stdout, {file.name: file.read_bytes() for file in following.iterdir()} or b"", done.stderr, done.returncode
-    written = folder / "written"
-    journal = written.read_bytes() if case.kind == "run" and written.exists() else b""
-    return done.stdout, journal, done.stderr, done.returncode
+    if case.kind == "run":
+        written = folder / "written"
+        return done.stdout, written.read_bytes() if written.exists() else None, done.stderr, done.returncode
+    return done.stdout, b"", done.stderr, done.returncode
 
 
 def differ(case, program, folder):

@@ -32,11 +32,11 @@ STUDENT, SCHOOL, ZONE, SEATS, COUNT = (1, 999_999_999), (1, 99_999), (0, 9_999),
 
 
 class Stop(Exception):
-    """A call ended early: its fault line, without the program's name, and its status."""
+    """A call ended early: its fault line, without the program's name, and its status; and whether a file was opened before."""
 
-    def __init__(self, line, status):
+    def __init__(self, line, status, opened=True):
         super().__init__(line)
-        self.line, self.status = line, status
+        self.line, self.status, self.opened = line, status, opened
 
 
 def intake(source, row, cause):
@@ -77,10 +77,10 @@ def draw(key, student, blocks={}):
 def seed_of(text):
     """The 32 bytes of 64 hexadecimal digits."""
     if len(text) != 64:
-        raise Stop("seed: Length", 2)
+        raise Stop("seed: Length", 2, opened=False)
     for place, byte in enumerate(text):
         if byte not in b"0123456789abcdefABCDEF":
-            raise Stop(f"seed: Digit {place}", 2)
+            raise Stop(f"seed: Digit {place}", 2, opened=False)
     return bytes.fromhex(text.decode())
 
 
@@ -677,7 +677,7 @@ def call_summary(key, schools, roster, lists, journal=None):
 def student_of(word):
     """The student whom a word of the command line names."""
     if not re.fullmatch(rb"[0-9]{1,9}", word) or int(word) == 0:
-        raise Stop("student: Number", 2)
+        raise Stop("student: Number", 2, opened=False)
     return int(word)
 
 
@@ -734,11 +734,12 @@ def call_bundle(text):
 
 
 def told(call, *given, **options):
-    """What a call gives: output, journal, the line on standard error, and the status. Where it ends early, the two are empty."""
+    """What a call gives: output, journal, the line on standard error, and the status. Where it ends early, the two are empty, and
+    where it ends before a file is opened, there is no journal: None."""
     try:
         output, journal, status = call(*given, **options)
     except Stop as stop:
-        return b"", b"", f"clearinghouse: {stop.line}\n".encode(), stop.status
+        return b"", b"" if stop.opened else None, f"clearinghouse: {stop.line}\n".encode(), stop.status
     if status == "torn":
         return output, journal, b"clearinghouse: journal torn\n", 0
     return output, journal, b"", status
@@ -770,7 +771,8 @@ def main(words):
 
         output, journal, line, status = told(call)
         if words[0] == "run":
-            open(options["--journal"], "wb").write(journal)
+            if journal is not None:
+                open(options["--journal"], "wb").write(journal)
         elif words[0] == "export" and journal:
             for name, text in journal.items():
                 open(f"{options['--to']}/{name}", "xb").write(text)
