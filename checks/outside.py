@@ -127,6 +127,11 @@ def devices(trials):
         gone = trials.run(words, trials.bundle if name == "bundle" else b"", stdout=write)
         os.close(write)
         trials.ended(f"{name}: nobody reads the output", gone, 4, "clearinghouse: cannot write output")
+    for asked in (["--help"], ["--version"], ["help"], ["run", "-h"]):
+        with open("/dev/full", "wb") as out:
+            trials.ended(f"{asked} on a full disc", trials.run(asked, stdout=out), 4, "clearinghouse: cannot write output")
+        closed = subprocess.run(["sh", "-c", '"$0" "$@" >&-', trials.program, *asked], cwd=trials.folder, stderr=subprocess.PIPE)
+        trials.ended(f"{asked} closed", closed, 4, "clearinghouse: cannot write output")
     closed = subprocess.run(["sh", "-c", '"$0" <&-', trials.program], cwd=trials.folder, capture_output=True)
     trials.ended("input closed", closed, 4, "clearinghouse: cannot read bundle", b"")
     quiet = subprocess.run(["sh", "-c", '"$0" 2>&-', trials.program], input=b"no bundle", cwd=trials.folder, stdout=subprocess.PIPE)
@@ -168,6 +173,38 @@ def inputs(trials):
     feeder.join()
     trials.check("a bundle byte by byte", slow.wait() == 0 and output == trials.whole_run, output[:200])
     print("folders, endless inputs, pipes and limits: tried")
+
+
+def journals(trials):
+    """A journal that is an input or the output, under its name or by a link; a device that is both; an export into no folder."""
+    folder = trials.folder
+    refused = "clearinghouse: cannot write journal"
+
+    def given(journal):
+        return [journal if word == "journal" else word for word in trials.calls["run"]]
+
+    for name in ("schools", "roster", "lists", "script"):
+        held = (folder / name).read_bytes()
+        (folder / "soft").symlink_to(name)
+        (folder / "hard").hardlink_to(folder / name)
+        for journal in (name, f"./{name}", "soft", "hard"):
+            trials.ended(f"journal {journal} is {name}", trials.run(given(journal)), 4, refused, b"")
+            trials.check(f"journal {journal} is {name}", (folder / name).read_bytes() == held, "the input is lost")
+        (folder / "soft").unlink()
+        (folder / "hard").unlink()
+    (folder / "both").write_bytes(b"old\n")
+    with open(folder / "both", "ab") as out:
+        trials.ended("journal is the output", trials.run(given("both"), stdout=out), 4, refused)
+    trials.check("journal is the output", (folder / "both").read_bytes() == b"old\n", "the output is lost")
+    with open("/dev/null", "wb") as out:
+        trials.ended("journal and output are /dev/null", trials.run(given("/dev/null"), stdout=out), 0, "")
+    (folder / "journal").write_bytes(b"1,withdraw,1\n")
+    absent = ["missing" if word == "roster" else word for word in trials.calls["run"]]
+    trials.ended("journal beside an input that is not there", trials.run(absent), 4, "clearinghouse: cannot read roster", b"")
+    trials.check("journal beside an input that is not there", (folder / "journal").read_bytes() == b"1,withdraw,1\n", "the journal is lost")
+    export = ["export", *trials.calls["match"][1:], "--to", ""]
+    trials.ended("an export into no folder", trials.run(export), 4, "clearinghouse: cannot write schools.csv: no file is whole", b"")
+    print("journals that are inputs, outputs and devices: tried")
 
 
 def words(trials):
@@ -232,6 +269,7 @@ def main():
         trials = Trials(os.path.abspath(given.program), folder)
         devices(trials)
         inputs(trials)
+        journals(trials)
         words(trials)
         kills(trials, given.kills)
         refused_growths(trials, folder)

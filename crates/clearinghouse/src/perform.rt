@@ -4,7 +4,7 @@ use clap::Error;
 use clap::error::ErrorKind;
 use sc_intake::Source;
 use sc_papers::{Seed, StudentNo};
-use sc_report::{Watched, write_whole};
+use sc_report::{DeviceFailed, Watched, write_whole};
 use sc_runs::{
     Checked, Ending, Explained, Inputs, Opening, PapersFile, PapersFiles, RunFault, Settling, Tail,
     Verdict, audit_files, check_files, explain_files, export_files, fault_line, match_files,
@@ -12,10 +12,12 @@ use sc_runs::{
 };
 use sc_words::{FileWords, OpeningWords, Order, Subcommand, Word, order_of};
 use std::alloc::Global;
-use std::fs::{File, OpenOptions};
+use std::fs::{File, Metadata, OpenFile, OpenOptions, metadata, remove_file};
 use std::io;
 use std::io::{Read, Write};
 use std::mem::forget;
+use std::os::unix::fs::MetadataExt;
+use std::path::Path;
 use std::rt::Files;
 
 /// The line for a word of the command line that is not UTF-8.
@@ -38,12 +40,68 @@ fn open_opening<R: Files>(rt: &R, words: &FileWords<'_>) -> Result<Opening<R::Fi
     })
 }
 
-/// The journal file, made new or emptied.
-fn create_journal<R: Files>(rt: &R, path: &str) -> Result<Watched<R::File>, RunFault> {
-    match File::create(rt, path) {
-        Ok(file) => Ok(Watched::new(file)),
-        Err(_) => Err(RunFault::WriteJournal),
+/// Where the standard output is found as a file.
+const OUTPUT: &str = "/dev/stdout";
+
+/// Whether two files are one, under whatever names.
+fn are_one(one: &Metadata, other: &Metadata) -> bool {
+    one.dev() == other.dev() && one.ino() == other.ino()
+}
+
+/// Whether a file is this open input. An input of which nothing can be learnt counts as another file.
+fn is_input<F: OpenFile>(file: &Metadata, input: &Watched<F>) -> bool {
+    match input.inner().metadata() {
+        Ok(input) => are_one(file, &input),
+        Err(_) => false,
     }
+}
+
+/// Whether a file is one of the inputs of a run.
+fn is_among<F: OpenFile>(file: &Metadata, inputs: &Inputs<F>) -> bool {
+    is_input(file, &inputs.opening.schools)
+        || is_input(file, &inputs.opening.roster)
+        || is_input(file, &inputs.opening.lists)
+        || is_input(file, &inputs.script)
+}
+
+/// Whether a file is where the standard output goes.
+fn is_output<R: Files>(rt: &R, file: &Metadata) -> bool {
+    match metadata(rt, OUTPUT) {
+        Ok(output) => are_one(file, &output),
+        Err(_) => false,
+    }
+}
+
+/// Empties a regular file that is to be the journal, unless it is one of the inputs or the output: these are left as they
+/// are. A device, as `/dev/null`, has nothing to lose.
+fn empty_journal<R: Files>(
+    rt: &R,
+    journal: &R::File,
+    inputs: &Inputs<R::File>,
+) -> Result<(), RunFault> {
+    let Ok(file) = journal.metadata() else {
+        return Err(RunFault::WriteJournal);
+    };
+    if !file.is_file() {
+        return Ok(());
+    }
+    if is_among(&file, inputs) || is_output(rt, &file) || journal.set_len(0).is_err() {
+        return Err(RunFault::WriteJournal);
+    }
+    Ok(())
+}
+
+/// The journal file, made new or emptied. It is opened as it stands and looked at before it is emptied.
+fn create_journal<R: Files>(
+    rt: &R,
+    path: &str,
+    inputs: &Inputs<R::File>,
+) -> Result<Watched<R::File>, RunFault> {
+    let Ok(journal) = OpenOptions::new().write(true).create(true).open(rt, path) else {
+        return Err(RunFault::WriteJournal);
+    };
+    empty_journal(rt, &journal, inputs)?;
+    Ok(Watched::new(journal))
 }
 
 /// A block whose release teaches the C library's allocator to keep what is let go: a page less than the greatest that does.
@@ -95,7 +153,7 @@ fn run_script<R: Files + AllocGlobal, W: Write>(
         opening: open_opening(rt, &words.files)?,
         script: open_input(rt, script, Source::Script)?,
     };
-    let mut journal = create_journal(rt, journal)?;
+    let mut journal = create_journal(rt, journal, &inputs)?;
     run(rt.alloc(), seed, &mut inputs, settling, out, &mut journal)?;
     Ok(Ending::Done)
 }
@@ -137,43 +195,51 @@ fn replay_journal<R: Files + AllocGlobal, W: Write>(
     Ok(ending)
 }
 
+/// Writes a text whole, and flushes it.
+fn fill<W: Write>(to: &mut Watched<W>, text: &[u8]) -> Result<(), DeviceFailed> {
+    write_whole(to, text)?;
+    to.flush()
+}
+
 /// Makes a file of exported papers in a folder, and writes it whole. A file of this name that is there
-/// already is left as it is.
+/// already is left as it is; one that was made here and could not be written whole is removed.
 fn write_new<R: Files + AllocGlobal>(
     rt: &R,
     folder: &str,
     file: PapersFile,
     text: &[u8],
 ) -> Result<(), Ending> {
-    let name = file.name();
-    let path = match format!(in rt.alloc(); "{folder}/{name}") {
-        Ok(path) => path,
-        Err(_) => return Err(Ending::Fault(RunFault::OutOfMemory)),
+    let Ok(path) = Path::new(folder).join(rt.alloc(), file.name()) else {
+        return Err(Ending::Fault(RunFault::OutOfMemory));
     };
     let mut made = match OpenOptions::new()
         .write(true)
         .create_new(true)
-        .open(rt, path.as_str())
+        .open(rt, &path)
     {
         Ok(made) => Watched::new(made),
         Err(_) => return Err(Ending::Unwritten { file }),
     };
-    match write_whole(&mut made, text) {
-        Ok(()) => {}
-        Err(_) => return Err(Ending::Unwritten { file }),
+    if fill(&mut made, text).is_err() {
+        drop(made);
+        // Where it cannot be removed, nothing more can be done.
+        let _ = remove_file(rt, &path);
+        return Err(Ending::Unwritten { file });
     }
-    match made.flush() {
-        Ok(()) => Ok(()),
-        Err(_) => Err(Ending::Unwritten { file }),
-    }
+    Ok(())
 }
 
-/// Writes the files of papers into a folder, in the order schools, roster, lists.
+/// Writes the files of papers into a folder, in the order schools, roster, lists. An empty text names no folder.
 fn write_papers<R: Files + AllocGlobal>(
     rt: &R,
     folder: &str,
     files: &PapersFiles,
 ) -> Result<(), Ending> {
+    if folder.is_empty() {
+        return Err(Ending::Unwritten {
+            file: PapersFile::Schools,
+        });
+    }
     write_new(rt, folder, PapersFile::Schools, files.schools.as_slice())?;
     write_new(rt, folder, PapersFile::Roster, files.roster.as_slice())?;
     write_new(rt, folder, PapersFile::Lists, files.lists.as_slice())
@@ -368,13 +434,14 @@ pub fn perform<R: Files + AllocGlobal, I: Read + Drop, O: Write + Drop, E: Write
             write_ending(rt.alloc(), &ending, &mut errors);
             status_of(&ending)
         }
-        Err(error) => {
-            if error.use_stderr() {
-                write_clap_message(rt.alloc(), &error, &mut errors);
-            } else {
-                write_clap_message(rt.alloc(), &error, &mut output);
-            }
+        Err(error) if error.use_stderr() => {
+            write_clap_message(rt.alloc(), &error, &mut errors);
             status_of_words(&error)
+        }
+        Err(help) => {
+            let ending = write_help(rt.alloc(), &help, &mut output);
+            write_ending(rt.alloc(), &ending, &mut errors);
+            status_of(&ending)
         }
     }
 }
@@ -400,10 +467,21 @@ fn write_ending<W: Write>(alloc: Global, ending: &Ending, to: &mut Watched<W>) {
     }
 }
 
-/// Writes what `clap` says of the words: help that was asked for, or what is wrong with them.
+/// Writes what `clap` says is wrong with the words.
 fn write_clap_message<W: Write>(alloc: Global, error: &Error, to: &mut Watched<W>) {
     if let Ok(text) = format!(in alloc; "{error}") {
         write_message(text.as_bytes(), to);
+    }
+}
+
+/// Writes help or the version, which was asked for, and flushes it.
+fn write_help<W: Write>(alloc: Global, help: &Error, out: &mut Watched<W>) -> Ending {
+    let Ok(text) = format!(in alloc; "{help}") else {
+        return Ending::Fault(RunFault::OutOfMemory);
+    };
+    match fill(out, text.as_bytes()) {
+        Ok(()) => Ending::Done,
+        Err(_) => Ending::Fault(RunFault::WriteOut),
     }
 }
 
@@ -413,12 +491,10 @@ fn write_message<W: Write>(message: &[u8], to: &mut Watched<W>) {
     let _ = to.flush();
 }
 
-/// The exit status of words that order nothing: 0 where help or the version was asked for, 5 for want of memory, and
-/// else 2.
+/// The exit status of words that order nothing and ask for no help: 5 for want of memory, and else 2.
 fn status_of_words(error: &Error) -> u8 {
     match error.kind() {
         ErrorKind::OutOfMemory => 5,
-        ErrorKind::DisplayHelp | ErrorKind::DisplayVersion => 0,
         _ => 2,
     }
 }

@@ -254,6 +254,68 @@ fn files_that_are_not_there(rt: HostRuntime) -> io::Result<()> {
     Ok(())
 }
 
+/// What a run tells whose schools and journal are these files, and then the journal.
+fn run_over(rt: &HostRuntime, schools: &str, journal: &str) -> io::Result<String> {
+    let options = &["--script", "script", "--journal", journal];
+    let words = ordering(rt.alloc(), "run", schools, options)?;
+    let told = performed(rt, words.as_slice(), "")?;
+    let kept = fs::read(rt, journal)?;
+    let kept = String::from_utf8_lossy(rt.alloc(), kept.as_slice())?;
+    Ok(format!(in rt.alloc(); "{told}|{kept}")?)
+}
+
+#[test]
+fn a_journal_outlives_an_input_that_is_not_there(rt: HostRuntime) -> io::Result<()> {
+    write_files(&rt)?;
+    fs::write(&rt, "script", "")?;
+    fs::write(&rt, "journal", "1,withdraw,1\n")?;
+    let want = "clearinghouse: cannot read schools\n4|1,withdraw,1\n";
+    expect(&rt, run_over(&rt, "absent", "journal"), "", want);
+    Ok(())
+}
+
+/// The inputs of a run, with what each holds.
+const HELD: &[(&str, &str)] = &[
+    ("schools", "school,zone,seats\n10,1,1\n20,0,1\n"),
+    ("roster", "student,zone,siblings\n1,0,20\n2,0,10\n"),
+    ("lists", "student,choices\n1,10 20\n2,20 10\n"),
+    ("script", "0,add,10,1\n"),
+];
+
+/// Takes a file away, if it is there.
+fn without(rt: &HostRuntime, file: &str) -> io::Result<()> {
+    if fs::exists(rt, file)? {
+        fs::remove_file(rt, file)?;
+    }
+    Ok(())
+}
+
+#[test]
+fn no_input_is_the_journal(rt: HostRuntime) -> io::Result<()> {
+    write_files(&rt)?;
+    fs::write(&rt, "script", "0,add,10,1\n")?;
+    let refused = "clearinghouse: cannot write journal\n4|";
+    for (input, held) in HELD {
+        expect(&rt, run_over(&rt, "schools", *input), refused, *held);
+        without(&rt, "linked")?;
+        fs::hard_link(&rt, *input, "linked")?;
+        expect(&rt, run_over(&rt, "schools", "linked"), refused, *held);
+    }
+    without(&rt, "linked")
+}
+
+#[test]
+fn the_seed_is_read_before_a_file_is_opened(rt: HostRuntime) -> Result<(), AllocError> {
+    let line = "match --seed=00 --schools=absent --roster=absent --lists=absent";
+    let mut words = Vec::new(rt.alloc());
+    for word in line.split(' ') {
+        words.push(Word::from_text(String::from_str(rt.alloc(), word)?))?;
+    }
+    let told = performed(&rt, words.as_slice(), "")?;
+    assert!(rt; told.as_str() == "clearinghouse: seed: Length\n2", "{told}");
+    Ok(())
+}
+
 #[test]
 fn a_bundle(rt: HostRuntime) -> Result<(), AllocError> {
     let input =
@@ -375,12 +437,13 @@ fn without_next(rt: &HostRuntime) -> io::Result<()> {
     Ok(())
 }
 
+/// The files of Market B's papers.
+const MARKET_B_FILES: &str =
+    "school,zone,seats\n10,1,1\n20,0,1\n|student,zone,siblings\n1,0,20\n2,0,10\n|student,choices\n1,10 20\n2,20 10\n|";
+
 /// Journals over Market B, and the files of the papers after each.
 const EXPORTS: &[(&str, &str)] = &[
-    (
-        "",
-        "school,zone,seats\n10,1,1\n20,0,1\n|student,zone,siblings\n1,0,20\n2,0,10\n|student,choices\n1,10 20\n2,20 10\n|",
-    ),
+    ("", MARKET_B_FILES),
     (
         "1,enter,3,1,10,10\n2,add,20,4\n3,withdraw,1\n4,enter,1,0,,20\n",
         "school,zone,seats\n10,1,1\n20,0,5\n|student,zone,siblings\n2,0,10\n3,1,10\n1,0,\n|student,choices\n2,20 10\n3,10\n1,20\n|",
@@ -411,6 +474,13 @@ fn an_export(rt: HostRuntime) -> io::Result<()> {
         expect(&rt, exported(&rt, journal), "0", files);
     }
     expect(&rt, ordered(&rt, "export", &["--to", "next"]), "", "0");
+    for name in EXPORTED {
+        fs::remove_file(&rt, *name)?;
+    }
+    let torn = "clearinghouse: journal torn\n0";
+    expect(&rt, exported(&rt, "1,withdraw"), torn, MARKET_B_FILES);
+    let none = "clearinghouse: cannot write schools.csv: no file is whole\n4";
+    expect(&rt, ordered(&rt, "export", &["--to", ""]), "", none);
     Ok(())
 }
 
@@ -433,6 +503,35 @@ fn an_export_says_what_stands(rt: HostRuntime) -> io::Result<()> {
     let one = "clearinghouse: cannot write roster.csv: schools.csv is whole\n4";
     expect(&rt, exporting(&rt), "", one);
     Ok(())
+}
+
+/// What the program does on the words of a line, with an output that takes the first `room` bytes and is well until then.
+fn performed_within(rt: &HostRuntime, line: &str, room: usize) -> io::Result<String> {
+    let alloc = rt.alloc();
+    let mut words = Vec::new(alloc);
+    for word in line.split(' ') {
+        words.push(Word::from_text(String::from_str(alloc, word)?))?;
+    }
+    let output = FailingWriter::new(Vec::with_capacity(alloc, room)?, room, 99, Ending::Fails);
+    let mut errors = Vec::new(alloc);
+    let status = perform(rt, words.as_slice(), b"".as_slice(), output, &mut errors);
+    let errors = String::from_utf8_lossy(alloc, errors.as_slice())?;
+    Ok(format!(in alloc; "{errors}{status}")?)
+}
+
+/// Lines that ask for help or the version.
+const ASKED: &[&str] = &["--help", "--version", "help", "run --help"];
+
+#[test]
+fn help_that_cannot_be_written(rt: HostRuntime) {
+    for line in ASKED {
+        let told = performed_within(&rt, *line, 10);
+        expect(&rt, told, "clearinghouse: cannot write output\n", "4");
+    }
+    // The version's line is whole, and the flush fails.
+    let told = performed_within(&rt, "--version", 20);
+    expect(&rt, told, "clearinghouse: cannot write output\n", "4");
+    expect(&rt, performed_within(&rt, "--version", 21), "", "0");
 }
 
 /// What checking Market B with other lists does, and a script if there is one.
