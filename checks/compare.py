@@ -211,8 +211,12 @@ def make_case(seed, at):
         return Case("words", seed_given, texts, wrong_words(rng))
     if kind == "explain":
         return Case(kind, seed_given, texts, student_words(rng, roster))
-    flag = {"match": "--print-log", "run": "--settle-at-end"}.get(kind)
-    return Case(kind, seed_given, texts, rng.choice([[flag], []]) if flag else [])
+    if kind == "run":
+        # Sometimes there is a journal already, empty or not.
+        if rng.random() < 0.3:
+            texts["written"] = rng.choice([b"", b"1,withdraw,1\n"])
+        return Case(kind, seed_given, texts, rng.choice([[], ["--settle-at-end"], ["--no-clobber"], ["--no-clobber", "--settle-at-end"]]))
+    return Case(kind, seed_given, texts, rng.choice([["--print-log"], []]) if kind == "match" else [])
 
 
 def student_words(rng, roster):
@@ -257,6 +261,10 @@ def wrong_words(rng):
 def expected(case):
     """What a call gives by the rules. Of a run that made no journal, the journal is None; of a call that keeps none, it is empty."""
     output, journal, line, status = told(case)
+    if case.kind == "run" and (journal is None or ("--no-clobber" in case.words and case.texts.get("written"))):
+        # The old journal, if there is one, is as it was.
+        line, status = (line, status) if journal is None else (b"clearinghouse: cannot write journal\n", 4)
+        return b"", case.texts.get("written"), line, status
     return output, journal if case.kind == "run" else journal or b"", line, status
 
 
@@ -292,7 +300,8 @@ def actual(case, program, folder):
         if name in case.texts:
             words += [f"--{name}", name]
     if case.kind == "run":
-        (folder / "written").unlink(missing_ok=True)
+        if "written" not in case.texts:
+            (folder / "written").unlink(missing_ok=True)
         words += ["--journal", "written"]
     following = folder / "next"
     if case.kind == "export":

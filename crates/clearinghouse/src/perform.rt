@@ -72,16 +72,20 @@ fn is_output<R: Files>(rt: &R, file: &Metadata) -> bool {
     }
 }
 
-/// Empties a regular file that is to be the journal, unless it is one of the inputs or the output: these are left as they
-/// are. A device, as `/dev/null`, has nothing to lose.
+/// Empties a regular file that is to be the journal, unless it is one of the inputs or the output, or holds something that
+/// is to be kept: these are left as they are. A device, as `/dev/null`, has nothing to lose, but is no empty file.
 fn empty_journal<R: Files>(
     rt: &R,
     journal: &R::File,
+    no_clobber: bool,
     inputs: &Inputs<R::File>,
 ) -> Result<(), RunFault> {
     let Ok(file) = journal.metadata() else {
         return Err(RunFault::WriteJournal);
     };
+    if no_clobber && !(file.is_file() && file.len() == 0) {
+        return Err(RunFault::WriteJournal);
+    }
     if !file.is_file() {
         return Ok(());
     }
@@ -95,12 +99,13 @@ fn empty_journal<R: Files>(
 fn create_journal<R: Files>(
     rt: &R,
     path: &str,
+    no_clobber: bool,
     inputs: &Inputs<R::File>,
 ) -> Result<Watched<R::File>, RunFault> {
     let Ok(journal) = OpenOptions::new().write(true).create(true).open(rt, path) else {
         return Err(RunFault::WriteJournal);
     };
-    empty_journal(rt, &journal, inputs)?;
+    empty_journal(rt, &journal, no_clobber, inputs)?;
     Ok(Watched::new(journal))
 }
 
@@ -146,6 +151,7 @@ fn run_script<R: Files + AllocGlobal, W: Write>(
     words: &OpeningWords<'_>,
     script: &str,
     journal: &str,
+    no_clobber: bool,
     settling: Settling,
     out: &mut Watched<W>,
 ) -> Result<Ending, RunFault> {
@@ -153,7 +159,7 @@ fn run_script<R: Files + AllocGlobal, W: Write>(
         opening: open_opening(rt, &words.files)?,
         script: open_input(rt, script, Source::Script)?,
     };
-    let mut journal = create_journal(rt, journal, &inputs)?;
+    let mut journal = create_journal(rt, journal, no_clobber, &inputs)?;
     run(rt.alloc(), seed, &mut inputs, settling, out, &mut journal)?;
     Ok(Ending::Done)
 }
@@ -346,10 +352,20 @@ fn dispatch<R: Files + AllocGlobal, W: Write>(
         Subcommand::Run {
             script,
             journal,
+            no_clobber,
             settle_at_end,
         } => {
             let settling = settling_of(*settle_at_end);
-            run_script(rt, seed, opening, script, journal, settling, out)
+            run_script(
+                rt,
+                seed,
+                opening,
+                script,
+                journal,
+                *no_clobber,
+                settling,
+                out,
+            )
         }
         Subcommand::Audit { log } => audit_log(rt, seed, opening, log, out),
         Subcommand::Replay { journal } => replay_journal(rt, seed, opening, journal, out),

@@ -256,7 +256,21 @@ fn files_that_are_not_there(rt: HostRuntime) -> io::Result<()> {
 
 /// What a run tells whose schools and journal are these files, and then the journal.
 fn run_over(rt: &HostRuntime, schools: &str, journal: &str) -> io::Result<String> {
-    let options = &["--script", "script", "--journal", journal];
+    run_with(
+        rt,
+        schools,
+        journal,
+        &["--script", "script", "--journal", journal],
+    )
+}
+
+/// The same with these options.
+fn run_with(
+    rt: &HostRuntime,
+    schools: &str,
+    journal: &str,
+    options: &[&str],
+) -> io::Result<String> {
     let words = ordering(rt.alloc(), "run", schools, options)?;
     let told = performed(rt, words.as_slice(), "")?;
     let kept = fs::read(rt, journal)?;
@@ -302,6 +316,36 @@ fn no_input_is_the_journal(rt: HostRuntime) -> io::Result<()> {
         expect(&rt, run_over(&rt, "schools", "linked"), refused, *held);
     }
     without(&rt, "linked")
+}
+
+/// What a run without a record tells that is to keep an old journal, and then the journal.
+fn run_that_keeps(rt: &HostRuntime) -> io::Result<String> {
+    let options = &["--no-clobber", "--script", "script", "--journal", "journal"];
+    run_with(rt, "schools", "journal", options)
+}
+
+#[test]
+fn no_journal_is_clobbered(rt: HostRuntime) -> io::Result<()> {
+    write_files(&rt)?;
+    fs::write(&rt, "script", "")?;
+    fs::write(&rt, "journal", "1,withdraw,1\n")?;
+    let refused = "clearinghouse: cannot write journal\n4|1,withdraw,1\n";
+    expect(&rt, run_that_keeps(&rt), "", refused);
+    expect(&rt, run_over(&rt, "schools", "journal"), REPORT, "0|");
+    // It is an empty file now.
+    expect(&rt, run_that_keeps(&rt), REPORT, "0|");
+    without(&rt, "journal")?;
+    expect(&rt, run_that_keeps(&rt), REPORT, "0|");
+    let null = &[
+        "--no-clobber",
+        "--script",
+        "script",
+        "--journal",
+        "/dev/null",
+    ];
+    let device = "clearinghouse: cannot write journal\n4|";
+    expect(&rt, run_with(&rt, "schools", "journal", null), "", device);
+    Ok(())
 }
 
 #[test]

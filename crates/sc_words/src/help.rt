@@ -61,6 +61,8 @@ stamp k, and before the first the stamp is 0. With another stamp than the one th
 as Stale, and the reply tells the stamp that stands.
 Each has a reply before the report: its number and ok, or refused and why. A refused one changes nothing.
 
+With --no-clobber a journal that is there already is left as it is, and the run ends before an input is read, unless
+it is an empty file.
 With --settle-at-end the papers are settled once, after the last record, and not after each amendment: what is
 written is the same, and a long script is far quicker.
 
@@ -164,6 +166,9 @@ pub(crate) const CHECKED_SCRIPT: &str =
 
 pub(crate) const NEW_JOURNAL: &str =
     "The file that keeps the accepted amendments; it is made new, or emptied before the inputs are read, and must not be one of them";
+
+pub(crate) const NO_CLOBBER: &str =
+    "Refuse a journal that is there already, unless it is an empty file, rather than empty it";
 
 pub(crate) const SETTLE_AT_END: &str =
     "Settle the papers once, after the last record, and not after each amendment; the bytes are the same, and a long script is quicker";

@@ -53,11 +53,12 @@ pub enum Subcommand<'a> {
     Match {
         show_log: bool,
     },
-    /// Answer a script after it, write the report and keep a journal; settle the papers after each amendment, or
-    /// once, at the end.
+    /// Answer a script after it, write the report and keep a journal, which may be refused where it is there already; settle
+    /// the papers after each amendment, or once, at the end.
     Run {
         script: &'a str,
         journal: &'a str,
+        no_clobber: bool,
         settle_at_end: bool,
     },
     /// Check a log of rejections against it.
@@ -141,6 +142,7 @@ fn run_in<'a>(found: &ArgMatches<'a>) -> Option<Subcommand<'a>>
     Some(Subcommand::Run {
         script: text_in(found, "script")?,
         journal: text_in(found, "journal")?,
+        no_clobber: is_set(found, "no-clobber"),
         settle_at_end: is_set(found, "settle-at-end"),
     })
 }

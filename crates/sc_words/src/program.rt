@@ -109,6 +109,7 @@ fn run_command<'a>(alloc: Global) -> Result<Command<'a>, AllocError>
     with_opening(alloc, "run", help::RUN, help::RUN_AFTER)?
         .arg(file(alloc, "script", help::SCRIPT))?
         .arg(file(alloc, "journal", help::NEW_JOURNAL))?
+        .arg(flag(alloc, "no-clobber", help::NO_CLOBBER))?
         .arg(flag(alloc, "settle-at-end", help::SETTLE_AT_END))
 }
 

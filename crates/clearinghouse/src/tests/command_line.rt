@@ -41,6 +41,7 @@ const ORDERS: &[(&str, Subcommand<'static>)] = &[
         Subcommand::Run {
             script: "script",
             journal: "journal",
+            no_clobber: false,
             settle_at_end: false,
         },
     ),
@@ -49,6 +50,7 @@ const ORDERS: &[(&str, Subcommand<'static>)] = &[
         Subcommand::Run {
             script: "-",
             journal: "",
+            no_clobber: false,
             settle_at_end: false,
         },
     ),
@@ -57,7 +59,17 @@ const ORDERS: &[(&str, Subcommand<'static>)] = &[
         Subcommand::Run {
             script: "script",
             journal: "journal",
+            no_clobber: false,
             settle_at_end: true,
+        },
+    ),
+    (
+        "run|--no-clobber|--seed|00|--schools|schools|--roster|roster|--lists|lists|--script|script|--journal|journal",
+        Subcommand::Run {
+            script: "script",
+            journal: "journal",
+            no_clobber: true,
+            settle_at_end: false,
         },
     ),
     (
@@ -208,6 +220,8 @@ const WRONG_LINES: &[(&str, ErrorKind)] = &[
     ("match|schools", ErrorKind::UnknownArgument),
     ("match|--seed|00|--seed|00", ErrorKind::ArgumentConflict),
     ("match|--print-log|--print-log", ErrorKind::ArgumentConflict),
+    ("run|--no-clobber|--no-clobber", ErrorKind::ArgumentConflict),
+    ("replay|--no-clobber", ErrorKind::UnknownArgument),
     ("match|--seed", ErrorKind::InvalidValue),
     ("audit|--log|-x", ErrorKind::UnknownArgument),
     ("audit|--log|--seed", ErrorKind::InvalidValue),
