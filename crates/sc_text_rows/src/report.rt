@@ -1,11 +1,13 @@
 //! The texts of a report, and of a reply and a log.
 mod devices;
 
-use sc_markets::clearing;
-use sc_papers::{Refusal, Rejection, SchoolNo, StudentNo};
+use sc_intake::read_log;
+use sc_markets::{amendment, clearing, seen};
+use sc_papers::{Refusal, SchoolNo, Stamp};
 use sc_repair::Clearing;
 use sc_report::{
-    assignment_text, cutoff_text, cutoffs, log_text, reason_text, reasons, reply_line, report_text,
+    Watched, assignment_text, cutoff_text, cutoffs, log_text, reason_text, reasons, reply_line,
+    report_text, write_report,
 };
 use std::alloc::{AllocError, Global};
 use std::process::Abort;
@@ -21,6 +23,14 @@ enum View {
     Reasons,
     /// The whole report.
     Report,
+    /// The whole report, as it is written.
+    Written,
+    /// The standing log.
+    Log,
+    /// What each student has by a copy of the standing assignment, or 0.
+    Copied,
+    /// How many schools a copy of the papers has, and how many students.
+    Papers,
     /// How many cutoffs there are, and how many reasons.
     Counts,
 }
@@ -32,6 +42,42 @@ fn counts(alloc: Global, clearing: &Clearing) -> Result<Vec<u8>, AllocError> {
     Ok(format!(in alloc; "{cutoffs} cutoffs, {reasons} reasons")?.into_bytes())
 }
 
+/// The report, written into memory.
+fn written(alloc: Global, clearing: &Clearing) -> Result<Vec<u8>, AllocError> {
+    let mut out = Watched::new(Vec::new(alloc));
+    match write_report(alloc, clearing, &mut out) {
+        Ok(()) => Vec::from_slice(alloc, out.inner().as_slice()),
+        Err(_) => Err(AllocError),
+    }
+}
+
+/// The standing log as a text.
+fn standing_log(alloc: Global, clearing: &Clearing) -> Result<Vec<u8>, AllocError> {
+    let log = clearing.log()?;
+    log_text(alloc, log.as_slice())
+}
+
+/// What each student has by a copy of the standing assignment, in order of entry, or 0.
+fn copied(alloc: Global, clearing: &Clearing) -> Result<Vec<u8>, AllocError> {
+    let assignment = clearing.assignment()?;
+    let mut text = String::new(alloc);
+    for position in 0..clearing.papers().students_len() {
+        if let Some(student) = clearing.papers().student_at(position) {
+            let school = assignment.get(student).map_or(0, |school| school.get());
+            write!(text, "{}:{school} ", student.get())?;
+        }
+    }
+    Ok(text.into_bytes())
+}
+
+/// How many schools a copy of the papers has, and how many students.
+fn papers_copied(alloc: Global, clearing: &Clearing) -> Result<Vec<u8>, AllocError> {
+    let copy = clearing.papers().copy()?;
+    let (schools, students) = (copy.schools_len(), copy.students_len());
+    drop(copy);
+    Ok(format!(in alloc; "{schools} schools, {students} students")?.into_bytes())
+}
+
 /// What a clearing shows.
 fn told(alloc: Global, view: View, clearing: &Clearing) -> Result<Vec<u8>, AllocError> {
     match view {
@@ -39,6 +85,10 @@ fn told(alloc: Global, view: View, clearing: &Clearing) -> Result<Vec<u8>, Alloc
         View::Cutoffs => cutoff_text(alloc, clearing),
         View::Reasons => reason_text(alloc, clearing),
         View::Report => report_text(alloc, clearing),
+        View::Written => written(alloc, clearing),
+        View::Log => standing_log(alloc, clearing),
+        View::Copied => copied(alloc, clearing),
+        View::Papers => papers_copied(alloc, clearing),
         View::Counts => counts(alloc, clearing),
     }
 }
@@ -60,17 +110,40 @@ fn expect_told(
 /// The rows of schools, roster and lists.
 type Rows = (&'static str, &'static str, &'static str);
 
+/// The amendments of these records are accepted, each with the stamp that its record has.
+fn amend(rt: &impl Abort, alloc: Global, clearing: &mut Clearing, records: &str) {
+    for record in records.lines() {
+        let amendment = amendment(alloc, record).expect(rt, "an amendment");
+        let stamped = seen(clearing, amendment);
+        clearing
+            .amend(stamped)
+            .expect(rt, "an amendment that is allowed");
+    }
+}
+
+/// The clearing of these papers shows what is wanted once it was amended.
+fn expect_after(
+    rt: &impl Abort,
+    alloc: Global,
+    (schools, roster, lists): Rows,
+    records: &str,
+    table: &[(View, &str)],
+) -> Result<(), AllocError> {
+    let mut clearing = clearing(alloc, schools, roster, lists).expect(rt, "a clearing");
+    amend(rt, alloc, &mut clearing, records);
+    let told = expect_told(rt, alloc, &clearing, table);
+    drop(clearing);
+    told
+}
+
 /// The clearing of these papers shows what is wanted.
 fn expect(
     rt: &impl Abort,
     alloc: Global,
-    (schools, roster, lists): Rows,
+    rows: Rows,
     table: &[(View, &str)],
 ) -> Result<(), AllocError> {
-    let clearing = clearing(alloc, schools, roster, lists).expect(rt, "a clearing");
-    let told = expect_told(rt, alloc, &clearing, table);
-    drop(clearing);
-    told
+    expect_after(rt, alloc, rows, "", table)
 }
 
 #[test]
@@ -115,9 +188,46 @@ fn market_a_opening(rt: HostRuntime) -> Result<(), AllocError> {
         &rt,
         rt.alloc(),
         MARKET_A,
-        &[(View::Counts, "2 cutoffs, 0 reasons")],
+        &[
+            (View::Assignment, "student,school\n1,10\n2,20\n"),
+            (View::Copied, "1:10 2:20 "),
+            (View::Log, ""),
+            (View::Counts, "2 cutoffs, 0 reasons"),
+        ],
     )
 }
+
+#[test]
+fn market_a_and_a_seat_closed(rt: HostRuntime) -> Result<(), AllocError> {
+    let report =
+        "student,school\n1,20\n2,-\nschool,seats,held,class,draw,student\n10,0,0,closed,-,-\n20,1,1,2,e56a5d4028bd8653,1\nstudent,school,reason\n1,10,seats\n2,20,class\n2,10,seats\n";
+    expect_after(
+        &rt,
+        rt.alloc(),
+        MARKET_A,
+        "close,10,1\n",
+        &[
+            (View::Assignment, "student,school\n1,20\n2,-\n"),
+            (
+                View::Cutoffs,
+                "school,seats,held,class,draw,student\n10,0,0,closed,-,-\n20,1,1,2,e56a5d4028bd8653,1\n",
+            ),
+            (
+                View::Reasons,
+                "student,school,reason\n1,10,seats\n2,20,class\n2,10,seats\n",
+            ),
+            (View::Report, report),
+            (View::Written, report),
+            (View::Log, "1,10\n2,20\n2,10\n"),
+            (View::Copied, "1:20 2:0 "),
+            (View::Papers, "2 schools, 2 students"),
+            (View::Counts, "2 cutoffs, 3 reasons"),
+        ],
+    )
+}
+
+/// Market A with school 10 in a zone.
+const MARKET_B: Rows = ("10,1,1\n20,0,1\n", "1,0,20\n2,0,10\n", "1,10 20\n2,20 10\n");
 
 /// Market A with school 10 in the zone of a third student who has a sibling there, and with schools and
 /// students in another order.
@@ -155,37 +265,45 @@ fn expect_reply(
 
 #[test]
 fn reply_lines(rt: HostRuntime) -> Result<(), AllocError> {
-    expect_reply(&rt, rt.alloc(), 1, Ok(()), b"1,ok\n")?;
-    expect_reply(
-        &rt,
-        rt.alloc(),
-        2,
-        Err(Refusal::Shape),
-        b"2,refused,1,Shape\n",
-    )?;
     let school = SchoolNo::new(77).expect(&rt, "a school");
-    let unknown = Err(Refusal::UnknownSchool { school });
-    expect_reply(
-        &rt,
-        rt.alloc(),
-        4,
-        unknown,
-        b"4,refused,6,UnknownSchool,77\n",
-    )
+    let stamp = Stamp::new(1).expect(&rt, "a stamp");
+    for (number, reply, want) in [
+        (1, Ok(()), "1,ok\n"),
+        (2, Err(Refusal::Shape), "2,refused,1,Shape\n"),
+        (
+            4,
+            Err(Refusal::UnknownSchool { school }),
+            "4,refused,6,UnknownSchool,77\n",
+        ),
+        (5, Err(Refusal::Stale { stamp }), "5,refused,12,Stale,1\n"),
+        (6, Err(Refusal::Spent), "6,refused,13,Spent\n"),
+    ] {
+        expect_reply(&rt, rt.alloc(), number, reply, want.as_bytes())?;
+    }
+    Ok(())
 }
 
-/// The rejection of a student by a school.
-fn rejection(rt: &impl Abort, student: u32, school: u32) -> Rejection {
-    Rejection {
-        student: StudentNo::new(student).expect(rt, "a student"),
-        school: SchoolNo::new(school).expect(rt, "a school"),
-    }
+/// The standing log has this text, which is read back as the log's entries.
+fn expect_log(
+    rt: &impl Abort,
+    alloc: Global,
+    clearing: &Clearing,
+    want: &str,
+) -> Result<(), AllocError> {
+    let log = clearing.log()?;
+    let text = log_text(alloc, log.as_slice())?;
+    assert!(rt; text.as_slice() == want.as_bytes());
+    let read = read_log(alloc, text.as_slice()).expect(rt, "a log");
+    assert!(rt; read.as_slice() == log.as_slice());
+    Ok(())
 }
 
 #[test]
-fn log_of_market_b(rt: HostRuntime) -> Result<(), AllocError> {
-    let log = [rejection(&rt, 1, 10), rejection(&rt, 2, 20)];
-    let text = log_text(rt.alloc(), &log)?;
-    assert!(rt; text.as_slice() == b"1,10\n2,20\n".as_slice());
-    Ok(())
+fn audits(rt: HostRuntime) -> Result<(), AllocError> {
+    let (schools, roster, lists) = MARKET_B;
+    let mut clearing = clearing(rt.alloc(), schools, roster, lists).expect(&rt, "a clearing");
+    amend(&rt, rt.alloc(), &mut clearing, "enter,3,1,10,10\n");
+    let read = expect_log(&rt, rt.alloc(), &clearing, "1,10\n2,20\n2,10\n");
+    drop(clearing);
+    read
 }

@@ -159,6 +159,11 @@ const WORKED_OPENINGS: &[(&str, Rows, &str)] = &[
         ("10,0,0\n", "1,0,\n", "1,10\n"),
         "student,school\n1,-\n0",
     ),
+    (
+        "the last school",
+        ("10,0,1\n20,0,1\n99999,0,1\n", "1,0,\n", "1,99999\n"),
+        "student,school\n1,99999\n0",
+    ),
 ];
 
 #[test]
@@ -252,6 +257,18 @@ const SCRIPTS: &[(&str, Rows, &str, &str)] = &[
         "1,ok\n2,ok\nstudent,school\n1,20\n2,20\n3,10\n0",
     ),
     (
+        "two desks: the first one first",
+        MARKET_B,
+        "0,rerank,1,20\n0,rerank,1,10\n",
+        "1,ok\n2,refused,12,Stale,1\nstudent,school\n1,20\n2,10\n0",
+    ),
+    (
+        "two desks: the second one first",
+        MARKET_B,
+        "0,rerank,1,10\n0,rerank,1,20\n",
+        "1,ok\n2,refused,12,Stale,1\nstudent,school\n1,10\n2,20\n0",
+    ),
+    (
         "two byte order marks",
         MARKET_B,
         "\u{feff}\u{feff}0,withdraw,1\n",
@@ -265,6 +282,19 @@ fn scripts(rt: HostRuntime) -> Result<(), AllocError> {
 }
 
 const WHOLE_REPORTS: &[(&str, Rows, &str, &str)] = &[
+    (
+        "the first script",
+        MARKET_B,
+        "0,enter,3,1,10,10\n0,enter,3,0,,10\n",
+        "1,ok\n2,refused,3,StudentExists\nstudent,school\n1,20\n2,-\n3,10\nschool,seats,held,class,draw,student\n10,1,1,1,ccef36a8c70d778b,3\n20,1,1,2,e56a5d4028bd8653,1\nstudent,school,reason\n1,10,class\n2,20,class\n2,10,class\n",
+    ),
+    // As in `examples/two-desks.bundle`.
+    (
+        "two desks",
+        MARKET_B,
+        "0,rerank,1,20\n0,rerank,1,10\n1,rerank,1,10 20\n",
+        "1,ok\n2,refused,12,Stale,1\n3,ok\nstudent,school\n1,10\n2,20\nschool,seats,held,class,draw,student\n10,1,1,4,e56a5d4028bd8653,1\n20,1,1,4,b819d2bd1aed8da0,2\nstudent,school,reason\n",
+    ),
     (
         "one seat, two students",
         TWO_STUDENTS,
@@ -519,18 +549,50 @@ fn continuing_against_a_newcomer(rt: HostRuntime) -> Result<(), AllocError> {
     )
 }
 
+// A journal that fails at its first write leaves no reply, and one that fails at its second line leaves the reply to the
+// first.
 #[test]
 fn failing_writers(rt: HostRuntime) -> Result<(), AllocError> {
-    let script = "0,enter,3,1,10,10\n1,withdraw,3\n";
+    let script = "0,enter,3,1,10,10\nnonsense\n0,withdraw,99\n0,add,77,1\n1,withdraw,3\n";
+    let refused = "2,refused,1,Shape\n3,refused,2,UnknownStudent\n4,refused,6,UnknownSchool,77\n";
+    let second = format!(in rt.alloc(); "1,ok\n{refused}|1,enter,3,1,10,10\n2,|Err(WriteJournal)")?;
     expect_runs(
         &rt,
         rt.alloc(),
         MARKET_B_FILES,
         &[
             (0, script, "||Err(WriteJournal)"),
-            (20, script, "1,ok\n|1,enter,3,1,10,10\n2,|Err(WriteJournal)"),
+            (20, script, second.as_str()),
         ],
     )
+}
+
+/// A script of so many records, each of which reranks student 1 with the stamp that the record before gave.
+fn many_records(alloc: Global, count: u32) -> Result<String, AllocError> {
+    let mut script = String::new(alloc);
+    for stamp in 0..count {
+        write!(script, "{stamp},rerank,1,10 20\n")?;
+    }
+    Ok(script)
+}
+
+/// The replies to so many records that are accepted.
+fn many_replies(alloc: Global, count: u32) -> Result<String, AllocError> {
+    let mut replies = String::new(alloc);
+    for number in 1..=count {
+        write!(replies, "{number},ok\n")?;
+    }
+    Ok(replies)
+}
+
+#[test]
+fn a_long_script(rt: HostRuntime) -> Result<(), AllocError> {
+    let script = many_records(rt.alloc(), 500)?;
+    let replies = many_replies(rt.alloc(), 500)?;
+    let left = scripted(rt.alloc(), false, MARKET_B, script.as_str())?;
+    let told = left.as_str().strip_prefix(replies.as_str());
+    assert!(rt; told == Some("student,school\n1,10\n2,20\n0"), "{left}");
+    Ok(())
 }
 
 /// What the call on three files writes, the report or the log, and its answer.

@@ -1,10 +1,11 @@
 //! Readers and writers that fail in mid-stream, read and written whole.
+use super::{MARKET_B, amend};
 use sc_markets::clearing;
 use sc_report::devices::{Ending, FailingReader, FailingWriter};
 use sc_report::{
     DeviceFailed, ReadFault, ReportFault, Watched, read_whole, write_report, write_whole,
 };
-use std::io::ErrorKind;
+use std::io::{ErrorKind, Read};
 use std::test::Fail;
 
 #[test]
@@ -38,8 +39,14 @@ fn a_prefix_after_a_fault(rt: HostRuntime) -> Result<(), Fail> {
 fn failing_writers(rt: HostRuntime) {
     let room = Vec::with_capacity(rt.alloc(), 10).expect(&rt, "memory");
     let mut to = Watched::new(FailingWriter::new(room, 10, 999, Ending::Fails));
-    let (schools, students, lists) = super::MARKET_A;
-    let opened = clearing(rt.alloc(), schools, students, lists).expect(&rt, "a clearing");
+    let (schools, students, lists) = MARKET_B;
+    let mut opened = clearing(rt.alloc(), schools, students, lists).expect(&rt, "a clearing");
+    amend(
+        &rt,
+        rt.alloc(),
+        &mut opened,
+        "enter,3,1,10,10\nwithdraw,3\n",
+    );
     let answer = write_report(rt.alloc(), &opened, &mut to);
     drop(opened);
     assert_eq!(rt; answer, Err(ReportFault::Write));
@@ -87,6 +94,29 @@ fn read_in_pieces(rt: HostRuntime) -> Result<(), Fail> {
     assert_eq!(rt; fault, Some(ReadFault::Device));
     assert!(rt; from.failed());
     Ok(())
+}
+
+#[test]
+fn each_kind_of_error(rt: HostRuntime) {
+    for kind in [
+        ErrorKind::Interrupted,
+        ErrorKind::UnexpectedEof,
+        ErrorKind::PermissionDenied,
+        ErrorKind::Other,
+    ] {
+        for reader in [
+            FailingReader::new(b"abcdef", 2, 4, kind),
+            FailingReader::after_calls(b"abcdef", 1, 2, kind),
+        ] {
+            let mut from = reader;
+            let mut room = [0; 4];
+            assert_eq!(rt; from.read(&mut room).ok(), Some(2));
+            assert_eq!(rt;
+                from.read(&mut room).err().map(|error| error.kind()),
+                Some(kind)
+            );
+        }
+    }
 }
 
 #[test]
