@@ -18,10 +18,14 @@ use std::io::{Read, Write};
 use std::mem::forget;
 use std::os::unix::fs::MetadataExt;
 use std::path::Path;
+use std::random::RandomSource;
 use std::rt::Files;
 
 /// The line for a word of the command line that is not UTF-8.
 const NOT_UTF_8: &[u8] = b"clearinghouse: a word of the command line is not UTF-8\n";
+
+/// The hexadecimal digits.
+const DIGITS: &[u8; 16] = b"0123456789abcdef";
 
 /// An input file.
 fn open_input<R: Files>(rt: &R, path: &str, source: Source) -> Result<Watched<R::File>, RunFault> {
@@ -395,23 +399,40 @@ fn perform_subcommand<R: Files + AllocGlobal, W: Write>(
     }
 }
 
-/// Tells every fault of the files of an opening, and of a script if there is one.
-fn check<R: Files + AllocGlobal, W: Write>(
+/// The digits of a seed that nobody could know. Where the system gives no random bytes they are noughts.
+fn unknown_digits<R: RandomSource>(rt: &R) -> [u8; 64] {
+    let mut digits = [0; 64];
+    if rt.fill_bytes(&mut digits).is_err() {
+        return [b'0'; 64];
+    }
+    for digit in &mut digits {
+        *digit = DIGITS[usize::from(*digit % 16)];
+    }
+    digits
+}
+
+/// Tells every fault of the files of an opening, and of a script if there is one. No seed changes the faults, and one
+/// that nobody could know keeps this fast, whatever numbers the files were given to slow it down.
+fn check<R: Files + AllocGlobal + RandomSource, W: Write>(
     rt: &R,
     words: &FileWords<'_>,
     script: Option<&str>,
     out: &mut Watched<W>,
 ) -> Result<Ending, RunFault> {
+    let seed = match Seed::from_hex(&unknown_digits(rt)) {
+        Ok(seed) => seed,
+        Err(error) => return Ok(Ending::BadSeed(error)),
+    };
     let mut opening = open_opening(rt, words)?;
     let mut script = open_if_any(rt, script, Source::Script)?;
-    match check_files(rt.alloc(), &mut opening, &mut script, out)? {
+    match check_files(rt.alloc(), &seed, &mut opening, &mut script, out)? {
         Checked::Clean => Ok(Ending::Done),
         Checked::Faulty => Ok(Ending::Faulty),
     }
 }
 
 /// Does what an order asks for.
-fn perform_order<R: Files + AllocGlobal, I: Read + Drop, W: Write>(
+fn perform_order<R: Files + AllocGlobal + RandomSource, I: Read + Drop, W: Write>(
     rt: &R,
     order: &Order<'_>,
     input: I,
@@ -435,13 +456,12 @@ fn perform_order<R: Files + AllocGlobal, I: Read + Drop, W: Write>(
 
 /// Does what the words after the program's name order, over these files and streams: the reply lines
 /// and the report go to the output, the line of a fault to the errors. It answers the exit status.
-pub fn perform<R: Files + AllocGlobal, I: Read + Drop, O: Write + Drop, E: Write + Drop>(
-    rt: &R,
-    words: &[Word],
-    input: I,
-    output: O,
-    errors: E,
-) -> u8 {
+pub fn perform<
+    R: Files + AllocGlobal + RandomSource,
+    I: Read + Drop,
+    O: Write + Drop,
+    E: Write + Drop,
+>(rt: &R, words: &[Word], input: I, output: O, errors: E) -> u8 {
     let mut output = Watched::new(output);
     let mut errors = Watched::new(errors);
     match order_of(rt.alloc(), words) {

@@ -1,8 +1,6 @@
 -- Faults, noted one after the other.
-use Rattle.std.proofs.Common.{◌≡◌, refl, ap, ◌∙◌, ℕ, List, [], ◌++◌, replicate, Ok, Err, Option, Some}
+use Rattle.std.proofs.Common.{◌≡◌, refl, ap, ◌∙◌, ℕ, List, [], ◌++◌, Ok, Err, Option, Some}
 use Rattle.std.specs.Prelude.{Result}
-use Rattle.sc_lottery.specs.Seed.{bytes_of, first_wrong_index, seed_of}
-use Rattle.sc_lottery.specs.declared.seed.SeedError.{SeedError}
 use Rattle.sc_intake.specs.Checking.{faults_alone, faults_of_rows, faults_together, Judged}
 use Rattle.sc_intake.specs.declared.fault.IntakeFault.{IntakeFault}
 use Rattle.sc_intake.specs.declared.lists.ListRow.{ListRow}
@@ -10,13 +8,6 @@ use Rattle.sc_intake.specs.declared.roster.RosterRow.{RosterRow}
 use Rattle.sc_intake.specs.declared.schools.SchoolRow.{SchoolRow}
 use Rattle.sc_checks.specs.Checks.{faults_of_good, good_of}
 use Rattle.sc_checks.proofs.Seeds.{same-of-rows}
-
--- 64 noughts spell a seed
-pub zeros-are-a-seed : (read : Result (List ℕ) SeedError) (error : SeedError) → read ≡ seed_of (replicate 64 48) → read ≡ Err error → ⊥
-unfolding seed_of first_wrong_index
-zeros-are-a-seed read error is refused =
-    let good : seed_of (replicate 64 48) ≡ Ok (bytes_of (replicate 64 48)) = refl in
-    cc (is, refused, good)
 
 -- the faults of what good rows say together were noted, under whichever seed
 pub together-noted : (before after slice found : List IntakeFault) (any : List ℕ) (schools : Option (List SchoolRow)) (roster : Option (List RosterRow)) (lists : Option (List ListRow))

@@ -13,14 +13,6 @@ use sc_intake::{
 use sc_papers::Seed;
 use std::alloc::{AllocError, Global};
 
-/// A seed. None changes the faults.
-fn any_seed() -> Seed {
-    match Seed::from_hex(&[b'0'; 64]) {
-        Ok(seed) => seed,
-        Err(_) => unreachable!(),
-    }
-}
-
 /// Adds the faults of a file, and gives its rows that have none, where it has rows to judge.
 fn note_sheet<R: Numbered>(
     judged: Result<Sheet<R>, IntakeFault>,
@@ -50,17 +42,18 @@ fn note_sheet<R: Numbered>(
 /// Adds the faults of what the good rows of the three files say together.
 fn note_together(
     alloc: Global,
+    seed: Seed,
     schools: &Option<SchoolRows>,
     roster: &Option<RosterRows>,
     lists: &Option<ListRows>,
     faults: &mut Vec<IntakeFault>,
 ) -> Result<(), AllocError>
-    ensures { OnOk result ((seed : List ℕ) → faults.new.items ≡ faults.old.items ++ faults_of_good seed schools.now roster.now lists.now) }
+    ensures { OnOk result ((any : List ℕ) → faults.new.items ≡ faults.old.items ++ faults_of_good any schools.now roster.now lists.now) }
 {
     let (Some(schools), Some(roster), Some(lists)) = (schools, roster, lists) else {
         return Ok(());
     };
-    let found = judge_papers(alloc, any_seed(), schools, roster, lists)?;
+    let found = judge_papers(alloc, seed, schools, roster, lists)?;
     faults.extend_from_slice(found.as_slice())?;
     Ok(())
 }
@@ -68,17 +61,18 @@ fn note_together(
 /// Every fault of the texts of three files.
 fn faults_of_files(
     alloc: Global,
+    seed: Seed,
     schools: &[u8],
     roster: &[u8],
     lists: &[u8],
 ) -> Result<Vec<IntakeFault>, AllocError>
-    ensures { IfOk result (λ faults. (seed : List ℕ) → faults.items ≡ faults_in seed schools.now roster.now lists.now) }
+    ensures { IfOk result (λ faults. (any : List ℕ) → faults.items ≡ faults_in any schools.now roster.now lists.now) }
 {
     let mut faults = Vec::new(alloc);
     let schools = note_sheet(judge_schools(alloc, schools), &mut faults)?;
     let roster = note_sheet(judge_roster(alloc, roster), &mut faults)?;
     let lists = note_sheet(judge_lists(alloc, lists), &mut faults)?;
-    note_together(alloc, &schools, &roster, &lists, &mut faults)?;
+    note_together(alloc, seed, &schools, &roster, &lists, &mut faults)?;
     Ok(faults)
 }
 
@@ -88,17 +82,20 @@ fn faults_of_files(
 /// same under every seed.
 ///
 /// The only error is want of memory. The cost is that of reading the files and making their papers, and of reading the
-/// script.
+/// script. The papers are made under this seed, by which their tables hash: whoever knows it can choose numbers that
+/// share a hash, and then the cost grows by the square of their count. So files from strangers are judged under a seed
+/// that nobody could know.
 pub fn every_fault(
     alloc: Global,
+    seed: Seed,
     schools: &[u8],
     roster: &[u8],
     lists: &[u8],
     script: &[u8],
 ) -> Result<Vec<IntakeFault>, AllocError>
-    ensures { IfOk result (λ faults. (seed : List ℕ) → faults.items ≡ every_fault seed schools.now roster.now lists.now script.now) }
+    ensures { IfOk result (λ faults. (any : List ℕ) → faults.items ≡ every_fault any schools.now roster.now lists.now script.now) }
 {
-    let mut faults = faults_of_files(alloc, schools, roster, lists)?;
+    let mut faults = faults_of_files(alloc, seed, schools, roster, lists)?;
     let found = judge_script(alloc, script)?;
     faults.extend_from_slice(found.as_slice())?;
     Ok(faults)

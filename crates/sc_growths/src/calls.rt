@@ -201,7 +201,7 @@ pub fn checked(rt: &impl Abort, alloc: Global) -> Result<String, AllocError> {
         ..opening()
     };
     let mut script = Some(Watched::new(SCRIPT));
-    let answer = check_files(alloc, &mut files, &mut script, &mut out);
+    let answer = check_files(alloc, &seed(rt), &mut files, &mut script, &mut out);
     one_text(rt, alloc, answer.err(), &out)
 }
 

@@ -13,6 +13,7 @@ use crate::inputs::{Opening, OpeningSlices, read_opening_and};
 use crate::writing::write_text;
 use sc_checks::{every_fault, faults_text};
 use sc_intake::{IntakeFault, Source};
+use sc_papers::Seed;
 use sc_report::Watched;
 use std::alloc::Global;
 use std::io::{Read, Write};
@@ -57,24 +58,33 @@ fn write_faults<W: Write>(
 /// Writes the lines of every fault of the texts and of a script, and flushes them.
 fn check_texts<W: Write>(
     alloc: Global,
+    seed: &Seed,
     texts: OpeningSlices<'_>,
     script: &[u8],
     out: &mut Watched<W>,
 ) -> Result<Checked, RunFault>
-    ensures bytes { (seed : List ℕ) → WritesFaults (every_fault seed texts.entry.schools.now texts.entry.roster.now texts.entry.lists.now script.now)
+    ensures bytes { (any : List ℕ) → WritesFaults (every_fault any texts.entry.schools.now texts.entry.roster.now texts.entry.lists.now script.now)
         (W.contents (device_of out.old)) (W.contents (device_of out.new)) result }
     ensures failed { has_failed out.new ≡ (has_failed out.old || is_output_fault result) }
 {
-    match every_fault(alloc, texts.schools, texts.roster, texts.lists, script) {
+    match every_fault(
+        alloc,
+        *seed,
+        texts.schools,
+        texts.roster,
+        texts.lists,
+        script,
+    ) {
         Ok(faults) => write_faults(alloc, faults.as_slice(), out),
         Err(_) => Err(RunFault::OutOfMemory),
     }
 }
 
 /// Reads the three files and a script, if there is one, in the order schools, roster, lists, script, and writes a line
-/// for each of their faults, as `every_fault` of `sc_checks` finds them. It answers whether there is one. No seed is
-/// taken, since none changes the faults: a line is written exactly where the files make no papers or a record of the
-/// script is no amendment, and the first line of the files is the fault with which `match_files` ends.
+/// for each of their faults, as `every_fault` of `sc_checks` finds them. It answers whether there is one. No seed changes
+/// the faults: a line is written exactly where the files make no papers or a record of the
+/// script is no amendment, and the first line of the files is the fault with which `match_files` ends. One that nobody
+/// could know keeps the call fast for whatever numbers.
 ///
 /// An error is that an input cannot be read or is longer than 64 MiB, after which nothing was written; that the output
 /// failed, after which a prefix of the lines was; or want of memory, after which nothing was. Each input is read whole
@@ -82,6 +92,7 @@ fn check_texts<W: Write>(
 /// past 64 MiB is taken.
 pub fn check_files<R: Read, W: Write>(
     alloc: Global,
+    seed: &Seed,
     opening: &mut Opening<R>,
     script: &mut Option<Watched<R>>,
     out: &mut Watched<W>,
@@ -96,5 +107,11 @@ pub fn check_files<R: Read, W: Write>(
         Ok(texts) => texts,
         Err(fault) => return Err(fault),
     };
-    check_texts(alloc, texts.opening.as_slices(), texts.last.as_slice(), out)
+    check_texts(
+        alloc,
+        seed,
+        texts.opening.as_slices(),
+        texts.last.as_slice(),
+        out,
+    )
 }

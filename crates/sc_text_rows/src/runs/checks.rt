@@ -1,5 +1,6 @@
 //! Every fault of files and scripts.
-use super::{Files, MARKET_B_FILES, opening};
+use super::{Files, MARKET_B_FILES, ZEROS, opening};
+use sc_papers::Seed;
 use sc_report::Watched;
 use sc_runs::check_files;
 use std::alloc::{AllocError, Global};
@@ -8,12 +9,13 @@ use std::process::Abort;
 /// What checking files and a script, if there is one, writes, and its answer.
 fn checked(
     alloc: Global,
+    seed: &Seed,
     files: Files,
     script: Option<&'static str>,
 ) -> Result<String, AllocError> {
     let mut out = Watched::new(Vec::new(alloc));
     let mut script = script.map(|text| Watched::new(text.as_bytes()));
-    let answer = check_files(alloc, &mut opening(files), &mut script, &mut out);
+    let answer = check_files(alloc, seed, &mut opening(files), &mut script, &mut out);
     let output = String::from_utf8_lossy(alloc, out.inner().as_slice())?;
     format!(in alloc; "{output}|{answer:?}")
 }
@@ -23,8 +25,9 @@ type CheckedRow = (Files, Option<&'static str>, &'static str);
 
 /// The files and the scripts have these faults and answers.
 fn expect_checks(rt: &impl Abort, alloc: Global, table: &[CheckedRow]) -> Result<(), AllocError> {
+    let seed = Seed::from_hex(ZEROS.as_bytes()).expect(rt, "a seed");
     for (files, script, want) in table {
-        let left = checked(alloc, *files, *script)?;
+        let left = checked(alloc, &seed, *files, *script)?;
         assert!(rt; left.as_str() == *want, "{left}");
     }
     Ok(())
