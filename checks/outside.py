@@ -13,6 +13,8 @@ import os
 import pathlib
 import random
 import re
+import resource
+import shutil
 import signal
 import subprocess
 import sys
@@ -106,6 +108,46 @@ def refused_growths(trials, folder):
                 journal = trials.folder / "journal"
                 trials.fronts(what, done.stdout, journal.read_bytes() if journal.exists() else b"")
         print(f"{name}: each of {calls} growths refused, {passed} of which were asked for again")
+
+
+def empty_again(folder):
+    """Takes away what an export or a run left."""
+    shutil.rmtree(folder / "next", ignore_errors=True)
+    (folder / "next").mkdir()
+    (folder / "journal").unlink(missing_ok=True)
+
+
+def address_spaces(trials):
+    """Every limit on the address space, from where the program starts, in steps of 4 KiB, until six in a row are enough."""
+    opening = trials.calls["match"][1:]
+    files = opening[2:]
+    calls = {"bundle": [], **trials.calls, "check": ["check", *files, "--script", "script"], "summary": ["summary", *opening, "--journal", "kept"],
+             "explain": ["explain", *opening], "export": ["export", *opening, "--to", "next"]}
+    for name, words in calls.items():
+        given = trials.bundle if name == "bundle" else b""
+        empty_again(trials.folder)
+        whole = trials.run(words, given).returncode
+        statuses, enough, limit = {}, 0, 1 << 20
+        while enough < 6 and limit < 64 << 20:
+            empty_again(trials.folder)
+            try:
+                done = trials.run(words, given, preexec_fn=lambda: resource.setrlimit(resource.RLIMIT_AS, (limit, limit)))
+            except (OSError, subprocess.SubprocessError):
+                limit += 64 << 10
+                continue  # not even started
+            if done.returncode == 127 or b"loading shared" in done.stderr or b"cannot allocate memory" in done.stderr.lower() or (done.returncode < 0 and not statuses):
+                limit += 4 << 10
+                continue  # the loader had no room for the program
+            statuses[done.returncode] = statuses.get(done.returncode, 0) + 1
+            enough = enough + 1 if done.returncode == whole else 0
+            known = ("clearinghouse: out of memory", "error: out of memory", "")
+            if done.returncode != whole and done.returncode > 0:
+                said = done.stderr.decode(errors="replace").strip()
+                trials.check(f"{name} in {limit >> 10} KiB", done.returncode == 5 and said in known, f"status {done.returncode}, line {said!r}")
+            limit += 4 << 10
+        signals = sum(count for status, count in statuses.items() if status < 0)
+        trials.check(f"{name} in little room", signals == 0 and enough == 6, f"ended by a signal in {signals} sizes; statuses {statuses}")
+        print(f"{name}: {sum(statuses.values())} limits of the address space, by a signal in {signals}")
 
 
 def devices(trials):
@@ -271,6 +313,7 @@ def main():
         inputs(trials)
         journals(trials)
         words(trials)
+        address_spaces(trials)
         kills(trials, given.kills)
         refused_growths(trials, folder)
     print(f"{trials.tried} trials, {trials.failed} failed")
