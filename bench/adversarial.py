@@ -43,14 +43,14 @@ def generated(folder, count, *more):
     subprocess.run([sys.executable, os.path.join(HERE, "generate.py"), folder, *map(str, words)], check=True)
 
 
-def chosen_numbers(folder, count, greatest):
+def chosen_numbers(folder, count, greatest, *more):
     """A file of numbers that share a few places of a table."""
     program = os.path.join(folder, "chosen")
     if not os.path.exists(program):
         subprocess.run(["rustc", "-O", "--edition", "2021", "-o", program, os.path.join(HERE, "chosen.rs")], check=True)
-    path = os.path.join(folder, f"numbers-{count}")
+    path = os.path.join(folder, "-".join(["numbers", str(count), *more]))
     with open(path, "w") as file:
-        subprocess.run([program, str(count), str(greatest)], stdout=file, check=True)
+        subprocess.run([program, str(count), str(greatest), *more], stdout=file, check=True)
     return path
 
 
@@ -98,6 +98,27 @@ def chosen(folder, count):
     """Students and schools whose numbers fall to a few places of a table."""
     above = os.path.dirname(folder)
     generated(folder, count, "--student-numbers", chosen_numbers(above, count, 999_999_999), "--school-numbers", chosen_numbers(above, SCHOOLS, 99_999))
+
+
+def chosen_for_noughts(folder, count):
+    """Students whose numbers fall to a few places of a table under a seed of noughts."""
+    generated(folder, count, "--student-numbers", chosen_numbers(os.path.dirname(folder), count, 999_999_999, "noughts"))
+
+
+def time_check(given):
+    """`check` of numbers that were chosen for the seed of noughts, beside random ones: it has no seed."""
+    spent = {}
+    for name, make in (("random", wide_numbers), ("chosen", chosen_for_noughts)):
+        folder = os.path.join(given.folder, f"check-{name}-{given.students}")
+        if not os.path.isdir(folder):
+            make(folder, given.students)
+        files = [word for each in ("schools", "roster", "lists") for word in ("--" + each, os.path.join(folder, each + ".csv"))]
+        times = []
+        for _ in range(given.times):
+            process = subprocess.Popen([given.program, "check", *files], stdout=subprocess.DEVNULL)
+            times.append(sum(os.wait4(process.pid, 0)[2][:2]))
+        spent[name] = min(times)
+    print(f"check of {given.students:,} students: {spent['random'] * 1e3:.0f} ms of random numbers, {spent['chosen'] * 1e3:.0f} ms of numbers chosen for a seed of noughts", flush=True)
 
 
 MARKETS = {
@@ -179,6 +200,7 @@ def main():
     resource.setrlimit(resource.RLIMIT_CORE, (0, 0))
     os.makedirs(given.folder, exist_ok=True)
     time_markets(given)
+    time_check(given)
     time_script(given)
 
 
