@@ -228,6 +228,9 @@ fn write_new<R: Files + AllocGlobal>(
         .open(rt, &path)
     {
         Ok(made) => Watched::new(made),
+        Err(error) if error.kind() == io::ErrorKind::AlreadyExists => {
+            return Err(Ending::AlreadyThere { file });
+        }
         Err(_) => return Err(Ending::Unwritten { file }),
     };
     if fill(&mut made, text).is_err() {

@@ -541,10 +541,14 @@ fn an_export_says_what_stands(rt: HostRuntime) -> io::Result<()> {
     expect(&rt, exporting(&rt), "", none);
     fs::create_dir(&rt, "next")?;
     fs::write(&rt, "next/lists.csv", "old")?;
-    let two = "clearinghouse: cannot write lists.csv: schools.csv and roster.csv are whole\n4";
+    let two =
+        "clearinghouse: cannot write lists.csv: it is there already; schools.csv and roster.csv are whole\n4";
     expect(&rt, exporting(&rt), "", two);
+    let first = "clearinghouse: cannot write schools.csv: it is there already; no file was made\n4";
+    expect(&rt, exporting(&rt), "", first);
     fs::remove_file(&rt, "next/schools.csv")?;
-    let one = "clearinghouse: cannot write roster.csv: schools.csv is whole\n4";
+    let one =
+        "clearinghouse: cannot write roster.csv: it is there already; schools.csv is whole\n4";
     expect(&rt, exporting(&rt), "", one);
     Ok(())
 }

@@ -10,7 +10,7 @@ use Rattle.sc_runs.specs.Inputs.{Turn, EndsReading, IsRead}
 use Rattle.sc_runs.specs.Opening.{is_output_fault, papers_in, WritesMatch}
 use Rattle.sc_runs.specs.Run.{opened_in, WritesRun}
 use Rattle.sc_runs.specs.declared.ending.Ending.{Ending}
-use Rattle.sc_runs.specs.declared.ending.Ending.TheVariants.{Done, NotCertified, Faulty, Torn, BadSeed, BadBundle, BadStudent, UnknownStudent, Unwritten, Fault}
+use Rattle.sc_runs.specs.declared.ending.Ending.TheVariants.{Done, NotCertified, Faulty, Torn, BadSeed, BadBundle, BadStudent, UnknownStudent, AlreadyThere, Unwritten, Fault}
 use Rattle.sc_runs.specs.declared.fault.RunFault.{RunFault}
 
 -- what running the papers and a script does, with a journal that keeps nothing; without a script it is
@@ -45,6 +45,7 @@ EndsBundle text old new (BadSeed error) =
 EndsBundle text old new BadBundle = (bundle_of text ≡ None) × Keeps old new
 EndsBundle text old new BadStudent = ⊥
 EndsBundle text old new (UnknownStudent student) = ⊥
+EndsBundle text old new (AlreadyThere file) = ⊥
 EndsBundle text old new (Unwritten file) = ⊥
 EndsBundle text old new (Fault fault) = RunsSections text old new (Err fault)
 
@@ -69,5 +70,6 @@ ends_by_output (BadSeed error) = false
 ends_by_output BadBundle = false
 ends_by_output BadStudent = false
 ends_by_output (UnknownStudent student) = false
+ends_by_output (AlreadyThere file) = false
 ends_by_output (Unwritten file) = false
 ends_by_output (Fault fault) = is_output_fault {A = Unit {0}} (Err fault)

@@ -1,7 +1,7 @@
 -- The exit status of an ending.
 use Rattle.std.specs.Prelude.{ℕ}
 use Rattle.sc_runs.specs.declared.ending.Ending.{Ending}
-use Rattle.sc_runs.specs.declared.ending.Ending.TheVariants.{Done, NotCertified, Faulty, Torn, BadSeed, BadBundle, BadStudent, UnknownStudent, Unwritten, Fault}
+use Rattle.sc_runs.specs.declared.ending.Ending.TheVariants.{Done, NotCertified, Faulty, Torn, BadSeed, BadBundle, BadStudent, UnknownStudent, AlreadyThere, Unwritten, Fault}
 use Rattle.sc_runs.specs.declared.fault.RunFault.{RunFault}
 use Rattle.sc_runs.specs.declared.fault.RunFault.TheVariants.{Read, Intake, Journal, WriteOut, WriteJournal, OutOfMemory}
 
@@ -25,5 +25,6 @@ status_of (BadSeed error) = 2
 status_of BadBundle = 3
 status_of BadStudent = 2
 status_of (UnknownStudent student) = 3
+status_of (AlreadyThere file) = 4
 status_of (Unwritten file) = 4
 status_of (Fault fault) = status_of_fault fault

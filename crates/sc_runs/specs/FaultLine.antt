@@ -5,7 +5,7 @@ use Rattle.sc_lottery.specs.Seed.{refusal_text}
 use Rattle.sc_intake.specs.FaultText.{fault_text, source_text}
 use Rattle.sc_journal.specs.FaultText as journal
 use Rattle.sc_runs.specs.declared.ending.Ending.{Ending}
-use Rattle.sc_runs.specs.declared.ending.Ending.TheVariants.{Done, NotCertified, Faulty, Torn, BadSeed, BadBundle, BadStudent, UnknownStudent, Unwritten, Fault}
+use Rattle.sc_runs.specs.declared.ending.Ending.TheVariants.{Done, NotCertified, Faulty, Torn, BadSeed, BadBundle, BadStudent, UnknownStudent, AlreadyThere, Unwritten, Fault}
 use Rattle.sc_runs.specs.declared.ending.PapersFile.{PapersFile}
 use Rattle.sc_runs.specs.declared.ending.PapersFile.TheVariants.{Schools, Roster, Lists}
 use Rattle.sc_runs.specs.declared.fault.RunFault.{RunFault}
@@ -32,6 +32,12 @@ unwritten_words Schools = codes "cannot write schools.csv: no file is whole"
 unwritten_words Roster = codes "cannot write roster.csv: schools.csv is whole"
 unwritten_words Lists = codes "cannot write lists.csv: schools.csv and roster.csv are whole"
 
+-- which file of papers is there already, and which ones were made whole before it
+abbrev pub there_words : PapersFile → List ℕ
+there_words Schools = codes "cannot write schools.csv: it is there already; no file was made"
+there_words Roster = codes "cannot write roster.csv: it is there already; schools.csv is whole"
+there_words Lists = codes "cannot write lists.csv: it is there already; schools.csv and roster.csv are whole"
+
 -- an ending in words; done, not certified and found faulty have none
 abbrev pub ending_words : Ending → List ℕ
 ending_words Done = []
@@ -42,6 +48,7 @@ ending_words (BadSeed error) = codes "seed: " ++ refusal_text error
 ending_words BadBundle = codes "bundle"
 ending_words BadStudent = codes "student: Number"
 ending_words (UnknownStudent student) = codes "explain: UnknownStudent " ++ decimal student
+ending_words (AlreadyThere file) = there_words file
 ending_words (Unwritten file) = unwritten_words file
 ending_words (Fault fault) = fault_words fault
 
@@ -59,5 +66,6 @@ fault_line (BadSeed error) = line_with (ending_words (BadSeed error))
 fault_line BadBundle = line_with (ending_words BadBundle)
 fault_line BadStudent = line_with (ending_words BadStudent)
 fault_line (UnknownStudent student) = line_with (ending_words (UnknownStudent student))
+fault_line (AlreadyThere file) = line_with (ending_words (AlreadyThere file))
 fault_line (Unwritten file) = line_with (ending_words (Unwritten file))
 fault_line (Fault fault) = line_with (ending_words (Fault fault))

@@ -2,7 +2,7 @@
 
 ghost use Rattle.std.specs.Prelude.{◌≡◌, Some, IfOk};
 ghost use Rattle.sc_runs.specs.Ending.{status_of, status_of_fault};
-ghost use Rattle.sc_runs.specs.FaultLine.{ending_words, fault_line, unwritten_words};
+ghost use Rattle.sc_runs.specs.FaultLine.{ending_words, fault_line, there_words, unwritten_words};
 
 use crate::fault::RunFault;
 use sc_lottery::SeedError;
@@ -56,6 +56,9 @@ pub enum Ending {
     BadStudent,
     /// The student who is to be explained is not in the papers.
     UnknownStudent { student: StudentNo },
+    /// A file of exported papers is there already, and stays as it is. Those before it, in the order schools, roster,
+    /// lists, were written whole.
+    AlreadyThere { file: PapersFile },
     /// A file of exported papers could not be made or written. Those before it, in the order schools, roster,
     /// lists, were written whole.
     Unwritten { file: PapersFile },
@@ -78,8 +81,22 @@ impl fmt::Display for Ending {
                 "explain: UnknownStudent {}",
                 student.get()
             ),
+            Ending::AlreadyThere { file } => f.write_str(there_words(*file)),
             Ending::Unwritten { file } => f.write_str(unwritten_words(*file)),
             Ending::Fault(fault) => write!(f, "{fault}"),
+        }
+    }
+}
+
+/// Which file is there already, and which ones were made whole before it.
+fn there_words(file: PapersFile) -> &'static str
+    ensures { result.now ≡ there_words file }
+{
+    match file {
+        PapersFile::Schools => "cannot write schools.csv: it is there already; no file was made",
+        PapersFile::Roster => "cannot write roster.csv: it is there already; schools.csv is whole",
+        PapersFile::Lists => {
+            "cannot write lists.csv: it is there already; schools.csv and roster.csv are whole"
         }
     }
 }
@@ -110,6 +127,7 @@ pub fn status_of(ending: &Ending) -> u8
         Ending::BadBundle => 3,
         Ending::BadStudent => 2,
         Ending::UnknownStudent { .. } => 3,
+        Ending::AlreadyThere { .. } => 4,
         Ending::Unwritten { .. } => 4,
         Ending::Fault(fault) => status_of_fault(fault),
     }
