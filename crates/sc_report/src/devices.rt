@@ -1,10 +1,10 @@
-//! Devices for tests: they pass a set number of bytes or calls, in pieces of a set size, and then fail.
+//! Devices for tests: they pass a set number of bytes or calls, in pieces of a set size, and then fail, for ever or once.
 ghost use Rattle.std.specs.Prelude.{◌≡◌, ◌≢◌, ℕ, List, ◌+◌, ◌-◌, ◌<◌, ◌≤◌, max, Some, IfOk, IfSome, IsErr, IsOk, IsSome, IsTrue, Ok, ◌↔◌, length, take, true, false, vec_items};
 ghost use Rattle.std.specs.Io.{ReadsAtMost, WritesAtMost};
 ghost use Rattle.std.specs.Io.KnownBytes.{Keeps, ReadConsumes, WriteAppends};
-ghost use Rattle.sc_report.specs.Devices.{bytes_left, bytes_taken, ending_of, gives_left, is_spent, passes_after, moves, reader_piece, takes_left, writer_piece};
+ghost use Rattle.sc_report.specs.Devices.{after_fault, bytes_left, bytes_taken, ending_of, gives_left, is_once, is_spent, passes_after, moves, reader_fails_once, reader_piece, takes_left, writer_piece};
 ghost use Rattle.sc_report.specs.declared.devices.Ending.TheVariants.{Fails, TakesNone};
-ghost use Rattle.sc_report.specs.declared.devices.Passes.TheVariants.{Bytes, Calls};
+ghost use Rattle.sc_report.specs.declared.devices.Passes.TheVariants.{All, Bytes, Calls};
 
 use std::io::{self, ErrorKind, Read, Write};
 
@@ -15,6 +15,8 @@ pub enum Passes {
     Bytes(usize),
     /// So many reads or writes, whatever they move.
     Calls(usize),
+    /// All.
+    All,
 }
 
 impl Passes {
@@ -35,7 +37,7 @@ impl Passes {
         match self {
             Passes::Bytes(0) | Passes::Calls(0) => None,
             Passes::Bytes(left) => Some(asked.min(left)),
-            Passes::Calls(_) => Some(asked),
+            Passes::Calls(_) | Passes::All => Some(asked),
         }
     }
 
@@ -47,7 +49,15 @@ impl Passes {
         match self {
             Passes::Bytes(left) => Passes::Bytes(left - count),
             Passes::Calls(left) => Passes::Calls(left - 1),
+            Passes::All => Passes::All,
         }
+    }
+
+    // What is passed after a call that failed, of a device that fails only once or for ever.
+    fn after_fault(self, once: bool) -> Passes
+        ensures { result ≡ after_fault once self }
+    {
+        if once { Passes::All } else { self }
     }
 }
 
@@ -58,6 +68,7 @@ pub struct FailingReader<'a> {
     passes: Passes,
     piece: usize,
     kind: ErrorKind,
+    once: bool,
 }
 
 impl<'a> FailingReader<'a> {
@@ -67,12 +78,14 @@ impl<'a> FailingReader<'a> {
         ensures bytes { bytes_left result ≡ bytes.now }
         ensures passes { gives_left result ≡ Bytes passes }
         ensures piece { reader_piece result ≡ piece }
+        ensures for_ever { reader_fails_once result ≡ false }
     {
         FailingReader {
             bytes,
             passes: Passes::Bytes(passes),
             piece,
             kind,
+            once: false,
         }
     }
 
@@ -86,13 +99,25 @@ impl<'a> FailingReader<'a> {
         ensures bytes { bytes_left result ≡ bytes.now }
         ensures passes { gives_left result ≡ Calls calls }
         ensures piece { reader_piece result ≡ piece }
+        ensures for_ever { reader_fails_once result ≡ false }
     {
         FailingReader {
             bytes,
             passes: Passes::Calls(calls),
             piece,
             kind,
+            once: false,
         }
+    }
+
+    /// The same, but it fails once: each later call gives what is there.
+    pub fn once(self) -> FailingReader<'a>
+        ensures bytes { bytes_left result ≡ bytes_left self.entry }
+        ensures passes { gives_left result ≡ gives_left self.entry }
+        ensures piece { reader_piece result ≡ reader_piece self.entry }
+        ensures once { reader_fails_once result ≡ true }
+    {
+        FailingReader { once: true, ..self }
     }
 }
 
@@ -106,9 +131,12 @@ impl Read for FailingReader<'_> {
         ensures gives { is_spent (gives_left self.old) ≡ false → IsOk result }
         ensures passes { IfOk result (λ count. gives_left self.new ≡ passes_after count (gives_left self.old)) }
         ensures piece { IfOk result (λ count. count ≤ max 1 (reader_piece self.old)) }
+        ensures after_fault { is_spent (gives_left self.old) ≡ true → gives_left self.new ≡ after_fault (reader_fails_once self.old) (gives_left self.old) }
         ensures same { reader_piece self.new ≡ reader_piece self.old }
+        ensures once { reader_fails_once self.new ≡ reader_fails_once self.old }
     {
         let Some(most) = self.passes.most(buffer.len().min(self.piece.max(1))) else {
+            self.passes = self.passes.after_fault(self.once);
             return Err(self.kind.into());
         };
         let count = self.bytes.read(&mut buffer[..most])?;
@@ -124,6 +152,17 @@ pub enum Ending {
     Fails,
     /// Each write takes nothing and is no error, and a flush is well.
     TakesNone,
+    /// One write or flush is an error of this kind, and then all is taken.
+    FailsOnce(ErrorKind),
+}
+
+impl Ending {
+    // Whether one call fails and the later ones do not.
+    fn is_once(self) -> bool
+        ensures { result ≡ is_once self }
+    {
+        matches!(self, Ending::FailsOnce(_))
+    }
 }
 
 /// A writer into memory that fails in mid-stream.
@@ -176,11 +215,22 @@ impl FailingWriter {
         self.taken.as_slice()
     }
 
-    // Whether its calls are errors now.
-    fn is_broken(&self) -> bool
-        ensures { IsTrue result ↔ ((is_spent (takes_left self.now) ≡ true) × (ending_of self.now ≡ Ending.Fails)) }
+    // What a call answers once nothing more is passed: an error, or `calm` where the ending has none.
+    fn end<V: Drop>(&mut self, calm: V) -> io::Result<V>
+        ensures bytes { bytes_taken self.new ≡ bytes_taken self.old }
+        ensures fails { ending_of self.old ≡ Ending.Fails → IsErr result }
+        ensures takes_none { ending_of self.old ≡ Ending.TakesNone → result ≡ Ok calm }
+        ensures once { is_once (ending_of self.old) ≡ true → IsErr result }
+        ensures passes { takes_left self.new ≡ after_fault (is_once (ending_of self.old)) (takes_left self.old) }
+        ensures piece { writer_piece self.new ≡ writer_piece self.old }
+        ensures ending { ending_of self.new ≡ ending_of self.old }
     {
-        self.passes.is_spent() && self.ending == Ending::Fails
+        self.passes = self.passes.after_fault(self.ending.is_once());
+        match self.ending {
+            Ending::Fails => Err(ErrorKind::BrokenPipe.into()),
+            Ending::FailsOnce(kind) => Err(kind.into()),
+            Ending::TakesNone => Ok(calm),
+        }
     }
 }
 
@@ -192,15 +242,15 @@ impl Write for FailingWriter {
         ensures bytes { WriteAppends (Some (bytes_taken self.old)) (Some (bytes_taken self.new)) result bytes.now }
         ensures fails { is_spent (takes_left self.old) ≡ true → ending_of self.old ≡ Ending.Fails → IsErr result }
         ensures takes_none { is_spent (takes_left self.old) ≡ true → ending_of self.old ≡ Ending.TakesNone → result ≡ Ok 0 }
+        ensures fails_once { is_spent (takes_left self.old) ≡ true → is_once (ending_of self.old) ≡ true → IsErr result }
+        ensures after_fault { is_spent (takes_left self.old) ≡ true → takes_left self.new ≡ after_fault (is_once (ending_of self.old)) (takes_left self.old) }
         ensures passes { IfOk result (λ count. takes_left self.new ≡ passes_after count (takes_left self.old)) }
         ensures piece { IfOk result (λ count. count ≤ max 1 (writer_piece self.old)) }
         ensures same { writer_piece self.new ≡ writer_piece self.old }
+        ensures ending { ending_of self.new ≡ ending_of self.old }
     {
         let Some(most) = self.passes.most(bytes.len().min(self.piece.max(1))) else {
-            return match self.ending {
-                Ending::Fails => Err(ErrorKind::BrokenPipe.into()),
-                Ending::TakesNone => Ok(0),
-            };
+            return self.end(0);
         };
         self.taken.extend_from_slice(&bytes[..most])?;
         self.passes = self.passes.after(most);
@@ -212,9 +262,13 @@ impl Write for FailingWriter {
         ensures fails { is_spent (takes_left self.old) ≡ true → ending_of self.old ≡ Ending.Fails → IsErr result }
         ensures takes { is_spent (takes_left self.old) ≡ false → IsOk result }
         ensures takes_none { ending_of self.old ≡ Ending.TakesNone → IsOk result }
+        ensures fails_once { is_spent (takes_left self.old) ≡ true → is_once (ending_of self.old) ≡ true → IsErr result }
+        ensures after_fault { is_spent (takes_left self.old) ≡ true → takes_left self.new ≡ after_fault (is_once (ending_of self.old)) (takes_left self.old) }
+        ensures same { writer_piece self.new ≡ writer_piece self.old }
+        ensures ending { ending_of self.new ≡ ending_of self.old }
     {
-        if self.is_broken() {
-            return Err(ErrorKind::BrokenPipe.into());
+        if self.passes.is_spent() {
+            return self.end(());
         }
         Ok(())
     }

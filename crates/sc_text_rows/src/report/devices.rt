@@ -119,6 +119,54 @@ fn each_kind_of_error(rt: HostRuntime) {
     }
 }
 
+// A device that fails once goes on after it: only a caller that does not try again tells the fault.
+#[test]
+fn readers_that_fail_once(rt: HostRuntime) {
+    for kind in [ErrorKind::Other, ErrorKind::Interrupted] {
+        let reader = FailingReader::new(b"abcdef", 2, 4, kind).once();
+        let mut from = Watched::new(reader);
+        let fault = read_whole(rt.alloc(), &mut from, 6).err();
+        assert_eq!(rt; fault, Some(ReadFault::Device));
+        assert!(rt; from.failed());
+        let mut from = reader;
+        let mut room = [0; 9];
+        assert_eq!(rt; from.read(&mut room).ok(), Some(2));
+        assert_eq!(rt;
+            from.read(&mut room).err().map(|error| error.kind()),
+            Some(kind)
+        );
+        assert_eq!(rt; from.read(&mut room).ok(), Some(4));
+        assert_eq!(rt; from.read(&mut room).ok(), Some(0));
+    }
+}
+
+#[test]
+fn writers_that_fail_once(rt: HostRuntime) -> Result<(), Fail> {
+    for kind in [ErrorKind::Other, ErrorKind::Interrupted] {
+        let room = Vec::with_capacity(rt.alloc(), 20)?;
+        let mut to = Watched::new(FailingWriter::new(room, 5, 9, Ending::FailsOnce(kind)));
+        assert_eq!(rt; write_whole(&mut to, b"student"), Err(DeviceFailed));
+        assert_eq!(rt; to.inner().taken(), b"stude".as_slice());
+        assert!(rt; to.failed());
+        assert_eq!(rt; write_whole(&mut to, b"nt"), Ok(()));
+        assert_eq!(rt; to.flush(), Ok(()));
+        assert_eq!(rt; to.inner().taken(), b"student".as_slice());
+        assert!(rt; to.failed());
+    }
+    Ok(())
+}
+
+#[test]
+fn flushes_that_fail_once(rt: HostRuntime) {
+    for kind in [ErrorKind::Other, ErrorKind::Interrupted] {
+        let device = FailingWriter::new(Vec::new(rt.alloc()), 0, 9, Ending::FailsOnce(kind));
+        let mut to = Watched::new(device);
+        assert_eq!(rt; to.flush(), Err(DeviceFailed));
+        assert_eq!(rt; to.flush(), Ok(()));
+        assert!(rt; to.failed());
+    }
+}
+
 #[test]
 fn failed_after_calls(rt: HostRuntime) -> Result<(), Fail> {
     let mut from = Watched::new(FailingReader::after_calls(b"abcdef", 2, 2, ErrorKind::Other));

@@ -35,6 +35,15 @@ const WHOLE: Taking = Taking {
     ending: Ending::Fails,
 };
 
+/// A writer of which one call fails with an error of this kind, after so many bytes, and the later ones do not.
+fn once(kind: ErrorKind, passes: usize) -> Taking {
+    Taking {
+        passes,
+        piece: 999,
+        ending: Ending::FailsOnce(kind),
+    }
+}
+
 /// A writer over memory, whose room is made beforehand.
 fn writer(alloc: Global, taking: Taking) -> Result<Watched<FailingWriter>, AllocError> {
     let room = Vec::with_capacity(alloc, 999)?;
@@ -130,6 +139,36 @@ fn a_script_cut_short(rt: HostRuntime) {
         (WHOLE, WHOLE),
         want,
     );
+}
+
+// No read is tried again: the fault is told, and nothing is written.
+#[test]
+fn a_script_that_fails_once(rt: HostRuntime) {
+    for kind in [ErrorKind::Other, ErrorKind::Interrupted] {
+        for passes in [0, 5, SCRIPT.len()] {
+            let script = FailingReader::new(SCRIPT, passes, 999, kind).once();
+            let takings = (WHOLE, WHOLE);
+            let want = ("", "", "Err(Read { source: Script })");
+            expect(&rt, rt.alloc(), script, Settling::EachTime, takings, want);
+            expect(&rt, rt.alloc(), script, Settling::AtTheEnd, takings, want);
+        }
+    }
+}
+
+// Nor is a write or a flush: what was written before it is a prefix, and the fault is told.
+#[test]
+fn outputs_and_journals_that_fail_once(rt: HostRuntime) {
+    let alloc = rt.alloc();
+    for kind in [ErrorKind::Other, ErrorKind::Interrupted] {
+        let first = ("1,ok\n", "1,enter,3,1,10,10\n", "Err(WriteOut)");
+        expect_run(&rt, alloc, once(kind, 5), WHOLE, first);
+        let flush = (OUTPUT, JOURNAL, "Err(WriteOut)");
+        expect_run(&rt, alloc, once(kind, OUTPUT.len()), WHOLE, flush);
+        let none = ("", "1,ent", "Err(WriteJournal)");
+        expect_run(&rt, alloc, WHOLE, once(kind, 5), none);
+        let flush = (OUTPUT, JOURNAL, "Err(WriteJournal)");
+        expect_run(&rt, alloc, WHOLE, once(kind, JOURNAL.len()), flush);
+    }
 }
 
 #[test]
