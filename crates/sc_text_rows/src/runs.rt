@@ -1,6 +1,7 @@
 //! What runs write, over inputs in memory.
 mod checks;
 mod faults;
+mod flushes;
 mod notices;
 mod sections;
 

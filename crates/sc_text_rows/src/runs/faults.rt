@@ -203,6 +203,9 @@ fn failing_flushes(rt: HostRuntime) {
     };
     let want = (OUTPUT, JOURNAL, "Err(WriteOut)");
     expect_run(&rt, rt.alloc(), output, WHOLE, want);
+    // Where both fail the journal is told.
+    let want = (OUTPUT, JOURNAL, "Err(WriteJournal)");
+    expect_run(&rt, rt.alloc(), output, journal, want);
 }
 
 /// The report of Market B.
