@@ -21,7 +21,6 @@ import argparse
 import csv
 import html
 import io
-import json
 import sys
 
 import texts
@@ -48,7 +47,7 @@ class Letter:
 
 def table(letters, names, language):
     """The letters as a table, a row for each."""
-    columns = language.words["columns"]
+    columns = language["columns"]
     longest = max((len(letter.reasons) for letter in letters), default=0)
     keys = ["student"] + ["name"] * (names is not None) + ["school", "school_name", "rank", "place", "students", "result", "lottery"]
     out = io.StringIO()
@@ -129,7 +128,7 @@ def main():
         places = choices.lottery_places()
         letters = [Letter(student, places[student.number], places, choices.cutoffs, language) for student in choices.students]
         if given.html:
-            written = letters_page(letters, names, language, given.language, given.title or language.words["title"])
+            written = letters_page(letters, names, language, given.language, given.title or language["title"])
         else:
             written = table(letters, names, language)
         sys.stdout.buffer.write(written.encode())
@@ -137,10 +136,7 @@ def main():
     except (OSError, UnicodeError, texts.WrongText) as error:
         print(f"letters.py: {error}", file=sys.stderr)
         return 2
-    except (KeyError, IndexError, json.JSONDecodeError) as error:
-        print(f"letters.py: letters/{given.language}.json lacks a sentence, or has one that asks for something else: {error}", file=sys.stderr)
-        return 2
-    if not language.words["read_by"]:
+    if not language["read_by"]:
         print(f"letters.py: nobody who speaks the language has read letters/{given.language}.json yet; its top says so", file=sys.stderr)
     return 0
 

@@ -136,7 +136,8 @@ def add_choice(line, students, cutoffs):
     student, choice = students[-1] if students else None, Choice(school, class_of(group), outcome)
     if student is None or (student.number, student.draw, len(student.choices) + 1) != (number, draw, int(rank)) or len(draw) != DRAW_DIGITS:
         raise ValueError(line)
-    expected = "later" if student.given() else outcome_of(choice.group, draw, number, cutoff)
+    settled = student.choices and student.choices[-1].outcome in ("given", "later")
+    expected = "later" if settled else outcome_of(choice.group, draw, number, cutoff)
     if outcome != expected or cutoffs.setdefault(school, cutoff) != cutoff:
         raise ValueError(line)
     student.choices.append(choice)
@@ -166,38 +167,49 @@ class Language:
     """The sentences of one language, and the numbers and names that are filled in."""
 
     def __init__(self, language, names):
-        path = LANGUAGES / f"{language}.json"
-        with open(path, encoding="utf-8") as file:
-            self.words = json.load(file)
+        self.path = LANGUAGES / f"{language}.json"
         self.names = names
+        with open(self.path, encoding="utf-8") as file:
+            try:
+                self.words = json.load(file)
+            except json.JSONDecodeError as error:
+                raise WrongText(f"{self.path}: {error}") from None
+
+    def __getitem__(self, key):
+        if key not in self.words:
+            raise WrongText(f"{self.path}: {key} is missing")
+        return self.words[key]
 
     def say(self, sentence, **filled):
-        return self.words[sentence].format(**filled)
+        try:
+            return self[sentence].format(**filled)
+        except (KeyError, IndexError, ValueError):
+            raise WrongText(f"{self.path}: {sentence} has other words in braces than {', '.join(filled)}") from None
 
     def school(self, number):
         return self.names.get(number) or self.say("school", number=number)
 
     def count(self, number):
-        return f"{number:,}".replace(",", self.words["thousands"])
+        return f"{number:,}".replace(",", self["thousands"])
 
     def ordinal(self, number):
         """A number with the ending of its language: 1st, 12th, 2,003rd. The endings are those of the number itself (`=1`), of its
         last two digits, of its last one, and of all others."""
-        endings = self.words["ordinal_endings"]
+        endings = self["ordinal_endings"]
         keys = [f"={number}", str(number)[-2:], str(number)[-1:], ""]
         return self.count(number) + next(endings[key] for key in keys if key in endings)
 
     def rank(self, rank):
-        return self.words["ranks"][rank - 1]
+        return self["ranks"][rank - 1]
 
     def group(self, group):
-        return self.words["groups"][group]
+        return self["groups"][group]
 
     def reason(self, choice, cutoff, place, last_place):
         """Why a choice that the student would rather have was not given, in a sentence or two."""
-        filled = {"school": self.school(choice.school), "own": self.group(choice.group)}
+        filled = {"school": self.school(choice.school)}
         if choice.outcome == "class":
-            filled["last"] = self.group(cutoff.group)
+            filled.update(own=self["you"][choice.group], last=self["last_admitted"][cutoff.group])
         if choice.outcome == "lottery":
-            filled.update(last=self.ordinal(last_place), place=self.ordinal(place))
+            filled.update(own=self.group(choice.group), last=self.ordinal(last_place), place=self.ordinal(place))
         return self.say(choice.outcome, **filled)
