@@ -8,9 +8,10 @@ same papers. The page shows the summary's figures and of each school how sought 
 place. --names is a table `number,name` of the schools, which then have their names.
 
 --explain is what `clearinghouse explain` wrote of everybody. With it a family can type a student's number at the top of
-the page, and reads what became of each choice, and why; and the page then holds that of every student, for anybody who
-has the page. --lottery is the same text, of which the page has each last place's turn in the lottery alone, and
-nothing of a student. Without either no student's data stands on the page.
+the page, or follow a link to it that ends in # and the number, and reads what became of each choice, and why; and the
+page then holds that of every student, for anybody who has the page. --lottery is the same text, of which the page has
+the lottery places of the students admitted last alone, and nothing else of a student. Without either no student's data
+stands on the page.
 
 The page stands alone: it needs no network and no other file, loads nothing, and can be read on a telephone and
 printed. It only shows what the texts say. It is no part of what is proved, and says so.
@@ -183,7 +184,7 @@ th:first-child, .schools :nth-child(2) { text-align: left; }
 .bar, .bar span { -webkit-print-color-adjust: exact; print-color-adjust: exact; }
 .some { background: var(--some); }
 .none { background: var(--none); }
-form { display: flex; gap: 0.5rem; max-width: 30rem; flex-wrap: wrap; }
+form { display: flex; gap: 0.5rem; max-width: 30rem; flex-wrap: wrap; margin-bottom: 1rem; }
 label { flex-basis: 100%; font-weight: bold; }
 input, button { font: inherit; padding: 0.5rem 0.7rem; border: 1px solid var(--soft); border-radius: 0.3rem; }
 input { flex: 1; min-width: 0; }
@@ -196,7 +197,7 @@ button.quiet { background: none; color: var(--some); }
   .tiles { grid-template-columns: repeat(2, 1fr); }
   .schools thead { display: none; }
   .schools, .schools tbody { display: block; }
-  .schools tr { display: flex; flex-wrap: wrap; column-gap: 1.25rem; border-bottom: 1px solid var(--line); padding: 0.6rem 0; }
+  .schools tr { display: flex; flex-wrap: wrap; column-gap: 0.9rem; border-bottom: 1px solid var(--line); padding: 0.6rem 0; }
   .schools tr[hidden] { display: none; }
   .schools th, .schools td { border: 0; padding: 0.1rem 0; text-align: left; }
   .schools th:first-child, .schools td:nth-child(2) { width: 100%; }
@@ -209,7 +210,7 @@ button.quiet { background: none; color: var(--some); }
   html { font-size: 9pt; }
   body { max-width: none; padding: 0; }
   h2 { break-after: avoid; margin-top: 1.5rem; }
-  tr, li, .ranks { break-inside: avoid; }
+  tr, li, .tiles, .ranks { break-inside: avoid; }
   body.alone > :not(h1, #answer) { display: none; }
 }
 """

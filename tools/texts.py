@@ -1,5 +1,6 @@
 """What page.py and letters.py both need: the program's texts, the tables of names, and the sentences of a language."""
 import csv
+import functools
 import json
 import pathlib
 from typing import NamedTuple
@@ -83,6 +84,7 @@ def tables(path, headers):
     return found
 
 
+@functools.cache
 def cutoff_of(group, draw, student):
     """A cutoff of its three fields."""
     if group in ("free", "closed"):
@@ -90,6 +92,7 @@ def cutoff_of(group, draw, student):
     return Cutoff(class_of(group), draw, int(student))
 
 
+@functools.cache
 def class_of(field):
     group = int(field)
     if not 0 <= group < CLASSES:
