@@ -21,7 +21,7 @@ returns-in-Err-clause-writes g c =
 pub records-preserved : goal.records-preserved
 records-preserved g c =
     let at = c.records in
-    let steps = answered-taken c.in-Ok-Some.field-0 c.in-Ok-Some.entry at.script c.next_record.new.self c.in-Ok-Some.field-0-is c.in-Ok-Some.ensures in
+    let steps = answered-taken c.in-Ok-Some.field-0 c.in-Ok-Some.entry at.script c.next_record.new.self c.in-Ok-Some.field-0-is c.in-Ok-Some.ensures.next in
     let short = ap length steps in
     let counted = at.invariant.count in
     let next = c.in_default.ensures.records in record {
@@ -35,5 +35,5 @@ records-preserved g c =
 pub returns-in-Err-answer-clause-writes : goal.returns-in-Err-answer-clause-writes
 returns-in-Err-answer-clause-writes g c =
     let at = c.records in
-    let steps = answered-taken c.in-Ok-Some.field-0 c.in-Ok-Some.entry at.script c.next_record.new.self c.in-Ok-Some.field-0-is c.in-Ok-Some.ensures in
+    let steps = answered-taken c.in-Ok-Some.field-0 c.in-Ok-Some.entry at.script c.next_record.new.self c.in-Ok-Some.field-0-is c.in-Ok-Some.ensures.next in
     answered-failed _ _ _ _ _ _ at.self.records (g.A.Amendable.stands at.self.amended) c.in-Ok-Some.entry _ _ c.in-Err-answer.fault at.invariant.answered steps refl c.in-Err-answer.ensures.writes
