@@ -136,9 +136,9 @@ fn fault_of(alloc: Global, seed: &Seed, call: Call) -> Option<RunFault> {
         Call::ExplanationOfOne => {
             explain_files(alloc, seed, files, &mut None, StudentNo::new(1), out).err()
         }
-        Call::Check => check_files(alloc, files, &mut None, out).err(),
+        Call::Check => check_files(alloc, seed, files, &mut None, out).err(),
         Call::CheckOfFaults => {
-            check_files(alloc, &mut opening(("", "", "")), &mut None, out).err()
+            check_files(alloc, seed, &mut opening(("", "", "")), &mut None, out).err()
         }
     }
 }
