@@ -1,15 +1,14 @@
 #!/usr/bin/env python3
-"""Times amendments by kind: the built program runs a script of one kind of amendment after an opening.
+"""Times amendments by kind: the built program runs a script of one kind of amendment after an opening, and settles after each.
 
     amendments.py [--students N,N,..] [--times N] [--folder FOLDER] [--program PATH]
 
 Each market is made four times by generate.py: as one city whose students' lists connect all schools, as 200 districts that
 share none, whose students stand among each other in the roster, as these with the students of each district together, and as a
 market that is one such district alone. The district alone gets as many amendments as each district of the others does, so that its
-seats run short as theirs do. A run with the script is timed beside one whose script has a few lines that are refused, as many as
-it takes for the students of a district to be put together; the difference of the least processor times, divided by the number of
-amendments, is what one costs. So the opening, the putting together and the report do not count. The last column is the run with
-the refused lines, whole. Each run is made `--times` times, and that of a district alone forty times as often.
+seats run short as theirs do. A run with the script is timed beside one with an empty script; the difference of the least processor
+times, divided by the number of amendments, is what one costs. So the opening and the report do not count. The last column is the run
+with the empty script, whole. Each run is made `--times` times, and that of a district alone forty times as often.
 """
 import argparse
 import os
@@ -24,7 +23,6 @@ SCHOOLS = {20_000: 200, 80_000: 700, 200_000: 2_000}
 CHOICES = 12
 DISTRICTS = 200
 MOST_STUDENTS = 200_000  # A roster has no room for more, so that newcomers to so many would be refused.
-STUDENTS_FOR_LINE = 500  # A script with so many lines has the students of each district put together.
 IN_DISTRICTS = 4_000  # Amendments behind a figure of districts: for each of them 20.
 KINDS = ("newcomer", "withdrawal of the last", "withdrawal of a random one", "rerank", "correction", "a seat more", "a seat less")
 
@@ -61,9 +59,6 @@ def script_of(kind, folder, districts, count):
     roster = rows(folder, "roster")
     schools = [row[0] for row in rows(folder, "schools")]
     near = [schools[first::districts] for first in range(districts)]
-    district = {school: first for first in range(districts) for school in near[first]}
-    # In the order of entry that a run keeps, with the students of each district together.
-    together = sorted(roster, key=lambda row: district[lists[row[0]].split(" ")[0]])
     leaving = source.sample(roster, min(count, len(roster)))
     stamps = {}
     for turn in range(count):
@@ -74,7 +69,7 @@ def script_of(kind, folder, districts, count):
             choices = source.sample(listed, min(CHOICES, len(listed)))
             yield f"0,enter,{20_000_000 + turn},{zone},,{' '.join(choices)}"
         elif kind == "withdrawal of the last":
-            yield f"0,withdraw,{together[-1 - turn][0]}"
+            yield f"0,withdraw,{roster[-1 - turn][0]}"
         elif kind == "withdrawal of a random one":
             yield f"0,withdraw,{leaving[turn][0]}"
         elif kind == "rerank":
@@ -90,11 +85,6 @@ def script_of(kind, folder, districts, count):
             school = source.choice(schools)
             yield f"{stamps.get(school, 0)},{word},{school},1"
             stamps[school] = turn + 1
-
-
-def refused(students):
-    """A script whose lines are refused, as many as have the students of each district put together."""
-    return ["0,withdraw,99999999"] * (students // STUDENTS_FOR_LINE + 1)
 
 
 def processor(words):
@@ -134,10 +124,10 @@ def main():
                 with open(script, "w") as file:
                     file.write("".join(f"{line}\n" for line in lines))
                 times = given.times * (40 if alone else 1)
-                return min(processor([given.program, "run", *opening, "--script", script, "--journal", journal]) for _ in range(times))
+                return min(processor([given.program, "run", *opening, "--script", script, "--journal", journal, "--settle-each"]) for _ in range(times))
 
             alone = whole < students
-            empty = run(refused(whole))
+            empty = run([])
 
             def cost(kind):
                 count = count_of(kind, whole, districts, alone)

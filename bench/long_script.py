@@ -1,5 +1,5 @@
 #!/usr/bin/env python3
-"""Times a long script of mixed amendments, settled after each amendment and once at the end.
+"""Times a long script of mixed amendments, settled once at the end and after each amendment.
 
     long_script.py [--students N] [--amendments N] [--districts N] [--folder FOLDER] [--program PATH]
 
@@ -85,8 +85,8 @@ def main():
 
     told("match", "match", *opening)
     run("run of an empty script", empty)
-    run("run settled at the end", script, "--settle-at-end")
-    run("run settled each time", script)
+    run("run settled at the end", script)
+    run("run settled each time", script, "--settle-each")
     for kind in ("out", "journal"):
         at_end, each = (bytes_of(os.path.join(given.folder, f"run settled {when}.{kind}")) for when in ("at the end", "each time"))
         print(f"{kind}: {'the same' if at_end == each else 'DIFFERENT'}, {at_end.count(b',ok')} ok, {len(at_end)} bytes")

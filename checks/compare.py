@@ -215,7 +215,7 @@ def make_case(seed, at):
         # Sometimes there is a journal already, empty or not.
         if rng.random() < 0.3:
             texts["written"] = rng.choice([b"", b"1,withdraw,1\n"])
-        return Case(kind, seed_given, texts, rng.choice([[], ["--settle-at-end"], ["--no-clobber"], ["--no-clobber", "--settle-at-end"]]))
+        return Case(kind, seed_given, texts, [flag for flag in ("--no-clobber", "--settle-each", "--settle-at-end") if rng.random() < 0.4])
     return Case(kind, seed_given, texts, rng.choice([["--print-log"], []]) if kind == "match" else [])
 
 

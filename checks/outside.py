@@ -43,6 +43,7 @@ class Trials:
         opening = ["--seed", SEED, "--schools", "schools", "--roster", "roster", "--lists", "lists"]
         self.calls = {"match": ["match", *opening], "log": ["match", *opening, "--print-log"],
                       "run": ["run", *opening, "--script", "script", "--journal", "journal"],
+                      "run settled each time": ["run", *opening, "--script", "script", "--journal", "journal", "--settle-each"],
                       "audit": ["audit", *opening, "--log", "log"], "replay": ["replay", *opening, "--journal", "kept"]}
         bundle = f"%seed\n{SEED}\n%schools\n{SCHOOLS}%roster\n{ROSTER}%lists\n{LISTS}%script\n{SCRIPT}"
         self.bundle = bundle.encode()
@@ -104,7 +105,7 @@ def refused_growths(trials, folder):
             known = ("clearinghouse: out of memory", "error: out of memory", "")
             trials.check(what, done.returncode == 5 and said in known, f"status {done.returncode}, line {said!r}")
             trials.check(what, whole.stdout.startswith(done.stdout), f"output {done.stdout[:200]!r}")
-            if name == "run":
+            if words[:1] == ["run"]:
                 journal = trials.folder / "journal"
                 trials.fronts(what, done.stdout, journal.read_bytes() if journal.exists() else b"")
         print(f"{name}: each of {calls} growths refused, {passed} of which were asked for again")
@@ -274,7 +275,7 @@ def long_script(rng, students, schools):
 
 
 def kills(trials, count):
-    """A long run, killed at random moments."""
+    """A long run, killed at random moments. It settles each time, so that it lasts."""
     rng = random.Random(1)
     students = range(1, 2_001)
     schools = range(1, 21)
@@ -285,7 +286,7 @@ def kills(trials, count):
     lists = "".join(f"{i},{' '.join(map(str, rng.sample(schools, 6)))}\n" for i in students)
     (folder / "lists").write_text("student,choices\n" + lists)
     (folder / "script").write_text("".join(f"{record}\n" for record in long_script(rng, students, schools)))
-    words = [trials.program, *trials.calls["run"]]
+    words = [trials.program, *trials.calls["run settled each time"]]
     began = time.monotonic()
     whole = subprocess.run(words, cwd=folder, capture_output=True, check=True).stdout
     lasted = time.monotonic() - began

@@ -6,7 +6,7 @@ It is slow and simple on purpose: `compare.py` runs it beside the built program 
     reference.py                           reads a bundle from standard input
     reference.py check --schools .. --roster .. --lists .. [--script ..]
     reference.py match --seed .. --schools .. --roster .. --lists .. [--print-log]
-    reference.py run .. --script .. --journal ..
+    reference.py run .. --script .. --journal .. [--settle-each] [--settle-at-end], which change no byte
     reference.py audit .. --log ..
     reference.py replay .. --journal ..
     reference.py summary .. [--journal ..]
@@ -20,6 +20,7 @@ import re
 import struct
 import sys
 
+FLAGS = ("--print-log", "--settle-each", "--settle-at-end")
 MOST_BYTES = 67_108_864
 MOST_SCHOOLS = 5_000
 MOST_STUDENTS = 200_000
@@ -749,10 +750,8 @@ def main(words):
     if not words:
         output, journal, line, status = told(call_bundle, sys.stdin.buffer.read())
     else:
-        options = dict(zip(words[1::2], words[2::2])) if "--print-log" not in words else None
-        if options is None:
-            rest = [word for word in words[1:] if word != "--print-log"]
-            options = dict(zip(rest[::2], rest[1::2]))
+        rest = [word for word in words[1:] if word not in FLAGS]
+        options = dict(zip(rest[::2], rest[1::2]))
         kept = "--journal" if "--journal" in options else None
         late = "--script" if "--script" in options else None
         last = {"check": late, "match": None, "run": "--script", "audit": "--log", "replay": "--journal", "summary": kept, "explain": kept, "export": kept}[words[0]]

@@ -140,11 +140,11 @@ fn match_opening<R: Files + AllocGlobal, W: Write>(
 }
 
 /// When a run settles its papers.
-fn settling_of(settle_at_end: bool) -> Settling {
-    if settle_at_end {
-        Settling::AtTheEnd
-    } else {
+fn settling_of(settle_each: bool) -> Settling {
+    if settle_each {
         Settling::EachTime
+    } else {
+        Settling::AtTheEnd
     }
 }
 
@@ -360,9 +360,9 @@ fn dispatch<R: Files + AllocGlobal, W: Write>(
             script,
             journal,
             no_clobber,
-            settle_at_end,
+            settle_each,
         } => {
-            let settling = settling_of(*settle_at_end);
+            let settling = settling_of(*settle_each);
             run_script(
                 rt,
                 seed,

@@ -158,6 +158,14 @@ const REPLAYS: &[(&str, &str, &str)] = &[
 
 const RUN: &[&str] = &["--script", "script", "--journal", "journal"];
 
+const RUN_SETTLED_EACH_TIME: &[&str] = &[
+    "--settle-each",
+    "--script",
+    "script",
+    "--journal",
+    "journal",
+];
+
 const RUN_SETTLED_AT_END: &[&str] = &[
     "--settle-at-end",
     "--script",
@@ -180,7 +188,7 @@ fn a_run_and_its_replay(rt: HostRuntime) -> io::Result<()> {
     let script = "0,enter,3,1,10,10\nnonsense\n1,withdraw,3\n";
     let want =
         "1,ok\n2,refused,1,Shape\n3,ok\nstudent,school\n1,10\n2,20\nschool,seats,held,class,draw,student\n10,1,1,4,e56a5d4028bd8653,1\n20,1,1,4,b819d2bd1aed8da0,2\nstudent,school,reason\n0|1,enter,3,1,10,10\n2,withdraw,3\n";
-    for options in &[RUN, RUN_SETTLED_AT_END] {
+    for options in &[RUN, RUN_SETTLED_EACH_TIME, RUN_SETTLED_AT_END] {
         expect(&rt, journaled(&rt, script, options), "", want);
     }
     for (journal, report, end) in REPLAYS {

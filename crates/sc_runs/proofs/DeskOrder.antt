@@ -12,7 +12,7 @@ use Rattle.sc_stamps.proofs.Turns.{accepted-or-refused, list-accepted, list-refu
 use Rattle.sc_report.specs.Text.{report_text}
 use Rattle.sc_report.proofs.Orders.{optimal-moved}
 use Rattle.sc_runs.specs.Desks.{papers_after, AreSameUpToOrder}
-use Rattle.sc_runs.proofs.RunOrder.{seed-after}
+use Rattle.sc_runs.proofs.Seeds.{seed-after}
 
 -- amendments keep the seed
 seed-list : (p : StampedPapers) (list : List Stamped) → (after_list p list).papers.seed ≡ p.papers.seed

@@ -4,7 +4,7 @@ pub mod Openings
 pub mod Reading
 pub mod Calls
 pub mod ReportOrder
-pub mod RunOrder
+pub mod Seeds
 pub mod Standings
 pub mod Explanations
 pub mod Checks

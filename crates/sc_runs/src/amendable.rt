@@ -1,4 +1,4 @@
-//! What the records of a script amend: papers that are settled after each amendment, or at the end.
+//! What the records of a script amend: papers that are settled once, at the end, or after each amendment.
 
 ghost use Rattle.std.specs.Prelude.{◌≡◌, None, IfErr, IfOk, OnErr, OnOk};
 ghost use Rattle.sc_papers.specs.Verdict.{unless_refused, IsRefusal};
@@ -14,10 +14,10 @@ use std::alloc::{AllocError, Global};
 /// When a run settles the papers that its script amends. It writes the same either way.
 #[derive(Clone, Copy, Debug, PartialEq, Eq)]
 pub enum Settling {
-    /// After each amendment that is accepted.
-    EachTime,
     /// Once, after the last record.
     AtTheEnd,
+    /// After each amendment that is accepted, as a clearing does that answers questions between its amendments.
+    EachTime,
 }
 
 /// Papers with stamps, amended one record after the other.

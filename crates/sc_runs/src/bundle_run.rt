@@ -29,7 +29,8 @@ use std::alloc::Global;
 use std::io::{Read, Write};
 
 /// Reads a bundle whole, and its seed, and runs its sections: with a script, its records are answered in
-/// turn before the report is written, and without one the report of the opening is written. Before the
+/// turn, and then the papers are settled once and the report is written; without one the report of the opening is
+/// written. Before the
 /// sections are known to be good, nothing is written. At most one byte past 64 MiB is read. No journal
 /// is kept, so none can fail.
 pub fn run_bundle<R: Read, W: Write>(
@@ -110,7 +111,7 @@ fn run_text<W: Write>(alloc: Global, text: Vec<u8>, out: &mut Watched<W>) -> End
     };
     let opening = opening_of(&bundle);
     if let Some(script) = bundle.script {
-        let settling = Settling::EachTime;
+        let settling = Settling::AtTheEnd;
         let done = run_texts(alloc, &seed, opening, script, settling, out, &mut Unkept);
         return ending_of(done);
     }

@@ -4,7 +4,6 @@ ghost use Rattle.std.specs.Prelude.{◌≡◌, ℕ, ◌≤◌, ◌++◌, [], Lis
 ghost use Rattle.sc_papers.specs.Market.{Market};
 ghost use Rattle.sc_papers.specs.Interleaving.{IsInterleaving};
 ghost use Rattle.sc_papers.specs.Matching.{IsStudentOptimal, Matching};
-ghost use Rattle.sc_papers.specs.Reordering.{IsReordering};
 ghost use Rattle.sc_papers.specs.WellFormed.{WellFormed};
 ghost use Rattle.sc_papers.specs.declared.amendment.Refusal.{Refusal};
 ghost use Rattle.sc_papers.specs.declared.amendment.Stamped.{Stamped};
@@ -14,7 +13,7 @@ ghost use Rattle.sc_journal.specs.Journal.{journal_text, IsReplay};
 ghost use Rattle.sc_journal.specs.declared.journal.Tail.TheVariants.{Whole};
 ghost use Rattle.sc_report.specs.Text.{report_text};
 ghost use Rattle.sc_runs.specs.Desks.{papers_after, AreSameUpToOrder};
-ghost use Rattle.sc_runs.specs.Run.{accepted, after_script, answers, replies, Opened, WritesRun};
+ghost use Rattle.sc_runs.specs.Run.{accepted, after_script, replies, Opened, WritesRun};
 ghost use Rattle.sc_runs.specs.declared.fault.RunFault.{RunFault};
 
 use sc_intake::MOST_BYTES;
@@ -70,14 +69,6 @@ pub fn no_reply_before_its_line()
     ensures { (opened : Opened) (first rest : List (Result Stamped Refusal)) (journal output : List ℕ) (result : Result (Unit {0}) RunFault) → opened.script ≡ first ++ rest
         → WritesRun (Ok opened) (record { journal = Some []; output = Some [] }) (record { journal = Some journal; output = Some output }) result
         → StartsWith output (replies 1 (unamended opened.papers) first) → StartsWith journal (journal_text 1 (accepted (unamended opened.papers) first)) }
-{}
-
-/// The order of entry decides nothing of what a run writes: over the same papers in another order, each record of the
-/// script is answered alike, with the same lines, and the papers after it are the same up to order, so that they have
-/// one report (`order_of_entry_decides_no_text` of `sc_report`).
-pub fn order_of_entry_decides_no_run()
-    ensures answers { (m n : Market) (script : List (Result Stamped Refusal)) → WellFormed m → IsReordering m n → answers 1 (unamended n) script ≡ answers 1 (unamended m) script }
-    ensures papers { (m n : Market) (script : List (Result Stamped Refusal)) → WellFormed m → IsReordering m n → IsReordering (after_script (unamended n) script).papers (after_script (unamended m) script).papers }
 {}
 
 /// The order of stamped amendments decides nothing where it leaves the same papers: two lists of them over the same

@@ -1,7 +1,6 @@
 //! From four files to replies and an assignment.
 
 ghost use Rattle.std.specs.Prelude.{◌≡◌, ◌||◌, ℕ, List, ◌++◌, ◌∷◌, [], All, Option, false, IfOk, MatchResult, Ok, ◌≤◌, ◌+◌, length};
-ghost use Rattle.sc_papers.specs.Reordering.{IsReordering};
 ghost use Rattle.sc_papers.specs.WellFormed.{WellFormed};
 ghost use Rattle.sc_intake.specs.Script.{script_in};
 ghost use Rattle.sc_intake.specs.declared.input.TheConstants.{MOST_BYTES};
@@ -22,10 +21,8 @@ use crate::opening::read_papers;
 use crate::recorder::Recorder;
 use crate::script::Session;
 use crate::writing::{flush_output, write_standing_report};
-use memchr::memchr_iter;
 use sc_intake::{ScriptRecords, Source};
-use sc_papers::{MOST_STUDENTS, Papers, Seed};
-use sc_region::gather_districts;
+use sc_papers::{Papers, Seed};
 use sc_repair::{Clearing, Unsettled};
 use sc_report::Watched;
 use std::alloc::Global;
@@ -135,47 +132,6 @@ fn run_papers<A: Amendable + Drop, W: Write, J: Recorder>(
     }
 }
 
-/// For how many students a script has to have a line, so that its amendments gain more from districts that stand together
-/// than it costs to put them so.
-const STUDENTS_FOR_LINE: usize = 500;
-
-/// Whether a script has that many lines.
-fn is_long_for(papers: &Papers, script: &[u8]) -> bool {
-    memchr_iter(b'\n', script).count() >= papers.students_len() / STUDENTS_FOR_LINE
-}
-
-/// The papers with the students of each district together, where the script is long for them. The order of entry decides
-/// nothing of a run (`laws::order_of_entry_decides_no_run`), and its amendments then look at students who lie side by side.
-fn gathered(alloc: Global, mut papers: Papers, script: &[u8]) -> Papers
-    ensures { IsReordering papers result }
-{
-    if is_long_for(&papers, script) {
-        // Where there is no memory for it, the papers are as before, and the run is slower and the same.
-        let _ = gather_districts(alloc, &mut papers);
-    }
-    papers
-}
-
-/// Does what `run_papers` does, and settles the papers after each amendment that is accepted.
-fn run_each_time<W: Write, J: Recorder>(
-    alloc: Global,
-    papers: Papers,
-    script: &[u8],
-    out: &mut Watched<W>,
-    journal: &mut J,
-) -> Result<(), RunFault>
-    ensures writes { WritesRun (opened_in (Ok papers) (script_in script.now))
-        (record { journal = J.contents journal.old; output = W.contents (device_of out.old) })
-        (record { journal = J.contents journal.new; output = W.contents (device_of out.new) }) result }
-    ensures failed { has_failed out.new ≡ (has_failed out.old || is_output_fault result) }
-    ensures journal_failed { J.has_failed journal.new ≡ (J.has_failed journal.old || is_journal_fault result) }
-{
-    // This call tells that the papers are well-formed.
-    prove!(papers.students_len() <= MOST_STUDENTS);
-    let papers = gathered(alloc, papers, script);
-    run_papers::<Clearing, W, J>(alloc, papers, script, out, journal)
-}
-
 /// Opens the papers that the texts hold, answers the records of the script in turn, and writes the
 /// report of the papers as they then stand.
 pub fn run_texts<W: Write, J: Recorder>(
@@ -198,7 +154,7 @@ pub fn run_texts<W: Write, J: Recorder>(
         Err(fault) => return Err(fault),
     };
     match settling {
-        Settling::EachTime => run_each_time::<W, J>(alloc, papers, script, out, journal),
+        Settling::EachTime => run_papers::<Clearing, W, J>(alloc, papers, script, out, journal),
         Settling::AtTheEnd => run_papers::<Unsettled, W, J>(alloc, papers, script, out, journal),
     }
 }
@@ -207,11 +163,9 @@ pub fn run_texts<W: Write, J: Recorder>(
 /// accepted amendment is written to the journal, and then its reply line to the output; last the report of
 /// the papers as they then stand is.
 ///
-/// `settling` says when the papers are settled, and changes no byte: after each amendment that is accepted, or
-/// once, after the last record. The second costs one `match`, and for each record the cost of `Papers::apply` and
-/// of its line and its reply. Where a growth is refused, what was written before it may differ. Before a script with a
-/// line for each 500 students the students of each district are put together in the order of entry, which changes no
-/// byte either.
+/// `settling` says when the papers are settled, and changes no byte: once, after the last record, or after each
+/// amendment that is accepted, by `Clearing::amend`. The first costs one `match`, and for each record the cost of
+/// `Papers::apply` and of its line and its reply. Where a growth is refused, what was written before it may differ.
 ///
 /// The journal is never full: from 999,999,999 accepted amendments on, every amendment is refused as `Spent`.
 ///

@@ -61,7 +61,8 @@ abbrev pub match_options : List Rule
 match_options = opening_options ++ flag (codes "print-log") ∷ []
 
 abbrev pub run_options : List Rule
-run_options = map required_option run_names ++ flag (codes "no-clobber") ∷ flag (codes "settle-at-end") ∷ []
+run_options = map required_option run_names
+    ++ flag (codes "no-clobber") ∷ flag (codes "settle-each") ∷ flag (codes "settle-at-end") ∷ []
 
 abbrev pub audit_options : List Rule
 audit_options = map required_option audit_names

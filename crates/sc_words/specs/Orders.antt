@@ -34,8 +34,8 @@ IsOpeningIn rows o = IsGiven rows (codes "seed") o.seed × AreFilesIn rows o.fil
 -- what the subcommand of this name asks for, by what its options are
 abbrev pub IsSubcommandIn : Text → List Row → Subcommand → Type 0
 IsSubcommandIn name rows (Match show_log) = (name ≡ codes "match") × ((show_log ≡ true) ↔ IsSet rows (codes "print-log"))
-IsSubcommandIn name rows (Run script journal no_clobber settle_at_end) = (name ≡ codes "run") × IsGiven rows (codes "script") script
-    × IsGiven rows (codes "journal") journal × ((no_clobber ≡ true) ↔ IsSet rows (codes "no-clobber")) × ((settle_at_end ≡ true) ↔ IsSet rows (codes "settle-at-end"))
+IsSubcommandIn name rows (Run script journal no_clobber settle_each) = (name ≡ codes "run") × IsGiven rows (codes "script") script
+    × IsGiven rows (codes "journal") journal × ((no_clobber ≡ true) ↔ IsSet rows (codes "no-clobber")) × ((settle_each ≡ true) ↔ IsSet rows (codes "settle-each"))
 IsSubcommandIn name rows (Audit log) = (name ≡ codes "audit") × IsGiven rows (codes "log") log
 IsSubcommandIn name rows (Replay journal) = (name ≡ codes "replay") × IsGiven rows (codes "journal") journal
 IsSubcommandIn name rows (Export to journal) =

@@ -63,8 +63,9 @@ Each has a reply before the report: its number and ok, or refused and why. A ref
 
 With --no-clobber a journal that is there already is left as it is, and the run ends before an input is read, unless
 it is an empty file.
-With --settle-at-end the papers are settled once, after the last record, and not after each amendment: what is
-written is the same, and a long script is far quicker.
+The papers are settled once, after the last record. With --settle-each they are settled after each amendment, as a
+program does that answers questions in between: what is written is the same, and a long script takes far longer.
+--settle-at-end, for scripts that were written when it was needed, changes nothing.
 
 Exit status: 0 done, 2 wrong words or a bad seed, 3 a fault in an input, 4 a file or stream that cannot be
 opened, read or written, 5 out of memory.
@@ -170,8 +171,11 @@ pub(crate) const NEW_JOURNAL: &str =
 pub(crate) const NO_CLOBBER: &str =
     "Refuse a journal that is there already, unless it is an empty file, rather than empty it";
 
+pub(crate) const SETTLE_EACH: &str =
+    "Settle the papers after each amendment, and not once, after the last record; the bytes are the same, and a long script takes longer";
+
 pub(crate) const SETTLE_AT_END: &str =
-    "Settle the papers once, after the last record, and not after each amendment; the bytes are the same, and a long script is quicker";
+    "Settle the papers once, after the last record, as is done anyway; this changes nothing";
 
 pub(crate) const LOG: &str = "The log of rejections, a record STUDENT,SCHOOL each and no header";
 

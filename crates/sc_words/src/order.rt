@@ -54,12 +54,12 @@ pub enum Subcommand<'a> {
         show_log: bool,
     },
     /// Answer a script after it, write the report and keep a journal, which may be refused where it is there already; settle
-    /// the papers after each amendment, or once, at the end.
+    /// the papers once, at the end, or after each amendment.
     Run {
         script: &'a str,
         journal: &'a str,
         no_clobber: bool,
-        settle_at_end: bool,
+        settle_each: bool,
     },
     /// Check a log of rejections against it.
     Audit {
@@ -134,7 +134,7 @@ fn match_in<'a>(found: &ArgMatches<'a>) -> Subcommand<'a>
     }
 }
 
-/// What `run` asks for.
+/// What `run` asks for. `--settle-at-end` asks for what is done anyway, so no order holds it.
 fn run_in<'a>(found: &ArgMatches<'a>) -> Option<Subcommand<'a>>
     ensures given { IfSome result (IsSubcommandIn (codes "run") (rows_of (found_of found.now))) }
     ensures found { HasOptions (rows_of (found_of found.now)) run_names → IsSome result }
@@ -143,7 +143,7 @@ fn run_in<'a>(found: &ArgMatches<'a>) -> Option<Subcommand<'a>>
         script: text_in(found, "script")?,
         journal: text_in(found, "journal")?,
         no_clobber: is_set(found, "no-clobber"),
-        settle_at_end: is_set(found, "settle-at-end"),
+        settle_each: is_set(found, "settle-each"),
     })
 }
 

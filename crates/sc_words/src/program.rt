@@ -110,6 +110,7 @@ fn run_command<'a>(alloc: Global) -> Result<Command<'a>, AllocError>
         .arg(file(alloc, "script", help::SCRIPT))?
         .arg(file(alloc, "journal", help::NEW_JOURNAL))?
         .arg(flag(alloc, "no-clobber", help::NO_CLOBBER))?
+        .arg(flag(alloc, "settle-each", help::SETTLE_EACH))?
         .arg(flag(alloc, "settle-at-end", help::SETTLE_AT_END))
 }
 

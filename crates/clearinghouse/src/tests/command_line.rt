@@ -42,7 +42,7 @@ const ORDERS: &[(&str, Subcommand<'static>)] = &[
             script: "script",
             journal: "journal",
             no_clobber: false,
-            settle_at_end: false,
+            settle_each: false,
         },
     ),
     (
@@ -51,7 +51,16 @@ const ORDERS: &[(&str, Subcommand<'static>)] = &[
             script: "-",
             journal: "",
             no_clobber: false,
-            settle_at_end: false,
+            settle_each: false,
+        },
+    ),
+    (
+        "run|--settle-each|--seed|00|--schools|schools|--roster|roster|--lists|lists|--script|script|--journal|journal",
+        Subcommand::Run {
+            script: "script",
+            journal: "journal",
+            no_clobber: false,
+            settle_each: true,
         },
     ),
     (
@@ -60,7 +69,16 @@ const ORDERS: &[(&str, Subcommand<'static>)] = &[
             script: "script",
             journal: "journal",
             no_clobber: false,
-            settle_at_end: true,
+            settle_each: false,
+        },
+    ),
+    (
+        "run|--settle-at-end|--settle-each|--seed|00|--schools|schools|--roster|roster|--lists|lists|--script|script|--journal|journal",
+        Subcommand::Run {
+            script: "script",
+            journal: "journal",
+            no_clobber: false,
+            settle_each: true,
         },
     ),
     (
@@ -69,7 +87,7 @@ const ORDERS: &[(&str, Subcommand<'static>)] = &[
             script: "script",
             journal: "journal",
             no_clobber: true,
-            settle_at_end: false,
+            settle_each: false,
         },
     ),
     (
