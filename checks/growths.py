@@ -17,7 +17,7 @@ HERE = pathlib.Path(__file__).resolve().parent
 CRATES = HERE.parent / "crates"
 # The crate, and what the names of its tests of growths end with.
 REGIONS = ("regions::a_student_enters", "regions::a_student_or_a_school_changes", "regions::an_unknown_student_is_refused")
-DISTRICTS = ("districts::districts_that_were_joined_tell_the_region", "districts::districts_follow_who_leaves_and_who_comes", "districts::students_of_a_district_come_to_stand_together")
+DISTRICTS = ("districts::districts_that_were_joined_tell_the_region", "districts::districts_follow_who_leaves_and_who_comes")
 TESTED = (("sc_growths", ""), ("sc_rows", ("each_growth_refused", "a_spent_round", "their_next_choices", *REGIONS, *DISTRICTS)))
 
 

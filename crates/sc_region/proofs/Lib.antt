@@ -12,4 +12,3 @@ mod MarkedPositions
 pub mod Listed
 pub mod Firsts
 pub mod Following
-pub mod Reorderings

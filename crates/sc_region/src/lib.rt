@@ -4,7 +4,6 @@
 mod candidates;
 mod districts;
 mod first;
-mod gathering;
 mod grouping;
 mod marks;
 mod members;
@@ -13,7 +12,6 @@ mod region_list;
 mod school_groups;
 
 pub use districts::Districts;
-pub use gathering::gather_districts;
 pub use marks::RegionMarks;
 pub use reach::{region, region_marks};
 pub use region_list::RegionList;

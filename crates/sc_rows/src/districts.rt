@@ -6,7 +6,7 @@ ghost use Rattle.sc_region.specs.Districts.{AreDistricts};
 
 use super::regions::{enter, entry, no_papers, rerank, school, student};
 use sc_papers::{Amendment, Papers, Refusal, Seats, Zone};
-use sc_region::{Districts, gather_districts};
+use sc_region::Districts;
 use std::alloc::Global;
 use std::process::Abort;
 
@@ -127,31 +127,5 @@ fn districts_follow_who_leaves_and_who_comes(rt: HostRuntime) {
         papers = market(&rt, rt.alloc());
         expect_moves(&rt, rt.alloc(), &mut papers).expect(&rt, "memory");
     }
-    drop(papers);
-}
-
-/// The students who stand first have these numbers, in order of entry.
-fn expect_first(rt: &impl Abort, papers: &Papers, want: &[u32]) {
-    for (position, number) in want.iter().enumerate() {
-        assert!(rt; papers.student_at(position) == Some(student(rt, *number)));
-    }
-}
-
-#[test]
-fn students_of_a_district_come_to_stand_together(rt: HostRuntime) {
-    let mut papers = market(&rt, rt.alloc());
-    if papers.students_len() > 2 {
-        papers.move_student(0, 2);
-    }
-    // Student 3 of another district stands between students 1 and 2.
-    expect_first(&rt, &papers, &[2, 3, 1, 11]);
-    if gather_districts(rt.alloc(), &mut papers).is_err() {
-        // A refused growth leaves everybody where they stand.
-        expect_first(&rt, &papers, &[2, 3, 1, 11]);
-        gather_districts(rt.alloc(), &mut papers).expect(&rt, "memory");
-    }
-    // School 40 comes last, and so does student 3.
-    expect_first(&rt, &papers, &[2, 1, 11, 12]);
-    assert!(rt; papers.student_at(23) == Some(student(&rt, 3)));
     drop(papers);
 }
