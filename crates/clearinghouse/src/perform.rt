@@ -6,9 +6,9 @@ use sc_intake::Source;
 use sc_papers::{Seed, StudentNo};
 use sc_report::{DeviceFailed, Watched, write_whole};
 use sc_runs::{
-    Checked, Ending, Explained, Inputs, Opening, PapersFile, PapersFiles, RunFault, Settling, Tail,
-    Verdict, audit_files, check_files, explain_files, export_files, fault_line, match_files,
-    read_student, replay_files, run, run_bundle, status_of, summary_files,
+    Ending, Inputs, Opening, PapersFile, PapersFiles, RunFault, Settling, audit_files, check_files,
+    explain_files, export_files, fault_line, match_files, read_student, replay_files, run,
+    run_bundle, status_of, summary_files,
 };
 use sc_words::{FileWords, OpeningWords, Order, Subcommand, Word, order_of};
 use std::alloc::Global;
@@ -179,10 +179,7 @@ fn audit_log<R: Files + AllocGlobal, W: Write>(
     let mut opening = open_opening(rt, &words.files)?;
     let mut log = open_input(rt, log, Source::Log)?;
     let audited = audit_files(rt.alloc(), seed, &mut opening, &mut log, out)?;
-    let ending = match audited.verdict {
-        Verdict::Certified => Ending::Done,
-        _ => Ending::NotCertified,
-    };
+    let ending = Ending::from(audited.verdict);
     // The program ends here, so the papers are not taken apart.
     forget(audited);
     Ok(ending)
@@ -199,7 +196,7 @@ fn replay_journal<R: Files + AllocGlobal, W: Write>(
     let mut opening = open_opening(rt, &words.files)?;
     let mut journal = open_input(rt, journal, Source::Journal)?;
     let replayed = replay_files(rt.alloc(), seed, &mut opening, &mut journal, out)?;
-    let ending = ending_after(replayed.tail);
+    let ending = Ending::from(replayed.tail);
     // The program ends here, so the papers are not taken apart.
     forget(replayed);
     Ok(ending)
@@ -270,14 +267,6 @@ fn open_if_any<R: Files>(
     }
 }
 
-/// How a call ends that reads a journal, which ends so.
-fn ending_after(tail: Tail) -> Ending {
-    match tail {
-        Tail::Whole => Ending::Done,
-        Tail::Torn => Ending::Torn,
-    }
-}
-
 /// Exports the papers of an opening into a folder, as they stand after a journal if there is one.
 fn export_papers<R: Files + AllocGlobal>(
     rt: &R,
@@ -290,7 +279,7 @@ fn export_papers<R: Files + AllocGlobal>(
     let mut journal = open_if_any(rt, journal, Source::Journal)?;
     let exported = export_files(rt.alloc(), seed, &mut opening, &mut journal)?;
     match write_papers(rt, to, &exported.files) {
-        Ok(()) => Ok(ending_after(exported.tail)),
+        Ok(()) => Ok(Ending::from(exported.tail)),
         Err(ending) => Ok(ending),
     }
 }
@@ -306,7 +295,7 @@ fn summarize<R: Files + AllocGlobal, W: Write>(
     let mut opening = open_opening(rt, &words.files)?;
     let mut journal = open_if_any(rt, journal, Source::Journal)?;
     let tail = summary_files(rt.alloc(), seed, &mut opening, &mut journal, out)?;
-    Ok(ending_after(tail))
+    Ok(Ending::from(tail))
 }
 
 /// Explains the choices of a student of an opening, or of all, in the papers as they stand after a journal if there is
@@ -321,10 +310,8 @@ fn explain<R: Files + AllocGlobal, W: Write>(
 ) -> Result<Ending, RunFault> {
     let mut opening = open_opening(rt, &words.files)?;
     let mut journal = open_if_any(rt, journal, Source::Journal)?;
-    match explain_files(rt.alloc(), seed, &mut opening, &mut journal, student, out)? {
-        Explained::Written { tail } => Ok(ending_after(tail)),
-        Explained::UnknownStudent { student } => Ok(Ending::UnknownStudent { student }),
-    }
+    let explained = explain_files(rt.alloc(), seed, &mut opening, &mut journal, student, out)?;
+    Ok(Ending::from(explained))
 }
 
 /// Explains the choices of the student whom the words name, or of all where they name none. The student's number is
@@ -428,10 +415,8 @@ fn check<R: Files + AllocGlobal + RandomSource, W: Write>(
     };
     let mut opening = open_opening(rt, words)?;
     let mut script = open_if_any(rt, script, Source::Script)?;
-    match check_files(rt.alloc(), &seed, &mut opening, &mut script, out)? {
-        Checked::Clean => Ok(Ending::Done),
-        Checked::Faulty => Ok(Ending::Faulty),
-    }
+    let checked = check_files(rt.alloc(), &seed, &mut opening, &mut script, out)?;
+    Ok(Ending::from(checked))
 }
 
 /// Does what an order asks for.

@@ -1,11 +1,40 @@
--- The exit status of an ending.
+-- How a call ends, and the exit status of an ending.
 use Rattle.std.specs.Prelude.{ℕ}
+use Rattle.sc_audit.specs.declared.verdict.Verdict.{Verdict}
+use Rattle.sc_audit.specs.declared.verdict.Verdict.TheVariants as verdict
+use Rattle.sc_journal.specs.declared.journal.Tail.{Tail}
+use Rattle.sc_journal.specs.declared.journal.Tail.TheVariants as journal
+use Rattle.sc_runs.specs.declared.checking.Checked.{Checked}
+use Rattle.sc_runs.specs.declared.checking.Checked.TheVariants as files
 use Rattle.sc_runs.specs.declared.ending.Ending.{Ending}
 use Rattle.sc_runs.specs.declared.ending.Ending.TheVariants.{Done, NotCertified, Faulty, Torn, BadSeed, BadBundle, BadStudent, UnknownStudent, AlreadyThere, Unwritten, Fault}
+use Rattle.sc_runs.specs.declared.explaining.Explained.{Explained}
+use Rattle.sc_runs.specs.declared.explaining.Explained.TheVariants as explained
 use Rattle.sc_runs.specs.declared.fault.RunFault.{RunFault}
 use Rattle.sc_runs.specs.declared.fault.RunFault.TheVariants.{Read, Intake, Journal, WriteOut, WriteJournal, OutOfMemory}
 
--- of a run that ended early: 3 for a fault of what was read, 4 for a stream, 5 for want of memory
+-- of a call that read a journal, by how the journal ends
+abbrev pub ending_after : Tail → Ending
+ending_after journal.Whole = Done
+ending_after journal.Torn = Torn
+
+-- of an audit: done for a log that is certified, and for no other
+abbrev pub ending_by_verdict : Verdict → Ending
+ending_by_verdict verdict.Certified = Done
+ending_by_verdict (verdict.BadEntry line) = NotCertified
+ending_by_verdict (verdict.Over school) = NotCertified
+
+-- of a check
+abbrev pub ending_of_check : Checked → Ending
+ending_of_check files.Clean = Done
+ending_of_check files.Faulty = Faulty
+
+-- of an explanation: as its journal ends, or for want of the student
+abbrev pub ending_of_explanation : Explained → Ending
+ending_of_explanation (explained.Written tail) = ending_after tail
+ending_of_explanation (explained.UnknownStudent student) = UnknownStudent student
+
+-- the status of a run that ended early: 3 for a fault of what was read, 4 for a stream, 5 for want of memory
 abbrev pub status_of_fault : RunFault → ℕ
 status_of_fault (Read source) = 4
 status_of_fault (Intake fault) = 3

@@ -1,10 +1,14 @@
-//! How the program ends: its exit status, and its line on standard error.
+//! How the program ends: what each call's answer comes to, the exit status, and the line on standard error.
 
 ghost use Rattle.std.specs.Prelude.{◌≡◌, Some, IfOk};
 ghost use Rattle.sc_runs.specs.Ending.{status_of, status_of_fault};
 ghost use Rattle.sc_runs.specs.FaultLine.{ending_words, fault_line, there_words, unwritten_words};
 
+use crate::checking::Checked;
+use crate::explaining::Explained;
 use crate::fault::RunFault;
+use sc_audit::Verdict;
+use sc_journal::Tail;
 use sc_lottery::SeedError;
 use sc_papers::StudentNo;
 use std::alloc::{AllocError, Global};
@@ -64,6 +68,62 @@ pub enum Ending {
     Unwritten { file: PapersFile },
     /// The run ended early.
     Fault(RunFault),
+}
+
+/// How a call ends that read a journal: a last line that was cut short is told, and is no fault.
+impl From<Tail> for Ending {
+    ghost use Rattle.sc_runs.specs.Ending.{ending_after};
+
+    ghost from_gives = { λ tail ending. ending ≡ ending_after tail };
+
+    fn from(tail: Tail) -> Self {
+        match tail {
+            Tail::Whole => Ending::Done,
+            Tail::Torn => Ending::Torn,
+        }
+    }
+}
+
+/// How an audit ends.
+impl From<Verdict> for Ending {
+    ghost use Rattle.sc_runs.specs.Ending.{ending_by_verdict};
+
+    ghost from_gives = { λ verdict ending. ending ≡ ending_by_verdict verdict };
+
+    fn from(verdict: Verdict) -> Self {
+        match verdict {
+            Verdict::Certified => Ending::Done,
+            Verdict::BadEntry { .. } | Verdict::Over { .. } => Ending::NotCertified,
+        }
+    }
+}
+
+/// How a check of files ends.
+impl From<Checked> for Ending {
+    ghost use Rattle.sc_runs.specs.Ending.{ending_of_check};
+
+    ghost from_gives = { λ checked ending. ending ≡ ending_of_check checked };
+
+    fn from(checked: Checked) -> Self {
+        match checked {
+            Checked::Clean => Ending::Done,
+            Checked::Faulty => Ending::Faulty,
+        }
+    }
+}
+
+/// How an explanation ends: as its journal does, or for want of the student.
+impl From<Explained> for Ending {
+    ghost use Rattle.sc_runs.specs.Ending.{ending_of_explanation};
+
+    ghost from_gives = { λ explained ending. ending ≡ ending_of_explanation explained };
+
+    fn from(explained: Explained) -> Self {
+        match explained {
+            Explained::Written { tail } => Ending::from(tail),
+            Explained::UnknownStudent { student } => Ending::UnknownStudent { student },
+        }
+    }
 }
 
 impl fmt::Display for Ending {
