@@ -208,6 +208,18 @@ fn fill<W: Write>(to: &mut Watched<W>, text: &[u8]) -> Result<(), DeviceFailed> 
     to.flush()
 }
 
+/// Writes a text whole into the file of exported papers that was made for it, and flushes it.
+pub fn fill_made<W: Write>(
+    made: &mut Watched<W>,
+    file: PapersFile,
+    text: &[u8],
+) -> Result<(), Ending> {
+    match fill(made, text) {
+        Ok(()) => Ok(()),
+        Err(_) => Err(Ending::Unwritten { file }),
+    }
+}
+
 /// Makes a file of exported papers in a folder, and writes it whole. A file of this name that is there
 /// already is left as it is; one that was made here and could not be written whole is removed.
 fn write_new<R: Files + AllocGlobal>(
@@ -230,13 +242,13 @@ fn write_new<R: Files + AllocGlobal>(
         }
         Err(_) => return Err(Ending::Unwritten { file }),
     };
-    if fill(&mut made, text).is_err() {
-        drop(made);
+    let filled = fill_made(&mut made, file, text);
+    drop(made);
+    if filled.is_err() {
         // Where it cannot be removed, nothing more can be done.
         let _ = remove_file(rt, &path);
-        return Err(Ending::Unwritten { file });
     }
-    Ok(())
+    filled
 }
 
 /// Writes the files of papers into a folder, in the order schools, roster, lists. An empty text names no folder.

@@ -1,4 +1,5 @@
 mod command_line;
+mod flushes;
 
 use crate::perform::perform;
 use sc_report::devices::{Ending, FailingWriter};

@@ -5,7 +5,7 @@ use sc_report::devices::{Ending, FailingReader, FailingWriter};
 use sc_report::{
     DeviceFailed, ReadFault, ReportFault, Watched, read_whole, write_report, write_whole,
 };
-use std::io::{ErrorKind, Read};
+use std::io::{self, ErrorKind, Read, Write};
 use std::test::Fail;
 
 #[test]
@@ -165,6 +165,68 @@ fn flushes_that_fail_once(rt: HostRuntime) {
         assert_eq!(rt; to.flush(), Ok(()));
         assert!(rt; to.failed());
     }
+}
+
+/// A device that counts its calls, of which the first is interrupted.
+#[derive(Drop)]
+struct Counting {
+    calls: u32,
+}
+
+impl Counting {
+    fn call(&mut self) -> io::Result<()> {
+        self.calls = self.calls.wrapping_add(1);
+        if self.calls == 1 {
+            return Err(ErrorKind::Interrupted.into());
+        }
+        Ok(())
+    }
+}
+
+impl Read for Counting {
+    ghost use Rattle.std.specs.Prelude.{None};
+
+    ghost remaining = { λ _. None };
+
+    fn read(&mut self, _buffer: &mut [u8]) -> io::Result<usize> {
+        self.call()?;
+        Ok(0)
+    }
+}
+
+impl Write for Counting {
+    ghost use Rattle.std.specs.Prelude.{None};
+
+    ghost contents = { λ _. None };
+
+    fn write(&mut self, bytes: &[u8]) -> io::Result<usize> {
+        self.call()?;
+        Ok(bytes.len())
+    }
+
+    fn flush(&mut self) -> io::Result<()> {
+        self.call()
+    }
+}
+
+/// A device that is watched and has not been called.
+fn uncalled() -> Watched<Counting> {
+    Watched::new(Counting { calls: 0 })
+}
+
+// A watched device is called once for each call, and an interrupted one is not made again.
+#[test]
+fn no_call_is_made_again(rt: HostRuntime) {
+    let mut to = uncalled();
+    assert_eq!(rt; to.write(b"student"), Err(DeviceFailed));
+    assert!(rt; to.inner().calls == 1 && to.failed());
+    let mut to = uncalled();
+    assert_eq!(rt; to.flush(), Err(DeviceFailed));
+    assert!(rt; to.inner().calls == 1 && to.failed());
+    let mut from = uncalled();
+    let mut room = [0; 4];
+    assert_eq!(rt; from.read(&mut room), Err(DeviceFailed));
+    assert!(rt; from.inner().calls == 1 && from.failed());
 }
 
 #[test]
