@@ -1,12 +1,12 @@
 -- How the readers of records keep where they stand in a text. Other contracts see the cursor alone.
-use Rattle.std.specs.Prelude.{◌≡◌, ℕ, true, false, Box, List, [], Option, None, Some, map}
+use Rattle.std.specs.Prelude.{◌≡◌, ℕ, true, false, Box, List, [], ◌++◌, Option, None, Some, map}
 use Rattle.std.specs.Global.{Global}
 use Rattle.std.specs.Borrow.{Bor}
 use Rattle.csv.specs.Reading.{default_config, reader_state, records, strip_bom}
 use Rattle.csv.specs.Records.{fields_of}
 use Rattle.csv.specs.declared.reader.Reader.{Reader}
 use Rattle.sc_intake.specs.Cursor.{Cursor}
-use Rattle.sc_intake.specs.Plain.{plain_records}
+use Rattle.sc_intake.specs.Plain.{fields_from, plain_records}
 use Rattle.sc_intake.specs.Reading.{IsReading, records_of, unread}
 use Rattle.sc_intake.specs.declared.plain_records.PlainRecords.TheInside as plain
 use Rattle.sc_intake.specs.declared.quoted_records.QuotedRecords.TheInside as quoted
@@ -36,6 +36,11 @@ IsSound i = i.stopped ≡ false → ReadsOn i.reader
 abbrev pub fields_in : List (Bor (List ℕ)) → List (List ℕ)
 fields_in slices = map (λ s. s.now) slices
 
+-- the fields beyond those that are kept: those of the rest of the line, where it has more
+abbrev pub fields_beyond : Option (Bor (List ℕ)) → List (List ℕ)
+fields_beyond None = []
+fields_beyond (Some line) = fields_from [] line.now
+
 -- the cursor in a text without a quote
 abbrev pub plain_cursor_of : plain.Inside → Cursor
-plain_cursor_of i = record { current = fields_in i.fields.items; left = plain_records i.rest.now }
+plain_cursor_of i = record { current = fields_in i.fields.items ++ fields_beyond i.beyond; left = plain_records i.rest.now }

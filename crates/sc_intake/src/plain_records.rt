@@ -1,20 +1,35 @@
 //! The records of a text without a quote.
 
-ghost use Rattle.std.specs.Prelude.{◌≡◌, ℕ, ◌≤◌, ◌++◌, ◌∷◌, [], List, IfOk, drop, false, length, take};
+ghost use Rattle.std.specs.Prelude.{◌≡◌, ℕ, ◌≤◌, ◌^◌, ◌++◌, ◌∷◌, [], List, IfOk, drop, false, length, option_map, take};
 ghost use Rattle.std.specs.List.{list_any};
+ghost use Rattle.csv.specs.Records.{field_at};
 ghost use Rattle.sc_intake.specs.Plain.{EndsField, after_line, ends_field, ends_line, fields_from, first_line, plain_records};
-ghost use Rattle.sc_intake.specs.Representation.{fields_in};
+ghost use Rattle.sc_intake.specs.Representation.{fields_beyond, fields_in};
 
-use memchr::memchr3;
+use crate::byte_count::count_of;
+use memchr::{memchr2, memchr3};
 use std::alloc::{AllocError, Global};
 use std::marker::Model;
 
-/// The records of a text without a quote: the one read last, and those that are left. Its fields are slices of the
-/// text, in a list that is used again and again, so that nothing is copied.
+/// How many fields of a record are kept: as many as the longest record of a form has.
+const KEPT: usize = 7;
+
+/// The records of a text without a quote: the one read last, and those that are left. Its first fields are slices of the
+/// text, in a list that is used again and again, so that nothing is copied. The fields beyond them, which no form has,
+/// are looked for where they are asked for, so that a record of millions takes no memory.
 #[derive(Drop)]
 pub(crate) struct PlainRecords<'a> {
     rest: &'a [u8],
     fields: Vec<&'a [u8]>,
+    // The rest of the record's line, where it has more fields than are kept.
+    beyond: Option<&'a [u8]>,
+}
+
+/// Where the kept fields of a line end.
+#[derive(Clone, Copy)]
+struct LineEnd<'a> {
+    beyond: Option<&'a [u8]>,
+    rest: &'a [u8],
 }
 
 impl<'a> Model for PlainRecords<'a> {
@@ -64,21 +79,58 @@ fn field_len(text: &[u8]) -> usize
     len
 }
 
-/// Adds the fields of a text's first line, and gives the text after it.
-fn take_line<'a>(text: &'a [u8], fields: &mut Vec<&'a [u8]>) -> Result<&'a [u8], AllocError>
-    ensures fields { IfOk result (λ _. fields_in fields.new.items ≡ fields_in fields.old.items ++ fields_from [] (first_line text.now)) }
-    ensures rest { IfOk result (λ rest. rest.now ≡ after_line text.now) }
+/// A text's first line, and the text after it.
+fn split_line(text: &[u8]) -> (&[u8], &[u8])
+    ensures line { result.0.now ≡ first_line text.now }
+    ensures rest { result.1.now ≡ after_line text.now }
+{
+    match memchr2(b'\n', b'\r', text) {
+        Some(end) => (&text[..end], &text[end + 1..]),
+        None => (text, &[]),
+    }
+}
+
+/// How many fields a line has.
+fn fields_len(line: &[u8]) -> usize
+    ensures count { result ≡ length (fields_from [] line.now) }
+    ensures small { result ≤ 2 ^ 63 }
+{
+    count_of(b',', line) + 1
+}
+
+/// A field of a line, if it has so many.
+fn field_of(line: &[u8], index: usize) -> Option<&[u8]>
+    ensures { option_map (λ f. f.now) result ≡ field_at (fields_from [] line.now) index }
+{
+    line.split(|byte| *byte == b',').nth(index)
+}
+
+/// Adds the first fields of a text's first line, as many as are kept, and says where they end.
+fn take_line<'a>(text: &'a [u8], fields: &mut Vec<&'a [u8]>) -> Result<LineEnd<'a>, AllocError>
+    ensures fields { IfOk result (λ end. fields_in fields.new.items ++ fields_beyond end.beyond ≡ fields_in fields.old.items ++ fields_from [] (first_line text.now)) }
+    ensures rest { IfOk result (λ end. end.rest.now ≡ after_line text.now) }
 {
     let mut rest = text;
-    'fields: loop {
+    'fields: for _ in 0..KEPT {
         let (field, after) = rest.split_at(field_len(rest));
         fields.push(field)?;
         match after {
             [b',', more @ ..] => rest = more,
-            [_, more @ ..] => return Ok(more),
-            [] => return Ok(after),
+            [_, more @ ..] => return Ok(LineEnd {
+                beyond: None,
+                rest: more,
+            }),
+            [] => return Ok(LineEnd {
+                beyond: None,
+                rest: after,
+            }),
         }
     }
+    let (line, rest) = split_line(rest);
+    Ok(LineEnd {
+        beyond: Some(line),
+        rest,
+    })
 }
 
 impl<'a> PlainRecords<'a> {
@@ -93,6 +145,7 @@ impl<'a> PlainRecords<'a> {
         PlainRecords {
             rest: text,
             fields: Vec::new(alloc),
+            beyond: None,
         }
     }
 
@@ -106,7 +159,9 @@ impl<'a> PlainRecords<'a> {
             return Ok(false);
         }
         self.fields.clear();
-        self.rest = take_line(line, &mut self.fields)?;
+        let end = take_line(line, &mut self.fields)?;
+        self.beyond = end.beyond;
+        self.rest = end.rest;
         Ok(true)
     }
 
@@ -114,13 +169,20 @@ impl<'a> PlainRecords<'a> {
     pub(crate) fn len(&self) -> usize
         ensures { result ≡ length self.now.current }
     {
-        self.fields.len()
+        let kept = self.fields.as_slice().len();
+        match self.beyond {
+            Some(line) => kept + fields_len(line),
+            None => kept,
+        }
     }
 
     /// A field of the record read last, if it has so many.
     pub(crate) fn get(&self, index: usize) -> Option<&[u8]>
         ensures { option_map (λ f. f.now) result ≡ field_at self.now.current index }
     {
-        self.fields.get(index).copied()
+        if index < self.fields.len() {
+            return Some(self.fields[index]);
+        }
+        field_of(self.beyond?, index - self.fields.len())
     }
 }

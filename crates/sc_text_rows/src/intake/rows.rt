@@ -67,6 +67,8 @@ fn fields_of_a_row(rt: HostRuntime) -> Result<(), AllocError> {
             (" \n", "schools row 2: Fields"),
             ("10,0\n", "schools row 2: Fields"),
             ("10,0,1,\n", "schools row 2: Fields"),
+            ("10,0,1,,,,,,,,\n20,0,1\n", "schools row 2: Fields"),
+            ("10,0,1\n20,0,1,,,,\n", "schools row 3: Fields"),
             ("10;0;1\n", "schools row 2: Fields"),
             ("\"10,0,1\n20,0,1\n", "schools row 2: Fields"),
             ("10,0,\"1\n", "schools row 2: Number"),

@@ -1,6 +1,7 @@
-use Rattle.std.proofs.Common.{◌≡◌, ◌==◌, ◌∷◌, false, [], List, ℕ, sym, ◌∙◌, rules, length}
+use Rattle.std.proofs.Common.{◌≡◌, ◌==◌, ◌∷◌, ◌++◌, false, [], List, ℕ, sym, ap, ◌∙◌, rules, length}
+use Rattle.std.specs.Borrow.{Bor}
 use Rattle.sc_intake.specs.Plain.{after_line, fields_from, first_line, plain_records}
-use Rattle.sc_intake.specs.Representation.{fields_in}
+use Rattle.sc_intake.specs.Representation.{fields_beyond, fields_in}
 use Rattle.sc_intake.proofs.Lines.{records-line, records-none}
 use Rattle.sc_intake.proofs.plain_records.PlainRecords.advance.Goals as goal
 
@@ -20,6 +21,8 @@ returns c =
     let line = c.without_line_ends-line.result.now in
     let some : (length line == 0) ≡ false = search rules in
     let left : c.args.self.now.left ≡ plain_records c.self.inside.rest.now = search rules in
-    let fields : fields_in c.take_line.new.fields.items ≡ fields_from [] (first_line line) = search rules in
-    let rest : c.in_ok-self-inside.field-0.now ≡ after_line line = search rules in
+    let cleared : c.clear.new.self.items ≡ [] = search rules in
+    let fields : fields_in c.take_line.new.fields.items ++ fields_beyond c.in_ok-end.end.beyond ≡ fields_from [] (first_line line) =
+    c.in_ok-end.ensures.fields ∙ ap (λ (kept : List (Bor (List ℕ))). fields_in kept ++ fields_from [] (first_line line)) cleared in
+    let rest : c.in_ok-end.end.rest.now ≡ after_line line = c.in_ok-end.ensures.rest in
     rw (fields, rest) (left ∙ sym c.without_line_ends-line.ensures.records ∙ records-line line some c.without_line_ends-line.ensures.begins)
