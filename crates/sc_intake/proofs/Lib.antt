@@ -12,6 +12,7 @@ pub mod Giving
 pub mod Listing
 pub mod RowLemmas
 pub mod SeenLemmas
+pub mod JudgedParts
 pub mod PaperLemmas
 pub mod InStep
 pub mod ReadTogether

@@ -14,6 +14,7 @@ ghost use Rattle.sc_papers.specs.declared.amendment.Amendment.TheVariants.{Enter
 use crate::fault::{Cause, IntakeFault, Source};
 use crate::lists::{ListRow, ListRows};
 use crate::roster::{RosterRow, RosterRows};
+use crate::school_list::judged_part;
 use crate::schools::{SchoolRow, SchoolRows};
 use sc_papers::{
     MOST_SCHOOLS, MOST_STUDENTS, Papers, Refusal, SchoolList, SchoolRefusal, Seed, Student,
@@ -100,7 +101,7 @@ fn cause_of(refusal: Refusal) -> Cause
     }
 }
 
-/// Enters a student of the roster with a copy of the student's list.
+/// Enters a student of the roster with copies of the student's lists.
 pub(crate) fn enter_copied(
     alloc: Global,
     papers: &mut Papers,
@@ -113,7 +114,9 @@ pub(crate) fn enter_copied(
     let Some(list) = list else {
         return Err(Cause::NoList);
     };
-    enter(papers, row.copy(alloc)?, list.choices.copy(alloc)?)
+    let row = row.judged_part(alloc)?;
+    let choices = judged_part(alloc, &list.choices)?;
+    enter(papers, row, choices)
 }
 
 /// Enters a student of the roster with these choices.
@@ -192,7 +195,7 @@ fn fill_papers(
 /// student is not in the roster is `NotInRoster`, of the row of the lists. Want of memory is of the
 /// roster, row 0.
 ///
-/// The cost is that of the rows and of copying their lists, a draw of the lottery for each student, and
+/// The cost is that of the rows and of copying their lists as far as the papers look at them, a draw of the lottery for each student, and
 /// for each list a look-up in a tree of their numbers. `read_papers` copies no list.
 pub fn papers_of(
     alloc: Global,

@@ -10,7 +10,7 @@ use crate::field::{number, number_or_none};
 use crate::ranges;
 use crate::records::Records;
 use crate::rows::{Numbered, Row, Rows, read_rows};
-use crate::school_list::school_list;
+use crate::school_list::{judged_part, school_list};
 use sc_papers::{MOST_STUDENTS, SchoolList, SchoolNo, StudentNo, Zone};
 use std::alloc::{AllocError, Global};
 
@@ -28,17 +28,19 @@ pub struct RosterRow {
 }
 
 impl RosterRow {
-    ghost use Rattle.std.specs.Prelude.{◌≡◌, IfOk};
+    ghost use Rattle.std.specs.Prelude.{◌≡◌, ◌+◌, IfOk, take};
+    ghost use Rattle.sc_papers.specs.declared.limits.TheConstants.{LONGEST_LIST};
 
-    /// An equal row, or the error of a refused growth. The cost is the length of its list.
-    pub(crate) fn copy(&self, alloc: Global) -> Result<Self, AllocError>
-        ensures { IfOk result (λ row. row ≡ self.now) }
+    /// A row of which the papers say what they say of this one: its list of siblings as far as they look at it. The only
+    /// error is want of memory.
+    pub(crate) fn judged_part(&self, alloc: Global) -> Result<Self, AllocError>
+        ensures { IfOk result (λ row. row ≡ record self.now { siblings = take (LONGEST_LIST + 1) self.now.siblings }) }
     {
         Ok(RosterRow {
             row: self.row,
             student: self.student,
             zone: self.zone,
-            siblings: self.siblings.copy(alloc)?,
+            siblings: judged_part(alloc, &self.siblings)?,
             continuing: self.continuing,
         })
     }

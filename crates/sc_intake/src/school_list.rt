@@ -1,10 +1,11 @@
 //! The fields that are lists of schools.
 
-ghost use Rattle.std.specs.Prelude.{◌≡◌, ◌<◌, ◌≤◌, ◌==◌, [], length, take, if◌then◌else◌, vec_capacity, Ok, Err, IfErr, IfOk, IfSome};
+ghost use Rattle.std.specs.Prelude.{◌≡◌, ◌+◌, ◌<◌, ◌≤◌, ◌==◌, [], length, take, if◌then◌else◌, vec_capacity, Ok, Err, IfErr, IfOk, IfSome};
 ghost use Rattle.std.specs.List.{count_by};
 ghost use Rattle.sc_intake.specs.Fault.{Gives};
 ghost use Rattle.sc_intake.specs.Field.{listed};
 ghost use Rattle.sc_intake.specs.declared.fault.Cause.TheVariants.{OutOfMemory, Range};
+ghost use Rattle.sc_papers.specs.declared.limits.TheConstants.{LONGEST_LIST};
 
 use crate::byte_count::count_of;
 use crate::fault::Cause;
@@ -101,4 +102,15 @@ pub(crate) fn school_list(alloc: Global, text: &[u8]) -> Result<Result<SchoolLis
         Some(schools) => Ok(Ok(schools)),
         None => any_list(alloc, text),
     }
+}
+
+/// A list of which the papers say what they say of this one: a copy, but of a list that is too long only its beginning,
+/// which is too long too. So a list that was made to be large is not kept twice.
+pub(crate) fn judged_part(alloc: Global, list: &SchoolList) -> Result<SchoolList, AllocError>
+    ensures { IfOk result (λ part. part ≡ take (LONGEST_LIST + 1) list.now) }
+{
+    let schools = list.as_slice();
+    let end = schools.len().min(LONGEST_LIST + 1);
+    let part = Vec::from_slice(alloc, &schools[..end])?;
+    Ok(SchoolList::from_vec(part))
 }

@@ -260,6 +260,30 @@ fn each_fault_of_the_students_once(rt: HostRuntime) -> Result<(), AllocError> {
             (
                 SCHOOLS,
                 ROSTER,
+                "student,choices\n1,99 10 20 10 20 10 20 10 20 10 20 10 20 10 20 10 20 10 20 10 20\n2,20 10\n",
+                "roster row 2: Refused 5 ListTooLong",
+            ),
+            (
+                SCHOOLS,
+                ROSTER,
+                "student,choices\n1,10 20 10 20 10 20 10 20 10 20 10 20 10 20 10 20 10 20 10 20 10 20 99\n2,20 10\n",
+                "roster row 2: Refused 5 ListTooLong",
+            ),
+            (
+                SCHOOLS,
+                ROSTER,
+                "student,choices\n1,99 10 20 10 20 10 20 10 20 10 20 10 20 10 20 10 20 10 20 10\n2,20 10\n",
+                "roster row 2: Refused 6 UnknownSchool 99",
+            ),
+            (
+                SCHOOLS,
+                "student,zone,siblings\n1,0,99 10 20 10 20 10 20 10 20 10 20 10 20 10 20 10 20 10 20 10 20 10\n2,0,10\n",
+                "student,choices\n1,99\n2,20 10\n",
+                "roster row 2: Refused 5 ListTooLong",
+            ),
+            (
+                SCHOOLS,
+                ROSTER,
                 "student,choices\n1,10 20\n2,\n",
                 "roster row 3: Refused 4 EmptyList",
             ),
