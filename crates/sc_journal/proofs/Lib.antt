@@ -1,5 +1,7 @@
 pub mod Giving
 pub mod Words
+pub mod SplitWords
+pub mod TooManyFields
 pub mod Records
 pub mod Growing
 pub mod Stamping

@@ -1,21 +1,20 @@
 -- Lists of schools as a line spells them, both ways.
-use Rattle.std.proofs.Common.{◌≡◌, ℕ, ◌+◌, ◌^◌, ◌<◌, ◌≤◌, true, false, List, [], ◌∷◌, ◌++◌, length, get_or, drop, map, Bor, refl, sym, ◌∙◌, ap, arith, append_assoc}
-use Rattle.std.specs.Prelude.{◌==◌, nat_le, not, flat_map, Result, Ok, Err}
+use Rattle.std.proofs.Common.{◌≡◌, ℕ, ◌^◌, ◌<◌, true, false, List, [], ◌∷◌, ◌++◌, length, get_or, map, refl, sym, ◌∙◌, ap, arith, append_assoc}
+use Rattle.std.specs.Prelude.{◌==◌, nat_le, not, flat_map, Ok}
 use Rattle.std.specs.Char.{is_ascii_digit}
 use Rattle.std.specs.Fmt.{decimal}
 use Rattle.std.specs.List.{All, join_with_byte, list_all, slice_split}
 use Rattle.std.proofs.lemmas.Bool.{and_parts, not-true}
 use Rattle.std.proofs.lemmas.Bool.Decides.{nat_tests}
 use Rattle.std.proofs.lemmas.Fmt.{decimal_nonempty, digits_decimal}
-use Rattle.std.proofs.lemmas.List.{append-nil, at_drop_all, at_drop_more, length-append}
+use Rattle.std.proofs.lemmas.List.{append-nil, length-append}
 use Rattle.std.proofs.lemmas.List.Elements.{All-append, All-cons, All-from_get_or, All-head, All-nil, All-tail, All-weaker}
 use Rattle.std.proofs.lemmas.List.Splits.{join_with_byte-slice_split, slice_split_at, slice_split_none}
 use Rattle.std.proofs.lemmas.List.Sums.{AllPass-from_list_all}
 use Rattle.sc_decimal.proofs.Spelling.{own}
 use Rattle.sc_journal.specs.Line.{further_text, list_text}
-use Rattle.sc_journal.specs.Reading.{◌>>=◌, list_in, school_in, schools_after}
+use Rattle.sc_journal.specs.Reading.{list_in, school_in, schools_after}
 use Rattle.sc_journal.specs.Spelling.{IsSchool}
-use Rattle.sc_journal.specs.declared.unread.Unread.{Unread}
 use Rattle.sc_journal.proofs.Giving.{decimal-ranged, ranged-decimal, second}
 
 -- no byte of a text is this one
@@ -146,23 +145,3 @@ list-free c (x ∷ xs) low other ok =
 pub word-free : (c : ℕ) (word : List ℕ) → list_all (λ b. not (b == c)) word ≡ true → IsFree c word
 word-free c word e =
     All-weaker (λ b. not (b == c) ≡ true) (λ b. (b == c) ≡ false) (λ b h. not-true (b == c) h) word (AllPass-from_list_all (λ b. not (b == c)) word e)
-
--- the texts that are left, where one is read next
-schools-next : (earlier : List ℕ) (words : List (Bor (List ℕ))) (i : ℕ) (d : Bor (List ℕ)) → i < length words
-    → schools_after earlier (map (λ word. word.now) (drop i words)) ≡ (school_in (get_or words i d).now >>= λ s. schools_after (earlier ++ s ∷ []) (map (λ word. word.now) (drop (i + 1) words)))
-unfolding schools_after
-schools-next earlier words i d inside = at_drop_more (λ (ws : List (Bor (List ℕ))). schools_after earlier (map (λ word. word.now) ws)) words i d inside
-
-pub schools-end : (earlier : List ℕ) (words : List (Bor (List ℕ))) (i : ℕ) → length words ≤ i → schools_after earlier (map (λ word. word.now) (drop i words)) ≡ Ok earlier
-unfolding schools_after
-schools-end earlier words i past = at_drop_all (λ (ws : List (Bor (List ℕ))). schools_after earlier (map (λ word. word.now) ws)) words i past
-
-pub schools-more : (earlier : List ℕ) (words : List (Bor (List ℕ))) (i s : ℕ) (d : Bor (List ℕ)) → i < length words → school_in (get_or words i d).now ≡ Ok s
-    → schools_after earlier (map (λ word. word.now) (drop i words)) ≡ schools_after (earlier ++ s ∷ []) (map (λ word. word.now) (drop (i + 1) words))
-schools-more earlier words i s d inside reads =
-    schools-next earlier words i d inside ∙ ap (λ (r : Result ℕ Unread). r >>= λ t. schools_after (earlier ++ t ∷ []) (map (λ word. word.now) (drop (i + 1) words))) reads
-
-pub schools-bad : (earlier : List ℕ) (words : List (Bor (List ℕ))) (i : ℕ) (d : Bor (List ℕ)) (e : Unread) → i < length words → school_in (get_or words i d).now ≡ Err e
-    → schools_after earlier (map (λ word. word.now) (drop i words)) ≡ Err e
-schools-bad earlier words i d e inside reads =
-    schools-next earlier words i d inside ∙ ap (λ (r : Result ℕ Unread). r >>= λ t. schools_after (earlier ++ t ∷ []) (map (λ word. word.now) (drop (i + 1) words))) reads

@@ -1,5 +1,6 @@
 -- How a line is read. Public contracts do not cite it: they say what text a line is the spelling of.
 use Rattle.std.specs.Prelude.{◌≡◌, ◌⊎◌, ℕ, ◌==◌, Bool, ◌&&◌, ◌||◌, nat_le, List, [], ◌∷◌, ◌++◌, length, slice_get, unwrap_or, ok_or, codes, if◌then◌else◌, Option, None, Some, Result, Ok, Err}
+use Rattle.std.specs.Borrow.{Bor}
 use Rattle.std.specs.List.{slice_split}
 use Rattle.std.specs.Str.{bytes_eq}
 use Rattle.sc_decimal.specs.Number.{read_plain_number}
@@ -61,6 +62,11 @@ schools_after earlier (text ∷ rest) = school_in text >>= λ s. schools_after (
 -- the list of schools that a text writes
 unfoldable pub list_in : List ℕ → Result (List ℕ) Unread
 list_in text = if length text == 0 then Ok [] else schools_after [] (slice_split (λ c. c == 32) text)
+
+-- the words of the part of a text that is left
+abbrev pub words_left : Option (Bor (List ℕ)) → List (List ℕ)
+words_left None = []
+words_left (Some text) = slice_split (λ c. c == 32) text.now
 
 -- a field of a line; one past the last is empty
 abbrev pub field_at : List (List ℕ) → ℕ → List ℕ

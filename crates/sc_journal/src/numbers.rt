@@ -1,14 +1,15 @@
 //! Numbers and lists of schools as a line spells them.
 
-ghost use Rattle.std.specs.Prelude.{◌≡◌, ◌==◌, IfOk, [], map};
+ghost use Rattle.std.specs.Prelude.{◌≡◌, ◌==◌, ◌∷◌, []};
 ghost use Rattle.std.specs.List.{slice_split};
-ghost use Rattle.sc_journal.specs.Reading.{count_in, list_in, number_in, ranged_in, school_in, schools_after, student_in, zone_in, Gives};
+ghost use Rattle.sc_journal.specs.Reading.{count_in, list_in, number_in, ranged_in, school_in, schools_after, student_in, words_left, zone_in, Gives};
 
 use crate::line_no::LineNo;
 use crate::unread::Unread;
+use memchr::memchr;
 use sc_decimal::read_plain_number;
 use sc_papers::{Count, SchoolList, SchoolNo, StudentNo, Zone};
-use std::alloc::{AllocError, Global};
+use std::alloc::Global;
 
 /// The number that a text writes: 1 to 9 decimal digits without leading zeros.
 #[tactic(auto, unfolding(crate::specs::Reading::number_in))]
@@ -53,20 +54,26 @@ pub(crate) fn count(text: &[u8]) -> Result<Count, Unread>
     Count::new(number(text)?).ok_or(Unread::NoLine)
 }
 
-/// What stands between the spaces of a text.
-fn words(alloc: Global, text: &[u8]) -> Result<Vec<&[u8]>, AllocError>
-    ensures { IfOk result (λ words. map (λ word. word.now) words.items ≡ slice_split (λ c. c == 32) text.now) }
+/// The first word of a text, which ends at a space, and what follows the space if there is one.
+fn split_word(text: &[u8]) -> (&[u8], Option<&[u8]>)
+    ensures { slice_split (λ c. c == 32) text.now ≡ result.0.now ∷ words_left result.1 }
 {
-    text.split(|byte| *byte == b' ').collect(alloc)
+    match memchr(b' ', text) {
+        Some(end) => (&text[..end], Some(&text[end + 1..])),
+        None => (text, None),
+    }
 }
 
-/// The schools that words write.
-fn schools(alloc: Global, words: &[&[u8]]) -> Result<SchoolList, Unread>
-    ensures { Gives (schools_after [] (map (λ word. word.now) words.now)) result }
+/// The schools that the words of a text write. None of the words is kept.
+fn schools(alloc: Global, text: &[u8]) -> Result<SchoolList, Unread>
+    ensures { Gives (schools_after [] (slice_split (λ c. c == 32) text.now)) result }
 {
-    let mut schools = Vec::with_capacity(alloc, words.len())?;
-    for word in words {
-        schools.push(school(*word)?)?;
+    let mut schools = Vec::new(alloc);
+    let mut left = Some(text);
+    'words: while let Some(rest) = left {
+        let (word, more) = split_word(rest);
+        schools.push(school(word)?)?;
+        left = more;
     }
     Ok(SchoolList::from_vec(schools))
 }
@@ -79,6 +86,5 @@ pub(crate) fn list(alloc: Global, text: &[u8]) -> Result<SchoolList, Unread>
     if text.is_empty() {
         return Ok(SchoolList::from_vec(Vec::new(alloc)));
     }
-    let words = words(alloc, text)?;
-    schools(alloc, words.as_slice())
+    schools(alloc, text)
 }

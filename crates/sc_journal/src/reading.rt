@@ -1,6 +1,7 @@
 //! A line read back.
 
-ghost use Rattle.std.specs.Prelude.{◌≡◌, IfOk};
+ghost use Rattle.std.specs.Prelude.{◌≡◌, ◌==◌, IfOk};
+ghost use Rattle.std.specs.List.{count_by};
 ghost use Rattle.sc_journal.specs.Reading.{add_in, amendment_in, close_in, correct_in, enter_in, line_in, line_of, rerank_in, school_or_none_in, withdraw_in, Gives};
 ghost use Rattle.sc_journal.specs.Spelling.{ReadsAs};
 
@@ -157,10 +158,28 @@ fn line_of(alloc: Global, fields: &Fields) -> Result<JournalLine, Unread>
     })
 }
 
-/// The line that a text reads as.
+/// The most fields that a line has.
+const MOST_FIELDS: usize = 7;
+
+/// How many commas stand in a text.
+fn commas(text: &[u8]) -> usize
+    ensures { result ≡ count_by (λ c. c == 44) text.now }
+{
+    let mut count = 0;
+    for byte in text {
+        count += usize::from(*byte == b',');
+    }
+    count
+}
+
+/// The line that a text reads as. The fields of a text that has more than a line are not listed, so that one of millions
+/// takes no memory.
 fn line_in(alloc: Global, text: &[u8]) -> Result<JournalLine, Unread>
     ensures { Gives (line_in text.now) result }
 {
+    if commas(text) >= MOST_FIELDS {
+        return Err(Unread::NoLine);
+    }
     let fields = Fields::of(alloc, text)?;
     line_of(alloc, &fields)
 }

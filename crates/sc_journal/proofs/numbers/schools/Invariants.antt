@@ -1,6 +1,10 @@
-use Rattle.std.proofs.Common.{◌≡◌, [], drop, map}
-use Rattle.sc_journal.specs.Reading.{schools_after}
+use Rattle.std.proofs.Common.{◌≡◌, ◌==◌, [], length}
+use Rattle.std.specs.List.{slice_split}
+use Rattle.sc_journal.specs.Reading.{schools_after, words_left}
 use Rattle.sc_journal.proofs.numbers.schools.Given as goal
 
-abbrev pub invariant-loop-word : goal.invariant-loop-word
-invariant-loop-word l = schools_after [] (map (λ word. word.now) l.words) ≡ schools_after l.schools.items (map (λ word. word.now) (drop l.word-index l.words))
+abbrev pub invariant-words : goal.invariant-words
+invariant-words l = schools_after [] (slice_split (λ c. c == 32) l.text) ≡ schools_after l.schools.items (words_left l.left)
+
+abbrev pub decreases-words : goal.decreases-words
+decreases-words l = length (words_left l.left)
