@@ -25,11 +25,11 @@ import reference  # noqa: E402
 HERE = pathlib.Path(__file__).resolve().parent.parent
 BUILT = HERE / "crates/clearinghouse/out/clearinghouse"
 INPUTS = {"check": ["schools", "roster", "lists", "script"], "match": ["schools", "roster", "lists"], "run": ["schools", "roster", "lists", "script"],
-          "audit": ["schools", "roster", "lists", "log"], "replay": ["schools", "roster", "lists", "journal"],
+          "audit": ["schools", "roster", "lists", "log", "report"], "replay": ["schools", "roster", "lists", "journal"],
           "summary": ["schools", "roster", "lists", "journal"], "explain": ["schools", "roster", "lists", "journal"],
           "export": ["schools", "roster", "lists", "journal"]}
 # The inputs that a subcommand may go without.
-OPTIONAL = {"check": ["script"], "summary": ["journal"], "explain": ["journal"], "export": ["journal"]}
+OPTIONAL = {"check": ["script"], "audit": ["report"], "summary": ["journal"], "explain": ["journal"], "export": ["journal"]}
 Case = collections.namedtuple("Case", "kind seed texts words")
 
 
@@ -190,7 +190,9 @@ def make_case(seed, at):
             log = reference.call_match(key, *(texts[name] for name in INPUTS["match"]), print_log=True)[0]
         except reference.Stop:
             log = b"1,1\n"
-        texts["log"] = log if rng.random() < 0.4 else changed(rng, log)
+        texts["log"] = log if rng.random() < 0.6 else changed(rng, log)
+        if rng.random() < 0.6:
+            texts["report"] = published(rng, key, texts)
     elif kind == "replay" or (kind in OPTIONAL and rng.random() < 0.7):
         try:
             journal = reference.call_run(key, *(texts[name] for name in INPUTS["match"]), script)[1]
@@ -216,7 +218,31 @@ def make_case(seed, at):
         if rng.random() < 0.3:
             texts["written"] = rng.choice([b"", b"1,withdraw,1\n"])
         return Case(kind, seed_given, texts, [flag for flag in ("--no-clobber", "--settle-each", "--settle-at-end") if rng.random() < 0.4])
-    return Case(kind, seed_given, texts, rng.choice([["--print-log"], []]) if kind == "match" else [])
+    return Case(kind, seed_given, texts, table_words(rng, kind) if kind in ("match", "replay") else [])
+
+
+def published(rng, key, texts):
+    """A report that was published with a log: the right one, or one with a change, or with replies in front."""
+    try:
+        report = reference.call_match(key, *(texts[name] for name in INPUTS["match"]))[0]
+    except reference.Stop:
+        report = b"student,school\n"
+    kind = rng.randrange(6)
+    if kind < 2:
+        return report
+    if kind == 2:
+        return rng.choice([b"1,ok\n", b"\n", b"\xef\xbb\xbf"]) + report
+    if kind == 3:
+        return report[:rng.randint(0, len(report))]
+    if kind == 4:
+        return report + rng.choice([b"\n", b"1", report])
+    return changed(rng, report)
+
+
+def table_words(rng, kind):
+    """What a report is to be: whole, a log, or one of its tables, by a name that is not always one."""
+    words = ["--table=" + rng.choice(["assignment", "cutoffs", "reasons", "assignment", "cutoffs", "reasons", "Reasons", "", "log"])] if rng.random() < 0.4 else []
+    return words + (["--print-log"] if kind == "match" and rng.random() < (0.1 if words else 0.5) else [])
 
 
 def student_words(rng, roster):
@@ -281,7 +307,9 @@ def told(case):
         key = reference.seed_of(case.seed)
         if case.kind == "explain" and case.words:
             return call(key, *given, student=case.words[0].split("=", 1)[1].encode())
-        return call(key, *given, print_log=True) if "--print-log" in case.words else call(key, *given)
+        options = {"print_log": True} if "--print-log" in case.words else {}
+        options |= {"table": word.split("=", 1)[1].encode() for word in case.words if word.startswith("--table=")}
+        return call(key, *given, **options)
 
     return reference.told(made)
 

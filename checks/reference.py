@@ -5,10 +5,10 @@ It is slow and simple on purpose: `compare.py` runs it beside the built program 
 
     reference.py                           reads a bundle from standard input
     reference.py check --schools .. --roster .. --lists .. [--script ..]
-    reference.py match --seed .. --schools .. --roster .. --lists .. [--print-log]
+    reference.py match --seed .. --schools .. --roster .. --lists .. [--print-log] [--table TABLE]
     reference.py run .. --script .. --journal .. [--settle-each] [--settle-at-end], which change no byte
-    reference.py audit .. --log ..
-    reference.py replay .. --journal ..
+    reference.py audit .. --log .. [--report ..]
+    reference.py replay .. --journal .. [--table TABLE]
     reference.py summary .. [--journal ..]
     reference.py explain .. [--journal ..] [--student N]
     reference.py export .. [--journal ..] --to FOLDER
@@ -458,26 +458,25 @@ def settled(papers):
     return places, log
 
 
-def report(papers):
+def tables(papers):
+    """The three tables of a report, by their names."""
     places, _ = settled(papers)
     holders = {school: [] for school in papers.schools}
     for student, school in places.items():
         if school is not None:
             holders[school].append(papers.key_of(student, school))
-    lines = ["student,school"]
+    assignment, cutoffs, reasons = ["student,school"], ["school,seats,held,class,draw,student"], ["student,school,reason"]
     for student in sorted(places):
-        lines.append(f"{student},{'-' if places[student] is None else places[student]}")
-    lines.append("school,seats,held,class,draw,student")
+        assignment.append(f"{student},{'-' if places[student] is None else places[student]}")
     for school in sorted(papers.schools):
         seats, held = papers.schools[school][1], len(holders[school])
         if seats == 0:
-            lines.append(f"{school},0,0,closed,-,-")
+            cutoffs.append(f"{school},0,0,closed,-,-")
         elif held < seats:
-            lines.append(f"{school},{seats},{held},free,-,-")
+            cutoffs.append(f"{school},{seats},{held},free,-,-")
         else:
             kind, drawn, student = max(holders[school])
-            lines.append(f"{school},{seats},{held},{kind},{drawn:016x},{student}")
-    lines.append("student,school,reason")
+            cutoffs.append(f"{school},{seats},{held},{kind},{drawn:016x},{student}")
     for student in sorted(places):
         for school in papers.students[student][2]:
             if school == places[student]:
@@ -488,8 +487,21 @@ def report(papers):
                 reason = "class"
             else:
                 reason = "lottery"
-            lines.append(f"{student},{school},{reason}")
-    return ("\n".join(lines) + "\n").encode()
+            reasons.append(f"{student},{school},{reason}")
+    return {name: ("\n".join(lines) + "\n").encode()
+            for name, lines in (("assignment", assignment), ("cutoffs", cutoffs), ("reasons", reasons))}
+
+
+def report(papers, table=None):
+    """The report, or one of its tables alone."""
+    found = tables(papers)
+    return b"".join(found.values()) if table is None else found[table]
+
+
+def differing_line(one, other):
+    """The first line in which two texts differ: one more than end in what they begin with alike."""
+    alike = next((at for at, (a, b) in enumerate(zip(one, other)) if a != b), min(len(one), len(other)))
+    return one[:alike].count(b"\n") + 1
 
 
 def summary(papers):
@@ -588,12 +600,22 @@ def call_check(schools, roster, lists, script=None):
     return b"".join(f"{fault.line}\n".encode() for fault in faults), b"", 3 if faults else 0
 
 
-def call_match(key, schools, roster, lists, print_log=False):
+def table_of(word):
+    """The table of a report that a word of the command line names."""
+    if word not in (b"assignment", b"cutoffs", b"reasons"):
+        raise Stop("table: Name", 2, opened=False)
+    return word.decode()
+
+
+def call_match(key, schools, roster, lists, print_log=False, table=None):
+    table = None if table is None else table_of(table)
+    if table is not None and print_log:
+        raise Stop("table: Log", 2, opened=False)
     too_long(*files(schools, roster, lists))
     papers = papers_of(key, schools, roster, lists)
     if print_log:
         return b"".join(b"%d,%d\n" % entry for entry in settled(papers)[1]), b"", 0
-    return report(papers), b"", 0
+    return report(papers, table), b"", 0
 
 
 def call_run(key, schools, roster, lists, script):
@@ -613,7 +635,8 @@ def call_run(key, schools, roster, lists, script):
     return b"".join(output) + report(papers), b"".join(journal), 0
 
 
-def call_audit(key, schools, roster, lists, log):
+def call_audit(key, schools, roster, lists, log, published=None):
+    """Of a log that is certified the report that was published, if there is one, is compared with that of the papers."""
     too_long(*files(schools, roster, lists), ("log", log))
     papers = papers_of(key, schools, roster, lists)
     entries = []
@@ -627,6 +650,8 @@ def call_audit(key, schools, roster, lists, log):
             raise intake("log", row, bad.args[0]) from None
         entries.append(entry)
     said = verdict(papers, entries)
+    if said == "certified" and published is not None and published != report(papers):
+        said = f"report differs {differing_line(published, report(papers))}"
     return f"{said}\n".encode(), b"", 0 if said == "certified" else 1
 
 
@@ -660,11 +685,12 @@ def replayed(papers, journal):
     return "torn" if torn else 0
 
 
-def call_replay(key, schools, roster, lists, journal):
+def call_replay(key, schools, roster, lists, journal, table=None):
+    table = None if table is None else table_of(table)
     too_long(*files(schools, roster, lists), ("journal", journal))
     papers = papers_of(key, schools, roster, lists)
     status = replayed(papers, journal)
-    return report(papers), b"", status
+    return report(papers, table), b"", status
 
 
 def call_summary(key, schools, roster, lists, journal=None):
@@ -762,11 +788,16 @@ def main(words):
             texts = [open(options[name], "rb").read() for name in names]
             if words[0] == "check":
                 return call_check(*texts)
+            table = {"table": options["--table"].encode()} if "--table" in options else {}
             if words[0] == "match":
-                return call_match(key, *texts, print_log="--print-log" in words)
+                return call_match(key, *texts, print_log="--print-log" in words, **table)
+            if words[0] == "replay":
+                return call_replay(key, *texts, **table)
+            if words[0] == "audit":
+                return call_audit(key, *texts, *([open(options["--report"], "rb").read()] if "--report" in options else []))
             if words[0] == "explain":
                 return call_explain(key, *texts, student=options["--student"].encode() if "--student" in options else None)
-            return {"run": call_run, "audit": call_audit, "replay": call_replay, "summary": call_summary, "export": call_export}[words[0]](key, *texts)
+            return {"run": call_run, "summary": call_summary, "export": call_export}[words[0]](key, *texts)
 
         output, journal, line, status = told(call)
         if words[0] == "run":

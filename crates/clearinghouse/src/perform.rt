@@ -6,9 +6,10 @@ use sc_intake::Source;
 use sc_papers::{Seed, StudentNo};
 use sc_report::{DeviceFailed, Watched, write_whole};
 use sc_runs::{
-    Ending, Inputs, Opening, PapersFile, PapersFiles, RunFault, Settling, audit_files, check_files,
-    explain_files, export_files, fault_line, match_files, read_student, replay_files, run,
-    run_bundle, status_of, summary_files,
+    Ending, Inputs, Opening, PapersFile, PapersFiles, RunFault, Settling, Table, audit_files,
+    audit_report_files, check_files, explain_files, export_files, fault_line, match_files,
+    read_student, replay_files, run, run_bundle, status_of, summary_files, table_files,
+    table_named,
 };
 use sc_words::{FileWords, OpeningWords, Order, Subcommand, Word, order_of};
 use std::alloc::Global;
@@ -139,6 +140,41 @@ fn match_opening<R: Files + AllocGlobal, W: Write>(
     Ok(Ending::Done)
 }
 
+/// Writes one table of the report of an opening, as its papers stand after a journal if there is one.
+fn tabulate<R: Files + AllocGlobal, W: Write>(
+    rt: &R,
+    seed: &Seed,
+    words: &OpeningWords<'_>,
+    journal: Option<&str>,
+    table: Table,
+    out: &mut Watched<W>,
+) -> Result<Ending, RunFault> {
+    let mut opening = open_opening(rt, &words.files)?;
+    let mut journal = open_if_any(rt, journal, Source::Journal)?;
+    let tail = table_files(rt.alloc(), seed, &mut opening, &mut journal, table, out)?;
+    Ok(Ending::from(tail))
+}
+
+/// Matches the files of an opening, and writes the table that the words name, if they name one. The name is read before a
+/// file is opened.
+fn match_named<R: Files + AllocGlobal, W: Write>(
+    rt: &R,
+    seed: &Seed,
+    words: &OpeningWords<'_>,
+    show_log: bool,
+    table: Option<&str>,
+    out: &mut Watched<W>,
+) -> Result<Ending, RunFault> {
+    let Some(name) = table else {
+        return match_opening(rt, seed, words, show_log, out);
+    };
+    match table_named(name) {
+        Some(_) if show_log => Ok(Ending::TableBesideLog),
+        Some(table) => tabulate(rt, seed, words, None, table, out),
+        None => Ok(Ending::BadTable),
+    }
+}
+
 /// When a run settles its papers.
 fn settling_of(settle_each: bool) -> Settling {
     if settle_each {
@@ -183,6 +219,41 @@ fn audit_log<R: Files + AllocGlobal, W: Write>(
     // The program ends here, so the papers are not taken apart.
     forget(audited);
     Ok(ending)
+}
+
+/// Audits a log under an opening, and a report that was published.
+fn audit_report<R: Files + AllocGlobal, W: Write>(
+    rt: &R,
+    seed: &Seed,
+    words: &OpeningWords<'_>,
+    log: &str,
+    report: &str,
+    out: &mut Watched<W>,
+) -> Result<Ending, RunFault> {
+    let mut opening = open_opening(rt, &words.files)?;
+    let mut log = open_input(rt, log, Source::Log)?;
+    let mut report = open_input(rt, report, Source::Report)?;
+    let finding = audit_report_files(rt.alloc(), seed, &mut opening, &mut log, &mut report, out)?;
+    Ok(Ending::from(finding))
+}
+
+/// Replays a journal over an opening, and writes the table that the words name, if they name one. The name is read before
+/// a file is opened.
+fn replay_named<R: Files + AllocGlobal, W: Write>(
+    rt: &R,
+    seed: &Seed,
+    words: &OpeningWords<'_>,
+    journal: &str,
+    table: Option<&str>,
+    out: &mut Watched<W>,
+) -> Result<Ending, RunFault> {
+    let Some(name) = table else {
+        return replay_journal(rt, seed, words, journal, out);
+    };
+    match table_named(name) {
+        Some(table) => tabulate(rt, seed, words, Some(journal), table, out),
+        None => Ok(Ending::BadTable),
+    }
 }
 
 /// Replays a journal over an opening.
@@ -354,7 +425,9 @@ fn dispatch<R: Files + AllocGlobal, W: Write>(
     out: &mut Watched<W>,
 ) -> Result<Ending, RunFault> {
     match subcommand {
-        Subcommand::Match { show_log } => match_opening(rt, seed, opening, *show_log, out),
+        Subcommand::Match { show_log, table } => {
+            match_named(rt, seed, opening, *show_log, *table, out)
+        }
         Subcommand::Run {
             script,
             journal,
@@ -373,8 +446,14 @@ fn dispatch<R: Files + AllocGlobal, W: Write>(
                 out,
             )
         }
-        Subcommand::Audit { log } => audit_log(rt, seed, opening, log, out),
-        Subcommand::Replay { journal } => replay_journal(rt, seed, opening, journal, out),
+        Subcommand::Audit { log, report: None } => audit_log(rt, seed, opening, log, out),
+        Subcommand::Audit {
+            log,
+            report: Some(report),
+        } => audit_report(rt, seed, opening, log, report, out),
+        Subcommand::Replay { journal, table } => {
+            replay_named(rt, seed, opening, journal, *table, out)
+        }
         Subcommand::Summary { journal } => summarize(rt, seed, opening, *journal, out),
         Subcommand::Explain { student, journal } => {
             explain_named(rt, seed, opening, *student, *journal, out)

@@ -1,10 +1,10 @@
 -- What is found of a log, entry by entry, and that there is one answer.
-use Rattle.std.proofs.Common.{◌≡◌, inl, inr, refl, ap, sym, subst, ◌∙◌, ℕ, suc, ◌+◌, ◌<◌, ◌≤◌, true, false, List, [], ◌∷◌, ◌++◌, length, take, drop, get_or, Result, Ok, Err, IfOk, add-one, arith}
+use Rattle.std.proofs.Common.{◌≡◌, inl, inr, refl, ap, sym, subst, ◌∙◌, ℕ, suc, ◌+◌, ◌<◌, ◌≤◌, true, false, List, [], ◌∷◌, ◌++◌, length, take, drop, get_or, Option, Result, Ok, Err, IfOk, add-one, arith}
 use Rattle.std.proofs.Math.Seq.{take-suc, drop-cons}
 use Rattle.std.proofs.lemmas.Bool.{cases_order}
 use Rattle.std.proofs.lemmas.List.{take-append-drop, take_all, length-take}
 use Rattle.sc_papers.specs.Log.{matching_of, IsValidEntry, IsValidLog, IsSettled}
-use Rattle.sc_papers.specs.Market.{Market}
+use Rattle.sc_papers.specs.Market.{Market, students_of}
 use Rattle.sc_papers.specs.Matching.{Matching, has, held, WithinSeats, IsStudentOptimal}
 use Rattle.sc_papers.specs.WellFormed.{WellFormed}
 use Rattle.sc_papers.specs.declared.rejection.Rejection.{Rejection}
@@ -18,6 +18,8 @@ use Rattle.sc_audit.specs.Over.{IsFirstOver}
 use Rattle.sc_audit.specs.Verdict.{IsBadLine, IsVerdict}
 use Rattle.sc_audit.specs.declared.verdict.Verdict.{Verdict}
 use Rattle.sc_audit.specs.declared.verdict.Verdict.TheVariants.{BadEntry, Over, Certified}
+use Rattle.sc_tallies.specs.Places.{ArePlaces}
+use Rattle.sc_tallies.proofs.Tallying.{map-agree}
 
 -- the first k entries are valid, and the state follows them
 pub record ReadUpTo (m : Market) (log : List Rejection) (k : ℕ) (l : AuditView) : Type 0 where
@@ -71,6 +73,10 @@ settled-log m log l valid follows within = record {
 pub certified-optimal : {E : Type 0} (m : Market) (log : List Rejection) (result : Result Verdict E) → WellFormed m → IfOk result (IsVerdict m log) → IfOk result (λ verdict. verdict ≡ Certified → IsStudentOptimal m (matching_of m log))
 certified-optimal m log (Ok verdict) well found = λ certified. settled-optimal m well log (subst (IsVerdict m log) certified found)
 certified-optimal m log (Err e) well found = tt
+
+-- where the state follows a log, each student has by the log what they stand at
+pub places-by : (m : Market) (log : List Rejection) (l : AuditView) (places : List (Option ℕ)) → Follows m log l → ArePlaces m (next_of m l.stands) places → ArePlaces m (matching_of m log) places
+places-by m log l places follows are = are ∙ map-agree (matching_of m log) (next_of m l.stands) (students_of m) (λ i among. sym (follows.next i))
 
 -- a list cut in two ways
 abbrev rest_of : {X : Type 0} → List X → List X

@@ -6,6 +6,7 @@ ghost use Rattle.sc_papers.specs.Matching.{WithinSeats};
 ghost use Rattle.sc_papers.specs.declared.rejection.Rejection.{Rejection as Rejected};
 ghost use Rattle.sc_audit.specs.BestKeys.{BestView};
 ghost use Rattle.sc_audit.specs.Over.{IsFirstOver};
+ghost use Rattle.sc_tallies.specs.Places.{ArePlaces};
 
 use crate::best_keys::BestKeys;
 use crate::guesses::Guesses;
@@ -149,6 +150,33 @@ impl AuditState {
     {
         let waiting = self.waiting_at(papers, student)?;
         Some(waiting.school)
+    }
+
+    /// The school at which the student at the position stands, if they stand anywhere.
+    fn school_at(&self, papers: &Papers, student: usize) -> Option<SchoolNo>
+        requires fits { Fits papers.now (view_of self.now) }
+        requires within { student < length papers.now.students }
+        ensures { result ≡ next_of papers.now self.now.stands.items (student_at papers.now student) }
+    {
+        let rank = self.stands[student]?;
+        let proposal = papers.proposal(student, usize::from(rank))?;
+        Some(proposal.school)
+    }
+
+    /// The school at which each student stands, in order of entry. The only error is want of memory.
+    pub(crate) fn places(
+        &self,
+        alloc: Global,
+        papers: &Papers,
+    ) -> Result<Vec<Option<SchoolNo>>, AllocError>
+        requires { Fits papers.now (view_of self.now) }
+        ensures { IfOk result (λ places. ArePlaces papers.now (next_of papers.now self.now.stands.items) places.items) }
+    {
+        let mut places = Vec::with_capacity(alloc, papers.students_len())?;
+        for position in 0..papers.students_len() {
+            places.push(self.school_at(papers, position))?;
+        }
+        Ok(places)
     }
 
     /// Where the student at the position stands without being kept there: all keys that are kept are ahead.

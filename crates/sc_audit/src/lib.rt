@@ -17,7 +17,7 @@ mod tallies;
 mod verdict;
 mod waiting;
 
-pub use auditor::audit;
+pub use auditor::{AuditedLog, audit, audit_and_place};
 pub use checker::check_stable;
 pub use stability::Stability;
 pub use verdict::Verdict;

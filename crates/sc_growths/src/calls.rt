@@ -9,8 +9,9 @@ use crate::twice::{Call, expect};
 use sc_papers::StudentNo;
 use sc_report::Watched;
 use sc_runs::{
-    Ending, Inputs, Opening, PapersFiles, RunFault, Settling, audit_files, check_files,
-    explain_files, export_files, match_files, replay_files, run, run_bundle, summary_files,
+    Ending, Inputs, Opening, PapersFiles, RunFault, Settling, Table, audit_files,
+    audit_report_files, check_files, explain_files, export_files, match_files, replay_files, run,
+    run_bundle, summary_files, table_files,
 };
 use std::alloc::{AllocError, Global};
 use std::process::Abort;
@@ -122,6 +123,32 @@ fn audit_of_files(rt: HostRuntime) {
     expect(&rt, rt.alloc(), Call::AuditFiles, "bad entry 1\n");
 }
 
+pub fn audited_report(rt: &impl Abort, alloc: Global) -> Result<String, AllocError> {
+    let mut out = writer(alloc)?;
+    let mut log = Watched::new(b"".as_slice());
+    let mut report = Watched::new(b"student,school\n1,10\n2,10\n".as_slice());
+    let answer = audit_report_files(
+        alloc,
+        &seed(rt),
+        &mut opening(),
+        &mut log,
+        &mut report,
+        &mut out,
+    );
+    one_text(rt, alloc, answer.err(), &out)
+}
+
+// Market B has no rejection, so the empty log is its own; student 2 has school 20.
+#[test]
+fn audit_of_a_report(rt: HostRuntime) {
+    expect(
+        &rt,
+        rt.alloc(),
+        Call::AuditReportFiles,
+        "report differs 3\n",
+    );
+}
+
 pub fn replayed(rt: &impl Abort, alloc: Global) -> Result<String, AllocError> {
     let mut out = writer(alloc)?;
     let mut journal = Watched::new(JOURNAL.as_bytes());
@@ -132,6 +159,25 @@ pub fn replayed(rt: &impl Abort, alloc: Global) -> Result<String, AllocError> {
 #[test]
 fn replay_of_files(rt: HostRuntime) {
     expect(&rt, rt.alloc(), Call::ReplayFiles, REPORT);
+}
+
+pub fn tabulated(rt: &impl Abort, alloc: Global) -> Result<String, AllocError> {
+    let mut out = writer(alloc)?;
+    let answer = table_files(
+        alloc,
+        &seed(rt),
+        &mut opening(),
+        &mut None,
+        Table::Assignment,
+        &mut out,
+    );
+    one_text(rt, alloc, answer.err(), &out)
+}
+
+#[test]
+fn table_of_files(rt: HostRuntime) {
+    let want = "student,school\n1,10\n2,20\n";
+    expect(&rt, rt.alloc(), Call::TableFiles, want);
 }
 
 /// The texts of the files of papers, one after the other.

@@ -6,7 +6,7 @@ use Rattle.sc_intake.specs.declared.fault.Cause.{Cause}
 use Rattle.sc_intake.specs.declared.fault.Cause.TheVariants.{TooLong, Header, Fields, Number, Range, Twice, NoList, NotInRoster, Refused, OutOfMemory}
 use Rattle.sc_intake.specs.declared.fault.IntakeFault.{IntakeFault}
 use Rattle.sc_intake.specs.declared.fault.Source.{Source}
-use Rattle.sc_intake.specs.declared.fault.Source.TheVariants.{Schools, Roster, Lists, Script, Log, Journal, Bundle}
+use Rattle.sc_intake.specs.declared.fault.Source.TheVariants.{Schools, Roster, Lists, Script, Log, Journal, Bundle, Report}
 
 -- an input's name
 abbrev pub source_text : Source → List ℕ
@@ -17,6 +17,7 @@ source_text Script = codes "script"
 source_text Log = codes "log"
 source_text Journal = codes "journal"
 source_text Bundle = codes "bundle"
+source_text Report = codes "report"
 
 -- a cause's name; of a refusal, its code and its words too
 abbrev pub cause_text : Cause → List ℕ

@@ -20,6 +20,7 @@ pub enum Source {
     Log,
     Journal,
     Bundle,
+    Report,
 }
 
 impl fmt::Display for Source {
@@ -34,6 +35,7 @@ impl fmt::Display for Source {
             Source::Log => "log",
             Source::Journal => "journal",
             Source::Bundle => "bundle",
+            Source::Report => "report",
         })
     }
 }

@@ -7,7 +7,7 @@ use Rattle.std.specs.Prelude.{Result, Ok, Err, IsErr}
 use Rattle.sc_report.specs.Whole.{GivesFirst, GivesAtMost, ReadsWhole}
 
 -- a prefix and what was taken after it make a longer prefix
-take-more : (at count : ℕ) (text : List ℕ) → take (at + count) text ≡ take at text ++ take count (drop at text)
+pub take-more : (at count : ℕ) (text : List ℕ) → take (at + count) text ≡ take at text ++ take count (drop at text)
 take-more at count text =
     sym (take-append-drop at (take (at + count) text))
     ∙ ap (λ prefix. prefix ++ drop at (take (at + count) text)) (take-take at (at + count) text (omega arith))

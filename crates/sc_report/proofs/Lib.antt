@@ -1,4 +1,5 @@
 pub mod KnownLemmas
+pub mod Differences
 pub mod RisingLemmas
 pub mod EntrantLemmas
 pub mod Orders

@@ -1,5 +1,6 @@
 pub mod Watched
 pub mod Whole
+pub mod Comparing
 pub mod Devices
 pub mod Rising
 pub mod Entrants
@@ -10,6 +11,7 @@ pub mod CutoffText
 pub mod ReasonText
 pub mod Endings
 pub mod Text
+pub mod Table
 pub mod Report
 pub mod Reply
 pub mod LogText

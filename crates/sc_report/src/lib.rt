@@ -2,6 +2,7 @@
 //! writers whose failure is remembered, read and written whole.
 #![tactic(auto)]
 
+mod comparing;
 mod cutoff;
 mod cutoff_lines;
 pub mod devices;
@@ -16,10 +17,12 @@ mod reason_lines;
 mod reply;
 mod report;
 mod room;
+mod table;
 mod text;
 mod watched;
 mod whole;
 
+pub use comparing::first_difference;
 pub use cutoff::{Cutoff, CutoffRow, cutoffs, rows_in_order};
 pub use cutoff_lines::{cutoff_text, push_cutoff};
 pub use entrants::{Entrant, entrant_at, rising_entrants};
@@ -30,6 +33,7 @@ pub use reason::{Reason, ReasonRow, reason_by, reasons};
 pub use reason_lines::{push_reason, reason_text};
 pub use reply::reply_line;
 pub use report::{ReportFault, write_report, write_report_of};
+pub use table::{Table, table_named, table_text};
 pub use text::{assignment_text, report_text, report_text_of};
 pub use watched::{DeviceFailed, Watched};
 pub use whole::{ReadFault, read_whole, write_whole};

@@ -11,6 +11,7 @@ pub mod Checks
 pub mod Replies
 pub mod TwoWriters
 pub mod Verdicts
+pub mod Findings
 pub mod LastReport
 pub mod LineFirst
 pub mod Journaling

@@ -10,7 +10,7 @@ use Rattle.sc_runs.specs.Inputs.{Turn, EndsReading, IsRead}
 use Rattle.sc_runs.specs.Opening.{is_output_fault, papers_in, WritesMatch}
 use Rattle.sc_runs.specs.Run.{opened_in, WritesRun}
 use Rattle.sc_runs.specs.declared.ending.Ending.{Ending}
-use Rattle.sc_runs.specs.declared.ending.Ending.TheVariants.{Done, NotCertified, Faulty, Torn, BadSeed, BadBundle, BadStudent, UnknownStudent, AlreadyThere, Unwritten, Fault}
+use Rattle.sc_runs.specs.declared.ending.Ending.TheVariants.{Done, NotCertified, Faulty, Torn, BadSeed, BadBundle, BadStudent, BadTable, TableBesideLog, UnknownStudent, AlreadyThere, Unwritten, Fault}
 use Rattle.sc_runs.specs.declared.fault.RunFault.{RunFault}
 
 -- what running the papers and a script does, with a journal that keeps nothing; without a script it is
@@ -44,6 +44,8 @@ EndsBundle text old new (BadSeed error) =
     (sections : Sections) × (bundle_of text ≡ Some sections) × (seed_of sections.seed ≡ Err error) × Keeps old new
 EndsBundle text old new BadBundle = (bundle_of text ≡ None) × Keeps old new
 EndsBundle text old new BadStudent = ⊥
+EndsBundle text old new BadTable = ⊥
+EndsBundle text old new TableBesideLog = ⊥
 EndsBundle text old new (UnknownStudent student) = ⊥
 EndsBundle text old new (AlreadyThere file) = ⊥
 EndsBundle text old new (Unwritten file) = ⊥
@@ -69,6 +71,8 @@ ends_by_output Torn = false
 ends_by_output (BadSeed error) = false
 ends_by_output BadBundle = false
 ends_by_output BadStudent = false
+ends_by_output BadTable = false
+ends_by_output TableBesideLog = false
 ends_by_output (UnknownStudent student) = false
 ends_by_output (AlreadyThere file) = false
 ends_by_output (Unwritten file) = false

@@ -7,11 +7,13 @@ use Rattle.sc_journal.specs.declared.journal.Tail.TheVariants as journal
 use Rattle.sc_runs.specs.declared.checking.Checked.{Checked}
 use Rattle.sc_runs.specs.declared.checking.Checked.TheVariants as files
 use Rattle.sc_runs.specs.declared.ending.Ending.{Ending}
-use Rattle.sc_runs.specs.declared.ending.Ending.TheVariants.{Done, NotCertified, Faulty, Torn, BadSeed, BadBundle, BadStudent, UnknownStudent, AlreadyThere, Unwritten, Fault}
+use Rattle.sc_runs.specs.declared.ending.Ending.TheVariants.{Done, NotCertified, Faulty, Torn, BadSeed, BadBundle, BadStudent, BadTable, TableBesideLog, UnknownStudent, AlreadyThere, Unwritten, Fault}
 use Rattle.sc_runs.specs.declared.explaining.Explained.{Explained}
 use Rattle.sc_runs.specs.declared.explaining.Explained.TheVariants as explained
 use Rattle.sc_runs.specs.declared.fault.RunFault.{RunFault}
 use Rattle.sc_runs.specs.declared.fault.RunFault.TheVariants.{Read, Intake, Journal, WriteOut, WriteJournal, OutOfMemory}
+use Rattle.sc_runs.specs.declared.publishing.Finding.{Finding}
+use Rattle.sc_runs.specs.declared.publishing.Finding.TheVariants as finding
 
 -- of a call that read a journal, by how the journal ends
 abbrev pub ending_after : Tail → Ending
@@ -23,6 +25,13 @@ abbrev pub ending_by_verdict : Verdict → Ending
 ending_by_verdict verdict.Certified = Done
 ending_by_verdict (verdict.BadEntry line) = NotCertified
 ending_by_verdict (verdict.Over school) = NotCertified
+
+-- of an audit of a log and a report: done where both are certified, and nowhere else
+abbrev pub ending_of_finding : Finding → Ending
+ending_of_finding finding.Certified = Done
+ending_of_finding (finding.BadEntry line) = NotCertified
+ending_of_finding (finding.Over school) = NotCertified
+ending_of_finding (finding.ReportDiffers line) = NotCertified
 
 -- of a check
 abbrev pub ending_of_check : Checked → Ending
@@ -43,7 +52,7 @@ status_of_fault WriteOut = 4
 status_of_fault WriteJournal = 4
 status_of_fault OutOfMemory = 5
 
--- of an ending: 0 for done and for a torn journal, 1 for not certified, 2 for a bad seed or student, 3 for a
+-- of an ending: 0 for done and for a torn journal, 1 for not certified, 2 for a bad seed, student or table and for a table beside a log, 3 for a
 -- bad bundle, for files that were found faulty and for a student who is not in the papers, 4 for a file of papers that was not written
 abbrev pub status_of : Ending → ℕ
 status_of Done = 0
@@ -53,6 +62,8 @@ status_of Torn = 0
 status_of (BadSeed error) = 2
 status_of BadBundle = 3
 status_of BadStudent = 2
+status_of BadTable = 2
+status_of TableBesideLog = 2
 status_of (UnknownStudent student) = 3
 status_of (AlreadyThere file) = 4
 status_of (Unwritten file) = 4

@@ -5,7 +5,7 @@ use Rattle.sc_lottery.specs.Seed.{refusal_text}
 use Rattle.sc_intake.specs.FaultText.{fault_text, source_text}
 use Rattle.sc_journal.specs.FaultText as journal
 use Rattle.sc_runs.specs.declared.ending.Ending.{Ending}
-use Rattle.sc_runs.specs.declared.ending.Ending.TheVariants.{Done, NotCertified, Faulty, Torn, BadSeed, BadBundle, BadStudent, UnknownStudent, AlreadyThere, Unwritten, Fault}
+use Rattle.sc_runs.specs.declared.ending.Ending.TheVariants.{Done, NotCertified, Faulty, Torn, BadSeed, BadBundle, BadStudent, BadTable, TableBesideLog, UnknownStudent, AlreadyThere, Unwritten, Fault}
 use Rattle.sc_runs.specs.declared.ending.PapersFile.{PapersFile}
 use Rattle.sc_runs.specs.declared.ending.PapersFile.TheVariants.{Schools, Roster, Lists}
 use Rattle.sc_runs.specs.declared.fault.RunFault.{RunFault}
@@ -47,6 +47,8 @@ ending_words Torn = codes "journal torn"
 ending_words (BadSeed error) = codes "seed: " ++ refusal_text error
 ending_words BadBundle = codes "bundle"
 ending_words BadStudent = codes "student: Number"
+ending_words BadTable = codes "table: Name"
+ending_words TableBesideLog = codes "table: Log"
 ending_words (UnknownStudent student) = codes "explain: UnknownStudent " ++ decimal student
 ending_words (AlreadyThere file) = there_words file
 ending_words (Unwritten file) = unwritten_words file
@@ -65,6 +67,8 @@ fault_line Torn = line_with (ending_words Torn)
 fault_line (BadSeed error) = line_with (ending_words (BadSeed error))
 fault_line BadBundle = line_with (ending_words BadBundle)
 fault_line BadStudent = line_with (ending_words BadStudent)
+fault_line BadTable = line_with (ending_words BadTable)
+fault_line TableBesideLog = line_with (ending_words TableBesideLog)
 fault_line (UnknownStudent student) = line_with (ending_words (UnknownStudent student))
 fault_line (AlreadyThere file) = line_with (ending_words (AlreadyThere file))
 fault_line (Unwritten file) = line_with (ending_words (Unwritten file))

@@ -8,6 +8,7 @@ pub mod TwoWriters
 pub mod Run
 pub mod Session
 pub mod Auditing
+pub mod Publishing
 pub mod Replaying
 pub mod Standing
 pub mod Explaining

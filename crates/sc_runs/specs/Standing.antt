@@ -9,7 +9,9 @@ use Rattle.sc_intake.specs.declared.fault.IntakeFault.{IntakeFault}
 use Rattle.sc_intake.specs.declared.fault.Source.TheVariants as input
 use Rattle.sc_journal.specs.Journal.{IsFirstFault, IsReplay}
 use Rattle.sc_journal.specs.declared.journal.Tail.{Tail}
+use Rattle.sc_report.specs.Table.{table_text}
 use Rattle.sc_report.specs.Whole.{AppendsPrefix}
+use Rattle.sc_report.specs.declared.table.Table.{Table}
 use Rattle.sc_report.specs.declared.watched.Watched.{Watched}
 use Rattle.sc_notices.specs.SummaryText.{summary_text}
 use Rattle.sc_runs.specs.Inputs.{in_order, turns_if_any, Texts, Turn, AreRead, IsReadIfAny}
@@ -56,3 +58,7 @@ TellsFiles Does seed opening journal old new result = EndsUnread (opening ++ jou
 -- a text is the summary of the papers under their student-optimal stable matching
 abbrev pub IsSummary : Market → List ℕ → Type 0
 IsSummary m text = (a : Matching) × IsStudentOptimal m a × (text ≡ summary_text m a)
+
+-- a text is a table of the report of the papers under their student-optimal stable matching
+abbrev pub IsTable : Table → Market → List ℕ → Type 0
+IsTable table m text = (a : Matching) × IsStudentOptimal m a × (text ≡ table_text m a table)

@@ -50,7 +50,7 @@ fn verdict_line(alloc: Global, verdict: &Verdict) -> Result<Vec<u8>, AllocError>
 }
 
 /// The entries of a log, or its first fault.
-fn read_entries(alloc: Global, log: &[u8]) -> Result<Vec<Rejection>, RunFault>
+pub(crate) fn read_entries(alloc: Global, log: &[u8]) -> Result<Vec<Rejection>, RunFault>
     ensures { MatchResult result (λ entries. log_in log.now ≡ Ok entries.items) (IsOpeningFault (log_in log.now)) }
 {
     let entries = read_log(alloc, log)?;

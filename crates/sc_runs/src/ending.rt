@@ -7,6 +7,7 @@ ghost use Rattle.sc_runs.specs.FaultLine.{ending_words, fault_line, there_words,
 use crate::checking::Checked;
 use crate::explaining::Explained;
 use crate::fault::RunFault;
+use crate::publishing::Finding;
 use sc_audit::Verdict;
 use sc_journal::Tail;
 use sc_lottery::SeedError;
@@ -58,6 +59,10 @@ pub enum Ending {
     BadBundle,
     /// The student whom the words name has no number of a student.
     BadStudent,
+    /// The word that is to name a table of the report names none.
+    BadTable,
+    /// A table of the report was asked for, and the log too.
+    TableBesideLog,
     /// The student who is to be explained is not in the papers.
     UnknownStudent { student: StudentNo },
     /// A file of exported papers is there already, and stays as it is. Those before it, in the order schools, roster,
@@ -94,6 +99,22 @@ impl From<Verdict> for Ending {
         match verdict {
             Verdict::Certified => Ending::Done,
             Verdict::BadEntry { .. } | Verdict::Over { .. } => Ending::NotCertified,
+        }
+    }
+}
+
+/// How an audit of a log and a report ends.
+impl From<Finding> for Ending {
+    ghost use Rattle.sc_runs.specs.Ending.{ending_of_finding};
+
+    ghost from_gives = { λ finding ending. ending ≡ ending_of_finding finding };
+
+    fn from(finding: Finding) -> Self {
+        match finding {
+            Finding::Certified => Ending::Done,
+            Finding::BadEntry { .. } | Finding::Over { .. } | Finding::ReportDiffers { .. } => {
+                Ending::NotCertified
+            }
         }
     }
 }
@@ -136,6 +157,8 @@ impl fmt::Display for Ending {
             Ending::BadSeed(error) => write!(f, "seed: {error}"),
             Ending::BadBundle => f.write_str("bundle"),
             Ending::BadStudent => f.write_str("student: Number"),
+            Ending::BadTable => f.write_str("table: Name"),
+            Ending::TableBesideLog => f.write_str("table: Log"),
             Ending::UnknownStudent { student } => write!(
                 f,
                 "explain: UnknownStudent {}",
@@ -172,8 +195,8 @@ fn unwritten_words(file: PapersFile) -> &'static str
     }
 }
 
-/// The exit status: 0 done (a torn journal is no fault), 1 not certified, 2 a bad seed or student's
-/// number, 3 a fault of an input, the bundle or the journal, files that were found faulty, or an unknown student, 4 a file or stream that could not be made, read or written, 5
+/// The exit status: 0 done (a torn journal is no fault), 1 not certified, 2 a bad seed, student's
+/// number or table's name, or a table beside a log, 3 a fault of an input, the bundle or the journal, files that were found faulty, or an unknown student, 4 a file or stream that could not be made, read or written, 5
 /// want of memory.
 pub fn status_of(ending: &Ending) -> u8
     ensures { result ≡ status_of ending.now }
@@ -186,6 +209,8 @@ pub fn status_of(ending: &Ending) -> u8
         Ending::BadSeed(_) => 2,
         Ending::BadBundle => 3,
         Ending::BadStudent => 2,
+        Ending::BadTable => 2,
+        Ending::TableBesideLog => 2,
         Ending::UnknownStudent { .. } => 3,
         Ending::AlreadyThere { .. } => 4,
         Ending::Unwritten { .. } => 4,

@@ -3,6 +3,7 @@ mod checks;
 mod faults;
 mod flushes;
 mod notices;
+mod published;
 mod sections;
 
 use sc_markets::roster_header;

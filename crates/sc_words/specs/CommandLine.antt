@@ -58,17 +58,17 @@ abbrev pub opening_options : List Rule
 opening_options = map required_option opening_names
 
 abbrev pub match_options : List Rule
-match_options = opening_options ++ flag (codes "print-log") ∷ []
+match_options = opening_options ++ flag (codes "print-log") ∷ optional_option (codes "table") ∷ []
 
 abbrev pub run_options : List Rule
 run_options = map required_option run_names
     ++ flag (codes "no-clobber") ∷ flag (codes "settle-each") ∷ flag (codes "settle-at-end") ∷ []
 
 abbrev pub audit_options : List Rule
-audit_options = map required_option audit_names
+audit_options = map required_option audit_names ++ optional_option (codes "report") ∷ []
 
 abbrev pub replay_options : List Rule
-replay_options = map required_option replay_names
+replay_options = map required_option replay_names ++ optional_option (codes "table") ∷ []
 
 abbrev pub export_options : List Rule
 export_options = map required_option export_names ++ optional_option (codes "journal") ∷ []

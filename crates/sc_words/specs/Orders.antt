@@ -33,11 +33,14 @@ IsOpeningIn rows o = IsGiven rows (codes "seed") o.seed × AreFilesIn rows o.fil
 
 -- what the subcommand of this name asks for, by what its options are
 abbrev pub IsSubcommandIn : Text → List Row → Subcommand → Type 0
-IsSubcommandIn name rows (Match show_log) = (name ≡ codes "match") × ((show_log ≡ true) ↔ IsSet rows (codes "print-log"))
+IsSubcommandIn name rows (Match show_log table) = (name ≡ codes "match") × ((show_log ≡ true) ↔ IsSet rows (codes "print-log"))
+    × IsGivenOrNot rows (codes "table") table
 IsSubcommandIn name rows (Run script journal no_clobber settle_each) = (name ≡ codes "run") × IsGiven rows (codes "script") script
     × IsGiven rows (codes "journal") journal × ((no_clobber ≡ true) ↔ IsSet rows (codes "no-clobber")) × ((settle_each ≡ true) ↔ IsSet rows (codes "settle-each"))
-IsSubcommandIn name rows (Audit log) = (name ≡ codes "audit") × IsGiven rows (codes "log") log
-IsSubcommandIn name rows (Replay journal) = (name ≡ codes "replay") × IsGiven rows (codes "journal") journal
+IsSubcommandIn name rows (Audit log report) =
+    (name ≡ codes "audit") × IsGiven rows (codes "log") log × IsGivenOrNot rows (codes "report") report
+IsSubcommandIn name rows (Replay journal table) =
+    (name ≡ codes "replay") × IsGiven rows (codes "journal") journal × IsGivenOrNot rows (codes "table") table
 IsSubcommandIn name rows (Export to journal) =
     (name ≡ codes "export") × IsGiven rows (codes "to") to × IsGivenOrNot rows (codes "journal") journal
 IsSubcommandIn name rows (Summary journal) = (name ≡ codes "summary") × IsGivenOrNot rows (codes "journal") journal

@@ -33,8 +33,9 @@ pub(crate) const MATCH: &str =
     "Assign the places of an opening and write the report, or with --print-log its log of rejections";
 
 pub(crate) const MATCH_AFTER: &str = "\
-The report is the assignment, the cutoffs and the reasons. The log of rejections has one record for each
-rejection, STUDENT,SCHOOL, and no header; audit reads it.
+The report is the assignment, the cutoffs and the reasons, each under a header of its own. With --table one of them is
+written alone, so that a spreadsheet opens it. The log of rejections has one record for each rejection,
+STUDENT,SCHOOL, and no header; audit reads it. No table is written beside a log.
 
 Exit status: 0 done, 2 wrong words or a bad seed, 3 a fault in an input, 4 a file or stream that cannot be
 opened, read or written, 5 out of memory.
@@ -78,7 +79,12 @@ pub(crate) const AUDIT: &str =
     "Check a log of rejections against an opening, without trusting who made it";
 
 pub(crate) const AUDIT_AFTER: &str = "\
-Exit status: 0 the log is certified, 1 it is not, 2 wrong words or a bad seed, 3 a fault in an input, 4 a file
+Writes certified, or bad entry LINE for the first entry of the log that the rules do not give, or over SCHOOL for a
+school that has more students than seats at its end. With --report the report that was published is compared
+with that of the papers under the log, and report differs LINE tells the first line that is another one. A run's
+replies are no part of the report.
+
+Exit status: 0 certified, 1 not, 2 wrong words or a bad seed, 3 a fault in an input, 4 a file
 or stream that cannot be opened, read or written, 5 out of memory.
 
 Example:
@@ -88,7 +94,8 @@ Example:
 pub(crate) const REPLAY: &str = "Replay a journal over an opening and write the report";
 
 pub(crate) const REPLAY_AFTER: &str = "\
-A last line that was cut short is left out and told on standard error; that is no fault.
+A last line that was cut short is left out and told on standard error; that is no fault. With --table one table of
+the report is written alone.
 
 Exit status: 0 done, 2 wrong words or a bad seed, 3 a fault in an input, 4 a file or stream that cannot be
 opened, read or written, 5 out of memory.
@@ -178,6 +185,12 @@ pub(crate) const SETTLE_AT_END: &str =
     "Settle the papers once, after the last record, as is done anyway; this changes nothing";
 
 pub(crate) const LOG: &str = "The log of rejections, a record STUDENT,SCHOOL each and no header";
+
+pub(crate) const REPORT: &str =
+    "The report that was published, which is to be that of the log's assignment";
+
+pub(crate) const TABLE: &str =
+    "Write one table of the report alone: assignment, cutoffs or reasons";
 
 pub(crate) const OLD_JOURNAL: &str =
     "The journal that a run kept: a line for each accepted amendment, its number and the amendment";

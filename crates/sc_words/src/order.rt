@@ -49,9 +49,10 @@ pub enum Order<'a> {
 /// What is to be done with an opening.
 #[derive(Clone, Copy, Debug, PartialEq, Eq)]
 pub enum Subcommand<'a> {
-    /// Write its report, or its log of rejections.
+    /// Write its report, or its log of rejections, or the table of the report that has this name.
     Match {
         show_log: bool,
+        table: Option<&'a str>,
     },
     /// Answer a script after it, write the report and keep a journal, which may be refused where it is there already; settle
     /// the papers once, at the end, or after each amendment.
@@ -61,13 +62,15 @@ pub enum Subcommand<'a> {
         no_clobber: bool,
         settle_each: bool,
     },
-    /// Check a log of rejections against it.
+    /// Check a log of rejections against it, and a report if there is one.
     Audit {
         log: &'a str,
+        report: Option<&'a str>,
     },
-    /// Replay a journal over it, and write the report.
+    /// Replay a journal over it, and write the report, or the table of the report that has this name.
     Replay {
         journal: &'a str,
+        table: Option<&'a str>,
     },
     /// Write the summary of its papers, as they stand after a journal if there is one.
     Summary {
@@ -131,6 +134,7 @@ fn match_in<'a>(found: &ArgMatches<'a>) -> Subcommand<'a>
 {
     Subcommand::Match {
         show_log: is_set(found, "print-log"),
+        table: text_in(found, "table"),
     }
 }
 
@@ -154,6 +158,7 @@ fn audit_in<'a>(found: &ArgMatches<'a>) -> Option<Subcommand<'a>>
 {
     Some(Subcommand::Audit {
         log: text_in(found, "log")?,
+        report: text_in(found, "report"),
     })
 }
 
@@ -164,6 +169,7 @@ fn replay_in<'a>(found: &ArgMatches<'a>) -> Option<Subcommand<'a>>
 {
     Some(Subcommand::Replay {
         journal: text_in(found, "journal")?,
+        table: text_in(found, "table"),
     })
 }
 

@@ -96,11 +96,9 @@ fn check_command<'a>(alloc: Global) -> Result<Command<'a>, AllocError>
 fn match_command<'a>(alloc: Global) -> Result<Command<'a>, AllocError>
     ensures { IfOk result (λ c. IsCommand c (subcommand (codes "match") match_options)) }
 {
-    with_opening(alloc, "match", help::MATCH, help::MATCH_AFTER)?.arg(flag(
-        alloc,
-        "print-log",
-        help::PRINT_LOG,
-    ))
+    with_opening(alloc, "match", help::MATCH, help::MATCH_AFTER)?
+        .arg(flag(alloc, "print-log", help::PRINT_LOG))?
+        .arg(optional(alloc, "table", "TABLE", help::TABLE))
 }
 
 fn run_command<'a>(alloc: Global) -> Result<Command<'a>, AllocError>
@@ -117,17 +115,17 @@ fn run_command<'a>(alloc: Global) -> Result<Command<'a>, AllocError>
 fn audit_command<'a>(alloc: Global) -> Result<Command<'a>, AllocError>
     ensures { IfOk result (λ c. IsCommand c (subcommand (codes "audit") audit_options)) }
 {
-    with_opening(alloc, "audit", help::AUDIT, help::AUDIT_AFTER)?.arg(file(alloc, "log", help::LOG))
+    with_opening(alloc, "audit", help::AUDIT, help::AUDIT_AFTER)?
+        .arg(file(alloc, "log", help::LOG))?
+        .arg(optional_file(alloc, "report", help::REPORT))
 }
 
 fn replay_command<'a>(alloc: Global) -> Result<Command<'a>, AllocError>
     ensures { IfOk result (λ c. IsCommand c (subcommand (codes "replay") replay_options)) }
 {
-    with_opening(alloc, "replay", help::REPLAY, help::REPLAY_AFTER)?.arg(file(
-        alloc,
-        "journal",
-        help::OLD_JOURNAL,
-    ))
+    with_opening(alloc, "replay", help::REPLAY, help::REPLAY_AFTER)?
+        .arg(file(alloc, "journal", help::OLD_JOURNAL))?
+        .arg(optional(alloc, "table", "TABLE", help::TABLE))
 }
 
 fn export_command<'a>(alloc: Global) -> Result<Command<'a>, AllocError>

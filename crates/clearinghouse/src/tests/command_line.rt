@@ -30,11 +30,24 @@ const OPENING: OpeningWords<'static> = OpeningWords {
 const ORDERS: &[(&str, Subcommand<'static>)] = &[
     (
         "match|--seed|00|--schools|schools|--roster|roster|--lists|lists",
-        Subcommand::Match { show_log: false },
+        Subcommand::Match {
+            show_log: false,
+            table: None,
+        },
     ),
     (
         "match|--print-log|--lists=lists|--roster|roster|--schools=schools|--seed|00",
-        Subcommand::Match { show_log: true },
+        Subcommand::Match {
+            show_log: true,
+            table: None,
+        },
+    ),
+    (
+        "match|--table|cutoffs|--lists=lists|--roster|roster|--schools=schools|--seed|00",
+        Subcommand::Match {
+            show_log: false,
+            table: Some("cutoffs"),
+        },
     ),
     (
         "run|--seed|00|--schools|schools|--roster|roster|--lists|lists|--script|script|--journal|journal",
@@ -92,12 +105,30 @@ const ORDERS: &[(&str, Subcommand<'static>)] = &[
     ),
     (
         "audit|--seed|00|--schools|schools|--roster|roster|--lists|lists|--log|the log",
-        Subcommand::Audit { log: "the log" },
+        Subcommand::Audit {
+            log: "the log",
+            report: None,
+        },
+    ),
+    (
+        "audit|--report|the report|--seed|00|--schools|schools|--roster|roster|--lists|lists|--log|the log",
+        Subcommand::Audit {
+            log: "the log",
+            report: Some("the report"),
+        },
     ),
     (
         "replay|--seed|00|--schools|schools|--roster|roster|--lists|lists|--journal=--journal",
         Subcommand::Replay {
             journal: "--journal",
+            table: None,
+        },
+    ),
+    (
+        "replay|--table=reasons|--seed|00|--schools|schools|--roster|roster|--lists|lists|--journal|journal",
+        Subcommand::Replay {
+            journal: "journal",
+            table: Some("reasons"),
         },
     ),
     (

@@ -3,7 +3,8 @@ use super::{MARKET_B, amend};
 use sc_markets::clearing;
 use sc_report::devices::{Ending, FailingReader, FailingWriter};
 use sc_report::{
-    DeviceFailed, ReadFault, ReportFault, Watched, read_whole, write_report, write_whole,
+    DeviceFailed, ReadFault, ReportFault, Watched, first_difference, read_whole, write_report,
+    write_whole,
 };
 use std::io::{self, ErrorKind, Read, Write};
 use std::test::Fail;
@@ -93,6 +94,32 @@ fn read_in_pieces(rt: HostRuntime) -> Result<(), Fail> {
     let fault = read_whole(rt.alloc(), &mut from, 7).err();
     assert_eq!(rt; fault, Some(ReadFault::Device));
     assert!(rt; from.failed());
+    Ok(())
+}
+
+#[test]
+fn compared_in_pieces(rt: HostRuntime) -> Result<(), Fail> {
+    for (text, difference) in [
+        ("ab\ncd\n", None),
+        ("ab\ncx\n", Some(2)),
+        ("xb\ncd\n", Some(1)),
+        ("ab\n", Some(2)),
+        ("ab\ncd\ne", Some(3)),
+    ] {
+        let reader = FailingReader::new(b"ab\ncd\n", 6, 2, ErrorKind::Other);
+        let mut from = Watched::new(reader);
+        let found = first_difference(rt.alloc(), &mut from, text.as_bytes()).ok();
+        // The device fails once its bytes are given, and is asked for more only where all were alike so far.
+        let fails = difference.is_none() || difference == Some(3);
+        assert!(rt; from.failed() == fails, "{text}");
+        assert!(rt;
+            found == if fails { None } else { Some(difference) },
+            "{text}"
+        );
+        let mut from = Watched::new(b"ab\ncd\n".as_slice());
+        let found = first_difference(rt.alloc(), &mut from, text.as_bytes())?;
+        assert!(rt; found == difference, "{text}");
+    }
     Ok(())
 }
 

@@ -3,8 +3,8 @@ use super::{MARKET_B_FILES, ZEROS, opening};
 use sc_papers::{Seed, StudentNo};
 use sc_report::Watched;
 use sc_runs::{
-    Ending, Inputs, RunFault, Settling, audit_files, check_files, explain_files, match_files,
-    replay_files, run, run_bundle, summary_files,
+    Ending, Inputs, RunFault, Settling, Table, audit_files, audit_report_files, check_files,
+    explain_files, match_files, replay_files, run, run_bundle, summary_files, table_files,
 };
 use std::alloc::Global;
 use std::cell::Cell;
@@ -106,7 +106,9 @@ enum Call {
     Report,
     Log,
     Audit,
+    AuditOfReport,
     Replay,
+    Table,
     Summary,
     Explanation,
     ExplanationOfOne,
@@ -127,10 +129,16 @@ fn fault_of(alloc: Global, seed: &Seed, call: Call) -> Option<RunFault> {
             let mut log = Watched::new(b"".as_slice());
             audit_files(alloc, seed, files, &mut log, out).err()
         }
+        Call::AuditOfReport => {
+            let mut log = Watched::new(b"".as_slice());
+            let mut report = Watched::new(b"".as_slice());
+            audit_report_files(alloc, seed, files, &mut log, &mut report, out).err()
+        }
         Call::Replay => {
             let mut journal = Watched::new(b"".as_slice());
             replay_files(alloc, seed, files, &mut journal, out).err()
         }
+        Call::Table => table_files(alloc, seed, files, &mut None, Table::Cutoffs, out).err(),
         Call::Summary => summary_files(alloc, seed, files, &mut None, out).err(),
         Call::Explanation => explain_files(alloc, seed, files, &mut None, None, out).err(),
         Call::ExplanationOfOne => {
@@ -150,7 +158,9 @@ fn each_text_is_flushed(rt: HostRuntime) {
         Call::Report,
         Call::Log,
         Call::Audit,
+        Call::AuditOfReport,
         Call::Replay,
+        Call::Table,
         Call::Summary,
         Call::Explanation,
         Call::ExplanationOfOne,

@@ -10,8 +10,8 @@ loop-position-init c = read-none c.args.papers.now c.args.log.now (view_of c.arg
 pub take-requires : goal.take-requires
 take-requires c = record { fits = c.loop-position.invariant.follows.fits }
 
-pub returns-then-not-branch : goal.returns-then-not-branch
-returns-then-not-branch c =
+pub returns-then-not-branch-clause-verdict : goal.returns-then-not-branch-clause-verdict
+returns-then-not-branch-clause-verdict c =
     bad-line c.args.papers.now c.args.log.now c.loop-position.position (c.loop-position.position + 1) (view_of c.loop-position.state) (view_of c.take.new.self) c.index-log-position.result c.loop-position-test.true c.index-log-position.is refl c.loop-position.invariant
     (subst (λ valid. Finds c.args.papers.now (take c.loop-position.position c.args.log.now) c.index-log-position.result valid (view_of c.take.new.self)) c.if-not-branch.true
     (c.in_ok-take.ensures (take c.loop-position.position c.args.log.now) c.loop-position.invariant.valid c.loop-position.invariant.follows))
@@ -25,12 +25,16 @@ loop-position-preserved c =
 pub least_over-requires : goal.least_over-requires
 least_over-requires c = c.loop-position.invariant.follows.fits
 
-pub returns-in-Some : goal.returns-in-Some
-returns-in-Some c =
+pub returns-in-Some-clause-verdict : goal.returns-in-Some-clause-verdict
+returns-in-Some-clause-verdict c =
     let (valid, follows) = read-all c.args.papers.now c.args.log.now c.loop-position.position (view_of c.loop-position.state) c.loop-position-test.false c.loop-position.invariant in
     (valid, over-log c.args.papers.now c.args.log.now (view_of c.loop-position.state) c.in-Some.school follows c.in-Some.ensures.over)
 
-pub returns-in-None : goal.returns-in-None
-returns-in-None c =
+pub returns-in-None-clause-verdict : goal.returns-in-None-clause-verdict
+returns-in-None-clause-verdict c =
     let (valid, follows) = read-all c.args.papers.now c.args.log.now c.loop-position.position (view_of c.loop-position.state) c.loop-position-test.false c.loop-position.invariant in
     settled-log c.args.papers.now c.args.log.now (view_of c.loop-position.state) valid follows c.in-None.ensures.within
+
+pub returns-in-None-clause-follows : goal.returns-in-None-clause-follows
+returns-in-None-clause-follows c = λ certified.
+    (read-all c.args.papers.now c.args.log.now c.loop-position.position (view_of c.loop-position.state) c.loop-position-test.false c.loop-position.invariant).1
