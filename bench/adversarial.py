@@ -1,12 +1,13 @@
 #!/usr/bin/env python3
 """Times markets that somebody might make to slow the program down, each against a random market.
 
-    adversarial.py [--students N] [--times N] [--folder FOLDER] [--program PATH]
+    adversarial.py [--students N] [--times N] [--folder FOLDER] [--program PATH] [--large]
 
 The random market is one of generate.py's, with N students, 700 schools and 12 choices. What another market may cost is what the random one
 costs, times its bytes or its proposals over those of the random one, whichever is more; the last column is the processor time over that.
-The proposals are the rejections of the log and the students who are placed. The chosen numbers are made by chosen.rs, compiled with rustc -O. Last
-it runs a script of 64 MiB whose records are no amendments, and tells the memory over the script's length.
+The proposals are the rejections of the log and the students who are placed. The chosen numbers are made by chosen.rs, compiled with rustc -O. Then
+it runs a script of 64 MiB whose records are no amendments, and tells the memory over the script's length. Last it gives the calls inputs of 64 MiB that
+are made to take much memory, and tells how much they take; --large does this alone.
 """
 import argparse
 import os
@@ -190,18 +191,70 @@ def time_script(given):
         print(f"script of 64 MiB of records like {record[:12].strip()!r}: {spent:.1f} s, {memory:.0f} MiB, {memory / 64:.1f} times its length", flush=True)
 
 
+LONGEST = 64 * 1024 * 1024
+HEADERS = {"schools": "school,zone,seats\n", "roster": "student,zone,siblings\n", "lists": "student,choices\n"}
+TIDY = {"schools": "1,0,1\n", "roster": "1,0,\n", "lists": "1,1\n"}
+
+
+def filled(begin, piece, end=""):
+    """As many pieces as there is room for in an input, after a beginning and before an end."""
+    return begin + piece * ((LONGEST - len(begin) - len(end)) // len(piece)) + end
+
+
+def large_inputs():
+    """Calls and their input that is made to be large: its name, and what it holds."""
+    lists, roster, schools = HEADERS["lists"], HEADERS["roster"], HEADERS["schools"]
+    return [
+        ("match", "lists", "one record of 67 million commas", filled(lists, ",")),
+        ("match", "lists", "the same with a quoted field", filled(lists + '"1"', ",")),
+        ("match", "lists", "one list of 33 million numbers", filled(lists + "1,", "1 ", "1")),
+        ("match", "roster", "33 million siblings", filled(roster + "1,0,", "1 ", "1")),
+        ("match", "roster", "rows of 30 commas", filled(roster, "," * 30 + "\n")),
+        ("run", "script", "one record of 67 million commas", filled("", ",")),
+        ("run", "script", "one list of 33 million numbers", filled("0,enter,2,0,,", "1 ", "1")),
+        ("check", "script", "33 million records `x`", filled("", "x\n")),
+        ("check", "lists", "rows that are all `1,1`", filled(lists, "1,1\n")),
+        ("check", "schools", "33 million rows `x`", filled(schools, "x\n")),
+        ("replay", "journal", "one line with a list of 33 million numbers", filled("1,enter,2,0,,", "1 ", "1\n")),
+        ("replay", "journal", "one line of 67 million commas", filled("", ",", "\n")),
+    ]
+
+
+def memory_of_large(given):
+    """What inputs of 64 MiB that are made to be large take."""
+    print("| call | input of 64 MiB | s | MiB |")
+    print("|---|---|---|---|")
+    folder = os.path.join(given.folder, "large")
+    os.makedirs(folder, exist_ok=True)
+    for call, name, what, text in large_inputs():
+        words = [given.program, call] + ([] if call == "check" else ["--seed", SEED])
+        for each in ("schools", "roster", "lists", *([name] if name in ("script", "journal") else [])):
+            path = os.path.join(folder, each)
+            with open(path, "w") as file:
+                file.write(text if each == name else HEADERS[each] + TIDY[each])
+            words += ["--" + each, path]
+        if call == "run":
+            words += ["--journal", os.path.join(folder, "out")]
+        process = subprocess.Popen(words, stdout=subprocess.DEVNULL, stderr=subprocess.DEVNULL)
+        used = os.wait4(process.pid, 0)[2]
+        print(f"| `{call}`, {name} | {what} | {used.ru_utime + used.ru_stime:.1f} | {used.ru_maxrss / 1024:,.0f} |", flush=True)
+
+
 def main():
     given = argparse.ArgumentParser(description=__doc__, formatter_class=argparse.RawDescriptionHelpFormatter)
     given.add_argument("--students", type=int, default=80_000)
     given.add_argument("--times", type=int, default=3)
     given.add_argument("--folder", default=os.path.join(tempfile.gettempdir(), "clearinghouse-adversarial"))
     given.add_argument("--program", default=PROGRAM)
+    given.add_argument("--large", action="store_true", help="the inputs that are made to take much memory, alone")
     given = given.parse_args()
     resource.setrlimit(resource.RLIMIT_CORE, (0, 0))
     os.makedirs(given.folder, exist_ok=True)
-    time_markets(given)
-    time_check(given)
-    time_script(given)
+    if not given.large:
+        time_markets(given)
+        time_check(given)
+        time_script(given)
+    memory_of_large(given)
 
 
 if __name__ == "__main__":
