@@ -3,3 +3,7 @@ pub mod ListingLemmas
 pub mod SummaryLemmas
 pub mod ExplanationLemmas
 pub mod OutcomeLaws
+pub mod OrderedLemmas
+pub mod KeyListLemmas
+pub mod AdmissionLemmas
+pub mod AdmissionLaws

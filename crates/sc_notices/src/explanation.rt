@@ -33,7 +33,7 @@ const LONGEST_LINE: usize = 75;
 const LONGEST_NUMBER: usize = 10;
 
 /// Adds the student's own class and draw.
-fn push_own(text: &mut Vec<u8>, key: Key) -> Result<(), AllocError>
+pub(crate) fn push_own(text: &mut Vec<u8>, key: Key) -> Result<(), AllocError>
     ensures { OnOk result (text.new.items ≡ text.old.items ++ own_fields key) }
 {
     push_field(text, u32::from(key.class))?;

@@ -1,15 +1,21 @@
-//! What is told of a standing assignment beside its report: the summary that a district publishes, and what came
-//! of each choice of a student.
+//! What is told of a standing assignment beside its report: the summary that a district publishes, what came of
+//! each choice of a student, and the class list and the waiting list of each school.
 #![tactic(auto)]
 
+mod admissions;
+mod candidates;
 mod explanation;
 mod fields;
+mod key_lists;
 pub mod laws;
 mod listings;
 mod outcome;
 mod ranks;
+mod status;
 mod summary;
 
+pub use admissions::{admissions_of, admissions_text};
 pub use explanation::{explanation_of, explanation_text};
 pub use outcome::Outcome;
+pub use status::Status;
 pub use summary::summary_text;

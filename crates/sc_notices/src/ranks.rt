@@ -17,7 +17,7 @@ pub(crate) struct RankCounts {
 }
 
 /// The rank of a school among choices, from 0, where it is one of them.
-fn rank_among(choices: &[SchoolNo], school: SchoolNo) -> Option<usize>
+pub(crate) fn rank_among(choices: &[SchoolNo], school: SchoolNo) -> Option<usize>
     ensures { result ≡ position (nat_eq school) choices.now }
 {
     choices.iter().position(|choice| school == *choice)

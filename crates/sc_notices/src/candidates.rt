@@ -1,0 +1,140 @@
+//! Who has each school, and who waits for it.
+ghost use Rattle.std.specs.Prelude.{◌≡◌, ℕ, ◌+◌, ◌<◌, ◌≤◌, ◌==◌, length, take, IfOk, OnOk};
+ghost use Rattle.std.specs.List.{before_first, list_any, position_or_len};
+ghost use Rattle.sc_papers.specs.Assignment.{assigned};
+ghost use Rattle.sc_papers.specs.Market.{choices_of, schools_of, student_at, students_of};
+ghost use Rattle.sc_papers.specs.WellFormed.{WellFormed};
+ghost use Rattle.sc_notices.specs.Explanation.{is_given};
+ghost use Rattle.sc_notices.specs.KeyLists.{AddsKeys, AreCandidates};
+
+use crate::key_lists::KeyLists;
+use crate::ranks::rank_among;
+use sc_papers::{Assignment, Papers, SchoolNo};
+use std::alloc::{AllocError, Global};
+
+/// The keys of those who have each school, and of those who wait for it, by the school's position in the order of entry.
+#[derive(Drop)]
+pub(crate) struct Candidates {
+    pub admitted: KeyLists,
+    pub waiting: KeyLists,
+}
+
+/// Adds the key of the student at a position of the order of entry to the list of the school that they have, if any.
+fn add_holder(
+    admitted: &mut KeyLists,
+    papers: &Papers,
+    student: usize,
+    held: Option<SchoolNo>,
+) -> Result<(), AllocError>
+    requires within { student < length papers.now.students }
+    requires one_each { length admitted.old ≡ length (schools_of papers.now) }
+    ensures { OnOk result (AddsKeys papers.now (student_at papers.now student) (is_given held) admitted.old admitted.new) }
+{
+    let Some(school) = held else {
+        return Ok(());
+    };
+    let Some(position) = papers.school_position(school) else {
+        return Ok(());
+    };
+    let Some(key) = papers.key_at(student, position) else {
+        unreachable!()
+    };
+    admitted.add(position, key)
+}
+
+/// How many choices a student prefers to the school that they have, if any: those before it, or all.
+fn preferred_count(choices: &[SchoolNo], held: Option<SchoolNo>) -> usize
+    ensures { result ≡ position_or_len (is_given held) choices.now }
+{
+    match held {
+        Some(school) => rank_among(choices, school).unwrap_or(choices.len()),
+        None => choices.len(),
+    }
+}
+
+/// Adds the key of the student at a position of the order of entry to the lists of their first choices, so many of them.
+fn add_choices(
+    waiting: &mut KeyLists,
+    papers: &Papers,
+    student: usize,
+    count: usize,
+) -> Result<(), AllocError>
+    requires within { student < length papers.now.students }
+    requires well_formed { WellFormed papers.now }
+    requires count { count ≤ length (choices_of papers.now (student_at papers.now student)) }
+    requires one_each { length waiting.old ≡ length (schools_of papers.now) }
+    ensures { OnOk result (AddsKeys papers.now (student_at papers.now student)
+        (λ s. list_any (λ t. t == s) (take count (choices_of papers.now (student_at papers.now student)))) waiting.old waiting.new) }
+{
+    for rank in 0..count {
+        let Some(choice) = papers.proposal(student, rank) else {
+            unreachable!()
+        };
+        waiting.add(choice.position, choice.key)?;
+    }
+    Ok(())
+}
+
+/// Adds the key of the student at a position of the order of entry to the lists of the choices that they prefer to the
+/// school that they have, if any.
+fn add_preferred(
+    waiting: &mut KeyLists,
+    papers: &Papers,
+    student: usize,
+    held: Option<SchoolNo>,
+) -> Result<(), AllocError>
+    requires within { student < length papers.now.students }
+    requires well_formed { WellFormed papers.now }
+    requires one_each { length waiting.old ≡ length (schools_of papers.now) }
+    ensures { OnOk result (AddsKeys papers.now (student_at papers.now student)
+        (λ s. list_any (λ t. t == s) (before_first (is_given held) (choices_of papers.now (student_at papers.now student)))) waiting.old waiting.new) }
+{
+    let count = preferred_count(papers.choices_at(student), held);
+    add_choices(waiting, papers, student, count)
+}
+
+/// Adds the student at a position of the order of entry, whose pair may stand at the guessed position of the assignment,
+/// to the lists of the school that they have and of those that they wait for, and answers the guess for the next one:
+/// mostly the pairs stand in the students' order.
+fn add_student(
+    candidates: &mut Candidates,
+    papers: &Papers,
+    places: &Assignment,
+    position: usize,
+    guess: usize,
+) -> Result<usize, AllocError>
+    requires within { position < length papers.now.students }
+    requires well_formed { WellFormed papers.now }
+    requires before { AreCandidates papers.now (assigned places.now) (take position (students_of papers.now)) candidates.old.admitted candidates.old.waiting }
+    ensures { OnOk result (AreCandidates papers.now (assigned places.now) (take (position + 1) (students_of papers.now)) candidates.new.admitted candidates.new.waiting) }
+{
+    let Some(student) = papers.student_at(position) else {
+        unreachable!()
+    };
+    let held = places.get_near(student, guess);
+    add_holder(&mut candidates.admitted, papers, position, held)?;
+    add_preferred(&mut candidates.waiting, papers, position, held)?;
+    Ok(guess.saturating_add(usize::from(held.is_some())))
+}
+
+/// The keys of those who have each school by an assignment, and of those who wait for it. The only error is want of
+/// memory, which is taken for each of the choices up to the one that a student has. One pass over the students' choices,
+/// without a look-up by number of a choice's school. Papers are always well-formed, and this call tells its callers so.
+pub(crate) fn find_candidates(
+    alloc: Global,
+    papers: &Papers,
+    places: &Assignment,
+) -> Result<Candidates, AllocError>
+    ensures candidates { IfOk result (λ found. AreCandidates papers.now (assigned places.now) (students_of papers.now) found.admitted found.waiting) }
+    ensures well_formed { OnOk result (WellFormed papers.now) }
+{
+    let mut candidates = Candidates {
+        admitted: KeyLists::empty(alloc, papers.schools_len())?,
+        waiting: KeyLists::empty(alloc, papers.schools_len())?,
+    };
+    let mut guess = 0;
+    for position in 0..papers.students_len() {
+        guess = add_student(&mut candidates, papers, places, position, guess)?;
+    }
+    Ok(candidates)
+}
