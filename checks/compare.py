@@ -27,9 +27,9 @@ BUILT = HERE / "crates/clearinghouse/out/clearinghouse"
 INPUTS = {"check": ["schools", "roster", "lists", "script"], "match": ["schools", "roster", "lists"], "run": ["schools", "roster", "lists", "script"],
           "audit": ["schools", "roster", "lists", "log", "report"], "replay": ["schools", "roster", "lists", "journal"],
           "summary": ["schools", "roster", "lists", "journal"], "explain": ["schools", "roster", "lists", "journal"],
-          "export": ["schools", "roster", "lists", "journal"]}
+          "admissions": ["schools", "roster", "lists", "journal"], "export": ["schools", "roster", "lists", "journal"]}
 # The inputs that a subcommand may go without.
-OPTIONAL = {"check": ["script"], "audit": ["report"], "summary": ["journal"], "explain": ["journal"], "export": ["journal"]}
+OPTIONAL = {"check": ["script"], "audit": ["report"], "summary": ["journal"], "explain": ["journal"], "admissions": ["journal"], "export": ["journal"]}
 Case = collections.namedtuple("Case", "kind seed texts words")
 
 
@@ -180,7 +180,7 @@ def make_case(seed, at):
     texts = {"schools": rendered(rng, ["school", "zone", "seats"], [list(row) for row in rows], untidy),
              "roster": rendered(rng, roster_header(rng, roster), roster, untidy),
              "lists": rendered(rng, ["student", "choices"], [list(row) for row in lists], untidy)}
-    kind = rng.choice(["bundle", "bundle", "check", "check", "match", "run", "run", "audit", "replay", "summary", "explain", "export", "words"])
+    kind = rng.choice(["bundle", "bundle", "check", "check", "match", "run", "run", "audit", "replay", "summary", "explain", "admissions", "export", "words"])
     script = rendered(rng, None, list(stamped(rng, texts, amendments(rng, rows, roster, rng.randint(0, 12)))), untidy)
     key = b"0" * 32
     if kind == "run" or (kind in ("bundle", "check") and rng.random() < 0.6):
@@ -213,6 +213,8 @@ def make_case(seed, at):
         return Case("words", seed_given, texts, wrong_words(rng))
     if kind == "explain":
         return Case(kind, seed_given, texts, student_words(rng, roster))
+    if kind == "admissions":
+        return Case(kind, seed_given, texts, school_words(rng, rows))
     if kind == "run":
         # Sometimes there is a journal already, empty or not.
         if rng.random() < 0.3:
@@ -250,6 +252,13 @@ def student_words(rng, roster):
     known = [row[0] for row in roster] + [rng.randint(1, 60)]
     student = rng.choice(["0", "", "x", "-1", " 1", "1000000000", "0000000001"]) if rng.random() < 0.2 else "0" * rng.choice([0, 0, 1]) + str(rng.choice(known))
     return rng.choice([[], ["--student=" + student]])
+
+
+def school_words(rng, rows):
+    """Of which school alone `admissions` is to tell: of none, or of one of the file of the schools, or what is no number of a school."""
+    known = [row[0] for row in rows] + [rng.randint(1, 60)]
+    school = rng.choice(["0", "", "x", "-1", " 1", "100000", "0000000001"]) if rng.random() < 0.2 else "0" * rng.choice([0, 0, 1]) + str(rng.choice(known))
+    return rng.choice([[], ["--school=" + school]])
 
 
 def seeded(kind):
@@ -298,7 +307,7 @@ def told(case):
     if case.kind == "bundle":
         return reference.told(reference.call_bundle, case.texts["bundle"])
     call = {"check": reference.call_check, "match": reference.call_match, "run": reference.call_run, "audit": reference.call_audit, "replay": reference.call_replay,
-            "summary": reference.call_summary, "explain": reference.call_explain, "export": reference.call_export}[case.kind]
+            "summary": reference.call_summary, "explain": reference.call_explain, "admissions": reference.call_admissions, "export": reference.call_export}[case.kind]
 
     def made():
         given = [case.texts[name] for name in INPUTS[case.kind] if name in case.texts]
@@ -307,6 +316,8 @@ def told(case):
         key = reference.seed_of(case.seed)
         if case.kind == "explain" and case.words:
             return call(key, *given, student=case.words[0].split("=", 1)[1].encode())
+        if case.kind == "admissions" and case.words:
+            return call(key, *given, school=case.words[0].split("=", 1)[1].encode())
         options = {"print_log": True} if "--print-log" in case.words else {}
         options |= {"table": word.split("=", 1)[1].encode() for word in case.words if word.startswith("--table=")}
         return call(key, *given, **options)

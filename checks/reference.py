@@ -11,6 +11,7 @@ It is slow and simple on purpose: `compare.py` runs it beside the built program 
     reference.py replay .. --journal .. [--table TABLE]
     reference.py summary .. [--journal ..]
     reference.py explain .. [--journal ..] [--student N]
+    reference.py admissions .. [--journal ..] [--school N]
     reference.py export .. [--journal ..] --to FOLDER
 
 Each call is also a function here: it takes the bytes of the inputs and gives (output, journal, fault line, status); that of
@@ -542,6 +543,24 @@ def explanation(papers, only=None):
     return ("\n".join(lines) + "\n").encode()
 
 
+def admissions(papers, only=None):
+    """Whom every school admits, or one, and who waits for it."""
+    places, _ = settled(papers)
+    lines = ["school,rank,student,class,draw,status"]
+    for school in sorted(papers.schools) if only is None else [only]:
+        admitted = [student for student, place in places.items() if place == school]
+        waiting = []
+        for student, (_, _, choices, _) in papers.students.items():
+            # Who has no school prefers each of their choices to that.
+            better = choices if places[student] is None else choices[:choices.index(places[student])]
+            if school in better:
+                waiting.append(student)
+        for status, students in ("admitted", admitted), ("waiting", waiting):
+            for rank, (kind, drawn, student) in enumerate(sorted(papers.key_of(student, school) for student in students), start=1):
+                lines.append(f"{school},{rank},{student},{kind},{drawn:016x},{status}")
+    return ("\n".join(lines) + "\n").encode()
+
+
 def exported(papers):
     """The files of the papers, by their names."""
     def listed(numbers):
@@ -719,6 +738,24 @@ def call_explain(key, schools, roster, lists, journal=None, student=None):
     return explanation(papers, only), b"", status
 
 
+def school_of(word):
+    """The school that a word of the command line names."""
+    if not re.fullmatch(rb"[0-9]{1,9}", word) or not 1 <= int(word) <= 99_999:
+        raise Stop("school: Number", 2, opened=False)
+    return int(word)
+
+
+def call_admissions(key, schools, roster, lists, journal=None, school=None):
+    """Without a journal the papers of the opening stand; without a school's number all are told of."""
+    only = None if school is None else school_of(school)
+    too_long(*files(schools, roster, lists), ("journal", journal or b""))
+    papers = papers_of(key, schools, roster, lists)
+    status = replayed(papers, journal or b"")
+    if only is not None and only not in papers.schools:
+        raise Stop(f"admissions: UnknownSchool {only}", 3)
+    return admissions(papers, only), b"", status
+
+
 def call_export(key, schools, roster, lists, journal=None):
     """Without a journal the papers of the opening are exported."""
     too_long(*files(schools, roster, lists), ("journal", journal or b""))
@@ -780,7 +817,7 @@ def main(words):
         options = dict(zip(rest[::2], rest[1::2]))
         kept = "--journal" if "--journal" in options else None
         late = "--script" if "--script" in options else None
-        last = {"check": late, "match": None, "run": "--script", "audit": "--log", "replay": "--journal", "summary": kept, "explain": kept, "export": kept}[words[0]]
+        last = {"check": late, "match": None, "run": "--script", "audit": "--log", "replay": "--journal", "summary": kept, "explain": kept, "admissions": kept, "export": kept}[words[0]]
         names = ["--schools", "--roster", "--lists"] + ([last] if last else [])
 
         def call():
@@ -797,6 +834,8 @@ def main(words):
                 return call_audit(key, *texts, *([open(options["--report"], "rb").read()] if "--report" in options else []))
             if words[0] == "explain":
                 return call_explain(key, *texts, student=options["--student"].encode() if "--student" in options else None)
+            if words[0] == "admissions":
+                return call_admissions(key, *texts, school=options["--school"].encode() if "--school" in options else None)
             return {"run": call_run, "summary": call_summary, "export": call_export}[words[0]](key, *texts)
 
         output, journal, line, status = told(call)

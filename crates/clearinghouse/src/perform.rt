@@ -3,13 +3,13 @@
 use clap::Error;
 use clap::error::ErrorKind;
 use sc_intake::Source;
-use sc_papers::{Seed, StudentNo};
+use sc_papers::{SchoolNo, Seed, StudentNo};
 use sc_report::{DeviceFailed, Watched, write_whole};
 use sc_runs::{
-    Ending, Inputs, Opening, PapersFile, PapersFiles, RunFault, Settling, Table, audit_files,
-    audit_report_files, check_files, explain_files, export_files, fault_line, match_files,
-    read_student, replay_files, run, run_bundle, status_of, summary_files, table_files,
-    table_named,
+    Ending, Inputs, Opening, PapersFile, PapersFiles, RunFault, Settling, Table, admissions_files,
+    audit_files, audit_report_files, check_files, explain_files, export_files, fault_line,
+    match_files, read_school, read_student, replay_files, run, run_bundle, status_of,
+    summary_files, table_files, table_named,
 };
 use sc_words::{FileWords, OpeningWords, Order, Subcommand, Word, order_of};
 use std::alloc::Global;
@@ -416,6 +416,40 @@ fn explain_named<R: Files + AllocGlobal, W: Write>(
     }
 }
 
+/// Lists whom a school of an opening admits, or each school, in the papers as they stand after a journal if there is one.
+fn list_admissions<R: Files + AllocGlobal, W: Write>(
+    rt: &R,
+    seed: &Seed,
+    words: &OpeningWords<'_>,
+    school: Option<SchoolNo>,
+    journal: Option<&str>,
+    out: &mut Watched<W>,
+) -> Result<Ending, RunFault> {
+    let mut opening = open_opening(rt, &words.files)?;
+    let mut journal = open_if_any(rt, journal, Source::Journal)?;
+    let listed = admissions_files(rt.alloc(), seed, &mut opening, &mut journal, school, out)?;
+    Ok(Ending::from(listed))
+}
+
+/// Lists whom the school admits that the words name, or each school where they name none. The school's number is read
+/// before a file is opened.
+fn list_named<R: Files + AllocGlobal, W: Write>(
+    rt: &R,
+    seed: &Seed,
+    words: &OpeningWords<'_>,
+    school: Option<&str>,
+    journal: Option<&str>,
+    out: &mut Watched<W>,
+) -> Result<Ending, RunFault> {
+    let Some(text) = school else {
+        return list_admissions(rt, seed, words, None, journal, out);
+    };
+    match read_school(text.as_bytes()) {
+        Some(school) => list_admissions(rt, seed, words, Some(school), journal, out),
+        None => Ok(Ending::BadSchool),
+    }
+}
+
 /// Makes the call that a subcommand asks for, under this seed.
 fn dispatch<R: Files + AllocGlobal, W: Write>(
     rt: &R,
@@ -457,6 +491,9 @@ fn dispatch<R: Files + AllocGlobal, W: Write>(
         Subcommand::Summary { journal } => summarize(rt, seed, opening, *journal, out),
         Subcommand::Explain { student, journal } => {
             explain_named(rt, seed, opening, *student, *journal, out)
+        }
+        Subcommand::Admissions { school, journal } => {
+            list_named(rt, seed, opening, *school, *journal, out)
         }
         Subcommand::Export { to, journal } => export_papers(rt, seed, opening, to, *journal),
     }

@@ -484,11 +484,11 @@ fn a_summary(rt: HostRuntime) -> io::Result<()> {
 
 /// The line above what came of each choice.
 const EXPLAINED_HEADER: &str =
-    "student,rank,school,class,draw,cutoff,cutoff_draw,cutoff_student,outcome\n";
+    "student,rank,school,class,draw,lottery_rank,cutoff,cutoff_draw,cutoff_student,cutoff_lottery_rank,outcome\n";
 
 /// What came of student 1's choices in Market B with its newcomer.
 const EXPLAINED: &str =
-    "student,rank,school,class,draw,cutoff,cutoff_draw,cutoff_student,outcome\n1,1,10,4,e56a5d4028bd8653,1,ccef36a8c70d778b,3,class\n1,2,20,2,e56a5d4028bd8653,2,e56a5d4028bd8653,1,given\n";
+    "student,rank,school,class,draw,lottery_rank,cutoff,cutoff_draw,cutoff_student,cutoff_lottery_rank,outcome\n1,1,10,4,e56a5d4028bd8653,3,1,ccef36a8c70d778b,3,2,class\n1,2,20,2,e56a5d4028bd8653,3,2,e56a5d4028bd8653,1,3,given\n";
 
 /// Options of a call that explains Market B after a journal, what it writes, and its end.
 const EXPLANATIONS: &[(&[&str], &str, &str)] = &[
@@ -511,23 +511,61 @@ const EXPLANATIONS: &[(&[&str], &str, &str)] = &[
 fn an_explanation(rt: HostRuntime) -> io::Result<()> {
     write_files(&rt)?;
     let whole =
-        "1,1,10,4,e56a5d4028bd8653,4,e56a5d4028bd8653,1,given\n1,2,20,2,e56a5d4028bd8653,4,b819d2bd1aed8da0,2,later\n2,1,20,4,b819d2bd1aed8da0,4,b819d2bd1aed8da0,2,given\n2,2,10,2,b819d2bd1aed8da0,4,e56a5d4028bd8653,1,later\n0";
+        "1,1,10,4,e56a5d4028bd8653,2,4,e56a5d4028bd8653,1,2,given\n1,2,20,2,e56a5d4028bd8653,2,4,b819d2bd1aed8da0,2,1,later\n2,1,20,4,b819d2bd1aed8da0,1,4,b819d2bd1aed8da0,2,1,given\n2,2,10,2,b819d2bd1aed8da0,1,4,e56a5d4028bd8653,1,2,later\n0";
     expect(&rt, ordered(&rt, "explain", &[]), EXPLAINED_HEADER, whole);
     let absent = ordered(&rt, "explain", &["--journal", "kept", "--student", "x"]);
     expect(&rt, absent, "", "clearinghouse: student: Number\n2");
     fs::write(&rt, "kept", "1,enter,3,1,10,10\n2,withdraw,3")?;
     for (options, text, end) in EXPLANATIONS {
-        let told = after_kept(&rt, options);
+        let told = after_kept(&rt, "explain", options);
         expect(&rt, told, text, end);
     }
     Ok(())
 }
 
-/// What explaining Market B after the journal `kept` does, with other options.
-fn after_kept(rt: &HostRuntime, options: &[&str]) -> io::Result<String> {
-    let mut words = ordering(rt.alloc(), "explain", "schools", options)?;
+/// What a subcommand does over Market B after the journal `kept`, with other options.
+fn after_kept(rt: &HostRuntime, subcommand: &str, options: &[&str]) -> io::Result<String> {
+    let mut words = ordering(rt.alloc(), subcommand, "schools", options)?;
     words.push(Word::from_text(String::from_str(rt.alloc(), "--journal=kept")?))?;
     Ok(performed(rt, words.as_slice(), "")?)
+}
+
+/// The class list and the waiting list of school 20 in Market B with its newcomer.
+const ADMISSIONS: &str =
+    "school,rank,student,class,draw,status\n20,1,1,2,e56a5d4028bd8653,admitted\n20,1,2,4,b819d2bd1aed8da0,waiting\n";
+
+/// Options of a call that lists whom schools admit in Market B after a journal, what it writes, and its end.
+const LISTS: &[(&[&str], &str, &str)] = &[
+    (
+        &["--school", "020"],
+        ADMISSIONS,
+        "clearinghouse: journal torn\n0",
+    ),
+    (
+        &["--school=30"],
+        "",
+        "clearinghouse: admissions: UnknownSchool 30\n3",
+    ),
+    (&["--school=0"], "", "clearinghouse: school: Number\n2"),
+    (&["--school=100000"], "", "clearinghouse: school: Number\n2"),
+    (&["--school=us"], "", "clearinghouse: school: Number\n2"),
+];
+
+#[test]
+fn class_lists_and_waiting_lists(rt: HostRuntime) -> io::Result<()> {
+    write_files(&rt)?;
+    without_kept(&rt)?;
+    let header = "school,rank,student,class,draw,status\n";
+    let whole = "10,1,1,4,e56a5d4028bd8653,admitted\n20,1,2,4,b819d2bd1aed8da0,admitted\n0";
+    expect(&rt, ordered(&rt, "admissions", &[]), header, whole);
+    let absent = ordered(&rt, "admissions", &["--journal", "kept", "--school", "x"]);
+    expect(&rt, absent, "", "clearinghouse: school: Number\n2");
+    fs::write(&rt, "kept", "1,enter,3,1,10,10\n2,withdraw,3")?;
+    for (options, text, end) in LISTS {
+        let told = after_kept(&rt, "admissions", options);
+        expect(&rt, told, text, end);
+    }
+    Ok(())
 }
 
 /// The three files of a folder, one after the other.

@@ -2,14 +2,14 @@
 //! refused would be a failed write.
 
 use crate::market::{
-    BUNDLE, EXPLANATION, EXPLANATION_OF_2, EXPORTED, FAULTS, FAULTY_LISTS, JOURNAL, LISTS, LOG,
-    REPORT, ROSTER, SCHOOLS, SCRIPT, SUMMARY, WHOLE_RUN, seed,
+    ADMISSIONS, ADMISSIONS_OF_20, BUNDLE, EXPLANATION, EXPLANATION_OF_2, EXPORTED, FAULTS,
+    FAULTY_LISTS, JOURNAL, LISTS, LOG, REPORT, ROSTER, SCHOOLS, SCRIPT, SUMMARY, WHOLE_RUN, seed,
 };
 use crate::twice::{Call, expect};
-use sc_papers::StudentNo;
+use sc_papers::{SchoolNo, StudentNo};
 use sc_report::Watched;
 use sc_runs::{
-    Ending, Inputs, Opening, PapersFiles, RunFault, Settling, Table, audit_files,
+    Ending, Inputs, Opening, PapersFiles, RunFault, Settling, Table, admissions_files, audit_files,
     audit_report_files, check_files, explain_files, export_files, match_files, replay_files, run,
     run_bundle, summary_files, table_files,
 };
@@ -238,6 +238,30 @@ pub fn explained(
 fn explanation_of_files(rt: HostRuntime) {
     expect(&rt, rt.alloc(), Call::ExplainFiles, EXPLANATION);
     expect(&rt, rt.alloc(), Call::ExplainStudent, EXPLANATION_OF_2);
+}
+
+pub fn admitted(
+    rt: &impl Abort,
+    alloc: Global,
+    school: Option<SchoolNo>,
+) -> Result<String, AllocError> {
+    let mut out = writer(alloc)?;
+    let mut journal = Some(Watched::new(JOURNAL.as_bytes()));
+    let answer = admissions_files(
+        alloc,
+        &seed(rt),
+        &mut opening(),
+        &mut journal,
+        school,
+        &mut out,
+    );
+    one_text(rt, alloc, answer.err(), &out)
+}
+
+#[test]
+fn admissions_of_files(rt: HostRuntime) {
+    expect(&rt, rt.alloc(), Call::AdmissionsFiles, ADMISSIONS);
+    expect(&rt, rt.alloc(), Call::AdmissionsOfSchool, ADMISSIONS_OF_20);
 }
 
 pub fn checked(rt: &impl Abort, alloc: Global) -> Result<String, AllocError> {

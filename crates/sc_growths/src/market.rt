@@ -44,6 +44,14 @@ pub const EXPLANATION: &str =
 pub const EXPLANATION_OF_2: &str =
     "student,rank,school,class,draw,cutoff,cutoff_draw,cutoff_student,outcome\n2,1,20,4,b819d2bd1aed8da0,4,b819d2bd1aed8da0,2,given\n2,2,10,2,b819d2bd1aed8da0,4,e56a5d4028bd8653,1,later\n";
 
+/// Whom the schools admit in the opening, and again after the newcomer has withdrawn. Nobody waits.
+pub const ADMISSIONS: &str =
+    "school,rank,student,class,draw,status\n10,1,1,4,e56a5d4028bd8653,admitted\n20,1,2,4,b819d2bd1aed8da0,admitted\n";
+
+/// The part of it that is of school 20.
+pub const ADMISSIONS_OF_20: &str =
+    "school,rank,student,class,draw,status\n20,1,2,4,b819d2bd1aed8da0,admitted\n";
+
 /// What a run of the script writes.
 pub const WHOLE_RUN: &str =
     "1,ok\n2,refused,1,Shape\n3,refused,2,UnknownStudent\n4,refused,6,UnknownSchool,77\n5,ok\nstudent,school\n1,10\n2,20\nschool,seats,held,class,draw,student\n10,1,1,4,e56a5d4028bd8653,1\n20,1,1,4,b819d2bd1aed8da0,2\nstudent,school,reason\n";

@@ -2,7 +2,7 @@
 
 use crate::{calls, libraries};
 use sc_intake::{Cause, IntakeFault};
-use sc_papers::StudentNo;
+use sc_papers::{SchoolNo, StudentNo};
 use sc_runs::Settling;
 use std::alloc::{AllocError, Global};
 use std::process::Abort;
@@ -33,6 +33,8 @@ pub enum Call {
     SummaryFiles,
     ExplainFiles,
     ExplainStudent,
+    AdmissionsFiles,
+    AdmissionsOfSchool,
     CheckFiles,
     RunBundle,
 }
@@ -64,6 +66,8 @@ fn attempt(rt: &impl Abort, alloc: Global, call: Call) -> Result<String, AllocEr
         Call::SummaryFiles => calls::summed(rt, alloc),
         Call::ExplainFiles => calls::explained(rt, alloc, None),
         Call::ExplainStudent => calls::explained(rt, alloc, StudentNo::new(2)),
+        Call::AdmissionsFiles => calls::admitted(rt, alloc, None),
+        Call::AdmissionsOfSchool => calls::admitted(rt, alloc, SchoolNo::new(20)),
         Call::CheckFiles => calls::checked(rt, alloc),
         Call::RunBundle => calls::ran_bundle(rt, alloc),
     }

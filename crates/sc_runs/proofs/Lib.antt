@@ -7,6 +7,7 @@ pub mod ReportOrder
 pub mod Seeds
 pub mod Standings
 pub mod Explanations
+pub mod SchoolLists
 pub mod Checks
 pub mod Replies
 pub mod TwoWriters

@@ -12,6 +12,7 @@ pub mod Publishing
 pub mod Replaying
 pub mod Standing
 pub mod Explaining
+pub mod Admitting
 pub mod FaultLine
 pub mod Exporting
 pub mod Checking

@@ -4,6 +4,7 @@ ghost use Rattle.std.specs.Prelude.{◌≡◌, Some, IfOk};
 ghost use Rattle.sc_runs.specs.Ending.{status_of, status_of_fault};
 ghost use Rattle.sc_runs.specs.FaultLine.{ending_words, fault_line, there_words, unwritten_words};
 
+use crate::admitting::Listed;
 use crate::checking::Checked;
 use crate::explaining::Explained;
 use crate::fault::RunFault;
@@ -11,7 +12,7 @@ use crate::publishing::Finding;
 use sc_audit::Verdict;
 use sc_journal::Tail;
 use sc_lottery::SeedError;
-use sc_papers::StudentNo;
+use sc_papers::{SchoolNo, StudentNo};
 use std::alloc::{AllocError, Global};
 use std::fmt;
 
@@ -65,6 +66,10 @@ pub enum Ending {
     TableBesideLog,
     /// The student who is to be explained is not in the papers.
     UnknownStudent { student: StudentNo },
+    /// The school that the words name has no number of a school.
+    BadSchool,
+    /// The school whose lists are asked for is not in the papers.
+    UnknownSchool { school: SchoolNo },
     /// A file of exported papers is there already, and stays as it is. Those before it, in the order schools, roster,
     /// lists, were written whole.
     AlreadyThere { file: PapersFile },
@@ -147,6 +152,20 @@ impl From<Explained> for Ending {
     }
 }
 
+/// How a listing of the schools ends: as its journal does, or for want of the school.
+impl From<Listed> for Ending {
+    ghost use Rattle.sc_runs.specs.Ending.{ending_of_listing};
+
+    ghost from_gives = { λ listed ending. ending ≡ ending_of_listing listed };
+
+    fn from(listed: Listed) -> Self {
+        match listed {
+            Listed::Written { tail } => Ending::from(tail),
+            Listed::UnknownSchool { school } => Ending::UnknownSchool { school },
+        }
+    }
+}
+
 impl fmt::Display for Ending {
     ghost output = { λ ending. Some (ending_words ending) };
 
@@ -163,6 +182,12 @@ impl fmt::Display for Ending {
                 f,
                 "explain: UnknownStudent {}",
                 student.get()
+            ),
+            Ending::BadSchool => f.write_str("school: Number"),
+            Ending::UnknownSchool { school } => write!(
+                f,
+                "admissions: UnknownSchool {}",
+                school.get()
             ),
             Ending::AlreadyThere { file } => f.write_str(there_words(*file)),
             Ending::Unwritten { file } => f.write_str(unwritten_words(*file)),
@@ -195,8 +220,9 @@ fn unwritten_words(file: PapersFile) -> &'static str
     }
 }
 
-/// The exit status: 0 done (a torn journal is no fault), 1 not certified, 2 a bad seed, student's
-/// number or table's name, or a table beside a log, 3 a fault of an input, the bundle or the journal, files that were found faulty, or an unknown student, 4 a file or stream that could not be made, read or written, 5
+/// The exit status: 0 done (a torn journal is no fault), 1 not certified, 2 a bad seed, a student's or a school's number that
+/// is none, a table's name that is none or a table beside a log, 3 a fault of an input, the bundle or the journal, files
+/// that were found faulty, or an unknown student or school, 4 a file or stream that could not be made, read or written, 5
 /// want of memory.
 pub fn status_of(ending: &Ending) -> u8
     ensures { result ≡ status_of ending.now }
@@ -212,6 +238,8 @@ pub fn status_of(ending: &Ending) -> u8
         Ending::BadTable => 2,
         Ending::TableBesideLog => 2,
         Ending::UnknownStudent { .. } => 3,
+        Ending::BadSchool => 2,
+        Ending::UnknownSchool { .. } => 3,
         Ending::AlreadyThere { .. } => 4,
         Ending::Unwritten { .. } => 4,
         Ending::Fault(fault) => status_of_fault(fault),

@@ -3,6 +3,7 @@
 //! writes, and adds no rule of its own.
 #![tactic(auto)]
 
+mod admitting;
 mod amendable;
 mod auditing;
 mod bundle;
@@ -28,6 +29,7 @@ mod summing;
 mod tabling;
 mod writing;
 
+pub use admitting::{Listed, admissions_files, read_school};
 pub use amendable::Settling;
 pub use auditing::{Audited, audit_files};
 pub use bundle::{Bundle, split_bundle};

@@ -1,4 +1,5 @@
 //! What runs write, over inputs in memory.
+mod admissions;
 mod checks;
 mod faults;
 mod flushes;

@@ -51,6 +51,9 @@ summary_names = opening_names
 abbrev pub explain_names : List Text
 explain_names = opening_names
 
+abbrev pub admissions_names : List Text
+admissions_names = opening_names
+
 abbrev pub check_options : List Rule
 check_options = map required_option check_names ++ optional_option (codes "script") ∷ []
 
@@ -79,6 +82,9 @@ summary_options = map required_option summary_names ++ optional_option (codes "j
 abbrev pub explain_options : List Rule
 explain_options = map required_option explain_names ++ optional_option (codes "student") ∷ optional_option (codes "journal") ∷ []
 
+abbrev pub admissions_options : List Rule
+admissions_options = map required_option admissions_names ++ optional_option (codes "school") ∷ optional_option (codes "journal") ∷ []
+
 -- a subcommand with these options
 abbrev pub subcommand : Text → List Rule → Shape
 subcommand name options = record (new_shape name) { rules = options }
@@ -99,7 +105,7 @@ command_line = record {
       ∷ subcommand (codes "match") match_options ∷ subcommand (codes "run") run_options
       ∷ subcommand (codes "audit") audit_options ∷ subcommand (codes "replay") replay_options
       ∷ subcommand (codes "export") export_options ∷ subcommand (codes "summary") summary_options
-      ∷ subcommand (codes "explain") explain_options ∷ [];
+      ∷ subcommand (codes "explain") explain_options ∷ subcommand (codes "admissions") admissions_options ∷ [];
 }
 
 -- `clap` has been told of this command, without subcommands

@@ -154,6 +154,22 @@ Example:
   clearinghouse explain --seed 0000000000000000000000000000000000000000000000000000000000000000 \\
       --schools schools.csv --roster roster.csv --lists lists.csv --student 1";
 
+pub(crate) const ADMISSIONS: &str =
+    "Write the class list and the waiting list of every school, or of one";
+
+pub(crate) const ADMISSIONS_AFTER: &str = "\
+The table has, for each school by number, a line for each student who has it, admitted, and then one for each who
+prefers it to what they have, waiting. Each of the two lists goes by priority class, then draw, then number, and has
+ranks from 1. With --school the lines are that school's alone. With --journal its amendments are made first; a last
+line of it that was cut short is left out and told on standard error, which is no fault.
+
+Exit status: 0 done, 2 wrong words, a bad seed or a school that is no number, 3 a fault in an input or a school
+that is not in the papers, 4 a file or stream that cannot be opened, read or written, 5 out of memory.
+
+Example:
+  clearinghouse admissions --seed 0000000000000000000000000000000000000000000000000000000000000000 \\
+      --schools schools.csv --roster roster.csv --lists lists.csv --school 1";
+
 pub(crate) const SEED: &str = "The lottery's seed, 64 hexadecimal digits";
 
 pub(crate) const SCHOOLS: &str =
@@ -198,5 +214,7 @@ pub(crate) const OLD_JOURNAL: &str =
 pub(crate) const KEPT_JOURNAL: &str = "The journal that a run kept, if amendments were made";
 
 pub(crate) const STUDENT: &str = "The number of the one student whose lines are written";
+
+pub(crate) const SCHOOL: &str = "The number of the school whose lists alone are to be written";
 
 pub(crate) const TO: &str = "The folder in which schools.csv, roster.csv and lists.csv are made";

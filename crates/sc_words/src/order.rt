@@ -81,6 +81,12 @@ pub enum Subcommand<'a> {
         student: Option<&'a str>,
         journal: Option<&'a str>,
     },
+    /// Write the class list and the waiting list of its schools, or of one, as the papers stand after a journal if there
+    /// is one.
+    Admissions {
+        school: Option<&'a str>,
+        journal: Option<&'a str>,
+    },
     /// Write its papers into this folder, as they stand after a journal if there is one.
     Export {
         to: &'a str,
@@ -203,6 +209,16 @@ fn explain_in<'a>(found: &ArgMatches<'a>) -> Subcommand<'a>
     }
 }
 
+/// What `admissions` asks for.
+fn admissions_in<'a>(found: &ArgMatches<'a>) -> Subcommand<'a>
+    ensures { IsSubcommandIn (codes "admissions") (rows_of (found_of found.now)) result }
+{
+    Subcommand::Admissions {
+        school: text_in(found, "school"),
+        journal: text_in(found, "journal"),
+    }
+}
+
 /// What the subcommand of this name asks for of an opening, or `None` where there is none of this name or it lacks an
 /// option.
 fn subcommand_in<'a>(name: &str, found: &ArgMatches<'a>) -> Option<Subcommand<'a>>
@@ -217,6 +233,7 @@ fn subcommand_in<'a>(name: &str, found: &ArgMatches<'a>) -> Option<Subcommand<'a
         "export" => export_in(found),
         "summary" => Some(summary_in(found)),
         "explain" => Some(explain_in(found)),
+        "admissions" => Some(admissions_in(found)),
         _ => None,
     }
 }

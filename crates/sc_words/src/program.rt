@@ -4,7 +4,7 @@ ghost use Rattle.std.specs.Prelude.{◌≡◌, false, IfOk, codes};
 ghost use Rattle.clap.specs.Words.{app_of, rule_of};
 ghost use Rattle.sc_words.specs.CommandLine.{IsCommand, optional_option, required_option, subcommand};
 ghost use Rattle.sc_words.specs.CommandLine.{check_options, opening_options, match_options, run_options};
-ghost use Rattle.sc_words.specs.CommandLine.{audit_options, replay_options, export_options, summary_options, explain_options, command_line};
+ghost use Rattle.sc_words.specs.CommandLine.{audit_options, replay_options, export_options, summary_options, explain_options, admissions_options, command_line};
 ghost use Rattle.sc_words.specs.CommandLine as line;
 
 use crate::help;
@@ -154,6 +154,19 @@ fn explain_command<'a>(alloc: Global) -> Result<Command<'a>, AllocError>
         .arg(optional_file(alloc, "journal", help::KEPT_JOURNAL))
 }
 
+fn admissions_command<'a>(alloc: Global) -> Result<Command<'a>, AllocError>
+    ensures { IfOk result (λ c. IsCommand c (subcommand (codes "admissions") admissions_options)) }
+{
+    with_opening(
+        alloc,
+        "admissions",
+        help::ADMISSIONS,
+        help::ADMISSIONS_AFTER,
+    )?
+    .arg(optional(alloc, "school", "NUMBER", help::SCHOOL))?
+    .arg(optional_file(alloc, "journal", help::KEPT_JOURNAL))
+}
+
 /// The program without its subcommands. Its name stands in the usage lines, since the words that it
 /// reads do not begin with it.
 fn program_alone<'a>(alloc: Global) -> Result<Command<'a>, AllocError>
@@ -182,5 +195,6 @@ pub(crate) fn program<'a>(alloc: Global) -> Result<Command<'a>, AllocError>
         .subcommand(replay_command(alloc)?)?
         .subcommand(export_command(alloc)?)?
         .subcommand(summary_command(alloc)?)?
-        .subcommand(explain_command(alloc)?)
+        .subcommand(explain_command(alloc)?)?
+        .subcommand(admissions_command(alloc)?)
 }

@@ -156,6 +156,20 @@ const ORDERS: &[(&str, Subcommand<'static>)] = &[
         },
     ),
     (
+        "admissions|--seed|00|--schools|schools|--roster|roster|--lists|lists",
+        Subcommand::Admissions {
+            school: None,
+            journal: None,
+        },
+    ),
+    (
+        "admissions|--school|20|--journal=kept|--seed|00|--schools|schools|--roster|roster|--lists|lists",
+        Subcommand::Admissions {
+            school: Some("20"),
+            journal: Some("kept"),
+        },
+    ),
+    (
         "export|--seed|00|--schools|schools|--roster|roster|--lists|lists|--to|next",
         Subcommand::Export {
             to: "next",
@@ -288,6 +302,9 @@ const WRONG_LINES: &[(&str, ErrorKind)] = &[
         ErrorKind::ArgumentConflict,
     ),
     ("explain|--student|1", ErrorKind::MissingRequiredArgument),
+    ("explain|--school|1", ErrorKind::UnknownArgument),
+    ("admissions|--student|1", ErrorKind::UnknownArgument),
+    ("admissions|--school|1", ErrorKind::MissingRequiredArgument),
     ("check|--seed|00", ErrorKind::UnknownArgument),
     ("check|--journal|kept", ErrorKind::UnknownArgument),
     (
@@ -350,6 +367,9 @@ const HELP_TEXTS: &[(&str, &str)] = &[
     ("explain|--help", "Write what came of each choice"),
     ("explain|--help", "--student <NUMBER>"),
     ("explain|--help", "Example:\n  clearinghouse explain"),
+    ("admissions|--help", "Write the class list"),
+    ("admissions|--help", "--school <NUMBER>"),
+    ("admissions|--help", "Example:\n  clearinghouse admissions"),
     ("export|--help", "Write the papers of an opening"),
     ("export|--help", "[OPTIONS]"),
     ("export|--help", "--to <FOLDER>"),

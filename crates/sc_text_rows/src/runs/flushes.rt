@@ -1,10 +1,11 @@
 //! That each text is flushed, and in which order: no clause can say it, since `Write` says nothing of a flush.
 use super::{MARKET_B_FILES, ZEROS, opening};
-use sc_papers::{Seed, StudentNo};
+use sc_papers::{SchoolNo, Seed, StudentNo};
 use sc_report::Watched;
 use sc_runs::{
-    Ending, Inputs, RunFault, Settling, Table, audit_files, audit_report_files, check_files,
-    explain_files, match_files, replay_files, run, run_bundle, summary_files, table_files,
+    Ending, Inputs, RunFault, Settling, Table, admissions_files, audit_files, audit_report_files,
+    check_files, explain_files, match_files, replay_files, run, run_bundle, summary_files,
+    table_files,
 };
 use std::alloc::Global;
 use std::cell::Cell;
@@ -112,6 +113,8 @@ enum Call {
     Summary,
     Explanation,
     ExplanationOfOne,
+    Admissions,
+    AdmissionsOfOne,
     Check,
     CheckOfFaults,
 }
@@ -144,6 +147,10 @@ fn fault_of(alloc: Global, seed: &Seed, call: Call) -> Option<RunFault> {
         Call::ExplanationOfOne => {
             explain_files(alloc, seed, files, &mut None, StudentNo::new(1), out).err()
         }
+        Call::Admissions => admissions_files(alloc, seed, files, &mut None, None, out).err(),
+        Call::AdmissionsOfOne => {
+            admissions_files(alloc, seed, files, &mut None, SchoolNo::new(10), out).err()
+        }
         Call::Check => check_files(alloc, seed, files, &mut None, out).err(),
         Call::CheckOfFaults => {
             check_files(alloc, seed, &mut opening(("", "", "")), &mut None, out).err()
@@ -164,6 +171,8 @@ fn each_text_is_flushed(rt: HostRuntime) {
         Call::Summary,
         Call::Explanation,
         Call::ExplanationOfOne,
+        Call::Admissions,
+        Call::AdmissionsOfOne,
         Call::Check,
         Call::CheckOfFaults,
     ] {

@@ -35,7 +35,7 @@ fn expect_summaries(
 }
 
 /// The headers of the three files alone.
-const HEADERS: Files = (
+pub(super) const HEADERS: Files = (
     "school,zone,seats\n",
     "student,zone,siblings\n",
     "student,choices\n",
@@ -132,21 +132,21 @@ const EXPLAINED_HEADER: &str =
     "student,rank,school,class,draw,cutoff,cutoff_draw,cutoff_student,outcome\n";
 
 /// One seat and two students who are alike.
-const ONE_SEAT: Files = (
+pub(super) const ONE_SEAT: Files = (
     "school,zone,seats\n10,0,1\n",
     "student,zone,siblings\n1,0,\n2,0,\n",
     "student,choices\n1,10\n2,10\n",
 );
 
 /// One seat, a student who continues there, and one who lives in its zone.
-const CONTINUING: Files = (
+pub(super) const CONTINUING: Files = (
     "school,zone,seats\n10,1,1\n",
     "student,zone,siblings,continuing\n1,1,,\n2,0,,10\n",
     "student,choices\n1,10\n2,10\n",
 );
 
 /// Three students who do not stand by number, a school without seats, and one with more than it needs.
-const CLOSED_AND_FREE: Files = (
+pub(super) const CLOSED_AND_FREE: Files = (
     "school,zone,seats\n20,0,3\n10,0,0\n",
     "student,zone,siblings\n3,0,\n2,0,\n1,0,\n",
     "student,choices\n1,10 20\n2,20\n3,10\n",

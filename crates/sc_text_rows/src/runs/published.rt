@@ -58,7 +58,11 @@ const PUBLISHED: &[(&str, &str, &str)] = &[
         "",
         "bad entry 1\n|Ok(BadEntry { line: 1 })",
     ),
-    ("", "", "over 10\n|Ok(Over { school: SchoolNo { number: 10 } })"),
+    (
+        "",
+        "",
+        "over 10\n|Ok(Over { school: SchoolNo { number: 10 } })",
+    ),
 ];
 
 /// What auditing a log and a report writes, and its answer.
