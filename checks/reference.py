@@ -521,11 +521,14 @@ def summary(papers):
 def explanation(papers, only=None):
     """What came of each choice of every student, or of one."""
     places, _ = settled(papers)
-    last = {}
+    turns = sorted((draw(papers.key, student), student) for student in places)
+    turn = {student: at for at, (_, student) in enumerate(turns, start=1)}
+    last, last_turn = {}, {}
     for school, (_, seats) in papers.schools.items():
         holders = sorted(papers.key_of(student, school) for student, place in places.items() if place == school)
         last[school] = "closed,-,-" if seats == 0 else "free,-,-" if len(holders) < seats else "{},{:016x},{}".format(*holders[-1])
-    lines = ["student,rank,school,class,draw,cutoff,cutoff_draw,cutoff_student,outcome"]
+        last_turn[school] = "" if seats == 0 or len(holders) < seats else turn[holders[-1][2]]
+    lines = ["student,rank,school,class,draw,lottery_rank,cutoff,cutoff_draw,cutoff_student,cutoff_lottery_rank,outcome"]
     for student in sorted(places) if only is None else [only]:
         outcome = None
         for rank, school in enumerate(papers.students[student][2], start=1):
@@ -539,7 +542,7 @@ def explanation(papers, only=None):
             else:
                 # A full school: who is not admitted is behind the last who is.
                 outcome = "class" if int(last[school].split(",")[0]) < kind else "lottery"
-            lines.append(f"{student},{rank},{school},{kind},{drawn:016x},{last[school]},{outcome}")
+            lines.append(f"{student},{rank},{school},{kind},{drawn:016x},{turn[student]},{last[school]},{last_turn[school]},{outcome}")
     return ("\n".join(lines) + "\n").encode()
 
 

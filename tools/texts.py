@@ -7,7 +7,7 @@ from typing import NamedTuple
 
 REPORT_HEADERS = ["student,school", "school,seats,held,class,draw,student", "student,school,reason"]
 SUMMARY_HEADERS = ["rank,students", "school,seats,held,free,listed"]
-EXPLAIN_HEADER = "student,rank,school,class,draw,cutoff,cutoff_draw,cutoff_student,outcome"
+EXPLAIN_HEADER = "student,rank,school,class,draw,lottery_rank,cutoff,cutoff_draw,cutoff_student,cutoff_lottery_rank,outcome"
 
 CLASSES = 5
 DRAW_DIGITS = 16
@@ -36,10 +36,11 @@ class Choice(NamedTuple):
 
 
 class Student(NamedTuple):
-    """A student with their draw and their choices, best first."""
+    """A student with their draw, their rank in the lottery and their choices, best first."""
 
     number: int
     draw: str
+    turn: int
     choices: list[Choice]
 
     def given(self):
@@ -54,9 +55,13 @@ class Choices(NamedTuple):
     cutoffs: dict[int, Cutoff]
 
     def lottery_places(self):
-        """Each student's place in the lottery, from 1: the smaller draw comes first, and between equal draws the smaller number."""
+        """Each student's place in the lottery, from 1."""
+        return {student.number: student.turn for student in self.students}
+
+    def turns_follow_draws(self):
+        """Whether the places in the lottery are those of the draws: the smaller comes first, and between equal ones the smaller number."""
         order = sorted(self.students, key=lambda student: (student.draw, student.number))
-        return {student.number: place for place, student in enumerate(order, 1)}
+        return all(student.turn == turn for turn, student in enumerate(order, 1))
 
 
 def tables(path, headers):
@@ -111,37 +116,43 @@ def outcome_of(group, draw, number, cutoff):
 
 def read_choices(path):
     """What `explain` wrote of everybody. Refused are a text of one student alone and one that contradicts itself."""
-    students, cutoffs = [], {}
+    students, cutoffs, turns = [], {}, {}
     with open(path, encoding="ascii", newline="") as file:
         if file.readline() != EXPLAIN_HEADER + "\n":
             raise WrongText(f"{path}: the first line is not {EXPLAIN_HEADER}")
         for row, line in enumerate(file, 2):
             try:
-                add_choice(line, students, cutoffs)
+                add_choice(line, students, cutoffs, turns)
             except ValueError:
                 raise WrongText(f"{path}: line {row} is none that explain writes") from None
     known = {student.number for student in students}
     if any(cutoff.student is not None and cutoff.student not in known for cutoff in cutoffs.values()):
         raise WrongText(f"{path}: not every student is there; give what explain wrote without --student")
-    return Choices(students, cutoffs)
+    choices = Choices(students, cutoffs)
+    places = choices.lottery_places()
+    if not choices.turns_follow_draws() or any(places[student] != turn for student, turn in turns.items()):
+        raise WrongText(f"{path}: the ranks in the lottery are not those of the draws")
+    return choices
 
 
-def add_choice(line, students, cutoffs):
+def add_choice(line, students, cutoffs, turns):
     """Adds one line of `explain`'s text to what was read before it."""
     if not line.endswith("\n"):
         raise ValueError(line)
-    number, rank, school, group, draw, *last, outcome = line[:-1].split(",")
-    number, school, cutoff = int(number), int(school), cutoff_of(*last)
+    number, rank, school, group, draw, turn, *last, last_turn, outcome = line[:-1].split(",")
+    number, school, turn, cutoff = int(number), int(school), int(turn), cutoff_of(*last)
     if rank == "1":
         if students and students[-1].number >= number:
             raise ValueError(line)
-        students.append(Student(number, draw, []))
+        students.append(Student(number, draw, turn, []))
     student, choice = students[-1] if students else None, Choice(school, class_of(group), outcome)
-    if student is None or (student.number, student.draw, len(student.choices) + 1) != (number, draw, int(rank)) or len(draw) != DRAW_DIGITS:
+    if student is None or (student.number, student.draw, student.turn, len(student.choices) + 1) != (number, draw, turn, int(rank)) or len(draw) != DRAW_DIGITS:
         raise ValueError(line)
     settled = student.choices and student.choices[-1].outcome in ("given", "later")
     expected = "later" if settled else outcome_of(choice.group, draw, number, cutoff)
     if outcome != expected or cutoffs.setdefault(school, cutoff) != cutoff:
+        raise ValueError(line)
+    if (last_turn == "") != (cutoff.student is None) or (last_turn and turns.setdefault(cutoff.student, int(last_turn)) != int(last_turn)):
         raise ValueError(line)
     student.choices.append(choice)
 

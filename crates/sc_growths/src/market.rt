@@ -38,11 +38,11 @@ pub const SUMMARY: &str =
 
 /// What came of each choice in the opening, and again after the newcomer has withdrawn.
 pub const EXPLANATION: &str =
-    "student,rank,school,class,draw,cutoff,cutoff_draw,cutoff_student,outcome\n1,1,10,4,e56a5d4028bd8653,4,e56a5d4028bd8653,1,given\n1,2,20,2,e56a5d4028bd8653,4,b819d2bd1aed8da0,2,later\n2,1,20,4,b819d2bd1aed8da0,4,b819d2bd1aed8da0,2,given\n2,2,10,2,b819d2bd1aed8da0,4,e56a5d4028bd8653,1,later\n";
+    "student,rank,school,class,draw,lottery_rank,cutoff,cutoff_draw,cutoff_student,cutoff_lottery_rank,outcome\n1,1,10,4,e56a5d4028bd8653,2,4,e56a5d4028bd8653,1,2,given\n1,2,20,2,e56a5d4028bd8653,2,4,b819d2bd1aed8da0,2,1,later\n2,1,20,4,b819d2bd1aed8da0,1,4,b819d2bd1aed8da0,2,1,given\n2,2,10,2,b819d2bd1aed8da0,1,4,e56a5d4028bd8653,1,2,later\n";
 
 /// The part of it that is of student 2.
 pub const EXPLANATION_OF_2: &str =
-    "student,rank,school,class,draw,cutoff,cutoff_draw,cutoff_student,outcome\n2,1,20,4,b819d2bd1aed8da0,4,b819d2bd1aed8da0,2,given\n2,2,10,2,b819d2bd1aed8da0,4,e56a5d4028bd8653,1,later\n";
+    "student,rank,school,class,draw,lottery_rank,cutoff,cutoff_draw,cutoff_student,cutoff_lottery_rank,outcome\n2,1,20,4,b819d2bd1aed8da0,1,4,b819d2bd1aed8da0,2,1,given\n2,2,10,2,b819d2bd1aed8da0,1,4,e56a5d4028bd8653,1,2,later\n";
 
 /// Whom the schools admit in the opening, and again after the newcomer has withdrawn. Nobody waits.
 pub const ADMISSIONS: &str =

@@ -1,5 +1,5 @@
 -- The lines of a student's choices, one after the other.
-use Rattle.std.proofs.Common.{◌≡◌, refl, sym, ◌∙◌, ap, ℕ, ◌+◌, ◌<◌, Bool, true, false, ◌||◌, List, [], ◌∷◌, ◌++◌, length, get_or, take, add-one, append_assoc, arith, Some, slice_get}
+use Rattle.std.proofs.Common.{◌≡◌, refl, sym, ◌∙◌, ap, ℕ, ◌+◌, ◌<◌, Bool, true, false, ◌||◌, List, [], ◌∷◌, ◌++◌, length, get_or, take, add-one, append_assoc, arith, Option, Some, slice_get}
 use Rattle.std.specs.Prelude.{codes, decimal, flat_map}
 use Rattle.std.specs.List.{enumerate_from, list_any}
 use Rattle.std.proofs.Math.Seq.{take-suc}
@@ -16,6 +16,7 @@ use Rattle.sc_report.specs.Reason.{reason_by}
 use Rattle.sc_report.specs.declared.cutoff.Cutoff.{Cutoff}
 use Rattle.sc_report.proofs.LineLemmas.{lines-more}
 use Rattle.sc_notices.specs.Explanation.{has_before, outcome, outcome_by}
+use Rattle.sc_notices.specs.Lottery.{cutoff_rank, lottery_rank}
 use Rattle.sc_notices.specs.ExplanationText.{choice_fields, choice_line, explanation_lines, explanation_of, explanation_text}
 use Rattle.sc_notices.specs.declared.outcome.Outcome.{Outcome}
 
@@ -43,21 +44,21 @@ before-more m a i k s here =
     or-false false = refl
 
 -- a text that gained the line of the next choice
-pub choices-more : (m : Market) (a : Matching) (i k s : ℕ) (key : Key) (cut : Cutoff) (came : Outcome) (given past : Bool) (number old text numbered new : List ℕ)
-    → slice_get (choices_of m i) k ≡ Some s → number ≡ decimal i ++ codes "," → key ≡ key_of m i s → cut ≡ cutoff m a s
+pub choices-more : (m : Market) (a : Matching) (i k s : ℕ) (key : Key) (own : ℕ) (cut : Cutoff) (last : Option ℕ) (came : Outcome) (given past : Bool) (number old text numbered new : List ℕ)
+    → slice_get (choices_of m i) k ≡ Some s → number ≡ decimal i ++ codes "," → key ≡ key_of m i s → own ≡ lottery_rank m i → cut ≡ cutoff m a s → last ≡ cutoff_rank m cut
     → given ≡ has a s i → past ≡ has_before m a i k → came ≡ outcome_by given past (reason_by cut key)
     → text ≡ old ++ flat_map (λ choice. choice_line m a i choice.0 choice.1) (take k (ranked m i))
-    → numbered ≡ text ++ number → new ≡ numbered ++ choice_fields k s key cut came
+    → numbered ≡ text ++ number → new ≡ numbered ++ choice_fields k s key own cut last came
     → new ≡ old ++ flat_map (λ choice. choice_line m a i choice.0 choice.1) (take (k + 1) (ranked m i))
-choices-more m a i k s key cut came given past number old text numbered new here number_is key_is cut_is given_is past_is came_is text_is numbered_is new_is =
+choices-more m a i k s key own cut last came given past number old text numbered new here number_is key_is own_is cut_is last_is given_is past_is came_is text_is numbered_is new_is =
     let low : k < length (choices_of m i) = slice_get_within (choices_of m i) k s here in
     let stands : (k, s) ≡ get_or (ranked m i) k (k, s) =
     sym (get_or-enumerate_from 0 (choices_of m i) k (k, s) low ∙ (λ t. (zero-plus k t, get_or_from_slice_get (choices_of m i) k s s here t))) in
     let line : new ≡ text ++ choice_line m a i k s =
     new_is
-    ∙ (λ t. (numbered_is ∙ ap (λ n. text ++ n) number_is) t ++ choice_fields k s (key_is t) (cut_is t) (came_is t))
-    ∙ (λ t. (text ++ (decimal i ++ codes ",")) ++ choice_fields k s (key_of m i s) (cutoff m a s) (outcome_by (given_is t) (past_is t) (reason_by (cut_is t) (key_is t))))
-    ∙ append_assoc text (decimal i ++ codes ",") (choice_fields k s (key_of m i s) (cutoff m a s) (outcome m a i k s)) in
+    ∙ (λ t. (numbered_is ∙ ap (λ n. text ++ n) number_is) t ++ choice_fields k s (key_is t) (own_is t) (cut_is t) ((last_is ∙ ap (cutoff_rank m) cut_is) t) (came_is t))
+    ∙ (λ t. (text ++ (decimal i ++ codes ",")) ++ choice_fields k s (key_of m i s) (lottery_rank m i) (cutoff m a s) (cutoff_rank m (cutoff m a s)) (outcome_by (given_is t) (past_is t) (reason_by (cut_is t) (key_is t))))
+    ∙ append_assoc text (decimal i ++ codes ",") (choice_fields k s (key_of m i s) (lottery_rank m i) (cutoff m a s) (cutoff_rank m (cutoff m a s)) (outcome m a i k s)) in
     lines-more (λ (choice : ℕ × ℕ). choice_line m a i choice.0 choice.1) (ranked m i) k (k, s) old text new text_is line (omega (arith, low, ranked-length m i)) stands
   where
     zero-plus : (n : ℕ) → 0 + n ≡ n

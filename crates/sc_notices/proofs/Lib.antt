@@ -1,6 +1,7 @@
 pub mod RankLemmas
 pub mod ListingLemmas
 pub mod SummaryLemmas
+pub mod LotteryLemmas
 pub mod ExplanationLemmas
 pub mod OutcomeLaws
 pub mod OrderedLemmas

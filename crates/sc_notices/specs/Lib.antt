@@ -1,6 +1,8 @@
 pub mod Summary
 pub mod SummaryText
 pub mod Counting
+pub mod Lottery
+pub mod Tickets
 pub mod Explanation
 pub mod ExplanationText
 pub mod Admissions

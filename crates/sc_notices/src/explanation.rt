@@ -2,15 +2,18 @@
 ghost use Rattle.std.specs.Prelude.{◌≡◌, ◌<◌, ◌++◌, ◌||◌, codes, decimal, flat_map, is_some, length, nat_eq, position, All, IfOk, IfSome, OnOk, Some};
 ghost use Rattle.sc_papers.specs.Market.{Market, is_student, schools_of};
 ghost use Rattle.sc_papers.specs.Matching.{Matching};
-ghost use Rattle.sc_papers.specs.WellFormed.{WithinLimits};
+ghost use Rattle.sc_papers.specs.WellFormed.{WellFormed, WithinLimits};
 ghost use Rattle.sc_repair.specs.Standing.{matching_of};
 ghost use Rattle.sc_report.specs.Cutoff.{cutoff, rows_in_order};
 ghost use Rattle.sc_report.specs.Entrants.{numbers_of, Holds, StandsAt};
 ghost use Rattle.sc_report.specs.Reason.{reason_by};
 ghost use Rattle.sc_notices.specs.Explanation.{is_given, outcome_by};
-ghost use Rattle.sc_notices.specs.ExplanationText.{choice_fields, explanation_lines, explanation_of, explanation_text, own_fields, student_lines};
+ghost use Rattle.sc_notices.specs.ExplanationText.{choice_fields, explanation_lines, explanation_of, explanation_text, cutoff_part, own_fields, own_part, student_lines};
+ghost use Rattle.sc_notices.specs.Lottery.{cutoff_rank, lottery_rank};
+ghost use Rattle.sc_notices.specs.Tickets.{AreTicketsOf};
 
 use crate::fields::push_field;
+use crate::lottery::Lottery;
 use crate::outcome::{outcome_of, push_outcome};
 use sc_decimal::push_number;
 use sc_papers::{Key, LONGEST_LIST, MOST_STUDENTS, Papers, Proposal, SchoolNo, StudentNo};
@@ -22,12 +25,12 @@ use sc_tallies::places_of;
 use std::alloc::{AllocError, Global};
 
 /// The line above the choices' lines.
-const HEADER: &[u8; 73] =
-    b"student,rank,school,class,draw,cutoff,cutoff_draw,cutoff_student,outcome\n";
+const HEADER: &[u8; 106] =
+    b"student,rank,school,class,draw,lottery_rank,cutoff,cutoff_draw,cutoff_student,cutoff_lottery_rank,outcome\n";
 
-/// The most bytes of a line: two students' numbers, a rank, a school, two classes, two draws, the longest word, the commas
-/// and a newline.
-const LONGEST_LINE: usize = 75;
+/// The most bytes of a line: two students' numbers, a rank, a school, two classes, two draws, two ranks in the lottery, the
+/// longest word, the commas and a newline.
+const LONGEST_LINE: usize = 89;
 
 /// The most bytes of a student's number and a comma.
 const LONGEST_NUMBER: usize = 10;
@@ -41,26 +44,55 @@ pub(crate) fn push_own(text: &mut Vec<u8>, key: Key) -> Result<(), AllocError>
     text.extend_from_slice(b",")
 }
 
-/// Adds what a line says of a choice of this rank, from 0, and answers whether the student has it or one before it. What
-/// the student has is given, and whether it is one before.
+/// Adds what a line says of a choice of this rank, from 0, but for the school's cutoff: the student's own rank in the lottery
+/// is given.
+fn push_own_part(
+    text: &mut Vec<u8>,
+    rank: usize,
+    choice: &Proposal,
+    own: u32,
+) -> Result<(), AllocError>
+    requires { rank < LONGEST_LIST }
+    ensures { OnOk result (text.new.items ≡ text.old.items ++ own_part rank choice.now.school choice.now.key own) }
+{
+    push_field(text, rank as u32 + 1)?;
+    push_field(text, choice.school.get())?;
+    push_own(text, choice.key)?;
+    push_field(text, own)
+}
+
+/// Adds a school's cutoff, and the rank of its student in the lottery, if it has one.
+fn push_cutoff_part(text: &mut Vec<u8>, cutoff: Cutoff, last: Option<u32>) -> Result<(), AllocError>
+    ensures { OnOk result (text.new.items ≡ text.old.items ++ cutoff_part cutoff last) }
+{
+    push_cutoff(text, cutoff)?;
+    text.extend_from_slice(b",")?;
+    match last {
+        Some(rank) => push_number(text, u64::from(rank)),
+        None => Ok(()),
+    }
+}
+
+/// Adds what a line says of a choice of this rank, from 0, and answers whether the student has it or one before it. Given are
+/// the ranks in the lottery of the student and of the cutoff's student, what the student has, and whether it is one before.
 fn push_choice(
     text: &mut Vec<u8>,
     rank: usize,
     choice: &Proposal,
+    own: u32,
     cutoff: Cutoff,
+    last: Option<u32>,
     held: &Option<SchoolNo>,
     is_past: bool,
 ) -> Result<bool, AllocError>
     requires { rank < LONGEST_LIST }
     ensures past { IfOk result (λ past. past ≡ (is_past || is_given held.now choice.now.school)) }
-    ensures text { OnOk result (text.new.items ≡ text.old.items ++ choice_fields rank choice.now.school choice.now.key cutoff
+    ensures text { OnOk result (text.new.items ≡ text.old.items ++ choice_fields rank choice.now.school choice.now.key own cutoff last
         (outcome_by (is_given held.now choice.now.school) is_past (reason_by cutoff choice.now.key))) }
 {
     let given = *held == Some(choice.school);
-    push_field(text, rank as u32 + 1)?;
-    push_field(text, choice.school.get())?;
-    push_own(text, choice.key)?;
-    push_cutoff(text, cutoff)?;
+    push_own_part(text, rank, choice, own)?;
+    push_cutoff_part(text, cutoff, last)?;
     push_outcome(text, outcome_of(given, is_past, cutoff, choice.key))?;
     Ok(is_past || given)
 }
@@ -90,21 +122,35 @@ fn push_choices(
     number: &[u8],
     rows: &[CutoffRow],
     papers: &Papers,
+    lottery: &Lottery,
     entrant: Entrant,
 ) -> Result<(), AllocError>
     requires number { number.now ≡ decimal entrant.student ++ codes "," }
     requires rows { length rows.now ≡ length papers.now.schools }
     requires stands { StandsAt papers.now entrant }
+    requires well_formed { WellFormed papers.now }
     requires within_limits { WithinLimits papers.now }
+    requires tickets { AreTicketsOf papers.now lottery.now }
     // By whichever matching the rows were made.
     ensures { OnOk result ((a : Matching) → rows.now ≡ rows_in_order papers.now a → Holds a entrant → text.new.items ≡ text.old.items ++ student_lines papers.now a entrant.student) }
 {
+    let own = lottery.rank_at(papers, entrant.position as usize);
     let mut is_past = false;
     let mut rank = 0;
     'ranks: while let Some(choice) = papers.proposal(entrant.position as usize, rank) {
         let cutoff = cutoff_of(rows, &choice);
+        let last = lottery.cutoff_rank(papers, &cutoff);
         text.extend_from_slice(number)?;
-        is_past = push_choice(text, rank, &choice, cutoff, &entrant.held, is_past)?;
+        is_past = push_choice(
+            text,
+            rank,
+            &choice,
+            own,
+            cutoff,
+            last,
+            &entrant.held,
+            is_past,
+        )?;
         rank += 1;
     }
     Ok(())
@@ -117,19 +163,21 @@ fn push_explanations(
     entrants: &[Entrant],
     rows: &[CutoffRow],
     papers: &Papers,
+    lottery: &Lottery,
 ) -> Result<(), AllocError>
     requires rows { length rows.now ≡ length papers.now.schools }
+    requires tickets { AreTicketsOf papers.now lottery.now }
     requires stand { All (StandsAt papers.now) entrants.now }
     // By whichever matching the rows were made.
     ensures { OnOk result ((a : Matching) → rows.now ≡ rows_in_order papers.now a → All (Holds a) entrants.now → text.new.items ≡ text.old.items ++ explanation_lines papers.now a (numbers_of entrants.now)) }
 {
-    // This call tells that the papers are within their limits, and so are their lists.
+    // This call tells that the papers are well-formed and within their limits, and so are their lists.
     prove!(papers.students_len() <= MOST_STUDENTS);
     let mut number = Vec::with_capacity(alloc, LONGEST_NUMBER)?;
     text.extend_from_slice(HEADER)?;
     for entrant in entrants {
         set_number(&mut number, entrant.student)?;
-        push_choices(text, number.as_slice(), rows, papers, *entrant)?;
+        push_choices(text, number.as_slice(), rows, papers, lottery, *entrant)?;
     }
     Ok(())
 }
@@ -147,10 +195,11 @@ fn room_for_explanations(papers: &Papers) -> usize {
 
 /// What came of each choice of each student under the standing assignment: a header, and a line for each choice, the
 /// students by rising number and a student's choices best first. A line has the student, the choice's rank, from 1, the
-/// school, the student's own class and draw there, the school's cutoff as the cutoff text has it, and what came of it:
-/// `given`; the reason of the report; or `later` after the choice that was given. The only error is want of memory, which is taken
-/// for the text. The cost is one pass over the students for the cutoffs, a sort of the students' numbers, and one pass
-/// over their choices.
+/// school, the student's own class and draw there and their rank in the lottery, the school's cutoff as the cutoff text has
+/// it and the rank of its student in the lottery, if it has one, and what came of it: `given`; the reason of the report; or
+/// `later` after the choice that was given. The only error is want of memory, which is taken for the text. The cost is one
+/// pass over the students for the cutoffs, sorts of the students' numbers and of their draws, and one pass over their
+/// choices, with a search among the draws for each.
 pub fn explanation_text(alloc: Global, clearing: &Clearing) -> Result<Vec<u8>, AllocError>
     ensures { IfOk result (λ text. text.items ≡ explanation_text clearing.now.standing.papers (matching_of clearing.now.standing)) }
 {
@@ -158,6 +207,7 @@ pub fn explanation_text(alloc: Global, clearing: &Clearing) -> Result<Vec<u8>, A
     let places = places_of(alloc, papers, clearing.places())?;
     let entrants = rising_entrants(alloc, papers, places.as_slice())?;
     let rows = rows_in_order(alloc, papers, places.as_slice())?;
+    let lottery = Lottery::sorted(alloc, papers)?;
     let mut text = Vec::with_capacity(alloc, room_for_explanations(papers))?;
     push_explanations(
         &mut text,
@@ -165,12 +215,14 @@ pub fn explanation_text(alloc: Global, clearing: &Clearing) -> Result<Vec<u8>, A
         entrants.as_slice(),
         rows.as_slice(),
         papers,
+        &lottery,
     )?;
     Ok(text)
 }
 
 /// The lines of one student as in `explanation_text`, under the same header, or `None` where the student is not in the
-/// papers. The only error is want of memory. The cost is one pass over the students for the cutoffs.
+/// papers. The only error is want of memory. The cost is one pass over the students for the cutoffs, and a count of those
+/// ahead in the lottery for the student and for each of their choices.
 pub fn explanation_of(
     alloc: Global,
     clearing: &Clearing,
@@ -187,6 +239,14 @@ pub fn explanation_of(
     let entrant = entrant_at(papers, position, places[position]);
     let rows = rows_in_order(alloc, papers, places.as_slice())?;
     let mut text = Vec::new(alloc);
-    push_explanations(&mut text, alloc, &[entrant], rows.as_slice(), papers)?;
+    let lottery = Lottery::Counted;
+    push_explanations(
+        &mut text,
+        alloc,
+        &[entrant],
+        rows.as_slice(),
+        papers,
+        &lottery,
+    )?;
     Ok(Some(text))
 }

@@ -9,6 +9,7 @@ mod fields;
 mod key_lists;
 pub mod laws;
 mod listings;
+mod lottery;
 mod outcome;
 mod ranks;
 mod status;

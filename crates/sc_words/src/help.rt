@@ -142,10 +142,10 @@ pub(crate) const EXPLAIN: &str =
 
 pub(crate) const EXPLAIN_AFTER: &str = "\
 The table has a line for each choice, students by number and best choice first: the choice's rank from 1, the
-school, the student's own class and draw there, the school's cutoff as the report has it, and the outcome: given,
-later for a choice after the given one, or why it was not given, as in the report. With --student the lines are
-that student's alone. With --journal its amendments are made first; a last line of it that was cut short is left
-out and told on standard error, which is no fault.
+school, the student's own class and draw there and their rank in the lottery, the school's cutoff as the report has
+it and the rank of its student in the lottery, and the outcome: given, later for a choice after the given one, or why
+it was not given, as in the report. With --student the lines are that student's alone. With --journal its amendments
+are made first; a last line of it that was cut short is left out and told on standard error, which is no fault.
 
 Exit status: 0 done, 2 wrong words, a bad seed or a student that is no number, 3 a fault in an input or a student
 who is not in the papers, 4 a file or stream that cannot be opened, read or written, 5 out of memory.

@@ -129,7 +129,7 @@ fn expect_explanations(
 }
 
 const EXPLAINED_HEADER: &str =
-    "student,rank,school,class,draw,cutoff,cutoff_draw,cutoff_student,outcome\n";
+    "student,rank,school,class,draw,lottery_rank,cutoff,cutoff_draw,cutoff_student,cutoff_lottery_rank,outcome\n";
 
 /// One seat and two students who are alike.
 pub(super) const ONE_SEAT: Files = (
@@ -158,37 +158,37 @@ const EXPLANATIONS: &[ExplainedRow] = &[
         MARKET_B_FILES,
         None,
         None,
-        "1,1,10,4,e56a5d4028bd8653,4,e56a5d4028bd8653,1,given\n1,2,20,2,e56a5d4028bd8653,4,b819d2bd1aed8da0,2,later\n2,1,20,4,b819d2bd1aed8da0,4,b819d2bd1aed8da0,2,given\n2,2,10,2,b819d2bd1aed8da0,4,e56a5d4028bd8653,1,later\n|Ok(Written { tail: Whole })",
+        "1,1,10,4,e56a5d4028bd8653,2,4,e56a5d4028bd8653,1,2,given\n1,2,20,2,e56a5d4028bd8653,2,4,b819d2bd1aed8da0,2,1,later\n2,1,20,4,b819d2bd1aed8da0,1,4,b819d2bd1aed8da0,2,1,given\n2,2,10,2,b819d2bd1aed8da0,1,4,e56a5d4028bd8653,1,2,later\n|Ok(Written { tail: Whole })",
     ),
     (
         MARKET_B_FILES,
         Some("1,enter,3,1,10,10\n2,wi"),
         None,
-        "1,1,10,4,e56a5d4028bd8653,1,ccef36a8c70d778b,3,class\n1,2,20,2,e56a5d4028bd8653,2,e56a5d4028bd8653,1,given\n2,1,20,4,b819d2bd1aed8da0,2,e56a5d4028bd8653,1,class\n2,2,10,2,b819d2bd1aed8da0,1,ccef36a8c70d778b,3,class\n3,1,10,1,ccef36a8c70d778b,1,ccef36a8c70d778b,3,given\n|Ok(Written { tail: Torn })",
+        "1,1,10,4,e56a5d4028bd8653,3,1,ccef36a8c70d778b,3,2,class\n1,2,20,2,e56a5d4028bd8653,3,2,e56a5d4028bd8653,1,3,given\n2,1,20,4,b819d2bd1aed8da0,1,2,e56a5d4028bd8653,1,3,class\n2,2,10,2,b819d2bd1aed8da0,1,1,ccef36a8c70d778b,3,2,class\n3,1,10,1,ccef36a8c70d778b,2,1,ccef36a8c70d778b,3,2,given\n|Ok(Written { tail: Torn })",
     ),
     (
         MARKET_B_FILES,
         Some("1,enter,3,1,10,10\n"),
         Some(2),
-        "2,1,20,4,b819d2bd1aed8da0,2,e56a5d4028bd8653,1,class\n2,2,10,2,b819d2bd1aed8da0,1,ccef36a8c70d778b,3,class\n|Ok(Written { tail: Whole })",
+        "2,1,20,4,b819d2bd1aed8da0,1,2,e56a5d4028bd8653,1,3,class\n2,2,10,2,b819d2bd1aed8da0,1,1,ccef36a8c70d778b,3,2,class\n|Ok(Written { tail: Whole })",
     ),
     (
         ONE_SEAT,
         None,
         None,
-        "1,1,10,4,e56a5d4028bd8653,4,b819d2bd1aed8da0,2,lottery\n2,1,10,4,b819d2bd1aed8da0,4,b819d2bd1aed8da0,2,given\n|Ok(Written { tail: Whole })",
+        "1,1,10,4,e56a5d4028bd8653,2,4,b819d2bd1aed8da0,2,1,lottery\n2,1,10,4,b819d2bd1aed8da0,1,4,b819d2bd1aed8da0,2,1,given\n|Ok(Written { tail: Whole })",
     ),
     (
         CONTINUING,
         None,
         None,
-        "1,1,10,3,e56a5d4028bd8653,0,b819d2bd1aed8da0,2,class\n2,1,10,0,b819d2bd1aed8da0,0,b819d2bd1aed8da0,2,given\n|Ok(Written { tail: Whole })",
+        "1,1,10,3,e56a5d4028bd8653,2,0,b819d2bd1aed8da0,2,1,class\n2,1,10,0,b819d2bd1aed8da0,1,0,b819d2bd1aed8da0,2,1,given\n|Ok(Written { tail: Whole })",
     ),
     (
         CLOSED_AND_FREE,
         None,
         None,
-        "1,1,10,4,e56a5d4028bd8653,closed,-,-,seats\n1,2,20,4,e56a5d4028bd8653,free,-,-,given\n2,1,20,4,b819d2bd1aed8da0,free,-,-,given\n3,1,10,4,ccef36a8c70d778b,closed,-,-,seats\n|Ok(Written { tail: Whole })",
+        "1,1,10,4,e56a5d4028bd8653,3,closed,-,-,,seats\n1,2,20,4,e56a5d4028bd8653,3,free,-,-,,given\n2,1,20,4,b819d2bd1aed8da0,1,free,-,-,,given\n3,1,10,4,ccef36a8c70d778b,2,closed,-,-,,seats\n|Ok(Written { tail: Whole })",
     ),
 ];
 
@@ -220,7 +220,7 @@ const UNEXPLAINED: &[ExplainedRow] = &[
         MARKET_A_FILES,
         Some("1,withdraw,2"),
         Some(1),
-        "student,rank,school,class,draw,cutoff,cutoff_draw,cutoff_student,outcome\n1,1,10,4,e56a5d4028bd8653,4,e56a5d4028bd8653,1,given\n1,2,20,2,e56a5d4028bd8653,4,b819d2bd1aed8da0,2,later\n|Ok(Written { tail: Torn })",
+        "student,rank,school,class,draw,lottery_rank,cutoff,cutoff_draw,cutoff_student,cutoff_lottery_rank,outcome\n1,1,10,4,e56a5d4028bd8653,2,4,e56a5d4028bd8653,1,2,given\n1,2,20,2,e56a5d4028bd8653,2,4,b819d2bd1aed8da0,2,1,later\n|Ok(Written { tail: Torn })",
     ),
 ];
 

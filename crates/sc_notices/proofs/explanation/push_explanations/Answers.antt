@@ -17,7 +17,7 @@ loop-entrant-preserved c a are hold =
 pub returns : goal.returns
 returns c a are hold =
     let lines = student_lines c.args.papers.now a in
-    let header = codes "student,rank,school,class,draw,cutoff,cutoff_draw,cutoff_student,outcome\n" in
+    let header = codes "student,rank,school,class,draw,lottery_rank,cutoff,cutoff_draw,cutoff_student,cutoff_lottery_rank,outcome\n" in
     lines-all (λ (e : Entrant). lines e.student) c.args.entrants.now c.loop-entrant.entrant-index c.args.text.now.items header
     c.extend_from_slice.new.self.items c.loop-entrant.text.items
     c.in_ok-extend_from_slice.ensures.items (c.loop-entrant.invariant a are hold) c.loop-entrant-test.false
