@@ -196,27 +196,34 @@ HEADERS = {"schools": "school,zone,seats\n", "roster": "student,zone,siblings\n"
 TIDY = {"schools": "1,0,1\n", "roster": "1,0,\n", "lists": "1,1\n"}
 
 
-def filled(begin, piece, end=""):
-    """As many pieces as there is room for in an input, after a beginning and before an end."""
-    return begin + piece * ((LONGEST - len(begin) - len(end)) // len(piece)) + end
+def write_filled(file, begin, piece, end=""):
+    """Writes as many pieces as there is room for in an input, after a beginning and before an end, in blocks: what this program holds itself would be told as what
+    the measured one takes."""
+    left = (LONGEST - len(begin) - len(end)) // len(piece)
+    block = 1024 * 1024 // len(piece)
+    file.write(begin)
+    while left > 0:
+        file.write(piece * min(left, block))
+        left -= block
+    file.write(end)
 
 
 def large_inputs():
-    """Calls and their input that is made to be large: its name, and what it holds."""
+    """Calls and their input that is made to be large: its name, what it holds, and its beginning, its pieces and its end."""
     lists, roster, schools = HEADERS["lists"], HEADERS["roster"], HEADERS["schools"]
     return [
-        ("match", "lists", "one record of 67 million commas", filled(lists, ",")),
-        ("match", "lists", "the same with a quoted field", filled(lists + '"1"', ",")),
-        ("match", "lists", "one list of 33 million numbers", filled(lists + "1,", "1 ", "1")),
-        ("match", "roster", "33 million siblings", filled(roster + "1,0,", "1 ", "1")),
-        ("match", "roster", "rows of 30 commas", filled(roster, "," * 30 + "\n")),
-        ("run", "script", "one record of 67 million commas", filled("", ",")),
-        ("run", "script", "one list of 33 million numbers", filled("0,enter,2,0,,", "1 ", "1")),
-        ("check", "script", "33 million records `x`", filled("", "x\n")),
-        ("check", "lists", "rows that are all `1,1`", filled(lists, "1,1\n")),
-        ("check", "schools", "33 million rows `x`", filled(schools, "x\n")),
-        ("replay", "journal", "one line with a list of 33 million numbers", filled("1,enter,2,0,,", "1 ", "1\n")),
-        ("replay", "journal", "one line of 67 million commas", filled("", ",", "\n")),
+        ("match", "lists", "one record of 67 million commas", (lists, ",")),
+        ("match", "lists", "the same with a quoted field", (lists + '"1"', ",")),
+        ("match", "lists", "one list of 33 million numbers", (lists + "1,", "1 ", "1")),
+        ("match", "roster", "33 million siblings", (roster + "1,0,", "1 ", "1")),
+        ("match", "roster", "rows of 30 commas", (roster, "," * 30 + "\n")),
+        ("run", "script", "one record of 67 million commas", ("", ",")),
+        ("run", "script", "one list of 33 million numbers", ("0,enter,2,0,,", "1 ", "1")),
+        ("check", "script", "33 million records `x`", ("", "x\n")),
+        ("check", "lists", "rows that are all `1,1`", (lists, "1,1\n")),
+        ("check", "schools", "33 million rows `x`", (schools, "x\n")),
+        ("replay", "journal", "one line with a list of 33 million numbers", ("1,enter,2,0,,", "1 ", "1\n")),
+        ("replay", "journal", "one line of 67 million commas", ("", ",", "\n")),
     ]
 
 
@@ -226,12 +233,15 @@ def memory_of_large(given):
     print("|---|---|---|---|")
     folder = os.path.join(given.folder, "large")
     os.makedirs(folder, exist_ok=True)
-    for call, name, what, text in large_inputs():
+    for call, name, what, parts in large_inputs():
         words = [given.program, call] + ([] if call == "check" else ["--seed", SEED])
         for each in ("schools", "roster", "lists", *([name] if name in ("script", "journal") else [])):
             path = os.path.join(folder, each)
             with open(path, "w") as file:
-                file.write(text if each == name else HEADERS[each] + TIDY[each])
+                if each == name:
+                    write_filled(file, *parts)
+                else:
+                    file.write(HEADERS[each] + TIDY[each])
             words += ["--" + each, path]
         if call == "run":
             words += ["--journal", os.path.join(folder, "out")]
