@@ -4,9 +4,8 @@
     compare_auditors.py SEED CASES [--program PATH]
 
 The inputs are made as `compare.py` makes them: logs that are right, or with a change; reports that are right, or with a
-change. On a log both have to say the same and end with the same status; on a report the auditor has to name the first
-line that differs from what the program's `match` writes. The last lines count the cases by verdict, and the
-differences; the status is 1 where there is one.
+change. Both have to say the same of each, `audit` of the program with `--report` where there is one, and to end with the
+same status. The last lines count the cases by verdict, and the differences; the status is 1 where there is one.
 """
 import argparse
 import collections
@@ -57,21 +56,6 @@ def ended(command, folder, names):
     return done.stdout, done.returncode
 
 
-def expected(program, folder, texts):
-    """What the program says of the log, and where that is right, what its report says of the one that was given."""
-    said = ended([program, "audit"], folder, [*FILES, "log"])
-    if said[1] != 0 or "report" not in texts:
-        return said
-    whole = ended([program, "match"], folder, FILES)[0]
-    if whole == texts["report"]:
-        return said
-    lines = zip(whole.splitlines(keepends=True), texts["report"].splitlines(keepends=True))
-    same = next((at for at, (one, other) in enumerate(lines) if one != other), None)
-    if same is None:
-        same = min(whole.count(b"\n"), texts["report"].count(b"\n"))
-    return f"report differs {same + 1}\n".encode(), 1
-
-
 def main():
     parser = argparse.ArgumentParser(description=__doc__.split("\n")[0])
     parser.add_argument("seed")
@@ -85,7 +69,7 @@ def main():
             texts = make_case(given.seed, at)
             for each, text in texts.items():
                 (folder / each).write_bytes(text)
-            one, other = expected(program, folder, texts), ended([sys.executable, str(AUDITOR)], folder, texts)
+            one, other = ended([program, "audit"], folder, texts), ended([sys.executable, str(AUDITOR)], folder, texts)
             said = one[0].decode().rstrip("0123456789\n").strip() or f"status {one[1]}"
             counts[said] += 1
             if one != other:
