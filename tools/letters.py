@@ -1,8 +1,8 @@
 #!/usr/bin/env python3
 """Writes what a district sends to families: a table for mail merge, or letters to print.
 
-  tools/letters.py --explain F --names F [--students F] [--language en|es|fr] > letters.csv
-  tools/letters.py --explain F --names F [--students F] [--language en|es|fr] --html [--title TEXT] > letters.html
+  tools/letters.py --explain F --names F [--students F] [--language en|es|fr] [--part K/N] > letters.csv
+  tools/letters.py --explain F --names F [--students F] [--language en|es|fr] [--part K/N] --html [--title TEXT] > letters.html
 
 --explain is what `clearinghouse explain` wrote of everybody, without --student. --names is a table `number,name` of
 the schools, and --students one `student,name`, which the office keeps to itself: without it the letters are to
@@ -11,7 +11,8 @@ numbers, and the names can be joined to the table by its first column.
 The table has a row for each student: the student, the school's number and name, which choice it was, the student's
 place in the lottery and of how many, and then whole sentences: what the student has, how they came in the lottery,
 and a reason for each choice that they would rather have. It is in UTF-8 with a byte order mark, as spreadsheets like
-it. The letters have a page for each student.
+it. The letters have a page for each student. With --part 2/20 only the second of twenty equal parts of the students is
+written, in the order of their numbers: a browser prints some thousands of letters at once, and not eighty thousand.
 
 The sentences stand in tools/letters, a file for each language, and an office may change them there.
 
@@ -62,15 +63,21 @@ def table(letters, names, language):
 
 
 STYLE = """
-@page { size: A4; margin: 25mm 22mm; }
+@page { size: A4; margin: 20mm 22mm; }
 * { box-sizing: border-box; }
 body { margin: 0 auto; max-width: 40rem; padding: 1rem; font: 11.5pt/1.45 Georgia, "DejaVu Serif", serif; color: #111; }
 section { break-after: page; padding: 2rem 0; border-bottom: 1px solid #bbb; }
+@media screen { section { content-visibility: auto; contain-intrinsic-size: auto 50rem; } }
 section:last-child { break-after: auto; border-bottom: 0; }
 h1 { font-size: 15pt; margin: 0 0 2rem; }
 .result { font-size: 13pt; font-weight: bold; margin: 1.5rem 0; }
 li { margin: 0.5rem 0; break-inside: avoid; }
-@media print { body { max-width: none; padding: 0; } section { padding: 0; border: 0; } }
+@media print {
+  body { max-width: none; padding: 0; font-size: 10pt; line-height: 1.35; }
+  section { padding: 0; border: 0; }
+  h1 { margin-bottom: 1.5rem; }
+  li { margin: 0.25rem 0; }
+}
 """
 
 
@@ -108,6 +115,14 @@ def letters_page(letters, names, language, name, title):
 """
 
 
+def part_of(text):
+    """The part that a word K/N names, as two numbers."""
+    part, _, parts = text.partition("/")
+    if not (part.isdecimal() and parts.isdecimal() and 1 <= int(part) <= int(parts)):
+        raise argparse.ArgumentTypeError(f"{text!r} is no part K/N, with K from 1 to N")
+    return int(part), int(parts)
+
+
 def main():
     languages = sorted(path.stem for path in texts.LANGUAGES.glob("*.json"))
     words = argparse.ArgumentParser(description="Write a table for mail merge, or letters to print.")
@@ -116,6 +131,7 @@ def main():
     words.add_argument("--students", help="the students' names: a table student,name; they stand in what is written")
     words.add_argument("--language", default="en", choices=languages)
     words.add_argument("--html", action="store_true", help="letters to print, in place of a table")
+    words.add_argument("--part", type=part_of, default=(1, 1), metavar="K/N", help="only the K-th of N equal parts of the students")
     words.add_argument("--title", help="what stands at the top of each letter")
     given = words.parse_args()
     try:
@@ -126,7 +142,10 @@ def main():
         if nameless is not None:
             raise texts.WrongText(f"{given.names}: school {nameless} has no name")
         places = choices.lottery_places()
-        letters = [Letter(student, places[student.number], places, choices.cutoffs, language) for student in choices.students]
+        part, parts = given.part
+        count = len(choices.students)
+        students = choices.students[count * (part - 1) // parts : count * part // parts]
+        letters = [Letter(student, places[student.number], places, choices.cutoffs, language) for student in students]
         if given.html:
             written = letters_page(letters, names, language, given.language, given.title or language["title"])
         else:

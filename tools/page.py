@@ -210,7 +210,7 @@ button.quiet { background: none; color: var(--some); }
   html { font-size: 9pt; }
   body { max-width: none; padding: 0; }
   h2 { break-after: avoid; margin-top: 1.5rem; }
-  tr, li, .tiles, .ranks { break-inside: avoid; }
+  tr, li, .tiles { break-inside: avoid; }
   body.alone > :not(h1, #answer) { display: none; }
 }
 """
