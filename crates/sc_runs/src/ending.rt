@@ -48,7 +48,7 @@ impl PapersFile {
 pub enum Ending {
     /// All was done.
     Done,
-    /// The log does not certify its assignment.
+    /// The log does not certify its assignment, or the report that was published is not the one of it.
     NotCertified,
     /// The files that were checked have a fault.
     Faulty,

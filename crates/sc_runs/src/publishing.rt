@@ -225,8 +225,9 @@ fn audit_texts<R: Read, W: Write>(
 ///
 /// Nothing is written before the inputs are known to be good. An error is the first fault of the files and the log, each
 /// of which is read whole before any is looked into, and then the report is not touched; that an input, the report or the output failed; or
-/// want of memory, after which nothing was written. The report is read by pieces, and may be of any length: no more is
-/// taken of it than 60 KiB past the length that it should have.
+/// want of memory, after which nothing was written. The report is read by pieces and may be of any length, so that the limit
+/// of the other inputs is not one of it. No more of it is taken than 60 KiB past the length that it should have, also where
+/// reading it fails or memory is refused: the comparison, `first_difference` of `sc_report`, promises that whatever it answers.
 pub fn audit_report_files<R: Read, W: Write>(
     alloc: Global,
     seed: &Seed,

@@ -7,9 +7,9 @@ pub(crate) const PROGRAM: &str =
     "Assign school places by the student-optimal stable matching; without a subcommand, reads one bundle from standard input";
 
 pub(crate) const STATUSES: &str = "\
-Exit status: 0 done, 1 the log is not certified (audit alone), 2 wrong words or a bad seed, 3 a fault in an
-input, 4 a file or stream that cannot be opened, read or written, 5 out of memory. A fault is told in one line
-on standard error.
+Exit status: 0 done, 1 the log is not certified, or the report that was published is another one (audit alone),
+2 wrong words or a bad seed, 3 a fault in an input, 4 a file or stream that cannot be opened, read or written, 5
+out of memory. A fault is told in one line on standard error.
 
 Example:
   clearinghouse < bundle";
