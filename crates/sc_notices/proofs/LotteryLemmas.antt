@@ -1,9 +1,10 @@
 -- Ranks in the lottery.
-use Rattle.std.proofs.Common.{◌≡◌, ◌⊎◌, refl, sym, ◌∙◌, ap, subst, inl, inr, ℕ, zero, suc, ◌+◌, ◌<◌, ◌≤◌, ◌==◌, nat_eq, Bool, true, false, cond, List, [], ◌∷◌, length, get_or, map, count_by, Option, None, Some, arith}
+use Rattle.std.proofs.Common.{◌≡◌, ◌⊎◌, refl, sym, ◌∙◌, ap, subst, inl, inr, ℕ, zero, suc, ◌+◌, ◌<◌, ◌≤◌, ◌==◌, nat_eq, Bool, true, false, cond, List, [], ◌∷◌, ◌++◌, length, get_or, map, take, count_by, Option, None, Some, position, add-one, arith}
 use Rattle.std.specs.List.{IsDistinct}
 use Rattle.std.specs.Prelude.{nat_lt}
 use Rattle.std.proofs.lemmas.Bool.{cases_Bool, cases_lt, cond-false, cond-true, eq-eqb, false≢true}
-use Rattle.std.proofs.lemmas.List.{get_or-map, get_or_default, length-map}
+use Rattle.std.proofs.Math.Seq.{take-suc}
+use Rattle.std.proofs.lemmas.List.{get_or-map, get_or_default, length-map, map-append}
 use Rattle.std.proofs.lemmas.List.Elements.{All-from_recursion}
 use Rattle.std.proofs.lemmas.List.Sorted.{length_permutation, sum_by-IsPermutation}
 use Rattle.std.proofs.lemmas.Map.Entries.{length-keys_of}
@@ -11,21 +12,26 @@ use Rattle.std.proofs.lemmas.Map.Keys.{IsDistinct-head, IsDistinct-tail}
 use Rattle.sc_papers.specs.Key.{is_before, key_of}
 use Rattle.std.proofs.lemmas.Option.{none-some}
 use Rattle.sc_papers.specs.Draw.{draw}
-use Rattle.sc_papers.specs.Market.{Market, seats_of, students_of}
+use Rattle.sc_papers.specs.Market.{Market, schools_of, seats_of, students_of}
 use Rattle.sc_papers.specs.Matching.{Matching, has, held, how_many}
 use Rattle.sc_papers.specs.WellFormed.{WellFormed}
 use Rattle.sc_papers.specs.declared.key.Key.{Key}
 use Rattle.sc_papers.proofs.Counting.{count-cons_fails, count-cons_passes}
+use Rattle.sc_papers.proofs.Positions.{position-at}
 use Rattle.sc_papers.proofs.Priority.{before-asymm, before-irrefl}
 use Rattle.sc_seats.specs.Roll.{IsAscending, in_order}
 use Rattle.sc_seats.proofs.Order.{ascending-places}
 use Rattle.sc_seats.proofs.Ordering.{Differ, Differ-cons, ascending-in_order, in_order-permutes}
 use Rattle.sc_tallies.specs.LastKey.{keys_among, last_key}
 use Rattle.sc_tallies.proofs.LastKeys.{keyed, last-contained}
-use Rattle.sc_report.specs.Cutoff.{cutoff, cutoff_by}
+use Rattle.sc_report.specs.Cutoff.{cutoff, cutoff_by, cutoff_row, rows_in_order}
 use Rattle.sc_report.specs.declared.cutoff.Cutoff.{Cutoff}
 use Rattle.sc_report.specs.declared.cutoff.Cutoff.TheVariants.{Closed, Free, Full}
-use Rattle.sc_notices.specs.Lottery.{lottery_rank, ticket_of}
+use Rattle.sc_report.specs.declared.cutoff.CutoffRow.{CutoffRow}
+use Rattle.sc_report.proofs.CutoffLemmas.{cutoff-read}
+use Rattle.sc_notices.specs.Lottery.{cutoff_rank, lottery_rank, ticket_of}
+use Rattle.sc_notices.specs.Tickets.{IsLotteryOf}
+use Rattle.sc_notices.specs.declared.lottery.Lottery.{Lottery}
 
 -- where the first pass and the others fail, so many pass
 pub count-split : (p : Key → Bool) (keys : List Key) (n : ℕ) → n ≤ length keys → ((k : ℕ) (d : Key) → k < n → p (get_or keys k d) ≡ true)
@@ -137,3 +143,28 @@ cutoff-ticket m a s last ticket full class_is draw_is student_is =
     let whose : j ≡ last.student = ap (λ (key : Key). key.student) is in
     let drawn : ticket.draw ≡ draw m.seed last.student = draw_is ∙ ap (λ (key : Key). key.draw) (sym is) ∙ ap (draw m.seed) whose in
     λ t. let key : Key = record { class = class_is t; draw = drawn t; student = student_is t } in key
+
+-- a row has the cutoff of its school
+pub row-cutoff : (m : Market) (a : Matching) (rows : List CutoffRow) (k : ℕ) (row : CutoffRow) → rows ≡ rows_in_order m a → k < length rows → row ≡ get_or rows k row → row.cutoff ≡ cutoff m a row.school
+row-cutoff m a rows k row are low is =
+    let s = get_or (schools_of m) k 0 in
+    let within : k < length (schools_of m) = omega (arith, low, ap length are, length-map (schools_of m) (cutoff_row m a)) in
+    let same : row ≡ cutoff_row m a s = is ∙ ap (λ all. get_or all k row) are ∙ get_or-map (cutoff_row m a) (schools_of m) k 0 row within in
+    ap (λ (r : CutoffRow). r.cutoff) same ∙ ap (cutoff m a) (sym (ap (λ (r : CutoffRow). r.school) same))
+
+-- the ranks of the first rows' cutoffs, and of one more
+pub ranks-more : (m : Market) (rows : List CutoffRow) (k : ℕ) (row : CutoffRow) (rank : Option ℕ) (old new : List (Option ℕ)) → k < length rows → row ≡ get_or rows k row
+    → old ≡ map (λ r. cutoff_rank m r.cutoff) (take k rows) → rank ≡ cutoff_rank m row.cutoff → new ≡ old ++ rank ∷ [] → new ≡ map (λ r. cutoff_rank m r.cutoff) (take (k + 1) rows)
+ranks-more m rows k row rank old new low is old_is rank_is grew =
+    let f = λ (r : CutoffRow). cutoff_rank m r.cutoff in
+    let front : take (k + 1) rows ≡ take k rows ++ row ∷ [] = rw (add-one, take-suc rows k row low) (ap (λ r. take k rows ++ r ∷ []) (sym is)) in
+    grew ∙ (λ t. old_is t ++ rank_is t ∷ []) ∙ sym (ap (map f) front ∙ map-append f (take k rows) (row ∷ []))
+
+-- the rank that is kept at a school's position is that of its cutoff
+pub rank-read : (m : Market) (a : Matching) (rows : List CutoffRow) (lottery : Lottery) (s at : ℕ) (cut : Cutoff) (last : Option ℕ) → IsLotteryOf m rows lottery → rows ≡ rows_in_order m a
+    → position (nat_eq s) (schools_of m) ≡ Some at → cut ≡ cutoff m a s → last ≡ get_or lottery.of_cutoffs.items at last → last ≡ cutoff_rank m cut
+rank-read m a rows lottery s at cut last is are found cut_is last_is =
+    let row = cutoff_row m a s in
+    let within : at < length rows = omega (arith, (position-at (schools_of m) s at found).0, ap length are, length-map (schools_of m) (cutoff_row m a)) in
+    last_is ∙ ap (λ all. get_or all at last) (is.ranks a are) ∙ get_or-map (λ (r : CutoffRow). cutoff_rank m r.cutoff) rows at row last within
+    ∙ ap (cutoff_rank m) (cutoff-read m a rows s at row are found ∙ sym cut_is)

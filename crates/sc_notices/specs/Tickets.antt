@@ -1,12 +1,16 @@
--- The tickets by which ranks in the lottery are found.
-use Rattle.std.specs.Prelude.{◌≡◌, ⊤, map}
+-- The tickets by which ranks in the lottery are found, and the ranks that are found once.
+use Rattle.std.specs.Prelude.{◌≡◌, List, length, map}
 use Rattle.sc_papers.specs.Market.{Market, students_of}
+use Rattle.sc_papers.specs.Matching.{Matching}
 use Rattle.sc_seats.specs.Roll.{in_order}
-use Rattle.sc_notices.specs.Lottery.{ticket_of}
+use Rattle.sc_report.specs.Cutoff.{rows_in_order}
+use Rattle.sc_report.specs.declared.cutoff.CutoffRow.{CutoffRow}
+use Rattle.sc_notices.specs.Lottery.{cutoff_rank, ticket_of}
 use Rattle.sc_notices.specs.declared.lottery.Lottery.{Lottery}
-use Rattle.sc_notices.specs.declared.lottery.Lottery.TheVariants.{Sorted, Counted}
 
--- where tickets are kept, they are those of the students of these papers, best first
-abbrev pub AreTicketsOf : Market → Lottery → Type 0
-AreTicketsOf m (Sorted tickets) = tickets.items ≡ in_order (map (ticket_of m) (students_of m))
-AreTicketsOf m Counted = ⊤
+-- the tickets are those of the students of these papers, best first, and the ranks those of the rows' cutoffs, by whichever
+-- matching the rows were made
+pub record IsLotteryOf (m : Market) (rows : List CutoffRow) (lottery : Lottery) : Type 0 where
+  pub tickets : lottery.tickets.items ≡ in_order (map (ticket_of m) (students_of m))
+  pub count : length lottery.of_cutoffs.items ≡ length rows
+  pub ranks : (a : Matching) → rows ≡ rows_in_order m a → lottery.of_cutoffs.items ≡ map (λ row. cutoff_rank m row.cutoff) rows

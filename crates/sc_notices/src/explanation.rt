@@ -10,7 +10,7 @@ ghost use Rattle.sc_report.specs.Reason.{reason_by};
 ghost use Rattle.sc_notices.specs.Explanation.{is_given, outcome_by};
 ghost use Rattle.sc_notices.specs.ExplanationText.{choice_fields, explanation_lines, explanation_of, explanation_text, cutoff_part, own_fields, own_part, student_lines};
 ghost use Rattle.sc_notices.specs.Lottery.{cutoff_rank, lottery_rank};
-ghost use Rattle.sc_notices.specs.Tickets.{AreTicketsOf};
+ghost use Rattle.sc_notices.specs.Tickets.{IsLotteryOf};
 
 use crate::fields::push_field;
 use crate::lottery::Lottery;
@@ -130,16 +130,16 @@ fn push_choices(
     requires stands { StandsAt papers.now entrant }
     requires well_formed { WellFormed papers.now }
     requires within_limits { WithinLimits papers.now }
-    requires tickets { AreTicketsOf papers.now lottery.now }
+    requires lottery { IsLotteryOf papers.now rows.now lottery.now }
     // By whichever matching the rows were made.
     ensures { OnOk result ((a : Matching) → rows.now ≡ rows_in_order papers.now a → Holds a entrant → text.new.items ≡ text.old.items ++ student_lines papers.now a entrant.student) }
 {
-    let own = lottery.rank_at(papers, entrant.position as usize);
+    let own = lottery.rank_at(papers, rows, entrant.position as usize);
     let mut is_past = false;
     let mut rank = 0;
     'ranks: while let Some(choice) = papers.proposal(entrant.position as usize, rank) {
         let cutoff = cutoff_of(rows, &choice);
-        let last = lottery.cutoff_rank(papers, &cutoff);
+        let last = lottery.cutoff_rank_at(choice.position);
         text.extend_from_slice(number)?;
         is_past = push_choice(
             text,
@@ -166,7 +166,7 @@ fn push_explanations(
     lottery: &Lottery,
 ) -> Result<(), AllocError>
     requires rows { length rows.now ≡ length papers.now.schools }
-    requires tickets { AreTicketsOf papers.now lottery.now }
+    requires lottery { IsLotteryOf papers.now rows.now lottery.now }
     requires stand { All (StandsAt papers.now) entrants.now }
     // By whichever matching the rows were made.
     ensures { OnOk result ((a : Matching) → rows.now ≡ rows_in_order papers.now a → All (Holds a) entrants.now → text.new.items ≡ text.old.items ++ explanation_lines papers.now a (numbers_of entrants.now)) }
@@ -198,22 +198,23 @@ fn room_for_explanations(papers: &Papers) -> usize {
 /// school, the student's own class and draw there and their rank in the lottery, the school's cutoff as the cutoff text has
 /// it and the rank of its student in the lottery, if it has one, and what came of it: `given`; the reason of the report; or
 /// `later` after the choice that was given. The only error is want of memory, which is taken for the text. The cost is one
-/// pass over the students for the cutoffs, sorts of the students' numbers and of their draws, and one pass over their
-/// choices, with a search among the draws for each.
+/// pass over the students for the cutoffs, sorts of the students' numbers and of their draws, a search among the draws for
+/// each student and each school, and one pass over the choices.
 pub fn explanation_text(alloc: Global, clearing: &Clearing) -> Result<Vec<u8>, AllocError>
     ensures { IfOk result (λ text. text.items ≡ explanation_text clearing.now.standing.papers (matching_of clearing.now.standing)) }
 {
     let papers = clearing.papers();
     let places = places_of(alloc, papers, clearing.places())?;
     let entrants = rising_entrants(alloc, papers, places.as_slice())?;
-    let rows = rows_in_order(alloc, papers, places.as_slice())?;
-    let lottery = Lottery::sorted(alloc, papers)?;
+    let in_order = rows_in_order(alloc, papers, places.as_slice())?;
+    let rows = in_order.as_slice();
+    let lottery = Lottery::new(alloc, papers, rows)?;
     let mut text = Vec::with_capacity(alloc, room_for_explanations(papers))?;
     push_explanations(
         &mut text,
         alloc,
         entrants.as_slice(),
-        rows.as_slice(),
+        rows,
         papers,
         &lottery,
     )?;
@@ -221,8 +222,8 @@ pub fn explanation_text(alloc: Global, clearing: &Clearing) -> Result<Vec<u8>, A
 }
 
 /// The lines of one student as in `explanation_text`, under the same header, or `None` where the student is not in the
-/// papers. The only error is want of memory. The cost is one pass over the students for the cutoffs, and a count of those
-/// ahead in the lottery for the student and for each of their choices.
+/// papers. The only error is want of memory. The cost is one pass over the students for the cutoffs, a sort of their draws,
+/// and a search among these for each school.
 pub fn explanation_of(
     alloc: Global,
     clearing: &Clearing,
@@ -237,16 +238,10 @@ pub fn explanation_of(
     };
     let places = places_of(alloc, papers, clearing.places())?;
     let entrant = entrant_at(papers, position, places[position]);
-    let rows = rows_in_order(alloc, papers, places.as_slice())?;
+    let in_order = rows_in_order(alloc, papers, places.as_slice())?;
+    let rows = in_order.as_slice();
     let mut text = Vec::new(alloc);
-    let lottery = Lottery::Counted;
-    push_explanations(
-        &mut text,
-        alloc,
-        &[entrant],
-        rows.as_slice(),
-        papers,
-        &lottery,
-    )?;
+    let lottery = Lottery::new(alloc, papers, rows)?;
+    push_explanations(&mut text, alloc, &[entrant], rows, papers, &lottery)?;
     Ok(Some(text))
 }

@@ -1,12 +1,14 @@
 //! Ranks in the lottery.
 ghost use Rattle.std.specs.Prelude.{◌≡◌, ℕ, ◌+◌, ◌<◌, ◌≤◌, length, map, IfOk};
 ghost use Rattle.sc_papers.specs.Market.{Market, student_at, students_of};
+ghost use Rattle.sc_papers.specs.Matching.{Matching};
 ghost use Rattle.sc_papers.specs.WellFormed.{WellFormed};
+ghost use Rattle.sc_report.specs.Cutoff.{cutoff as cutoff_of, rows_in_order};
 ghost use Rattle.sc_seats.specs.Roll.{in_order};
-ghost use Rattle.sc_notices.specs.Lottery.{lottery_rank, ticket_of};
+ghost use Rattle.sc_notices.specs.Lottery.{cutoff_rank, lottery_rank, ticket_of};
 
 use sc_papers::{Key, MOST_STUDENTS, Papers};
-use sc_report::Cutoff;
+use sc_report::{Cutoff, CutoffRow};
 use std::alloc::{AllocError, Global};
 
 /// A student's ticket in the lottery, by their key at a school: the key that they would have if all were of one class.
@@ -59,7 +61,7 @@ fn place_among(tickets: &[Key], ticket: &Key) -> usize
     }
 }
 
-/// The rank of a ticket, by a search among those of all students, which are given best first.
+/// The rank of a ticket, from 1, by a search among those of all students, which are given best first.
 fn searched_rank(tickets: &[Key], ticket: &Key) -> u32
     requires { length tickets.now ≤ MOST_STUDENTS }
     // By whichever papers the tickets were made.
@@ -68,76 +70,95 @@ fn searched_rank(tickets: &[Key], ticket: &Key) -> u32
     place_among(tickets, ticket) as u32 + 1
 }
 
-/// The rank of a ticket, by a count of those ahead of it. The cost is one pass over the students.
-fn counted_rank(papers: &Papers, ticket: &Key) -> u32
+/// The rank of a ticket, from 1, by those of all students of the papers, which are given best first.
+fn rank_of(papers: &Papers, tickets: &[Key], ticket: &Key) -> u32
+    requires { tickets.now ≡ in_order (map (ticket_of papers.now) (students_of papers.now)) }
     ensures { (i : ℕ) → ticket.now ≡ ticket_of papers.now i → result ≡ lottery_rank papers.now i }
 {
-    // This call tells that the papers are within their limits.
+    // This call tells that the papers are well-formed and within their limits.
     prove!(papers.students_len() <= MOST_STUDENTS);
-    let mut ahead = 0;
-    for position in 0..papers.students_len() {
-        if ticket_at(papers, position) < *ticket {
-            ahead += 1;
-        }
-    }
-    ahead + 1
+    searched_rank(tickets, ticket)
 }
 
-/// How ranks in the lottery are found.
+/// The rank of the student of a cutoff, from 1, if it has one.
+fn cutoff_rank(papers: &Papers, tickets: &[Key], cutoff: Cutoff) -> Option<u32>
+    requires { tickets.now ≡ in_order (map (ticket_of papers.now) (students_of papers.now)) }
+    ensures { (a : Matching) (s : ℕ) → cutoff ≡ cutoff_of papers.now a s → result ≡ cutoff_rank papers.now cutoff }
+{
+    match cutoff {
+        Cutoff::Full { key } => Some(rank_of(papers, tickets, &ticket_of(key))),
+        Cutoff::Closed | Cutoff::Free => None,
+    }
+}
+
+/// The ranks of the students of rows' cutoffs, in their order.
+fn cutoff_ranks(
+    alloc: Global,
+    papers: &Papers,
+    tickets: &[Key],
+    rows: &[CutoffRow],
+) -> Result<Vec<Option<u32>>, AllocError>
+    requires { tickets.now ≡ in_order (map (ticket_of papers.now) (students_of papers.now)) }
+    ensures count { IfOk result (λ ranks. length ranks.items ≡ length rows.now) }
+    // By whichever matching the rows were made.
+    ensures ranks { IfOk result (λ ranks. (a : Matching) → rows.now ≡ rows_in_order papers.now a → ranks.items ≡ map (λ row. cutoff_rank papers.now row.cutoff) rows.now) }
+{
+    let mut ranks = Vec::with_capacity(alloc, rows.len())?;
+    for row in rows {
+        ranks.push(cutoff_rank(papers, tickets, row.cutoff))?;
+    }
+    Ok(ranks)
+}
+
+/// The ranks in the lottery: of the students, by their tickets, which stand best first, and of the student of each school's
+/// cutoff, by the school's position in the order of entry.
 #[derive(Drop)]
-pub(crate) enum Lottery {
-    /// By a search among the tickets of all students, which stand best first.
-    Sorted { tickets: Vec<Key> },
-    /// By a count of those ahead, each time.
-    Counted,
+pub(crate) struct Lottery {
+    tickets: Vec<Key>,
+    of_cutoffs: Vec<Option<u32>>,
 }
 
 impl Lottery {
-    ghost use Rattle.std.specs.Prelude.{◌≡◌, ◌<◌, ℕ, length, IfOk};
+    ghost use Rattle.std.specs.Prelude.{◌≡◌, ◌<◌, get_or, length, IfOk};
     ghost use Rattle.sc_papers.specs.Market.{student_at};
-    ghost use Rattle.sc_papers.specs.Matching.{Matching};
-    ghost use Rattle.sc_report.specs.Cutoff.{cutoff as cutoff_of};
-    ghost use Rattle.sc_notices.specs.Lottery.{cutoff_rank, lottery_rank, ticket_of};
-    ghost use Rattle.sc_notices.specs.Tickets.{AreTicketsOf};
+    ghost use Rattle.sc_notices.specs.Lottery.{lottery_rank};
+    ghost use Rattle.sc_notices.specs.Tickets.{IsLotteryOf};
 
-    /// The way that finds many ranks. The only error is want of memory. The cost is a sort of the students' tickets.
-    pub(crate) fn sorted(alloc: Global, papers: &Papers) -> Result<Self, AllocError>
-        ensures { IfOk result (λ lottery. AreTicketsOf papers.now lottery) }
+    /// The ranks by the rows of all schools in order of entry. The only error is want of memory. The cost is a sort of the
+    /// students' tickets, and a search among them for each school.
+    pub(crate) fn new(
+        alloc: Global,
+        papers: &Papers,
+        rows: &[CutoffRow],
+    ) -> Result<Self, AllocError>
+        ensures { IfOk result (IsLotteryOf papers.now rows.now) }
     {
-        Ok(Lottery::Sorted {
-            tickets: tickets(alloc, papers)?,
+        let tickets = tickets(alloc, papers)?;
+        let of_cutoffs = cutoff_ranks(alloc, papers, tickets.as_slice(), rows)?;
+        Ok(Lottery {
+            tickets,
+            of_cutoffs,
         })
     }
 
-    /// The rank of a ticket, from 1.
-    fn rank_of(&self, papers: &Papers, ticket: &Key) -> u32
-        requires { AreTicketsOf papers.now self.now }
-        ensures { (i : ℕ) → ticket.now ≡ ticket_of papers.now i → result ≡ lottery_rank papers.now i }
-    {
-        // This call tells that the papers are well-formed and within their limits.
-        prove!(papers.students_len() <= MOST_STUDENTS);
-        match self {
-            Lottery::Sorted { tickets } => searched_rank(tickets.as_slice(), ticket),
-            Lottery::Counted => counted_rank(papers, ticket),
-        }
-    }
-
-    /// The rank of the student at a position of the order of entry, from 1.
-    pub(crate) fn rank_at(&self, papers: &Papers, position: usize) -> u32
-        requires tickets { AreTicketsOf papers.now self.now }
+    /// The rank of the student at a position of the order of entry, from 1, by a search.
+    pub(crate) fn rank_at(&self, papers: &Papers, rows: &[CutoffRow], position: usize) -> u32
+        requires lottery { IsLotteryOf papers.now rows.now self.now }
         requires position { position < length papers.now.students }
         ensures { result ≡ lottery_rank papers.now (student_at papers.now position) }
     {
-        self.rank_of(papers, &ticket_at(papers, position))
+        rank_of(
+            papers,
+            self.tickets.as_slice(),
+            &ticket_at(papers, position),
+        )
     }
-    /// The rank of the student of a cutoff, from 1, if it has one.
-    pub(crate) fn cutoff_rank(&self, papers: &Papers, cutoff: &Cutoff) -> Option<u32>
-        requires { AreTicketsOf papers.now self.now }
-        ensures { (a : Matching) (s : ℕ) → cutoff.now ≡ cutoff_of papers.now a s → result ≡ cutoff_rank papers.now cutoff.now }
+
+    /// The rank of the student of the cutoff of the school at a position of the order of entry, from 1, if it has one.
+    pub(crate) fn cutoff_rank_at(&self, position: usize) -> Option<u32>
+        requires { position < length self.now.of_cutoffs.items }
+        ensures { result ≡ get_or self.now.of_cutoffs.items position result }
     {
-        match cutoff {
-            Cutoff::Full { key } => Some(self.rank_of(papers, &ticket_of(*key))),
-            Cutoff::Closed | Cutoff::Free => None,
-        }
+        self.of_cutoffs[position]
     }
 }

@@ -39,7 +39,7 @@ returns-clause-text c =
     let held = c.entrant_at-entrant.ensures.held ∙ c.index.ensures ∙ ap (λ places. get_or places k c.index.result.now) c.in_ok-places.ensures
     ∙ get_or-map b (students_of m) k one.student c.index.result.now (slice_get_within (students_of m) k one.student here)
     ∙ ap b (get_or_from_slice_get (students_of m) k one.student one.student here) in
-    let made = c.as_slice-2.ensures.value ∙ c.in_ok-rows.ensures.rows b (c.as_slice.ensures.value ∙ c.in_ok-places.ensures) in
+    let made = c.as_slice-rows.ensures.value ∙ c.in_ok-in_order.ensures.rows b (c.as_slice.ensures.value ∙ c.in_ok-places.ensures) in
     let hold = All-cons (Holds b) one [] (sym held) (All-nil (Holds b)) in
     explained-one standing.papers (matching_of standing) b m c.args.student
     c.new-text.result.items c.push_explanations.new.text.items

@@ -9,7 +9,7 @@ pub returns : goal.returns
 returns c =
     let standing = c.args.clearing.now.standing in
     let b = assigned c.places.result.now in
-    let made = c.as_slice-4.ensures.value ∙ c.in_ok-rows.ensures.rows b (c.as_slice-2.ensures.value ∙ c.in_ok-places.ensures) in
+    let made = c.as_slice-rows.ensures.value ∙ c.in_ok-in_order.ensures.rows b (c.as_slice-2.ensures.value ∙ c.in_ok-places.ensures) in
     let hold = subst (All (Holds b)) (sym c.as_slice-3.ensures.value) (c.in_ok-entrants.ensures.hold b (c.as_slice.ensures.value ∙ c.in_ok-places.ensures)) in
     explained standing.papers (matching_of standing) b c.papers-papers.result.now (numbers_of c.as_slice-3.result.now)
     c.in_ok-text.text.items c.push_explanations.new.text.items

@@ -11,6 +11,7 @@ use Rattle.sc_report.specs.Reason.{reason_by}
 use Rattle.sc_notices.specs.Explanation.{is_given, outcome_by}
 use Rattle.sc_notices.specs.Lottery.{lottery_rank}
 use Rattle.sc_notices.specs.ExplanationText.{choice_line}
+use Rattle.sc_notices.proofs.LotteryLemmas.{rank-read}
 use Rattle.sc_notices.proofs.ExplanationLemmas.{before-more, choices-more, ranked, ranked-length}
 use Rattle.sc_notices.proofs.explanation.push_choices.Goals as goal
 
@@ -55,12 +56,13 @@ ranks-preserved c =
           c.in_ok-is_past.ensures.past ∙ (λ t. c.ranks.invariant.past a are holds t || given t) ∙ sym (before-more m a i k s here);
       lines = λ a are holds.
           let given = ap (λ o. is_given o s) (sym holds) in
-          choices-more m a i k s key c.rank_at-own.result cut c.cutoff_rank-last.result (outcome_by (is_given held s) c.ranks.is_past (reason_by cut key)) (is_given held s) c.ranks.is_past c.args.number.now
+          choices-more m a i k s key c.rank_at-own.result cut c.cutoff_rank_at-last.result (outcome_by (is_given held s) c.ranks.is_past (reason_by cut key)) (is_given held s) c.ranks.is_past c.args.number.now
           c.args.text.now.items c.ranks.text.items c.extend_from_slice.new.self.items c.push_choice.new.text.items
           here c.requires.number (c.in-Some.ensures.key ∙ ap (λ (j : ℕ). key_of m j s) same)
           (c.rank_at-own.ensures ∙ ap (lottery_rank m) same)
           (c.cutoff_of-cutoff.ensures m a are c.in-Some.ensures.position)
-          (c.cutoff_rank-last.ensures a s (c.cutoff_of-cutoff.ensures m a are c.in-Some.ensures.position))
+          (rank-read m a c.args.rows.now c.args.lottery.now s c.in-Some.choice.position cut c.cutoff_rank_at-last.result c.requires.lottery are c.in-Some.ensures.position
+          (c.cutoff_of-cutoff.ensures m a are c.in-Some.ensures.position) c.cutoff_rank_at-last.ensures)
           given (c.ranks.invariant.past a are holds) refl (c.ranks.invariant.lines a are holds) c.in_ok-extend_from_slice.ensures.items c.in_ok-is_past.ensures.text;
       within = omega (arith, slice_get_within (choices_of m i) k s here);
     }

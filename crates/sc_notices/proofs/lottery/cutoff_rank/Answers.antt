@@ -1,7 +1,7 @@
 use Rattle.std.proofs.Common.{◌∙◌, Some, ap, sym}
 use Rattle.sc_notices.specs.Lottery.{cutoff_rank}
 use Rattle.sc_notices.proofs.LotteryLemmas.{cutoff-ticket}
-use Rattle.sc_notices.proofs.lottery.Lottery.cutoff_rank.Goals as goal
+use Rattle.sc_notices.proofs.lottery.cutoff_rank.Goals as goal
 
 pub returns-in-Full : goal.returns-in-Full
 returns-in-Full c a s is =
