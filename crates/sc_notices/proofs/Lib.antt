@@ -8,3 +8,5 @@ pub mod OrderedLemmas
 pub mod KeyListLemmas
 pub mod AdmissionLemmas
 pub mod AdmissionLaws
+pub mod ChangeLemmas
+pub mod ChangeLaws

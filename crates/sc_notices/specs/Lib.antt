@@ -8,3 +8,5 @@ pub mod ExplanationText
 pub mod Admissions
 pub mod AdmissionsText
 pub mod KeyLists
+pub mod Changes
+pub mod ChangesText

@@ -1,5 +1,5 @@
 //! The laws of what is told of a standing assignment. Each function does nothing: its contract is the law.
-ghost use Rattle.std.specs.Prelude.{◌≡◌, ◌↔◌, ℕ, Contains, Some, slice_get};
+ghost use Rattle.std.specs.Prelude.{◌≡◌, ◌↔◌, ℕ, Contains, Some, codes, slice_get};
 ghost use Rattle.sc_papers.specs.Key.{key_of};
 ghost use Rattle.sc_papers.specs.Market.{Market, choices_of};
 ghost use Rattle.sc_papers.specs.Matching.{IsMatching, Matching, Prefers, StandsBefore};
@@ -8,6 +8,8 @@ ghost use Rattle.sc_papers.specs.declared.key.Key.{Key};
 ghost use Rattle.sc_report.specs.Reason.{reason};
 ghost use Rattle.sc_seats.specs.Roll.{IsAscending};
 ghost use Rattle.sc_notices.specs.Admissions.{class_list, waiting_list};
+ghost use Rattle.sc_notices.specs.Changes.{changed, place_in};
+ghost use Rattle.sc_notices.specs.ChangesText.{changes_text};
 ghost use Rattle.sc_notices.specs.Explanation.{outcome};
 ghost use Rattle.sc_notices.specs.declared.outcome.Outcome.TheVariants.{Given, Later, Refused};
 
@@ -30,4 +32,11 @@ pub fn admissions_are_so()
     ensures waiting_keys { (m : Market) (a : Matching) (s : ℕ) (key : Key) → Contains (waiting_list m a s) key → key ≡ key_of m key.student s }
     ensures admitted_ascend { (m : Market) (a : Matching) → WellFormed m → (s : ℕ) → IsAscending (class_list m a s) }
     ensures waiting_ascend { (m : Market) (a : Matching) → WellFormed m → (s : ℕ) → IsAscending (waiting_list m a s) }
+{}
+
+/// What is told of two times is so: a student is told of exactly where their place at the one differs from that at the
+/// other, and where the papers are the same and the matchings agree, nobody is.
+pub fn changes_are_so()
+    ensures told { (m : Market) (a : Matching) (n : Market) (b : Matching) (i : ℕ) → (Contains (changed m a n b) i ↔ (place_in m a i ≡ place_in n b i → ⊥)) }
+    ensures unchanged { (m : Market) (a b : Matching) → ((i : ℕ) → a i ≡ b i) → changes_text m a m b ≡ codes "student,before,after\n" }
 {}

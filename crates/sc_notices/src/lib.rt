@@ -1,9 +1,10 @@
 //! What is told of a standing assignment beside its report: the summary that a district publishes, what came of
-//! each choice of a student, and the class list and the waiting list of each school.
+//! each choice of a student, the class list and the waiting list of each school, and whose place amendments changed.
 #![tactic(auto)]
 
 mod admissions;
 mod candidates;
+mod changes;
 mod explanation;
 mod fields;
 mod key_lists;
@@ -16,6 +17,7 @@ mod status;
 mod summary;
 
 pub use admissions::{admissions_of, admissions_text};
+pub use changes::{changes_text, standing_places};
 pub use explanation::{explanation_of, explanation_text};
 pub use outcome::Outcome;
 pub use status::Status;

@@ -1,0 +1,146 @@
+-- The students of either papers, their places, and the lines of those whose place differs.
+use Rattle.std.proofs.Common.{◌≡◌, sym, ◌∙◌, ap, subst, inl, inr, ℕ, ◌+◌, ◌<◌, ◌≤◌, Bool, true, false, not, cond, List, [], ◌∷◌, ◌++◌, append_assoc, length, filter, get_or, take, All, Contains, IsPermutation, None, Some, Result, Ok, Err, slice_get, add-one, arith}
+use Rattle.std.specs.List.Sorted.{IsBinarySearchResult, IsSortedByKey}
+use Rattle.std.specs.Ordering.{nat_cmp}
+use Rattle.std.specs.Prelude.{codes, flat_map}
+use Rattle.std.specs.Result.{is_ok}
+use Rattle.std.proofs.Math.Seq.{take-suc}
+use Rattle.std.proofs.lemmas.Bool.{cases_Bool, cases_lt, cond-false, cond-true}
+use Rattle.std.proofs.lemmas.Grind.{flat_map-append}
+use Rattle.std.proofs.lemmas.List.{append-nil, get_or-map, get_or_default, length-map}
+use Rattle.std.proofs.lemmas.List.Elements.{filter-append}
+use Rattle.std.proofs.lemmas.List.Sorted.{Contains-permutation, IsPermutation-append_left, IsPermutation-sym, searched}
+use Rattle.sc_papers.specs.Market.{Market, is_student, students_of}
+use Rattle.sc_papers.specs.Matching.{Matching}
+use Rattle.sc_papers.proofs.Positions.{among-student, student-among}
+use Rattle.sc_report.specs.Entrants.{numbers_of, AreRising, Holds}
+use Rattle.sc_report.specs.Rising.{rising}
+use Rattle.sc_report.specs.declared.entrants.Entrant.{Entrant}
+use Rattle.sc_report.proofs.RisingLemmas.{rising-orders, rising-permutes, rising-same}
+use Rattle.sc_tallies.proofs.Tallying.{take-one}
+use Rattle.sc_notices.specs.Changes.{changed, differ, place_in, students_of_either}
+use Rattle.sc_notices.specs.ChangesText.{change_line, changes_text}
+use Rattle.sc_notices.proofs.AdmissionLemmas.{sorted-rising}
+
+-- a number that stands among the rising numbers of students is that of one
+found-student : (m : Market) (numbers : List ℕ) (i at : ℕ) → numbers ≡ rising (students_of m) → at < length numbers → get_or numbers at 0 ≡ i → is_student m i ≡ true
+found-student m numbers i at are low here =
+    let among : Contains numbers i = (at, low, get_or_default numbers at i 0 low ∙ here) in
+    among-student m i (Contains-permutation (rising (students_of m)) (students_of m) i (IsPermutation-sym (students_of m) (rising (students_of m)) (rising-permutes (students_of m)))
+    (subst (λ xs. Contains xs i) are among))
+
+-- and one that would stand between them is not
+lost-student : (m : Market) (numbers : List ℕ) (i at : ℕ) → numbers ≡ rising (students_of m) → ((k : ℕ) → k < at → get_or numbers k 0 < i)
+    → ((k : ℕ) → at ≤ k → k < length numbers → i < get_or numbers k 0) → is_student m i ≡ false
+lost-student m numbers i at are below above = elim (cases_Bool (is_student m i)) [
+  | inl known ↦
+      let among : Contains numbers i =
+      subst (λ xs. Contains xs i) (sym are) (Contains-permutation (students_of m) (rising (students_of m)) i (rising-permutes (students_of m)) (student-among m i known)) in
+      let (k, low, here) = among in
+      let there : get_or numbers k 0 ≡ i = get_or_default numbers k 0 i low ∙ here in
+      elim (cases_lt k at) [
+        | inl before ↦ absurd (omega (arith, below k before, there))
+        | inr after ↦ absurd (omega (arith, above k after low, there))
+      ]
+  | inr unknown ↦ unknown
+]
+
+numbers-rise : (xs numbers : List ℕ) → numbers ≡ rising xs → (i j : ℕ) → i ≤ j → j < length numbers → get_or numbers i 0 ≤ get_or numbers j 0
+numbers-rise xs numbers are i j before low =
+    subst (λ ys. get_or ys i 0 ≤ get_or ys j 0) (sym are) (rising-orders xs i j before (subst (λ ys. j < length ys) are low))
+
+-- a search among the rising numbers of students finds exactly the students
+pub searched-student : (m : Market) (numbers : List ℕ) (i : ℕ) (r : Result ℕ ℕ) → numbers ≡ rising (students_of m) → IsBinarySearchResult (λ y. nat_cmp y i) numbers r → is_ok r ≡ is_student m i
+searched-student m numbers i (Ok at) are found =
+    let (low, here) = searched numbers i (Ok at) found (numbers-rise (students_of m) numbers are) in
+    sym (found-student m numbers i at are low here)
+searched-student m numbers i (Err at) are found =
+    let (low, below, above) = searched numbers i (Err at) found (numbers-rise (students_of m) numbers are) in
+    sym (lost-student m numbers i at are below above)
+
+module _ (m : Market) (a : Matching) (numbers : List ℕ) (places : List Entrant) (i : ℕ) (same : numbers ≡ numbers_of places) (are : AreRising m places) where
+  -- what is noted where the number is found is the student's place
+  pub searched-place : All (Holds a) places → (at : ℕ) (one : Entrant) → IsBinarySearchResult (λ y. nat_cmp y i) numbers (Ok at) → one ≡ get_or places at one → Some one.held ≡ place_in m a i
+  searched-place hold at one found is =
+      let rises : numbers ≡ rising (students_of m) = same ∙ are.numbers in
+      let (low, here) = searched numbers i (Ok at) found (numbers-rise (students_of m) numbers rises) in
+      let within : at < length places = omega (arith, low, ap length same, length-map places (λ (e : Entrant). e.student)) in
+      let whose : one.student ≡ i =
+      ap (λ (e : Entrant). e.student) is
+      ∙ sym (get_or-map (λ (e : Entrant). e.student) places at one 0 within)
+      ∙ ap (λ xs. get_or xs at 0) (sym same) ∙ here in
+      let held : Holds a one = subst (Holds a) (sym is) (hold at one within) in
+      ap Some (sym held ∙ ap a whose) ∙ sym (cond-true (is_student m i) (Some (a i)) None (found-student m numbers i at rises low here))
+
+  -- and a number that is not found is that of nobody
+  pub searched-nobody : (at : ℕ) → IsBinarySearchResult (λ y. nat_cmp y i) numbers (Err at) → None ≡ place_in m a i
+  searched-nobody at found =
+      let unknown = searched-student m numbers i (Err at) (same ∙ are.numbers) found in
+      sym (cond-false (is_student m i) (Some (a i)) None (sym unknown))
+
+-- those who passed, and one more
+filter-more : (p : ℕ → Bool) (xs : List ℕ) (x : ℕ) → filter p (xs ++ x ∷ []) ≡ cond (p x) (filter p xs ++ x ∷ []) (filter p xs)
+filter-more p xs x = elim (cases_Bool (p x)) [
+  | inl passes ↦
+      filter-append p xs (x ∷ []) ∙ ap (λ more. filter p xs ++ more) (cond-true (p x) (x ∷ []) [] passes)
+      ∙ sym (cond-true (p x) (filter p xs ++ x ∷ []) (filter p xs) passes)
+  | inr fails ↦
+      filter-append p xs (x ∷ []) ∙ ap (λ more. filter p xs ++ more) (cond-false (p x) (x ∷ []) [] fails) ∙ append-nil (filter p xs)
+      ∙ sym (cond-false (p x) (filter p xs ++ x ∷ []) (filter p xs) fails)
+]
+
+-- the newcomers so far, and one more
+pub newcomers-more : (m : Market) (xs : List ℕ) (k x : ℕ) (known : Bool) (old before after : List ℕ) → slice_get xs k ≡ Some x → known ≡ is_student m x
+    → before ≡ old ++ filter (λ i. not (is_student m i)) (take k xs) → after ≡ cond known before (before ++ x ∷ [])
+    → after ≡ old ++ filter (λ i. not (is_student m i)) (take (k + 1) xs)
+newcomers-more m xs k x known old before after here known_is before_is after_is =
+    let p = λ (i : ℕ). not (is_student m i) in
+    let first = filter p (take k xs) in
+    let more : filter p (take (k + 1) xs) ≡ cond (p x) (first ++ x ∷ []) first = ap (filter p) (take-one xs k x here) ∙ filter-more p (take k xs) x in
+    elim (cases_Bool (is_student m x)) [
+      | inl is ↦
+          after_is ∙ cond-true known before (before ++ x ∷ []) (known_is ∙ is) ∙ before_is
+          ∙ ap (λ ys. old ++ ys) (sym (more ∙ cond-false (p x) (first ++ x ∷ []) first (ap not is)))
+      | inr unknown ↦
+          after_is ∙ cond-false known before (before ++ x ∷ []) (known_is ∙ unknown) ∙ ap (λ ys. ys ++ x ∷ []) before_is
+          ∙ append_assoc old first (x ∷ [])
+          ∙ ap (λ ys. old ++ ys) (sym (more ∙ cond-true (p x) (first ++ x ∷ []) first (ap not unknown)))
+    ]
+
+-- the students of the first papers by rising number and the newcomers, sorted, are those of either papers
+pub either-rising : (m n : Market) (numbers all sorted : List ℕ) → numbers ≡ rising (students_of m) → all ≡ numbers ++ filter (λ i. not (is_student m i)) (students_of n)
+    → IsPermutation all sorted → IsSortedByKey (λ x. x) nat_cmp sorted → sorted ≡ rising (students_of_either m n)
+either-rising m n numbers all sorted are all_is moved up =
+    let new = filter (λ i. not (is_student m i)) (students_of n) in
+    sorted-rising all sorted moved up
+    ∙ ap rising (all_is ∙ ap (λ xs. xs ++ new) are)
+    ∙ rising-same (students_of_either m n) (rising (students_of m) ++ new) (IsPermutation-append_left new (students_of m) (rising (students_of m)) (rising-permutes (students_of m)))
+
+-- the lines of those who passed so far, and of one more if they pass
+pub lines-kept : (f : ℕ → List ℕ) (p : ℕ → Bool) (xs : List ℕ) (k x : ℕ) (old text new : List ℕ) → text ≡ old ++ flat_map f (filter p (take k xs)) → new ≡ cond (p x) (text ++ f x) text
+    → k < length xs → x ≡ get_or xs k x → new ≡ old ++ flat_map f (filter p (take (k + 1) xs))
+lines-kept f p xs k x old text new before grew low is =
+    let first = filter p (take k xs) in
+    let front : take (k + 1) xs ≡ take k xs ++ x ∷ [] = rw (add-one, take-suc xs k x low) (ap (λ y. take k xs ++ y ∷ []) (sym is)) in
+    let more : filter p (take (k + 1) xs) ≡ cond (p x) (first ++ x ∷ []) first = ap (filter p) front ∙ filter-more p (take k xs) x in
+    elim (cases_Bool (p x)) [
+      | inl passes ↦
+          grew ∙ cond-true (p x) (text ++ f x) text passes ∙ ap (λ t. t ++ f x) before ∙ append_assoc old (flat_map f first) (f x)
+          ∙ ap (λ ys. old ++ ys)
+          (ap (λ ys. flat_map f first ++ ys) (sym (append-nil (f x))) ∙ sym (flat_map-append f first (x ∷ []))
+          ∙ ap (flat_map f) (sym (more ∙ cond-true (p x) (first ++ x ∷ []) first passes)))
+      | inr fails ↦
+          grew ∙ cond-false (p x) (text ++ f x) text fails ∙ before
+          ∙ ap (λ ys. old ++ flat_map f ys) (sym (more ∙ cond-false (p x) (first ++ x ∷ []) first fails))
+    ]
+
+-- a text that gained the header and then the lines of those whose place differs is that of the changes
+pub changes-joined : (m : Market) (a : Matching) (n : Market) (b : Matching) (papers : Market) (students old start text : List ℕ) → papers ≡ n → students ≡ rising (students_of_either m papers)
+    → old ≡ [] → start ≡ old ++ codes "student,before,after\n"
+    → text ≡ start ++ flat_map (λ i. change_line i (place_in m a i) (place_in n b i)) (filter (λ i. differ (place_in m a i) (place_in n b i)) students)
+    → text ≡ changes_text m a n b
+unfolding changed changes_text
+changes-joined m a n b papers students old start text papers_is students_is old_is start_is text_is =
+    let lines = λ (xs : List ℕ). flat_map (λ i. change_line i (place_in m a i) (place_in n b i)) (filter (λ i. differ (place_in m a i) (place_in n b i)) xs) in
+    text_is ∙ ap (λ t. t ++ lines students) (start_is ∙ ap (λ o. o ++ codes "student,before,after\n") old_is)
+    ∙ ap (λ xs. codes "student,before,after\n" ++ lines xs) (students_is ∙ ap (λ q. rising (students_of_either m q)) papers_is)
