@@ -27,7 +27,8 @@ BUILT = HERE / "crates/clearinghouse/out/clearinghouse"
 INPUTS = {"check": ["schools", "roster", "lists", "script"], "match": ["schools", "roster", "lists"], "run": ["schools", "roster", "lists", "script"],
           "audit": ["schools", "roster", "lists", "log", "report"], "replay": ["schools", "roster", "lists", "journal"],
           "summary": ["schools", "roster", "lists", "journal"], "explain": ["schools", "roster", "lists", "journal"],
-          "admissions": ["schools", "roster", "lists", "journal"], "export": ["schools", "roster", "lists", "journal"]}
+          "admissions": ["schools", "roster", "lists", "journal"], "changes": ["schools", "roster", "lists", "journal"],
+          "export": ["schools", "roster", "lists", "journal"]}
 # The inputs that a subcommand may go without.
 OPTIONAL = {"check": ["script"], "audit": ["report"], "summary": ["journal"], "explain": ["journal"], "admissions": ["journal"], "export": ["journal"]}
 Case = collections.namedtuple("Case", "kind seed texts words")
@@ -180,7 +181,7 @@ def make_case(seed, at):
     texts = {"schools": rendered(rng, ["school", "zone", "seats"], [list(row) for row in rows], untidy),
              "roster": rendered(rng, roster_header(rng, roster), roster, untidy),
              "lists": rendered(rng, ["student", "choices"], [list(row) for row in lists], untidy)}
-    kind = rng.choice(["bundle", "bundle", "check", "check", "match", "run", "run", "audit", "replay", "summary", "explain", "admissions", "export", "words"])
+    kind = rng.choice(["bundle", "bundle", "check", "check", "match", "run", "run", "audit", "replay", "summary", "explain", "admissions", "changes", "export", "words"])
     script = rendered(rng, None, list(stamped(rng, texts, amendments(rng, rows, roster, rng.randint(0, 12)))), untidy)
     key = b"0" * 32
     if kind == "run" or (kind in ("bundle", "check") and rng.random() < 0.6):
@@ -193,7 +194,7 @@ def make_case(seed, at):
         texts["log"] = log if rng.random() < 0.6 else changed(rng, log)
         if rng.random() < 0.6:
             texts["report"] = published(rng, key, texts)
-    elif kind == "replay" or (kind in OPTIONAL and rng.random() < 0.7):
+    elif kind in ("replay", "changes") or (kind in OPTIONAL and rng.random() < 0.7):
         try:
             journal = reference.call_run(key, *(texts[name] for name in INPUTS["match"]), script)[1]
         except reference.Stop:
@@ -215,6 +216,8 @@ def make_case(seed, at):
         return Case(kind, seed_given, texts, student_words(rng, roster))
     if kind == "admissions":
         return Case(kind, seed_given, texts, school_words(rng, rows))
+    if kind == "changes":
+        return Case(kind, seed_given, texts, since_words(rng, texts["journal"]))
     if kind == "run":
         # Sometimes there is a journal already, empty or not.
         if rng.random() < 0.3:
@@ -259,6 +262,13 @@ def school_words(rng, rows):
     known = [row[0] for row in rows] + [rng.randint(1, 60)]
     school = rng.choice(["0", "", "x", "-1", " 1", "100000", "0000000001"]) if rng.random() < 0.2 else "0" * rng.choice([0, 0, 1]) + str(rng.choice(known))
     return rng.choice([[], ["--school=" + school]])
+
+
+def since_words(rng, journal):
+    """Since which line `changes` is to tell: since the opening, or one that the journal has, or one that it has not, or what is no number."""
+    lines = journal.count(b"\n")
+    since = rng.choice(["", "x", "-1", " 1", "1000000000", "0000000001"]) if rng.random() < 0.15 else "0" * rng.choice([0, 0, 1]) + str(rng.randint(0, lines + rng.choice([0, 0, 0, 2])))
+    return [] if rng.random() < 0.3 else ["--since=" + since]
 
 
 def seeded(kind):
@@ -307,7 +317,8 @@ def told(case):
     if case.kind == "bundle":
         return reference.told(reference.call_bundle, case.texts["bundle"])
     call = {"check": reference.call_check, "match": reference.call_match, "run": reference.call_run, "audit": reference.call_audit, "replay": reference.call_replay,
-            "summary": reference.call_summary, "explain": reference.call_explain, "admissions": reference.call_admissions, "export": reference.call_export}[case.kind]
+            "summary": reference.call_summary, "explain": reference.call_explain, "admissions": reference.call_admissions, "changes": reference.call_changes,
+            "export": reference.call_export}[case.kind]
 
     def made():
         given = [case.texts[name] for name in INPUTS[case.kind] if name in case.texts]
@@ -318,6 +329,8 @@ def told(case):
             return call(key, *given, student=case.words[0].split("=", 1)[1].encode())
         if case.kind == "admissions" and case.words:
             return call(key, *given, school=case.words[0].split("=", 1)[1].encode())
+        if case.kind == "changes" and case.words:
+            return call(key, *given, since=case.words[0].split("=", 1)[1].encode())
         options = {"print_log": True} if "--print-log" in case.words else {}
         options |= {"table": word.split("=", 1)[1].encode() for word in case.words if word.startswith("--table=")}
         return call(key, *given, **options)

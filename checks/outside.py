@@ -123,7 +123,8 @@ def address_spaces(trials):
     opening = trials.calls["match"][1:]
     files = opening[2:]
     calls = {"bundle": [], **trials.calls, "check": ["check", *files, "--script", "script"], "summary": ["summary", *opening, "--journal", "kept"],
-             "explain": ["explain", *opening], "admissions": ["admissions", *opening], "export": ["export", *opening, "--to", "next"]}
+             "explain": ["explain", *opening], "admissions": ["admissions", *opening],
+             "changes": ["changes", *opening, "--journal", "kept"], "export": ["export", *opening, "--to", "next"]}
     for name, words in calls.items():
         given = trials.bundle if name == "bundle" else b""
         empty_again(trials.folder)

@@ -12,6 +12,7 @@ It is slow and simple on purpose: `compare.py` runs it beside the built program 
     reference.py summary .. [--journal ..]
     reference.py explain .. [--journal ..] [--student N]
     reference.py admissions .. [--journal ..] [--school N]
+    reference.py changes .. --journal .. [--since LINE]
     reference.py export .. [--journal ..] --to FOLDER
 
 Each call is also a function here: it takes the bytes of the inputs and gives (output, journal, fault line, status); that of
@@ -564,6 +565,21 @@ def admissions(papers, only=None):
     return ("\n".join(lines) + "\n").encode()
 
 
+def changes(before, after):
+    """Whose place differs between two times, of which the places are given."""
+    def place_at(places, student):
+        if student not in places:
+            return "absent"
+        return "-" if places[student] is None else str(places[student])
+
+    lines = ["student,before,after"]
+    for student in sorted({*before, *after}):
+        was, has = place_at(before, student), place_at(after, student)
+        if was != has:
+            lines.append(f"{student},{was},{has}")
+    return ("\n".join(lines) + "\n").encode()
+
+
 def exported(papers):
     """The files of the papers, by their names."""
     def listed(numbers):
@@ -759,6 +775,26 @@ def call_admissions(key, schools, roster, lists, journal=None, school=None):
     return admissions(papers, only), b"", status
 
 
+def lines_of(word):
+    """How many lines a word of the command line says."""
+    if not re.fullmatch(rb"[0-9]{1,9}", word):
+        raise Stop("since: Number", 2, opened=False)
+    return int(word)
+
+
+def call_changes(key, schools, roster, lists, journal, since=None):
+    """Without a number of lines the papers of the opening are those before."""
+    count = 0 if since is None else lines_of(since)
+    too_long(*files(schools, roster, lists), ("journal", journal))
+    earlier, later = papers_of(key, schools, roster, lists), papers_of(key, schools, roster, lists)
+    status = replayed(later, journal)
+    lines = journal.split(b"\n")[:-1]
+    if count > len(lines):
+        raise Stop(f"changes: NoLine {count}", 3)
+    replayed(earlier, b"".join(line + b"\n" for line in lines[:count]))
+    return changes(settled(earlier)[0], settled(later)[0]), b"", status
+
+
 def call_export(key, schools, roster, lists, journal=None):
     """Without a journal the papers of the opening are exported."""
     too_long(*files(schools, roster, lists), ("journal", journal or b""))
@@ -820,7 +856,8 @@ def main(words):
         options = dict(zip(rest[::2], rest[1::2]))
         kept = "--journal" if "--journal" in options else None
         late = "--script" if "--script" in options else None
-        last = {"check": late, "match": None, "run": "--script", "audit": "--log", "replay": "--journal", "summary": kept, "explain": kept, "admissions": kept, "export": kept}[words[0]]
+        last = {"check": late, "match": None, "run": "--script", "audit": "--log", "replay": "--journal", "summary": kept, "explain": kept, "admissions": kept, "changes": "--journal",
+                "export": kept}[words[0]]
         names = ["--schools", "--roster", "--lists"] + ([last] if last else [])
 
         def call():
@@ -839,6 +876,8 @@ def main(words):
                 return call_explain(key, *texts, student=options["--student"].encode() if "--student" in options else None)
             if words[0] == "admissions":
                 return call_admissions(key, *texts, school=options["--school"].encode() if "--school" in options else None)
+            if words[0] == "changes":
+                return call_changes(key, *texts, since=options["--since"].encode() if "--since" in options else None)
             return {"run": call_run, "summary": call_summary, "export": call_export}[words[0]](key, *texts)
 
         output, journal, line, status = told(call)

@@ -7,9 +7,9 @@ use sc_papers::{SchoolNo, Seed, StudentNo};
 use sc_report::{DeviceFailed, Watched, write_whole};
 use sc_runs::{
     Ending, Inputs, Opening, PapersFile, PapersFiles, RunFault, Settling, Table, admissions_files,
-    audit_files, audit_report_files, check_files, explain_files, export_files, fault_line,
-    match_files, read_school, read_student, replay_files, run, run_bundle, status_of,
-    summary_files, table_files, table_named,
+    audit_files, audit_report_files, changes_files, check_files, explain_files, export_files,
+    fault_line, match_files, read_school, read_since, read_student, replay_files, run, run_bundle,
+    status_of, summary_files, table_files, table_named,
 };
 use sc_words::{FileWords, OpeningWords, Order, Subcommand, Word, order_of};
 use std::alloc::Global;
@@ -450,6 +450,40 @@ fn list_named<R: Files + AllocGlobal, W: Write>(
     }
 }
 
+/// Tells whose place the amendments of a journal changed after its first lines, so many.
+fn change<R: Files + AllocGlobal, W: Write>(
+    rt: &R,
+    seed: &Seed,
+    words: &OpeningWords<'_>,
+    journal: &str,
+    since: u32,
+    out: &mut Watched<W>,
+) -> Result<Ending, RunFault> {
+    let mut opening = open_opening(rt, &words.files)?;
+    let mut journal = open_input(rt, journal, Source::Journal)?;
+    let changed = changes_files(rt.alloc(), seed, &mut opening, &mut journal, since, out)?;
+    Ok(Ending::from(changed))
+}
+
+/// Tells whose place the amendments of a journal changed after as many of its lines as the words say, or after none
+/// where they say nothing. The number of lines is read before a file is opened.
+fn change_since<R: Files + AllocGlobal, W: Write>(
+    rt: &R,
+    seed: &Seed,
+    words: &OpeningWords<'_>,
+    journal: &str,
+    since: Option<&str>,
+    out: &mut Watched<W>,
+) -> Result<Ending, RunFault> {
+    let Some(text) = since else {
+        return change(rt, seed, words, journal, 0, out);
+    };
+    match read_since(text.as_bytes()) {
+        Some(since) => change(rt, seed, words, journal, since, out),
+        None => Ok(Ending::BadSince),
+    }
+}
+
 /// Makes the call that a subcommand asks for, under this seed.
 fn dispatch<R: Files + AllocGlobal, W: Write>(
     rt: &R,
@@ -494,6 +528,9 @@ fn dispatch<R: Files + AllocGlobal, W: Write>(
         }
         Subcommand::Admissions { school, journal } => {
             list_named(rt, seed, opening, *school, *journal, out)
+        }
+        Subcommand::Changes { journal, since } => {
+            change_since(rt, seed, opening, journal, *since, out)
         }
         Subcommand::Export { to, journal } => export_papers(rt, seed, opening, to, *journal),
     }

@@ -568,6 +568,48 @@ fn class_lists_and_waiting_lists(rt: HostRuntime) -> io::Result<()> {
     Ok(())
 }
 
+/// Whose place a newcomer changes in Market B.
+const CHANGES: &str = "student,before,after\n1,10,20\n2,20,-\n3,absent,10\n";
+
+/// Options of a call that tells whose place a journal changed in Market B, what it writes, and its end.
+const CHANGED: &[(&[&str], &str, &str)] = &[
+    (&[], CHANGES, "clearinghouse: journal torn\n0"),
+    (
+        &["--since", "00"],
+        CHANGES,
+        "clearinghouse: journal torn\n0",
+    ),
+    (
+        &["--since=1"],
+        "student,before,after\n",
+        "clearinghouse: journal torn\n0",
+    ),
+    (&["--since=2"], "", "clearinghouse: changes: NoLine 2\n3"),
+    (&["--since="], "", "clearinghouse: since: Number\n2"),
+    (
+        &["--since=1000000000"],
+        "",
+        "clearinghouse: since: Number\n2",
+    ),
+    (&["--since=us"], "", "clearinghouse: since: Number\n2"),
+];
+
+#[test]
+fn whose_place_changed(rt: HostRuntime) -> io::Result<()> {
+    write_files(&rt)?;
+    without_kept(&rt)?;
+    let absent = ordered(&rt, "changes", &["--journal", "kept", "--since", "x"]);
+    expect(&rt, absent, "", "clearinghouse: since: Number\n2");
+    let missing = ordered(&rt, "changes", &["--journal", "kept"]);
+    expect(&rt, missing, "", "clearinghouse: cannot read journal\n4");
+    fs::write(&rt, "kept", "1,enter,3,1,10,10\n2,withdraw,3")?;
+    for (options, text, end) in CHANGED {
+        let told = after_kept(&rt, "changes", options);
+        expect(&rt, told, text, end);
+    }
+    Ok(())
+}
+
 /// The three files of a folder, one after the other.
 fn files_in(rt: &HostRuntime, names: &[&str]) -> io::Result<String> {
     let mut all = String::new(rt.alloc());

@@ -2,7 +2,7 @@
 //! refused would be a failed write.
 
 use crate::market::{
-    ADMISSIONS, ADMISSIONS_OF_20, BUNDLE, EXPLANATION, EXPLANATION_OF_2, EXPORTED, FAULTS,
+    ADMISSIONS, ADMISSIONS_OF_20, BUNDLE, CHANGES, EXPLANATION, EXPLANATION_OF_2, EXPORTED, FAULTS,
     FAULTY_LISTS, JOURNAL, LISTS, LOG, REPORT, ROSTER, SCHOOLS, SCRIPT, SUMMARY, WHOLE_RUN, seed,
 };
 use crate::twice::{Call, expect};
@@ -10,8 +10,8 @@ use sc_papers::{SchoolNo, StudentNo};
 use sc_report::Watched;
 use sc_runs::{
     Ending, Inputs, Opening, PapersFiles, RunFault, Settling, Table, admissions_files, audit_files,
-    audit_report_files, check_files, explain_files, export_files, match_files, replay_files, run,
-    run_bundle, summary_files, table_files,
+    audit_report_files, changes_files, check_files, explain_files, export_files, match_files,
+    replay_files, run, run_bundle, summary_files, table_files,
 };
 use std::alloc::{AllocError, Global};
 use std::process::Abort;
@@ -262,6 +262,18 @@ pub fn admitted(
 fn admissions_of_files(rt: HostRuntime) {
     expect(&rt, rt.alloc(), Call::AdmissionsFiles, ADMISSIONS);
     expect(&rt, rt.alloc(), Call::AdmissionsOfSchool, ADMISSIONS_OF_20);
+}
+
+pub fn changed(rt: &impl Abort, alloc: Global) -> Result<String, AllocError> {
+    let mut out = writer(alloc)?;
+    let mut journal = Watched::new(JOURNAL.as_bytes());
+    let answer = changes_files(alloc, &seed(rt), &mut opening(), &mut journal, 1, &mut out);
+    one_text(rt, alloc, answer.err(), &out)
+}
+
+#[test]
+fn changes_of_files(rt: HostRuntime) {
+    expect(&rt, rt.alloc(), Call::ChangesFiles, CHANGES);
 }
 
 pub fn checked(rt: &impl Abort, alloc: Global) -> Result<String, AllocError> {

@@ -52,6 +52,9 @@ pub const ADMISSIONS: &str =
 pub const ADMISSIONS_OF_20: &str =
     "school,rank,student,class,draw,status\n20,1,2,4,b819d2bd1aed8da0,admitted\n";
 
+/// Whose place the newcomer's leaving changes.
+pub const CHANGES: &str = "student,before,after\n1,20,10\n2,-,20\n3,10,absent\n";
+
 /// What a run of the script writes.
 pub const WHOLE_RUN: &str =
     "1,ok\n2,refused,1,Shape\n3,refused,2,UnknownStudent\n4,refused,6,UnknownSchool,77\n5,ok\nstudent,school\n1,10\n2,20\nschool,seats,held,class,draw,student\n10,1,1,4,e56a5d4028bd8653,1\n20,1,1,4,b819d2bd1aed8da0,2\nstudent,school,reason\n";

@@ -35,6 +35,7 @@ pub enum Call {
     ExplainStudent,
     AdmissionsFiles,
     AdmissionsOfSchool,
+    ChangesFiles,
     CheckFiles,
     RunBundle,
 }
@@ -68,6 +69,7 @@ fn attempt(rt: &impl Abort, alloc: Global, call: Call) -> Result<String, AllocEr
         Call::ExplainStudent => calls::explained(rt, alloc, StudentNo::new(2)),
         Call::AdmissionsFiles => calls::admitted(rt, alloc, None),
         Call::AdmissionsOfSchool => calls::admitted(rt, alloc, SchoolNo::new(20)),
+        Call::ChangesFiles => calls::changed(rt, alloc),
         Call::CheckFiles => calls::checked(rt, alloc),
         Call::RunBundle => calls::ran_bundle(rt, alloc),
     }

@@ -8,6 +8,8 @@ pub mod Seeds
 pub mod Standings
 pub mod Explanations
 pub mod SchoolLists
+pub mod Changes
+pub mod LastLines
 pub mod Checks
 pub mod Replies
 pub mod TwoWriters

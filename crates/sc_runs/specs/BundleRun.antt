@@ -10,7 +10,7 @@ use Rattle.sc_runs.specs.Inputs.{Turn, EndsReading, IsRead}
 use Rattle.sc_runs.specs.Opening.{is_output_fault, papers_in, WritesMatch}
 use Rattle.sc_runs.specs.Run.{opened_in, WritesRun}
 use Rattle.sc_runs.specs.declared.ending.Ending.{Ending}
-use Rattle.sc_runs.specs.declared.ending.Ending.TheVariants.{Done, NotCertified, Faulty, Torn, BadSeed, BadBundle, BadStudent, BadTable, TableBesideLog, UnknownStudent, BadSchool, UnknownSchool, AlreadyThere, Unwritten, Fault}
+use Rattle.sc_runs.specs.declared.ending.Ending.TheVariants.{Done, NotCertified, Faulty, Torn, BadSeed, BadBundle, BadStudent, BadTable, TableBesideLog, UnknownStudent, BadSchool, UnknownSchool, BadSince, NoLine, AlreadyThere, Unwritten, Fault}
 use Rattle.sc_runs.specs.declared.fault.RunFault.{RunFault}
 
 -- what running the papers and a script does, with a journal that keeps nothing; without a script it is
@@ -49,6 +49,8 @@ EndsBundle text old new TableBesideLog = ⊥
 EndsBundle text old new (UnknownStudent student) = ⊥
 EndsBundle text old new BadSchool = ⊥
 EndsBundle text old new (UnknownSchool school) = ⊥
+EndsBundle text old new BadSince = ⊥
+EndsBundle text old new (NoLine line) = ⊥
 EndsBundle text old new (AlreadyThere file) = ⊥
 EndsBundle text old new (Unwritten file) = ⊥
 EndsBundle text old new (Fault fault) = RunsSections text old new (Err fault)
@@ -78,6 +80,8 @@ ends_by_output TableBesideLog = false
 ends_by_output (UnknownStudent student) = false
 ends_by_output BadSchool = false
 ends_by_output (UnknownSchool school) = false
+ends_by_output BadSince = false
+ends_by_output (NoLine line) = false
 ends_by_output (AlreadyThere file) = false
 ends_by_output (Unwritten file) = false
 ends_by_output (Fault fault) = is_output_fault {A = Unit {0}} (Err fault)

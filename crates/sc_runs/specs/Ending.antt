@@ -6,10 +6,12 @@ use Rattle.sc_journal.specs.declared.journal.Tail.{Tail}
 use Rattle.sc_journal.specs.declared.journal.Tail.TheVariants as journal
 use Rattle.sc_runs.specs.declared.admitting.Listed.{Listed}
 use Rattle.sc_runs.specs.declared.admitting.Listed.TheVariants as listed
+use Rattle.sc_runs.specs.declared.changing.Changed.{Changed}
+use Rattle.sc_runs.specs.declared.changing.Changed.TheVariants as changed
 use Rattle.sc_runs.specs.declared.checking.Checked.{Checked}
 use Rattle.sc_runs.specs.declared.checking.Checked.TheVariants as files
 use Rattle.sc_runs.specs.declared.ending.Ending.{Ending}
-use Rattle.sc_runs.specs.declared.ending.Ending.TheVariants.{Done, NotCertified, Faulty, Torn, BadSeed, BadBundle, BadStudent, BadTable, TableBesideLog, UnknownStudent, BadSchool, UnknownSchool, AlreadyThere, Unwritten, Fault}
+use Rattle.sc_runs.specs.declared.ending.Ending.TheVariants.{Done, NotCertified, Faulty, Torn, BadSeed, BadBundle, BadStudent, BadTable, TableBesideLog, UnknownStudent, BadSchool, UnknownSchool, BadSince, NoLine, AlreadyThere, Unwritten, Fault}
 use Rattle.sc_runs.specs.declared.explaining.Explained.{Explained}
 use Rattle.sc_runs.specs.declared.explaining.Explained.TheVariants as explained
 use Rattle.sc_runs.specs.declared.fault.RunFault.{RunFault}
@@ -50,6 +52,11 @@ abbrev pub ending_of_listing : Listed → Ending
 ending_of_listing (listed.Written tail) = ending_after tail
 ending_of_listing (listed.UnknownSchool school) = UnknownSchool school
 
+-- of telling whose place changed: as its journal ends, or for want of the line
+abbrev pub ending_of_change : Changed → Ending
+ending_of_change (changed.Written tail) = ending_after tail
+ending_of_change (changed.NoLine line) = NoLine line
+
 -- the status of a run that ended early: 3 for a fault of what was read, 4 for a stream, 5 for want of memory
 abbrev pub status_of_fault : RunFault → ℕ
 status_of_fault (Read source) = 4
@@ -59,9 +66,9 @@ status_of_fault WriteOut = 4
 status_of_fault WriteJournal = 4
 status_of_fault OutOfMemory = 5
 
--- of an ending: 0 for done and for a torn journal, 1 for not certified, 2 for a bad seed, student, school or table and for a table beside a log,
--- 3 for a bad bundle, for files that were found faulty and for a student or a school that is not in the papers, 4 for a file of papers that was not
--- written
+-- of an ending: 0 for done and for a torn journal, 1 for not certified, 2 for a bad seed, student, school, number of lines or table and for a table
+-- beside a log, 3 for a bad bundle, for files that were found faulty, for a student or a school that is not in the papers and for a line that the
+-- journal has not, 4 for a file of papers that was not written
 abbrev pub status_of : Ending → ℕ
 status_of Done = 0
 status_of NotCertified = 1
@@ -75,6 +82,8 @@ status_of TableBesideLog = 2
 status_of (UnknownStudent student) = 3
 status_of BadSchool = 2
 status_of (UnknownSchool school) = 3
+status_of BadSince = 2
+status_of (NoLine line) = 3
 status_of (AlreadyThere file) = 4
 status_of (Unwritten file) = 4
 status_of (Fault fault) = status_of_fault fault

@@ -5,7 +5,7 @@ use Rattle.sc_lottery.specs.Seed.{refusal_text}
 use Rattle.sc_intake.specs.FaultText.{fault_text, source_text}
 use Rattle.sc_journal.specs.FaultText as journal
 use Rattle.sc_runs.specs.declared.ending.Ending.{Ending}
-use Rattle.sc_runs.specs.declared.ending.Ending.TheVariants.{Done, NotCertified, Faulty, Torn, BadSeed, BadBundle, BadStudent, BadTable, TableBesideLog, UnknownStudent, BadSchool, UnknownSchool, AlreadyThere, Unwritten, Fault}
+use Rattle.sc_runs.specs.declared.ending.Ending.TheVariants.{Done, NotCertified, Faulty, Torn, BadSeed, BadBundle, BadStudent, BadTable, TableBesideLog, UnknownStudent, BadSchool, UnknownSchool, BadSince, NoLine, AlreadyThere, Unwritten, Fault}
 use Rattle.sc_runs.specs.declared.ending.PapersFile.{PapersFile}
 use Rattle.sc_runs.specs.declared.ending.PapersFile.TheVariants.{Schools, Roster, Lists}
 use Rattle.sc_runs.specs.declared.fault.RunFault.{RunFault}
@@ -52,6 +52,8 @@ ending_words TableBesideLog = codes "table: Log"
 ending_words (UnknownStudent student) = codes "explain: UnknownStudent " ++ decimal student
 ending_words BadSchool = codes "school: Number"
 ending_words (UnknownSchool school) = codes "admissions: UnknownSchool " ++ decimal school
+ending_words BadSince = codes "since: Number"
+ending_words (NoLine line) = codes "changes: NoLine " ++ decimal line
 ending_words (AlreadyThere file) = there_words file
 ending_words (Unwritten file) = unwritten_words file
 ending_words (Fault fault) = fault_words fault
@@ -74,6 +76,8 @@ fault_line TableBesideLog = line_with (ending_words TableBesideLog)
 fault_line (UnknownStudent student) = line_with (ending_words (UnknownStudent student))
 fault_line BadSchool = line_with (ending_words BadSchool)
 fault_line (UnknownSchool school) = line_with (ending_words (UnknownSchool school))
+fault_line BadSince = line_with (ending_words BadSince)
+fault_line (NoLine line) = line_with (ending_words (NoLine line))
 fault_line (AlreadyThere file) = line_with (ending_words (AlreadyThere file))
 fault_line (Unwritten file) = line_with (ending_words (Unwritten file))
 fault_line (Fault fault) = line_with (ending_words (Fault fault))

@@ -13,6 +13,7 @@ pub mod Replaying
 pub mod Standing
 pub mod Explaining
 pub mod Admitting
+pub mod Changing
 pub mod FaultLine
 pub mod Exporting
 pub mod Checking

@@ -5,6 +5,7 @@ ghost use Rattle.sc_runs.specs.Ending.{status_of, status_of_fault};
 ghost use Rattle.sc_runs.specs.FaultLine.{ending_words, fault_line, there_words, unwritten_words};
 
 use crate::admitting::Listed;
+use crate::changing::Changed;
 use crate::checking::Checked;
 use crate::explaining::Explained;
 use crate::fault::RunFault;
@@ -70,6 +71,10 @@ pub enum Ending {
     BadSchool,
     /// The school whose lists are asked for is not in the papers.
     UnknownSchool { school: SchoolNo },
+    /// The word that is to say since which line of a journal changes are told is no number of lines.
+    BadSince,
+    /// Changes were asked for since a line that the journal has not.
+    NoLine { line: u32 },
     /// A file of exported papers is there already, and stays as it is. Those before it, in the order schools, roster,
     /// lists, were written whole.
     AlreadyThere { file: PapersFile },
@@ -166,6 +171,20 @@ impl From<Listed> for Ending {
     }
 }
 
+/// How telling whose place changed ends: as its journal does, or for want of the line.
+impl From<Changed> for Ending {
+    ghost use Rattle.sc_runs.specs.Ending.{ending_of_change};
+
+    ghost from_gives = { λ changed ending. ending ≡ ending_of_change changed };
+
+    fn from(changed: Changed) -> Self {
+        match changed {
+            Changed::Written { tail } => Ending::from(tail),
+            Changed::NoLine { line } => Ending::NoLine { line },
+        }
+    }
+}
+
 impl fmt::Display for Ending {
     ghost output = { λ ending. Some (ending_words ending) };
 
@@ -189,6 +208,8 @@ impl fmt::Display for Ending {
                 "admissions: UnknownSchool {}",
                 school.get()
             ),
+            Ending::BadSince => f.write_str("since: Number"),
+            Ending::NoLine { line } => write!(f, "changes: NoLine {line}"),
             Ending::AlreadyThere { file } => f.write_str(there_words(*file)),
             Ending::Unwritten { file } => f.write_str(unwritten_words(*file)),
             Ending::Fault(fault) => write!(f, "{fault}"),
@@ -220,10 +241,10 @@ fn unwritten_words(file: PapersFile) -> &'static str
     }
 }
 
-/// The exit status: 0 done (a torn journal is no fault), 1 not certified, 2 a bad seed, a student's or a school's number that
-/// is none, a table's name that is none or a table beside a log, 3 a fault of an input, the bundle or the journal, files
-/// that were found faulty, or an unknown student or school, 4 a file or stream that could not be made, read or written, 5
-/// want of memory.
+/// The exit status: 0 done (a torn journal is no fault), 1 not certified, 2 a bad seed, a student's or a school's number or
+/// a number of lines that is none, a table's name that is none or a table beside a log, 3 a fault of an input, the bundle
+/// or the journal, files that were found faulty, an unknown student or school or a line that the journal has not, 4 a file
+/// or stream that could not be made, read or written, 5 want of memory.
 pub fn status_of(ending: &Ending) -> u8
     ensures { result ≡ status_of ending.now }
 {
@@ -240,6 +261,8 @@ pub fn status_of(ending: &Ending) -> u8
         Ending::UnknownStudent { .. } => 3,
         Ending::BadSchool => 2,
         Ending::UnknownSchool { .. } => 3,
+        Ending::BadSince => 2,
+        Ending::NoLine { .. } => 3,
         Ending::AlreadyThere { .. } => 4,
         Ending::Unwritten { .. } => 4,
         Ending::Fault(fault) => status_of_fault(fault),

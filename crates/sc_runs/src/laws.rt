@@ -1,6 +1,6 @@
 //! What the texts of a run come to. Each function does nothing: its contract is the law.
 ghost use Rattle.std.specs.Io.{StartsWith};
-ghost use Rattle.std.specs.Prelude.{◌≡◌, ℕ, ◌≤◌, ◌++◌, [], List, length, Result, Ok, Some};
+ghost use Rattle.std.specs.Prelude.{◌≡◌, ℕ, ◌≤◌, ◌++◌, [], List, codes, length, Result, Ok, Some};
 ghost use Rattle.sc_papers.specs.Market.{Market};
 ghost use Rattle.sc_papers.specs.Interleaving.{IsInterleaving};
 ghost use Rattle.sc_papers.specs.Matching.{IsStudentOptimal, Matching};
@@ -9,11 +9,15 @@ ghost use Rattle.sc_papers.specs.declared.amendment.Refusal.{Refusal};
 ghost use Rattle.sc_papers.specs.declared.amendment.Stamped.{Stamped};
 ghost use Rattle.sc_stamps.specs.Verdict.{unamended};
 ghost use Rattle.sc_intake.specs.Script.{script_in};
+ghost use Rattle.sc_intake.specs.declared.fault.IntakeFault.{IntakeFault};
 ghost use Rattle.sc_journal.specs.Journal.{journal_text, IsReplay};
+ghost use Rattle.sc_journal.specs.declared.journal.Tail.{Tail};
 ghost use Rattle.sc_journal.specs.declared.journal.Tail.TheVariants.{Whole};
 ghost use Rattle.sc_report.specs.Text.{report_text};
+ghost use Rattle.sc_runs.specs.Changing.{whole_lines, IsChange};
 ghost use Rattle.sc_runs.specs.Desks.{papers_after, AreSameUpToOrder};
 ghost use Rattle.sc_runs.specs.Run.{accepted, after_script, replies, Opened, WritesRun};
+ghost use Rattle.sc_runs.specs.Standing.{Stands};
 ghost use Rattle.sc_runs.specs.declared.fault.RunFault.{RunFault};
 
 use sc_intake::MOST_BYTES;
@@ -82,4 +86,10 @@ pub fn stamped_amendments_that_leave_the_same_papers_leave_one_report()
     ensures desks { (m : Market) (desks : List (List Stamped)) (first second : List Stamped) (a b : Matching) → WellFormed m → IsInterleaving desks first → IsInterleaving desks second
         → AreSameUpToOrder (papers_after m first) (papers_after m second) → IsStudentOptimal (papers_after m first) a → IsStudentOptimal (papers_after m second) b
         → ((i : ℕ) → a i ≡ b i) × (report_text (papers_after m first) a ≡ report_text (papers_after m second) b) }
+{}
+
+/// After the last whole line of a journal nobody's place changes: what is told since then is the header alone.
+pub fn nothing_changes_after_the_last_line()
+    ensures { (reading : Result Market IntakeFault) (journal : List ℕ) (now : Market) (tail : Tail) (text : List ℕ) → Stands reading journal now tail
+        → IsChange (whole_lines journal) reading journal now text → text ≡ codes "student,before,after\n" }
 {}

@@ -1,5 +1,6 @@
 //! What runs write, over inputs in memory.
 mod admissions;
+mod changes;
 mod checks;
 mod faults;
 mod flushes;

@@ -14,7 +14,7 @@ use Rattle.clap.specs.Kinds.{Kinds, check_kinds, or_else}
 use Rattle.clap.specs.Faults.{built_fault, defaults_fault, entered_fault, fault_of, level_fault, other_fault, settle_fault, step_fault, turn_fault, walk_fault, word_fault}
 use Rattle.clap.specs.Simple.{App, Shape, built, entered, label_of, names_of, rows_at, subcommand_of}
 use Rattle.clap.proofs.OnLiterals.{clap_on_literals}
-use Rattle.sc_words.specs.CommandLine.{check_names, command_line, opening_names, run_names, audit_names, replay_names, export_names, summary_names, explain_names, admissions_names}
+use Rattle.sc_words.specs.CommandLine.{check_names, command_line, opening_names, run_names, audit_names, replay_names, export_names, summary_names, explain_names, admissions_names, changes_names}
 use Rattle.sc_words.specs.Complete.{HasOptions, IsComplete, IsOneOf, needed_options}
 use Rattle.sc_words.proofs.Filled.{IsFilled, cons_some, fills, level_fills, no_first, no_next}
 
@@ -244,11 +244,11 @@ abbrev leaf : ℕ → Shape
 leaf k = unwrap_or (slice_get (built command_line).subs k) top
 
 abbrev leaves : List Shape
-leaves = leaf 0 ∷ leaf 1 ∷ leaf 2 ∷ leaf 3 ∷ leaf 4 ∷ leaf 5 ∷ leaf 6 ∷ leaf 7 ∷ leaf 8 ∷ []
+leaves = leaf 0 ∷ leaf 1 ∷ leaf 2 ∷ leaf 3 ∷ leaf 4 ∷ leaf 5 ∷ leaf 6 ∷ leaf 7 ∷ leaf 8 ∷ leaf 9 ∷ []
 
 -- what clap adds of its own
 abbrev helper : Shape
-helper = leaf 9
+helper = leaf 10
 
 built_is : with_help top leaves helper ≡ built command_line
 unfolding clap_on_literals
@@ -290,8 +290,12 @@ admissions_leaf : IsLeaf (leaf 8) (codes "admissions") admissions_names
 unfolding clap_on_literals
 admissions_leaf = record { name_is = refl; all = refl; keeps = refl; wants = refl }
 
+changes_leaf : IsLeaf (leaf 9) (codes "changes") changes_names
+unfolding clap_on_literals
+changes_leaf = record { name_is = refl; all = refl; keeps = refl; wants = refl }
+
 all_leaves : AllLeaves leaves needed_options
-all_leaves = (check_leaf, (match_leaf, (run_leaf, (audit_leaf, (replay_leaf, (export_leaf, (summary_leaf, (explain_leaf, (admissions_leaf, tt)))))))))
+all_leaves = (check_leaf, (match_leaf, (run_leaf, (audit_leaf, (replay_leaf, (export_leaf, (summary_leaf, (explain_leaf, (admissions_leaf, (changes_leaf, tt))))))))))
 
 pub complete : (words : List Text) → fault_of command_line words ≡ [] → IsSomeAnd (subcommand_of command_line words) (λ p. IsComplete p.0 p.1)
 complete words none = line_complete top leaves helper needed_options refl refl refl all_leaves words none

@@ -54,6 +54,9 @@ explain_names = opening_names
 abbrev pub admissions_names : List Text
 admissions_names = opening_names
 
+abbrev pub changes_names : List Text
+changes_names = opening_names ++ codes "journal" ∷ []
+
 abbrev pub check_options : List Rule
 check_options = map required_option check_names ++ optional_option (codes "script") ∷ []
 
@@ -85,6 +88,9 @@ explain_options = map required_option explain_names ++ optional_option (codes "s
 abbrev pub admissions_options : List Rule
 admissions_options = map required_option admissions_names ++ optional_option (codes "school") ∷ optional_option (codes "journal") ∷ []
 
+abbrev pub changes_options : List Rule
+changes_options = map required_option changes_names ++ optional_option (codes "since") ∷ []
+
 -- a subcommand with these options
 abbrev pub subcommand : Text → List Rule → Shape
 subcommand name options = record (new_shape name) { rules = options }
@@ -105,7 +111,8 @@ command_line = record {
       ∷ subcommand (codes "match") match_options ∷ subcommand (codes "run") run_options
       ∷ subcommand (codes "audit") audit_options ∷ subcommand (codes "replay") replay_options
       ∷ subcommand (codes "export") export_options ∷ subcommand (codes "summary") summary_options
-      ∷ subcommand (codes "explain") explain_options ∷ subcommand (codes "admissions") admissions_options ∷ [];
+      ∷ subcommand (codes "explain") explain_options ∷ subcommand (codes "admissions") admissions_options
+      ∷ subcommand (codes "changes") changes_options ∷ [];
 }
 
 -- `clap` has been told of this command, without subcommands

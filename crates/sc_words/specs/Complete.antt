@@ -1,7 +1,7 @@
 -- The subcommands with all the options that they need.
 use Rattle.std.specs.Prelude.{◌≡◌, ◌⊎◌, ⊤, List, [], ◌∷◌, IsSome, codes}
 use Rattle.clap.specs.Words.{Row, Text, first_of}
-use Rattle.sc_words.specs.CommandLine.{check_names, opening_names, run_names, audit_names, replay_names, export_names, summary_names, explain_names, admissions_names}
+use Rattle.sc_words.specs.CommandLine.{check_names, opening_names, run_names, audit_names, replay_names, export_names, summary_names, explain_names, admissions_names, changes_names}
 
 -- each option of these names has a text
 abbrev pub HasOptions : List Row → List Text → Type 0
@@ -13,7 +13,8 @@ abbrev pub opening_subcommands : List (Text × List Text)
 opening_subcommands = (codes "match", opening_names) ∷ (codes "run", run_names)
     ∷ (codes "audit", audit_names) ∷ (codes "replay", replay_names)
     ∷ (codes "export", export_names) ∷ (codes "summary", summary_names)
-    ∷ (codes "explain", explain_names) ∷ (codes "admissions", admissions_names) ∷ []
+    ∷ (codes "explain", explain_names) ∷ (codes "admissions", admissions_names)
+    ∷ (codes "changes", changes_names) ∷ []
 
 -- each subcommand, with the names of the options that must be given
 abbrev pub needed_options : List (Text × List Text)

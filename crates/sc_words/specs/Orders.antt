@@ -8,7 +8,7 @@ use Rattle.sc_words.specs.declared.order.OpeningWords.{OpeningWords}
 use Rattle.sc_words.specs.declared.order.Order.{Order}
 use Rattle.sc_words.specs.declared.order.Order.TheVariants.{Bundle, Check, Opening}
 use Rattle.sc_words.specs.declared.order.Subcommand.{Subcommand}
-use Rattle.sc_words.specs.declared.order.Subcommand.TheVariants.{Match, Run, Audit, Replay, Export, Summary, Explain, Admissions}
+use Rattle.sc_words.specs.declared.order.Subcommand.TheVariants.{Match, Run, Audit, Replay, Export, Summary, Explain, Admissions, Changes}
 
 -- the text given for the option of this name
 abbrev pub IsGiven : List Row → Text → Bor Text → Type 0
@@ -48,6 +48,8 @@ IsSubcommandIn name rows (Explain student journal) =
     (name ≡ codes "explain") × IsGivenOrNot rows (codes "student") student × IsGivenOrNot rows (codes "journal") journal
 IsSubcommandIn name rows (Admissions school journal) =
     (name ≡ codes "admissions") × IsGivenOrNot rows (codes "school") school × IsGivenOrNot rows (codes "journal") journal
+IsSubcommandIn name rows (Changes journal since) =
+    (name ≡ codes "changes") × IsGiven rows (codes "journal") journal × IsGivenOrNot rows (codes "since") since
 
 -- the order of the subcommand of this name: the opening that its options name, and what is to be done with it; or the
 -- files that are to be checked, and the script if there is one

@@ -170,6 +170,22 @@ Example:
   clearinghouse admissions --seed 0000000000000000000000000000000000000000000000000000000000000000 \\
       --schools schools.csv --roster roster.csv --lists lists.csv --school 1";
 
+pub(crate) const CHANGES: &str =
+    "Write whose place the amendments changed since results were published";
+
+pub(crate) const CHANGES_AFTER: &str = "\
+The table has a line for each student whose place is another one, by rising number: the place before, and the place
+after all amendments of the journal. A place is a school's number, - for none, or absent for a student who is not in
+the papers at that time. Before is after the journal's first LINE lines, and at the opening without --since. A last
+line of the journal that was cut short is left out and told on standard error, which is no fault.
+
+Exit status: 0 done, 2 wrong words, a bad seed or a line that is no number, 3 a fault in an input or a line past the
+journal's last whole one, 4 a file or stream that cannot be opened, read or written, 5 out of memory.
+
+Example:
+  clearinghouse changes --seed 0000000000000000000000000000000000000000000000000000000000000000 \\
+      --schools schools.csv --roster roster.csv --lists lists.csv --journal journal --since 2";
+
 pub(crate) const SEED: &str = "The lottery's seed, 64 hexadecimal digits";
 
 pub(crate) const SCHOOLS: &str =
@@ -216,5 +232,8 @@ pub(crate) const KEPT_JOURNAL: &str = "The journal that a run kept, if amendment
 pub(crate) const STUDENT: &str = "The number of the one student whose lines are written";
 
 pub(crate) const SCHOOL: &str = "The number of the school whose lists alone are to be written";
+
+pub(crate) const SINCE: &str =
+    "How many lines the journal had when the results were published; without it, none";
 
 pub(crate) const TO: &str = "The folder in which schools.csv, roster.csv and lists.csv are made";

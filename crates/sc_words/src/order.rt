@@ -1,6 +1,6 @@
 ghost use Rattle.std.specs.Prelude.{◌≡◌, ◌↔◌, true, [], Ok, IfOk, IfSome, IsSome, IsSomeAnd, codes};
 ghost use Rattle.clap.specs.Words.{FailsBy, first_of, found_of, rows_of, subcommand_rows_of};
-ghost use Rattle.sc_words.specs.CommandLine.{audit_names, check_names, export_names, file_names, opening_names, replay_names, run_names};
+ghost use Rattle.sc_words.specs.CommandLine.{audit_names, changes_names, check_names, export_names, file_names, opening_names, replay_names, run_names};
 ghost use Rattle.sc_words.specs.Complete.{HasOptions, IsComplete, IsOneOf, opening_subcommands};
 ghost use Rattle.sc_words.specs.Orders.{AreFilesIn, IsGiven, IsGivenOrNot, IsOpeningIn, IsOrderIn, IsOrderOf, IsSet, IsSubcommandIn, faults_of};
 
@@ -86,6 +86,12 @@ pub enum Subcommand<'a> {
     Admissions {
         school: Option<&'a str>,
         journal: Option<&'a str>,
+    },
+    /// Write whose place differs between the papers as they stand after these first lines of a journal, or at the opening, and
+    /// after all of it.
+    Changes {
+        journal: &'a str,
+        since: Option<&'a str>,
     },
     /// Write its papers into this folder, as they stand after a journal if there is one.
     Export {
@@ -219,6 +225,17 @@ fn admissions_in<'a>(found: &ArgMatches<'a>) -> Subcommand<'a>
     }
 }
 
+/// What `changes` asks for.
+fn changes_in<'a>(found: &ArgMatches<'a>) -> Option<Subcommand<'a>>
+    ensures given { IfSome result (IsSubcommandIn (codes "changes") (rows_of (found_of found.now))) }
+    ensures found { HasOptions (rows_of (found_of found.now)) changes_names → IsSome result }
+{
+    Some(Subcommand::Changes {
+        journal: text_in(found, "journal")?,
+        since: text_in(found, "since"),
+    })
+}
+
 /// What the subcommand of this name asks for of an opening, or `None` where there is none of this name or it lacks an
 /// option.
 fn subcommand_in<'a>(name: &str, found: &ArgMatches<'a>) -> Option<Subcommand<'a>>
@@ -234,6 +251,7 @@ fn subcommand_in<'a>(name: &str, found: &ArgMatches<'a>) -> Option<Subcommand<'a
         "summary" => Some(summary_in(found)),
         "explain" => Some(explain_in(found)),
         "admissions" => Some(admissions_in(found)),
+        "changes" => changes_in(found),
         _ => None,
     }
 }

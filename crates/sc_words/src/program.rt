@@ -4,7 +4,7 @@ ghost use Rattle.std.specs.Prelude.{◌≡◌, false, IfOk, codes};
 ghost use Rattle.clap.specs.Words.{app_of, rule_of};
 ghost use Rattle.sc_words.specs.CommandLine.{IsCommand, optional_option, required_option, subcommand};
 ghost use Rattle.sc_words.specs.CommandLine.{check_options, opening_options, match_options, run_options};
-ghost use Rattle.sc_words.specs.CommandLine.{audit_options, replay_options, export_options, summary_options, explain_options, admissions_options, command_line};
+ghost use Rattle.sc_words.specs.CommandLine.{audit_options, replay_options, export_options, summary_options, explain_options, admissions_options, changes_options, command_line};
 ghost use Rattle.sc_words.specs.CommandLine as line;
 
 use crate::help;
@@ -167,6 +167,14 @@ fn admissions_command<'a>(alloc: Global) -> Result<Command<'a>, AllocError>
     .arg(optional_file(alloc, "journal", help::KEPT_JOURNAL))
 }
 
+fn changes_command<'a>(alloc: Global) -> Result<Command<'a>, AllocError>
+    ensures { IfOk result (λ c. IsCommand c (subcommand (codes "changes") changes_options)) }
+{
+    with_opening(alloc, "changes", help::CHANGES, help::CHANGES_AFTER)?
+        .arg(file(alloc, "journal", help::OLD_JOURNAL))?
+        .arg(optional(alloc, "since", "LINE", help::SINCE))
+}
+
 /// The program without its subcommands. Its name stands in the usage lines, since the words that it
 /// reads do not begin with it.
 fn program_alone<'a>(alloc: Global) -> Result<Command<'a>, AllocError>
@@ -196,5 +204,6 @@ pub(crate) fn program<'a>(alloc: Global) -> Result<Command<'a>, AllocError>
         .subcommand(export_command(alloc)?)?
         .subcommand(summary_command(alloc)?)?
         .subcommand(explain_command(alloc)?)?
-        .subcommand(admissions_command(alloc)?)
+        .subcommand(admissions_command(alloc)?)?
+        .subcommand(changes_command(alloc)?)
 }

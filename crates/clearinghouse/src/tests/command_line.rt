@@ -170,6 +170,20 @@ const ORDERS: &[(&str, Subcommand<'static>)] = &[
         },
     ),
     (
+        "changes|--seed|00|--schools|schools|--roster|roster|--lists|lists|--journal|kept",
+        Subcommand::Changes {
+            journal: "kept",
+            since: None,
+        },
+    ),
+    (
+        "changes|--since|7|--journal=kept|--seed|00|--schools|schools|--roster|roster|--lists|lists",
+        Subcommand::Changes {
+            journal: "kept",
+            since: Some("7"),
+        },
+    ),
+    (
         "export|--seed|00|--schools|schools|--roster|roster|--lists|lists|--to|next",
         Subcommand::Export {
             to: "next",
@@ -305,6 +319,12 @@ const WRONG_LINES: &[(&str, ErrorKind)] = &[
     ("explain|--school|1", ErrorKind::UnknownArgument),
     ("admissions|--student|1", ErrorKind::UnknownArgument),
     ("admissions|--school|1", ErrorKind::MissingRequiredArgument),
+    ("admissions|--since|1", ErrorKind::UnknownArgument),
+    (
+        "changes|--seed|00|--schools|schools|--roster|roster|--lists|lists",
+        ErrorKind::MissingRequiredArgument,
+    ),
+    ("changes|--since|1|--since|2", ErrorKind::ArgumentConflict),
     ("check|--seed|00", ErrorKind::UnknownArgument),
     ("check|--journal|kept", ErrorKind::UnknownArgument),
     (
@@ -370,6 +390,9 @@ const HELP_TEXTS: &[(&str, &str)] = &[
     ("admissions|--help", "Write the class list"),
     ("admissions|--help", "--school <NUMBER>"),
     ("admissions|--help", "Example:\n  clearinghouse admissions"),
+    ("changes|--help", "Write whose place"),
+    ("changes|--help", "--since <LINE>"),
+    ("changes|--help", "Example:\n  clearinghouse changes"),
     ("export|--help", "Write the papers of an opening"),
     ("export|--help", "[OPTIONS]"),
     ("export|--help", "--to <FOLDER>"),

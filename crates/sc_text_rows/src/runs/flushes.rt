@@ -4,8 +4,8 @@ use sc_papers::{SchoolNo, Seed, StudentNo};
 use sc_report::Watched;
 use sc_runs::{
     Ending, Inputs, RunFault, Settling, Table, admissions_files, audit_files, audit_report_files,
-    check_files, explain_files, match_files, replay_files, run, run_bundle, summary_files,
-    table_files,
+    changes_files, check_files, explain_files, match_files, replay_files, run, run_bundle,
+    summary_files, table_files,
 };
 use std::alloc::Global;
 use std::cell::Cell;
@@ -115,6 +115,7 @@ enum Call {
     ExplanationOfOne,
     Admissions,
     AdmissionsOfOne,
+    Changes,
     Check,
     CheckOfFaults,
 }
@@ -151,6 +152,10 @@ fn fault_of(alloc: Global, seed: &Seed, call: Call) -> Option<RunFault> {
         Call::AdmissionsOfOne => {
             admissions_files(alloc, seed, files, &mut None, SchoolNo::new(10), out).err()
         }
+        Call::Changes => {
+            let mut journal = Watched::new(b"".as_slice());
+            changes_files(alloc, seed, files, &mut journal, 0, out).err()
+        }
         Call::Check => check_files(alloc, seed, files, &mut None, out).err(),
         Call::CheckOfFaults => {
             check_files(alloc, seed, &mut opening(("", "", "")), &mut None, out).err()
@@ -173,6 +178,7 @@ fn each_text_is_flushed(rt: HostRuntime) {
         Call::ExplanationOfOne,
         Call::Admissions,
         Call::AdmissionsOfOne,
+        Call::Changes,
         Call::Check,
         Call::CheckOfFaults,
     ] {

@@ -12,4 +12,5 @@ returns c =
     let export = with_command _ _ c.in_ok-subcommand-6.field-0 _ _ c.in_ok-subcommand-6.ensures c.in_ok-export_command.ensures replay in
     let summary = with_command _ _ c.in_ok-subcommand-7.field-0 _ _ c.in_ok-subcommand-7.ensures c.in_ok-summary_command.ensures export in
     let explain = with_command _ _ c.in_ok-subcommand-8.field-0 _ _ c.in_ok-subcommand-8.ensures c.in_ok-explain_command.ensures summary in
-    IfOk-weaker c.subcommand-9.result _ _ (λ r adds. with_command _ _ r _ _ adds c.in_ok-admissions_command.ensures explain) c.subcommand-9.ensures
+    let admissions = with_command _ _ c.in_ok-subcommand-9.field-0 _ _ c.in_ok-subcommand-9.ensures c.in_ok-admissions_command.ensures explain in
+    IfOk-weaker c.subcommand-10.result _ _ (λ r adds. with_command _ _ r _ _ adds c.in_ok-changes_command.ensures admissions) c.subcommand-10.ensures
