@@ -82,7 +82,7 @@ def changed(rng, text):
     """A text with a small change, of a kind that people and programs make."""
     lines = text.split(b"\n")
     at = rng.randrange(len(lines))
-    kind = rng.randrange(11)
+    kind = rng.randrange(13)
     if kind == 0 and text:
         place = rng.randrange(len(text))
         return text[:place] + text[place + 1:]
@@ -106,6 +106,11 @@ def changed(rng, text):
         lines[at] = b",".join(fields)
     elif kind == 8:
         return reference.MARK * rng.choice([1, 2]) + text
+    elif kind == 11:
+        # As spreadsheets write it elsewhere.
+        lines = [line.replace(b",", rng.choice([b";", b"\t"])) for line in lines]
+    elif kind == 12:
+        return rng.choice([bytes.upper, bytes.title, lambda plain: plain.replace(b"\n", b"\r"), lambda plain: b"\0".join(plain[i:i + 1] for i in range(len(plain) + 1))])(text)
     elif kind == 9:
         fields = lines[at].split(b",")
         fields[-1] = b" ".join(str(n).encode() for n in range(1, rng.choice([20, 21, 22])))

@@ -42,8 +42,16 @@ class Stop(Exception):
         self.line, self.status, self.opened = line, status, opened
 
 
+class Intake(Stop):
+    """A fault of an input, by its parts too."""
+
+    def __init__(self, source, row, cause):
+        super().__init__(f"{source} row {row}: {cause}", 3)
+        self.source, self.row, self.cause = source, row, cause
+
+
 def intake(source, row, cause):
-    return Stop(f"{source} row {row}: {cause}", 3)
+    return Intake(source, row, cause)
 
 
 # ---- the lottery -------------------------------------------------------------------------------------------------
@@ -353,8 +361,24 @@ def papers_judged(key, school_rows, roster_rows, list_rows):
     return papers, faults
 
 
+def schools_known(text, good):
+    """The rows of the schools that have no fault, and after them each school of which another row begins with the number: its zone and its seats are not
+    known."""
+    known, seen = list(good), {row[1] for row in good}
+    for at, fields in enumerate(records_of("schools", text)[1:], start=2):
+        try:
+            school = number(fields[0])
+            within(SCHOOL, school)
+        except Bad:
+            continue
+        if len(known) < MOST_SCHOOLS and school not in seen:
+            seen.add(school)
+            known.append((at, school, 0, 0))
+    return known
+
+
 def faults_of(schools, roster, lists):
-    """Every fault of three files: of each alone, and then of what their rows without a fault say together."""
+    """Every fault of three files: of each alone, and then of what their rows without a fault say together, by all the schools that are known."""
     rows, faults = [], []
     for judge, text in (schools_judged, schools), (roster_judged, roster), (lists_judged, lists):
         try:
@@ -363,7 +387,9 @@ def faults_of(schools, roster, lists):
             faults += found
         except Stop as stop:
             faults.append(stop)
-    return faults + papers_judged(bytes(32), *rows)[1] if len(rows) == 3 else faults
+    if len(rows) < 3:
+        return faults
+    return faults + papers_judged(bytes(32), schools_known(schools, rows[0]), *rows[1:])[1]
 
 
 def script_faults(text):
@@ -618,6 +644,176 @@ def verdict(papers, log):
     return f"over {min(over)}" if over else "certified"
 
 
+# ---- faults in words ----------------------------------------------------------------------------------------------
+
+# The columns of each file, and the fields of a script's record after its stamp and its word: a range, a list of schools (list), or a
+# school or nothing (None).
+FILE_COLUMNS = {"schools": [("school", SCHOOL), ("zone", ZONE), ("seats", SEATS)],
+                "roster": [("student", STUDENT), ("zone", ZONE), ("siblings", list), ("continuing", None)],
+                "lists": [("student", STUDENT), ("choices", list)]}
+RECORD_COLUMNS = {b"enter": [("student", STUDENT), ("zone", ZONE), ("siblings", list), ("choices", list), ("continuing", None)],
+                  b"withdraw": [("student", STUDENT)], b"rerank": [("student", STUDENT), ("choices", list)],
+                  b"add": [("school", SCHOOL), ("count", COUNT)], b"close": [("school", SCHOOL), ("count", COUNT)],
+                  b"correct": [("student", STUDENT), ("zone", ZONE), ("siblings", list), ("continuing", None)]}
+HEADERS = {"schools": "the header school,zone,seats is expected",
+           "roster": "the header student,zone,siblings is expected, or student,zone,siblings,continuing",
+           "lists": "the header student,choices is expected", "script": "one byte order mark at most is expected"}
+
+
+def told_rows(text):
+    """The rows of a text by their numbers: the line at which each stands, and its bytes. Where there is a quote, none is told so."""
+    if b'"' in text:
+        return {}
+    lines = re.split(rb"\r\n|\r|\n", text.removeprefix(MARK))
+    return dict(enumerate(((at, line) for at, line in enumerate(lines, start=1) if line), start=1))
+
+
+def in_print(value):
+    """A value between quotes, as one reads it in a program's text; 40 bytes of it at most."""
+    print_of = {byte: chr(byte) for byte in range(32, 127)} | {0x22: '\\"', 0x5C: "\\\\"}
+    return '"' + "".join(print_of.get(byte, f"\\x{byte:02X}") for byte in value[:40]) + '"' + ("..." if len(value) > 40 else "")
+
+
+def read_as(kind, field):
+    """Reads a field by itself."""
+    if kind is list:
+        within(SCHOOL, *numbers(field))
+    elif kind is None:
+        within(SCHOOL, *([number(field)] if field else []))
+    elif kind is not str:
+        within(kind, number(field))
+
+
+def has_cause(kind, field, cause):
+    try:
+        read_as(kind, field)
+    except Bad as bad:
+        return bad.args[0] == cause
+    return False
+
+
+def wanted(kind, cause):
+    """What is expected of a field of this kind."""
+    if cause == "Range":
+        return "numbers from 1 to 99999 are expected" if kind is list else "a number from {} to {} is expected".format(*(kind or SCHOOL))
+    if kind is list:
+        return "numbers of 1 to 9 digits with spaces between them are expected"
+    return "one number of 1 to 9 digits, or nothing, is expected" if kind is None else "a number of 1 to 9 digits is expected"
+
+
+def header_hint(line):
+    if line.startswith(MARK):
+        return "; a second byte order mark stands here"
+    if b"\0" in line:
+        return "; this is UTF-16, and UTF-8 is expected"
+    if b";" in line:
+        return "; the fields stand between semicolons"
+    if b"\t" in line and b"," not in line:
+        return "; the fields stand between tabs"
+    return "; it has capital letters" if re.search(rb"[A-Z]", line) else ""
+
+
+def general(source, cause):
+    """What is expected, whatever stands in the row."""
+    whose = "school" if source == "schools" else "student"
+    most = {"schools": "5000 schools and ", "roster": "200000 students and ", "lists": "200000 students and "}.get(source, "")
+    word, *numbers_told = cause.split()
+    if word == "Refused":
+        code, school = int(numbers_told[0]), numbers_told[-1]
+        return {4: "a list of 1 to 20 schools is expected", 5: "a list of at most 20 schools is expected",
+                6: f"a row with school {school} is expected in the schools",
+                7: f"the list names school {school} twice"}.get(code, "the papers refuse the student")
+    return {"TooLong": f"{most}{MOST_BYTES} bytes at most are expected", "Header": HEADERS[source],
+            "Fields": "as many fields as its form has are expected", "Number": "numbers of 1 to 9 digits are expected",
+            "Range": "numbers within their ranges are expected", "Twice": f"an earlier row has this {whose}",
+            "NoList": "a row without a fault is expected for this student in the lists",
+            "NotInRoster": "a row without a fault is expected for this student in the roster"}[word]
+
+
+def place_of(name, row, rows):
+    return f"{name} line {rows[row][0]}" if row in rows else f"{name} row {row}"
+
+
+def subject_of(columns, fields, first):
+    """The school or the student whom a row is of, where its number is one."""
+    kind, field = columns[first][1] if first < len(columns) else str, fields[first] if first < len(fields) else b""
+    try:
+        read_as(kind, field)
+    except Bad:
+        return ""
+    return "" if kind is str else f", {columns[first][0]} {int(field)}"
+
+
+def about(source, cause, line):
+    """What is wrong with a line: whom it is of, what stands there, and what is expected."""
+    if cause == "Header":
+        return f" {in_print(line)}: {HEADERS[source]}{header_hint(line)}"
+    fields = [field.strip(b" \t") for field in line.split(b",")]
+    first = 2 if source == "script" else 0
+    word = fields[1] if len(fields) > 1 else b""
+    known = source != "script" or word in RECORD_COLUMNS
+    columns = FILE_COLUMNS[source] if source != "script" else [("stamp", (0, LAST_STAMP)), ("word", str), *RECORD_COLUMNS.get(word, [])]
+    subject = subject_of(columns, fields, first)
+    if cause == "Fields" and not known:
+        return f", word {in_print(word)}: one of the words enter, withdraw, rerank, add, close and correct is expected"
+    if cause == "Fields":
+        counts = {len(columns), len(columns) - (columns[-1][1] is None)}
+        count = "as many fields as in the header" if source == "roster" else " or ".join(map(str, sorted(counts))) + " fields"
+        return f"{subject}: {count} are expected, not {len(fields)}"
+    if cause in ("Number", "Range"):
+        for (column, kind), field in zip(columns, [*fields, *[b""] * len(columns)]):
+            if has_cause(kind, field, cause):
+                return f"{subject}, {column} {in_print(field)}: {wanted(kind, cause)}"
+    if cause.startswith("Refused"):
+        return f"{subject}{not_choices(fields, *cause.split()[1:])}: {general(source, cause)}"
+    return f"{subject}: {general(source, cause)}"
+
+
+def not_choices(fields, code, name, school=None):
+    """The field of a row of the roster for which the papers refuse its student, where it is not the choices."""
+    siblings, continuing = [*fields, *[b""] * 4][2:4]
+    if code == "6" and re.fullmatch(rb"[0-9]{1,9}", continuing) and int(continuing) == int(school):
+        return f", continuing {in_print(continuing)}"
+    return f", siblings {in_print(siblings)}" if code in ("5", "6", "7") else ""
+
+
+def is_refused(choices, code, name, school=None):
+    """A list has what the papers refuse."""
+    return {"4": len(choices) == 0, "5": len(choices) > MOST_LISTED, "6": choices.count(int(school or 0)) > 0,
+            "7": choices.count(int(school or 0)) > 1}.get(code, False)
+
+
+def good_lists(text):
+    """The rows of the lists that have no fault, by their students: the number of the row, and the choices."""
+    try:
+        return {student: (row, choices) for row, student, choices in lists_judged(text)[0]}
+    except Stop:
+        return {}
+
+
+def choices_told(fault, names, rows, listed):
+    """The line of a refusal of a student's choices, which is told where these stand in the lists; None where it is no such fault."""
+    if fault.source != "roster" or not fault.cause.startswith("Refused") or fault.row not in rows["roster"]:
+        return None
+    student = rows["roster"][fault.row][1].split(b",")[0].strip(b" \t")
+    if not re.fullmatch(rb"[0-9]{1,9}", student) or int(student) not in listed:
+        return None
+    row, choices = listed[int(student)]
+    if not is_refused(choices, *fault.cause.split()[1:]):
+        return None
+    field = rows["lists"][row][1].split(b",")[1].strip(b" \t") if row in rows["lists"] else None
+    shown = "" if field is None else f", choices {in_print(field)}"
+    beside = place_of(names["roster"], fault.row, rows["roster"])
+    return f"{place_of(names['lists'], row, rows['lists'])}, student {int(student)}{shown} ({beside}): {general(fault.source, fault.cause)}. {fault.cause}\n".encode()
+
+
+def fault_told(fault, names, rows, listed):
+    """The line of a fault, by the names of the files and their rows."""
+    name, there = names[fault.source], rows[fault.source]
+    said = about(fault.source, fault.cause, there[fault.row][1]) if fault.row in there else f": {general(fault.source, fault.cause)}"
+    return choices_told(fault, names, rows, listed) or f"{place_of(name, fault.row, there)}{said}. {fault.cause}\n".encode()
+
+
 # ---- the calls ---------------------------------------------------------------------------------------------------
 
 def too_long(*named):
@@ -631,11 +827,15 @@ def files(schools, roster, lists):
     return ("schools", schools), ("roster", roster), ("lists", lists)
 
 
-def call_check(schools, roster, lists, script=None):
+def call_check(schools, roster, lists, script=None, names=("schools", "roster", "lists", "script")):
     """Without a script there is no record to judge. Each fault has a line on the output, and there is no other line."""
-    too_long(*files(schools, roster, lists), ("script", script or b""))
+    texts = dict((*files(schools, roster, lists), ("script", script or b"")))
+    too_long(*texts.items())
     faults = faults_of(schools, roster, lists) + script_faults(script or b"")
-    return b"".join(f"{fault.line}\n".encode() for fault in faults), b"", 3 if faults else 0
+    rows = {source: told_rows(text) for source, text in texts.items()}
+    named = dict(zip(texts, names))
+    listed = good_lists(lists)
+    return b"".join(fault_told(fault, named, rows, listed) for fault in faults), b"", 3 if faults else 0
 
 
 def table_of(word):
@@ -864,7 +1064,7 @@ def main(words):
             key = None if words[0] == "check" else seed_of(options["--seed"].encode())
             texts = [open(options[name], "rb").read() for name in names]
             if words[0] == "check":
-                return call_check(*texts)
+                return call_check(*texts, names=[options[name] for name in names])
             table = {"table": options["--table"].encode()} if "--table" in options else {}
             if words[0] == "match":
                 return call_match(key, *texts, print_log="--print-log" in words, **table)

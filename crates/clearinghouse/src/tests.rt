@@ -752,28 +752,32 @@ fn a_check(rt: HostRuntime) -> io::Result<()> {
     expect(&rt, checked(&rt, "lists", None), "", "0");
     fs::write(&rt, "faulty", "student,choices\n1,10 30\n2,ten\n3,10\n")?;
     let lines =
-        "lists row 3: Number\nroster row 2: Refused 6 UnknownSchool 30\nroster row 3: NoList\nlists row 4: NotInRoster\n";
+        "faulty line 3, student 2, choices \"ten\": numbers of 1 to 9 digits with spaces between them are expected. Number\nfaulty line 2, student 1, choices \"10 30\" (roster line 2): a row with school 30 is expected in the schools. Refused 6 UnknownSchool 30\nroster line 3, student 2: a row without a fault is expected for this student in the lists. NoList\nfaulty line 4, student 3: a row without a fault is expected for this student in the roster. NotInRoster\n";
     expect(&rt, checked(&rt, "faulty", None), lines, "3");
     fs::write(&rt, "script", "0,enter,3,1,10,10\n0,leave,3\n")?;
     expect(
         &rt,
         checked(&rt, "lists", Some("script")),
-        "script row 2: Fields\n",
+        "script line 2, word \"leave\": one of the words enter, withdraw, rerank, add, close and correct is expected. Fields\n",
         "3",
     );
+    let line = "no such file: a file that can be read is expected; there is none. Unread\n";
     let unread = "clearinghouse: cannot read lists\n4";
     expect(
         &rt,
         checked(&rt, "no such file", Some("script")),
-        "",
+        line,
         unread,
     );
     let unread = "clearinghouse: cannot read script\n4";
     expect(
         &rt,
         checked(&rt, "faulty", Some("no such file")),
-        "",
+        line,
         unread,
     );
+    let line = ".: a file that can be read is expected; it cannot be read to its end. Unread\n";
+    let unread = "clearinghouse: cannot read lists\n4";
+    expect(&rt, checked(&rt, ".", None), line, unread);
     Ok(())
 }

@@ -27,7 +27,7 @@ first-stays {A = A} source row so_far (Err cause) fault first = by so_far.faults
     by (found ∷ rest) e = e
 
 -- and with all the rows that follow
-first-stays-after : {R : Type 0} (row : ℕ) (source : Source) (read : ℕ → List R → List (List ℕ) → Result R Cause) (so_far : Judged (List R)) (records : List (List (List ℕ))) (fault : IntakeFault)
+pub first-stays-after : {R : Type 0} (row : ℕ) (source : Source) (read : ℕ → List R → List (List ℕ) → Result R Cause) (so_far : Judged (List R)) (records : List (List (List ℕ))) (fault : IntakeFault)
     → unless_faulty so_far ≡ Err fault → unless_faulty (judged_from row source read so_far records) ≡ Err fault
 unfolding judged_from
 first-stays-after row source read so_far [] fault first = first

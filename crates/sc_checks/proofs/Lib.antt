@@ -1,4 +1,10 @@
+pub mod Bytes
+pub mod Firsts
 pub mod Judging
+pub mod Known
+pub mod Positions
+pub mod RowLemmas
+pub mod RowsRead
 pub mod Together
 pub mod Seeds
 pub mod Noting

@@ -5,7 +5,7 @@ use Rattle.sc_papers.specs.Market.{Market}
 use Rattle.sc_papers.specs.Verdict.{verdict}
 use Rattle.sc_papers.specs.declared.amendment.Amendment.TheVariants.{Enter}
 use Rattle.sc_papers.specs.declared.amendment.Refusal.{Refusal}
-use Rattle.sc_intake.specs.Checking.{faults_alone, faults_in, faults_of_list, faults_of_rows, faults_together, lists_judged, roster_judged, schools_judged, students_judged, unjudged, with_row, Judged}
+use Rattle.sc_intake.specs.Checking.{faults_alone, faults_in, faults_of_list, faults_of_rows, faults_together, known_schools, lists_judged, roster_judged, schools_judged, students_judged, unjudged, with_row, Judged}
 use Rattle.sc_intake.specs.Papers.{entered_by, list_of, opening, unless_refused}
 use Rattle.sc_intake.specs.declared.fault.Cause.{Cause}
 use Rattle.sc_intake.specs.declared.fault.IntakeFault.{IntakeFault}
@@ -55,21 +55,21 @@ students-reseeded seed lists so_far (row ∷ rest) =
     ∙ ap (λ (judged : Judged Market). students_judged lists judged rest) (row-reseeded seed row.row so_far (entered_by so_far.good row (list_of lists row.student)))
     ∙ students-reseeded seed lists (with_row Roster row.row so_far (entered_by so_far.good row (list_of lists row.student))) rest
 
-pub same-of-rows : (seed other : List ℕ) (schools : List SchoolRow) (roster : List RosterRow) (lists : List ListRow)
+same-of-rows : (seed other : List ℕ) (schools : List SchoolRow) (roster : List RosterRow) (lists : List ListRow)
     → faults_of_rows seed schools roster lists ≡ faults_of_rows other schools roster lists
 unfolding reseeded reseeded_judged
 same-of-rows seed other schools roster lists =
     ap (λ (judged : Judged Market). judged.faults ++ flat_map (faults_of_list roster) lists)
     (students-reseeded seed lists (unjudged (opening other schools)) roster)
 
-same-together : (seed other : List ℕ) (schools : Result (Judged (List SchoolRow)) IntakeFault) (roster : Result (Judged (List RosterRow)) IntakeFault) (lists : Result (Judged (List ListRow)) IntakeFault)
-    → faults_together seed schools roster lists ≡ faults_together other schools roster lists
-same-together seed other (Ok schools) (Ok roster) (Ok lists) = same-of-rows seed other schools.good roster.good lists.good
-same-together seed other (Ok schools) (Ok roster) (Err fault) = refl
-same-together seed other (Ok schools) (Err fault) lists = refl
-same-together seed other (Err fault) roster lists = refl
+pub same-together : (seed other : List ℕ) (known : List SchoolRow → List SchoolRow) (schools : Result (Judged (List SchoolRow)) IntakeFault) (roster : Result (Judged (List RosterRow)) IntakeFault) (lists : Result (Judged (List ListRow)) IntakeFault)
+    → faults_together seed known schools roster lists ≡ faults_together other known schools roster lists
+same-together seed other known (Ok schools) (Ok roster) (Ok lists) = same-of-rows seed other (known schools.good) roster.good lists.good
+same-together seed other known (Ok schools) (Ok roster) (Err fault) = refl
+same-together seed other known (Ok schools) (Err fault) lists = refl
+same-together seed other known (Err fault) roster lists = refl
 
 pub same-faults : (seed other schools roster lists : List ℕ) → faults_in seed schools roster lists ≡ faults_in other schools roster lists
 same-faults seed other schools roster lists =
     ap (λ (together : List IntakeFault). faults_alone (schools_judged schools) ++ faults_alone (roster_judged roster) ++ faults_alone (lists_judged lists) ++ together)
-    (same-together seed other (schools_judged schools) (roster_judged roster) (lists_judged lists))
+    (same-together seed other (known_schools schools) (schools_judged schools) (roster_judged roster) (lists_judged lists))

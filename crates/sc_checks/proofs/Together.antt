@@ -3,7 +3,7 @@ use Rattle.std.proofs.Common.{◌≡◌, refl, sym, ap, subst, ◌∙◌, ℕ, B
 use Rattle.std.proofs.lemmas.List.{append_assoc}
 use Rattle.std.specs.Prelude.{◌↔◌, Result, flat_map, if◌then◌else◌, is_ok, not}
 use Rattle.sc_papers.specs.Market.{Market}
-use Rattle.sc_intake.specs.Checking.{faults_alone, faults_in, faults_of_list, faults_of_rows, faults_together, lists_judged, roster_judged, schools_judged, students_judged, unjudged, with_row, Judged}
+use Rattle.sc_intake.specs.Checking.{faults_alone, faults_in, faults_of_list, faults_of_rows, faults_together, known_schools, lists_judged, roster_judged, schools_judged, students_judged, unjudged, with_row, Judged}
 use Rattle.sc_intake.specs.Fault.{◌>>=◌, fault_at}
 use Rattle.sc_intake.specs.File.{in_row}
 use Rattle.sc_intake.specs.Lists.{choices_of, is_list_header, list_number, lists_in}
@@ -21,6 +21,7 @@ use Rattle.sc_intake.specs.declared.roster.RosterRow.{RosterRow}
 use Rattle.sc_intake.specs.declared.schools.SchoolRow.{SchoolRow}
 use Rattle.sc_checks.specs.Readings.{reading_of, unless_faults, unless_faulty, BeginsWith}
 use Rattle.sc_checks.proofs.Judging.{file-judged, first-stays}
+use Rattle.sc_checks.proofs.Known.{none-known}
 
 pub schools-judged : (text : List ℕ) → schools_in text ≡ (schools_judged text >>= unless_faulty)
 schools-judged text = file-judged Schools is_school_header (next_row_at MOST_SCHOOLS school_number school_of) text
@@ -112,32 +113,33 @@ good-is {A = A} judged good read = by judged.faults read
     by [] e = cc
     by (fault ∷ rest) e = absurd (cc e)
 
--- the faults of what files say together are those of the rows that were read
-together-is : (seed : List ℕ) (schools : Result (Judged (List SchoolRow)) IntakeFault) (roster : Result (Judged (List RosterRow)) IntakeFault) (lists : Result (Judged (List ListRow)) IntakeFault)
-    → (school_rows : List SchoolRow) (roster_rows : List RosterRow) (list_rows : List ListRow)
+-- the faults of what files say together are those of the rows that were read, where no other school is known
+together-is : (seed : List ℕ) (known : List SchoolRow → List SchoolRow) (schools : Result (Judged (List SchoolRow)) IntakeFault) (roster : Result (Judged (List RosterRow)) IntakeFault) (lists : Result (Judged (List ListRow)) IntakeFault)
+    → (school_rows : List SchoolRow) (roster_rows : List RosterRow) (list_rows : List ListRow) → known school_rows ≡ school_rows
     → (schools >>= unless_faulty) ≡ Ok school_rows → (roster >>= unless_faulty) ≡ Ok roster_rows → (lists >>= unless_faulty) ≡ Ok list_rows
-    → faults_together seed schools roster lists ≡ faults_of_rows seed school_rows roster_rows list_rows
-together-is seed (Ok schools) (Ok roster) (Ok lists) school_rows roster_rows list_rows a b c =
-    ap (λ (rows : List SchoolRow). faults_of_rows seed rows roster.good lists.good) (good-is schools school_rows a)
+    → faults_together seed known schools roster lists ≡ faults_of_rows seed school_rows roster_rows list_rows
+together-is seed known (Ok schools) (Ok roster) (Ok lists) school_rows roster_rows list_rows same a b c =
+    ap (λ (rows : List SchoolRow). faults_of_rows seed rows roster.good lists.good) (ap known (good-is schools school_rows a) ∙ same)
     ∙ ap (λ (rows : List RosterRow). faults_of_rows seed school_rows rows lists.good) (good-is roster roster_rows b)
     ∙ ap (λ (rows : List ListRow). faults_of_rows seed school_rows roster_rows rows) (good-is lists list_rows c)
-together-is seed (Ok schools) (Ok roster) (Err fault) school_rows roster_rows list_rows a b c = absurd (cc c)
-together-is seed (Ok schools) (Err fault) lists school_rows roster_rows list_rows a b c = absurd (cc b)
-together-is seed (Err fault) roster lists school_rows roster_rows list_rows a b c = absurd (cc a)
+together-is seed known (Ok schools) (Ok roster) (Err fault) school_rows roster_rows list_rows same a b c = absurd (cc c)
+together-is seed known (Ok schools) (Err fault) lists school_rows roster_rows list_rows same a b c = absurd (cc b)
+together-is seed known (Err fault) roster lists school_rows roster_rows list_rows same a b c = absurd (cc a)
 
 -- three files, judged, make papers as their faults say
-judged-end : (seed : List ℕ) (schools : Result (Judged (List SchoolRow)) IntakeFault) (roster : Result (Judged (List RosterRow)) IntakeFault) (lists : Result (Judged (List ListRow)) IntakeFault)
+judged-end : (seed : List ℕ) (known : List SchoolRow → List SchoolRow) (schools : Result (Judged (List SchoolRow)) IntakeFault) (roster : Result (Judged (List RosterRow)) IntakeFault) (lists : Result (Judged (List ListRow)) IntakeFault)
+    → ((rows : List SchoolRow) → (schools >>= unless_faulty) ≡ Ok rows → known rows ≡ rows)
     → EndsAs ((schools >>= unless_faulty) >>= λ school_rows. (roster >>= unless_faulty) >>= λ roster_rows. (lists >>= unless_faulty) >>= λ list_rows. papers_of seed school_rows roster_rows list_rows)
-    (faults_alone schools ++ (faults_alone roster ++ (faults_alone lists ++ faults_together seed schools roster lists)))
-judged-end seed schools roster lists =
+    (faults_alone schools ++ (faults_alone roster ++ (faults_alone lists ++ faults_together seed known schools roster lists)))
+judged-end seed known schools roster lists same =
     step-ends (schools >>= unless_faulty) (λ school_rows. (roster >>= unless_faulty) >>= λ roster_rows. (lists >>= unless_faulty) >>= λ list_rows. papers_of seed school_rows roster_rows list_rows)
-    (faults_alone schools) (faults_alone roster ++ (faults_alone lists ++ faults_together seed schools roster lists)) (file-ends schools)
+    (faults_alone schools) (faults_alone roster ++ (faults_alone lists ++ faults_together seed known schools roster lists)) (file-ends schools)
     (λ school_rows a. step-ends (roster >>= unless_faulty) (λ roster_rows. (lists >>= unless_faulty) >>= λ list_rows. papers_of seed school_rows roster_rows list_rows)
-    (faults_alone roster) (faults_alone lists ++ faults_together seed schools roster lists) (file-ends roster)
+    (faults_alone roster) (faults_alone lists ++ faults_together seed known schools roster lists) (file-ends roster)
     (λ roster_rows b. step-ends (lists >>= unless_faulty) (λ list_rows. papers_of seed school_rows roster_rows list_rows)
-    (faults_alone lists) (faults_together seed schools roster lists) (file-ends lists)
+    (faults_alone lists) (faults_together seed known schools roster lists) (file-ends lists)
     (λ list_rows c. subst (λ (faults : List IntakeFault). EndsAs (papers_of seed school_rows roster_rows list_rows) faults)
-    (sym (together-is seed schools roster lists school_rows roster_rows list_rows a b c))
+    (sym (together-is seed known schools roster lists school_rows roster_rows list_rows (same school_rows a) a b c))
     (rows-end seed school_rows roster_rows list_rows))))
 
 abbrev papers_of_judged : List ℕ → List ℕ → List ℕ → List ℕ → Result Market IntakeFault
@@ -152,8 +154,8 @@ files-end seed schools roster lists =
     rw (schools-judged schools, roster-judged roster, lists-judged lists)
     (subst (λ (faults : List IntakeFault). EndsAs (papers_of_judged seed schools roster lists) faults)
     (in_turn (faults_alone (schools_judged schools)) (faults_alone (roster_judged roster)) (faults_alone (lists_judged lists))
-    (faults_together seed (schools_judged schools) (roster_judged roster) (lists_judged lists)))
-    (judged-end seed (schools_judged schools) (roster_judged roster) (lists_judged lists)))
+    (faults_together seed (known_schools schools) (schools_judged schools) (roster_judged roster) (lists_judged lists)))
+    (judged-end seed (known_schools schools) (schools_judged schools) (roster_judged roster) (lists_judged lists) (none-known schools)))
 
 -- what that says of a reading and its faults
 good-where-none : {A : Type 0} (reading : Result A IntakeFault) (faults : List IntakeFault) → EndsAs reading faults → (is_ok reading ≡ true ↔ faults ≡ [])

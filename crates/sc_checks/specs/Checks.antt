@@ -1,6 +1,6 @@
 -- Every fault of three files and of a script.
-use Rattle.std.specs.Prelude.{ℕ, List, [], ◌++◌, Option, None, Some, Result, Ok, Err}
-use Rattle.sc_intake.specs.Checking.{faults_in, faults_of_rows, script_faults, Judged}
+use Rattle.std.specs.Prelude.{ℕ, List, [], ◌++◌, Option, None, Some}
+use Rattle.sc_intake.specs.Checking.{faults_in, faults_of_rows, script_faults}
 use Rattle.sc_intake.specs.declared.fault.IntakeFault.{IntakeFault}
 use Rattle.sc_intake.specs.declared.lists.ListRow.{ListRow}
 use Rattle.sc_intake.specs.declared.roster.RosterRow.{RosterRow}
@@ -10,14 +10,9 @@ use Rattle.sc_intake.specs.declared.schools.SchoolRow.{SchoolRow}
 abbrev pub every_fault : List ℕ → List ℕ → List ℕ → List ℕ → List ℕ → List IntakeFault
 every_fault seed schools roster lists script = faults_in seed schools roster lists ++ script_faults script
 
--- what was judged good in a file, where it has rows that can be judged
-abbrev pub good_of : {A : Type 0} → Result (Judged A) IntakeFault → Option A
-good_of (Ok judged) = Some judged.good
-good_of (Err fault) = None
-
--- the faults of what good rows say together, where each file has rows
-abbrev pub faults_of_good : List ℕ → Option (List SchoolRow) → Option (List RosterRow) → Option (List ListRow) → List IntakeFault
-faults_of_good seed (Some schools) (Some roster) (Some lists) = faults_of_rows seed schools roster lists
-faults_of_good seed (Some schools) (Some roster) None = []
-faults_of_good seed (Some schools) None lists = []
-faults_of_good seed None roster lists = []
+-- the faults of what good rows say together, by the schools that are known, where each file has rows
+abbrev pub faults_of_good : List ℕ → (List SchoolRow → List SchoolRow) → Option (List SchoolRow) → Option (List RosterRow) → Option (List ListRow) → List IntakeFault
+faults_of_good seed known (Some schools) (Some roster) (Some lists) = faults_of_rows seed (known schools) roster lists
+faults_of_good seed known (Some schools) (Some roster) None = []
+faults_of_good seed known (Some schools) None lists = []
+faults_of_good seed known None roster lists = []

@@ -1,3 +1,11 @@
 pub mod Checks
+pub mod Choices
+pub mod Columns
 pub mod FaultLines
+pub mod Left
+pub mod Forms
+pub mod Lines
+pub mod Quoting
 pub mod Readings
+pub mod Representation
+pub mod Words

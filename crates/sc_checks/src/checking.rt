@@ -1,102 +1,204 @@
 //! Every fault of the files of an opening and of a script, from their texts.
-ghost use Rattle.std.specs.Prelude.{◌≡◌, ◌++◌, ℕ, List, IfOk, OnOk, Ok, Result as Reading};
-ghost use Rattle.sc_intake.specs.Checking.{faults_alone, faults_in, judged_of, Judged};
-ghost use Rattle.sc_intake.specs.Fault.{Gives, no_memory};
-ghost use Rattle.sc_intake.specs.declared.fault.IntakeFault.{IntakeFault as Fault};
-ghost use Rattle.sc_intake.specs.declared.fault.Source.{Source};
-ghost use Rattle.sc_checks.specs.Checks.{every_fault, faults_of_good, good_of};
+ghost use Rattle.std.specs.Prelude.{◌≡◌, ◌++◌, ◌∷◌, [], ℕ, List, IfNone, IfOk, MatchOption, OnOk, is_some};
+ghost use Rattle.sc_intake.specs.Checking.{known_schools};
+ghost use Rattle.sc_checks.specs.Checks.{every_fault, faults_of_good};
+ghost use Rattle.sc_checks.specs.Left.{left_alone, left_found, left_together, AreJudged, AreSameGood};
 
 use sc_intake::{
-    Cause, IntakeFault, ListRows, Numbered, RosterRows, Rows, SchoolRows, Sheet, judge_lists,
-    judge_papers, judge_roster, judge_schools, judge_script,
+    IntakeFault, ListRow, RosterRow, SchoolRow, ScriptFaults, Sheet, judge_lists, judge_papers,
+    judge_roster, judge_schools, judge_script, known_schools,
 };
 use sc_papers::Seed;
 use std::alloc::{AllocError, Global};
+use std::marker::Model;
 
-/// Adds the faults of a file, and gives its rows that have none, where it has rows to judge.
-fn note_sheet<R: Numbered>(
-    judged: Result<Sheet<R>, IntakeFault>,
-    faults: &mut Vec<IntakeFault>,
-) -> Result<Option<Rows<R>>, AllocError>
-    // Of whichever file it is.
-    ensures noted { (source : Source) (reading : Reading (Judged (List R)) Fault) → Gives judged_of (no_memory source) reading judged
-        → OnOk result (faults.new.items ≡ faults.old.items ++ faults_alone reading) }
-    ensures good { (source : Source) (reading : Reading (Judged (List R)) Fault) → Gives judged_of (no_memory source) reading judged
-        → IfOk result (λ good. good ≡ good_of reading) }
+/// The three files of an opening, each judged row by row.
+#[derive(Drop)]
+struct Files<'a> {
+    schools: Sheet<'a, SchoolRow>,
+    roster: Sheet<'a, RosterRow>,
+    lists: Sheet<'a, ListRow>,
+}
+
+/// Faults that were found together, and how many of them were told.
+#[derive(Drop)]
+struct Found {
+    faults: Vec<IntakeFault>,
+    told: usize,
+}
+
+/// The faults of the texts of three files and of a script that are left to be told. They are told one after the other,
+/// and found as they are told. What is kept are the rows that have no fault, and of the faults those alone that are of
+/// what the rows say together, of which there are at most 400,000.
+#[derive(Drop)]
+pub struct Faults<'a> {
+    alloc: Global,
+    seed: Seed,
+    // It is read again for the schools that rows with a fault name.
+    schools: &'a [u8],
+    files: Files<'a>,
+    // Found once each file alone was judged.
+    together: Option<Found>,
+    script: ScriptFaults<'a>,
+}
+
+impl<'a> Model for Faults<'a> {
+    ghost use Rattle.std.specs.Prelude.{List};
+    ghost use Rattle.sc_intake.specs.declared.fault.IntakeFault.{IntakeFault as Fault};
+    ghost use Rattle.sc_checks.specs.Left.{left_in};
+
+    ghost Value = { List Fault };
+
+    ghost view = { λ f. left_in f.seed f.schools.now f.files f.together f.script };
+}
+
+/// The next fault of each file alone, in the order schools, roster, lists.
+fn next_alone(files: &mut Files<'_>) -> Result<Option<IntakeFault>, AllocError>
+    ensures next { IfOk result (λ found. MatchOption found (left_alone files.old ≡ []) (λ fault. left_alone files.old ≡ fault ∷ left_alone files.new)) }
+    ensures end { IfOk result (λ found. IfNone found (AreJudged files.new)) }
+    ensures good { OnOk result (AreSameGood files.old files.new) }
 {
-    match judged {
-        Ok(sheet) => {
-            faults.extend_from_slice(sheet.faults.as_slice())?;
-            Ok(Some(sheet.rows))
-        }
-        Err(fault) => {
-            if fault.cause == Cause::OutOfMemory {
-                return Err(AllocError);
-            }
-            faults.push(fault)?;
-            Ok(None)
-        }
+    if let Some(fault) = files.schools.next_fault()? {
+        return Ok(Some(fault));
+    }
+    if let Some(fault) = files.roster.next_fault()? {
+        return Ok(Some(fault));
+    }
+    files.lists.next_fault()
+}
+
+/// The faults of what the good rows of the three files say together.
+fn judge_together(
+    alloc: Global,
+    seed: Seed,
+    schools: &[u8],
+    files: &Files<'_>,
+) -> Result<Found, AllocError>
+    requires { AreJudged files.now }
+    ensures found { IfOk result (λ found. found.faults.items ≡ faults_of_good seed (known_schools schools.now) files.now.schools.good files.now.roster.good files.now.lists.good) }
+    ensures told { IfOk result (λ found. found.told ≡ 0) }
+{
+    let (Some(known), Some(roster), Some(lists)) = (
+        files.schools.rows(),
+        files.roster.rows(),
+        files.lists.rows(),
+    ) else {
+        return Ok(Found {
+            faults: Vec::new(alloc),
+            told: 0,
+        });
+    };
+    let known = known_schools(alloc, schools, known)?;
+    let faults = judge_papers(alloc, seed, &known, roster, lists)?;
+    Ok(Found { faults, told: 0 })
+}
+
+/// The faults of what the good rows of the three files say together, as far as they are left; they are looked for where
+/// they were not yet.
+fn found_together(
+    alloc: Global,
+    seed: Seed,
+    schools: &[u8],
+    files: &Files<'_>,
+    together: Option<Found>,
+) -> Result<Found, AllocError>
+    requires { AreJudged files.now }
+    ensures { IfOk result (λ found. left_found found ≡ left_together seed schools.now files.now together) }
+{
+    match together {
+        Some(found) => Ok(found),
+        None => judge_together(alloc, seed, schools, files),
     }
 }
 
-/// Adds the faults of what the good rows of the three files say together.
-fn note_together(
-    alloc: Global,
-    seed: Seed,
-    schools: &Option<SchoolRows>,
-    roster: &Option<RosterRows>,
-    lists: &Option<ListRows>,
-    faults: &mut Vec<IntakeFault>,
-) -> Result<(), AllocError>
-    ensures { OnOk result ((any : List ℕ) → faults.new.items ≡ faults.old.items ++ faults_of_good any schools.now roster.now lists.now) }
+/// The next of faults that were found.
+fn next_found(found: &mut Found) -> Option<IntakeFault>
+    ensures { MatchOption result ((left_found found.old ≡ []) × (left_found found.new ≡ [])) (λ fault. left_found found.old ≡ fault ∷ left_found found.new) }
 {
-    let (Some(schools), Some(roster), Some(lists)) = (schools, roster, lists) else {
-        return Ok(());
-    };
-    let found = judge_papers(alloc, seed, schools, roster, lists)?;
-    faults.extend_from_slice(found.as_slice())?;
-    Ok(())
+    let fault = *found.faults.as_slice().get(found.told)?;
+    found.told += 1;
+    Some(fault)
 }
 
-/// Every fault of the texts of three files.
-fn faults_of_files(
+/// The next fault of what the good rows of the three files say together.
+fn next_together(
     alloc: Global,
     seed: Seed,
     schools: &[u8],
-    roster: &[u8],
-    lists: &[u8],
-) -> Result<Vec<IntakeFault>, AllocError>
-    ensures { IfOk result (λ faults. (any : List ℕ) → faults.items ≡ faults_in any schools.now roster.now lists.now) }
+    files: &Files<'_>,
+    together: &mut Option<Found>,
+) -> Result<Option<IntakeFault>, AllocError>
+    requires { AreJudged files.now }
+    ensures { IfOk result (λ found. MatchOption found ((left_together seed schools.now files.now together.old ≡ []) × (left_together seed schools.now files.now together.new ≡ []))
+        (λ fault. left_together seed schools.now files.now together.old ≡ fault ∷ left_together seed schools.now files.now together.new)) }
 {
-    let mut faults = Vec::new(alloc);
-    let schools = note_sheet(judge_schools(alloc, schools), &mut faults)?;
-    let roster = note_sheet(judge_roster(alloc, roster), &mut faults)?;
-    let lists = note_sheet(judge_lists(alloc, lists), &mut faults)?;
-    note_together(alloc, seed, &schools, &roster, &lists, &mut faults)?;
-    Ok(faults)
+    let mut found = found_together(alloc, seed, schools, files, together.take())?;
+    let next = next_found(&mut found);
+    *together = Some(found);
+    Ok(next)
 }
 
-/// Every fault of the texts of three files and of a script: for each faulty row its first cause, first of what each
-/// file says alone, in the order schools, roster, lists, then of what their rows without a fault say together, and then
-/// of each record of the script that is no amendment. No script is an empty one, which has no fault. The faults are the
-/// same under every seed.
+/// Every fault of the texts of three files and of a script, to be told one after the other: for each faulty row its
+/// first cause, first of what each file says alone, in the order schools, roster, lists, then of what their rows
+/// without a fault say together, and then of each record of the script that is no amendment. No script is an empty one,
+/// which has no fault. The faults are the same under every seed. A school whose row has a fault counts as known to the
+/// rows of the others where its number can be read.
 ///
-/// The only error is want of memory. The cost is that of reading the files and making their papers, and of reading the
-/// script. The papers are made under this seed, by which their tables hash: whoever knows it can choose numbers that
-/// share a hash, and then the cost grows by the square of their count. So files from strangers are judged under a seed
-/// that nobody could know.
-pub fn every_fault(
+/// The only error is want of memory. The papers are made under this seed, by which their tables hash: whoever knows it
+/// can choose numbers that share a hash, and then the cost grows by the square of their count. So files from strangers
+/// are judged under a seed that nobody could know.
+pub fn every_fault<'a>(
     alloc: Global,
     seed: Seed,
-    schools: &[u8],
-    roster: &[u8],
-    lists: &[u8],
-    script: &[u8],
-) -> Result<Vec<IntakeFault>, AllocError>
-    ensures { IfOk result (λ faults. (any : List ℕ) → faults.items ≡ every_fault any schools.now roster.now lists.now script.now) }
+    schools: &'a [u8],
+    roster: &'a [u8],
+    lists: &'a [u8],
+    script: &'a [u8],
+) -> Result<Faults<'a>, AllocError>
+    ensures { IfOk result (λ faults. (any : List ℕ) → faults ≡ every_fault any schools.now roster.now lists.now script.now) }
 {
-    let mut faults = faults_of_files(alloc, seed, schools, roster, lists)?;
-    let found = judge_script(alloc, script)?;
-    faults.extend_from_slice(found.as_slice())?;
-    Ok(faults)
+    let files = Files {
+        schools: judge_schools(alloc, schools)?,
+        roster: judge_roster(alloc, roster)?,
+        lists: judge_lists(alloc, lists)?,
+    };
+    Ok(Faults {
+        alloc,
+        seed,
+        schools,
+        files,
+        together: None,
+        script: judge_script(alloc, script),
+    })
+}
+
+impl<'a> Faults<'a> {
+    ghost use Rattle.std.specs.Prelude.{◌≡◌, ◌∷◌, [], IfOk, MatchOption};
+
+    /// The next fault, or `None` where there is none left. The only error is want of memory, after which the faults that
+    /// are left are not known.
+    ///
+    /// The cost of all of them is that of reading the files and making their papers, and of reading the script; the
+    /// memory that of the rows that have no fault and of their papers.
+    pub fn next_fault(&mut self) -> Result<Option<IntakeFault>, AllocError>
+        ensures { IfOk result (λ found. MatchOption found ((self.old ≡ []) × (self.new ≡ [])) (λ fault. self.old ≡ fault ∷ self.new)) }
+    {
+        if let Some(fault) = next_alone(&mut self.files)? {
+            return Ok(Some(fault));
+        }
+        let together = next_together(
+            self.alloc,
+            self.seed,
+            self.schools,
+            &self.files,
+            &mut self.together,
+        )?;
+        if let Some(fault) = together {
+            return Ok(Some(fault));
+        }
+        match self.script.next_fault()? {
+            Some(fault) => Ok(Some(fault)),
+            None => Ok(None),
+        }
+    }
 }

@@ -1,11 +1,14 @@
 //! What every fault of the files has to do with reading them. Each function does nothing: its contract is the law.
-ghost use Rattle.std.specs.Prelude.{◌≡◌, ◌↔◌, ℕ, true, List, [], Err, is_ok};
+ghost use Rattle.std.specs.Prelude.{◌≡◌, ◌↔◌, ℕ, true, false, List, [], Err, is_ok, map};
+ghost use Rattle.csv.specs.Reading.{default_config, records, strip_bom};
 ghost use Rattle.sc_intake.specs.Checking.{faults_in, lists_judged, roster_judged, schools_judged, script_faults};
 ghost use Rattle.sc_intake.specs.Lists.{lists_in};
 ghost use Rattle.sc_intake.specs.Papers.{papers_in};
+ghost use Rattle.sc_intake.specs.Plain.{fields_from};
 ghost use Rattle.sc_intake.specs.Roster.{roster_in};
 ghost use Rattle.sc_intake.specs.Schools.{schools_in};
 ghost use Rattle.sc_intake.specs.declared.fault.IntakeFault.{IntakeFault};
+ghost use Rattle.sc_checks.specs.Lines.{has_quote, rows_of};
 ghost use Rattle.sc_checks.specs.Readings.{reading_of, BeginsWith};
 
 /// A file reads as the rows that judging it row by row finds good, where it finds no fault, and otherwise as the first
@@ -32,4 +35,10 @@ pub fn no_seed_changes_the_faults()
 /// A script without a byte has no fault.
 pub fn empty_script_has_no_fault()
     ensures { script_faults [] ≡ [] }
+{}
+
+/// Where a text has no quote, the rows that are told by their lines are the records that are read of it, each with its
+/// fields.
+pub fn rows_that_are_told_are_those_that_are_read()
+    ensures { (text : List ℕ) → has_quote text ≡ false → records default_config (strip_bom text) ≡ map (λ row. fields_from [] row.bytes) (rows_of text) }
 {}

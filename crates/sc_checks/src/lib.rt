@@ -1,4 +1,4 @@
-//! Every fault of the files of an opening and of a script, as a list and as text, and what these faults have to do with
+//! Every fault of the files of an opening and of a script, one after the other and as text, and what these faults have to do with
 //! reading the files.
 //!
 //! The definitions, and the functions that judge one input, stand in `sc_intake`. The laws say that an opening is read
@@ -7,8 +7,18 @@
 #![tactic(auto)]
 
 mod checking;
+mod choices;
+mod columns;
+mod fields;
+mod files;
+mod forms;
 pub mod laws;
+mod lines;
+mod quoting;
+mod telling;
 mod text;
+mod words;
 
-pub use checking::every_fault;
-pub use text::faults_text;
+pub use checking::{Faults, every_fault};
+pub use files::{FileNames, InputFile, InputFiles};
+pub use text::FaultLines;

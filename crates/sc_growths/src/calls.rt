@@ -9,9 +9,9 @@ use crate::twice::{Call, expect};
 use sc_papers::{SchoolNo, StudentNo};
 use sc_report::Watched;
 use sc_runs::{
-    Ending, Inputs, Opening, PapersFiles, RunFault, Settling, Table, admissions_files, audit_files,
-    audit_report_files, changes_files, check_files, explain_files, export_files, match_files,
-    replay_files, run, run_bundle, summary_files, table_files,
+    Ending, FileNames, Inputs, Opening, PapersFiles, RunFault, Settling, Table, admissions_files,
+    audit_files, audit_report_files, changes_files, check_files, explain_files, export_files,
+    match_files, replay_files, run, run_bundle, summary_files, table_files,
 };
 use std::alloc::{AllocError, Global};
 use std::process::Abort;
@@ -283,7 +283,13 @@ pub fn checked(rt: &impl Abort, alloc: Global) -> Result<String, AllocError> {
         ..opening()
     };
     let mut script = Some(Watched::new(SCRIPT));
-    let answer = check_files(alloc, &seed(rt), &mut files, &mut script, &mut out);
+    let names = FileNames {
+        schools: "schools.csv",
+        roster: "roster.csv",
+        lists: "lists.csv",
+        script: "script.csv",
+    };
+    let answer = check_files(alloc, &seed(rt), &names, &mut files, &mut script, &mut out);
     one_text(rt, alloc, answer.err(), &out)
 }
 

@@ -14,7 +14,7 @@ pub const FAULTY_LISTS: &[u8] = b"student,choices\n1,10 30\n2,ten\n3,10\n";
 
 /// The faults of the files with these lists, and of the script.
 pub const FAULTS: &str =
-    "lists row 3: Number\nroster row 2: Refused 6 UnknownSchool 30\nroster row 3: NoList\nlists row 4: NotInRoster\nscript row 2: Number\n";
+    "lists.csv line 3, student 2, choices \"ten\": numbers of 1 to 9 digits with spaces between them are expected. Number\nlists.csv line 2, student 1, choices \"10 30\" (roster.csv line 2): a row with school 30 is expected in the schools. Refused 6 UnknownSchool 30\nroster.csv line 3, student 2: a row without a fault is expected for this student in the lists. NoList\nlists.csv line 4, student 3: a row without a fault is expected for this student in the roster. NotInRoster\nscript.csv line 2, stamp \"nonsense\": a number of 1 to 9 digits is expected. Number\n";
 
 pub const SCRIPT: &[u8] = b"0,enter,3,1,10,10\nnonsense\n0,withdraw,99\n0,add,77,1\n1,withdraw,3\n";
 

@@ -1,21 +1,24 @@
 -- Every fault of the files of an opening, and not the first alone.
-use Rattle.std.specs.Prelude.{ℕ, ◌+◌, Bool, List, [], ◌∷◌, ◌++◌, flat_map, if◌then◌else◌, Result, Ok, Err}
+use Rattle.std.specs.Prelude.{◌≡◌, ℕ, ◌+◌, Bool, ◌||◌, nat_eq, nat_le, List, [], ◌∷◌, ◌++◌, flat_map, length, map, if◌then◌else◌, option_map, Option, None, Some, Result, Ok, Err}
+use Rattle.std.specs.List.{list_any}
+use Rattle.std.specs.Result.{result_ok}
 use Rattle.sc_papers.specs.Market.{Market}
 use Rattle.sc_papers.specs.declared.limits.TheConstants.{MOST_SCHOOLS, MOST_STUDENTS}
 use Rattle.sc_intake.specs.Fault.{◌>>=◌, fault_at}
-use Rattle.sc_intake.specs.File.{after_header, records_in}
+use Rattle.sc_intake.specs.Field.{as_school, number_of}
+use Rattle.sc_intake.specs.File.{after_header, records_in, text_at}
 use Rattle.sc_intake.specs.Lists.{choices_of, is_list_header, list_number}
 use Rattle.sc_intake.specs.Papers.{entered_by, is_in_roster, list_of, opening}
 use Rattle.sc_intake.specs.Roster.{is_roster_header, roster_number, student_of}
 use Rattle.sc_intake.specs.Rows.{added, next_row_at}
 use Rattle.sc_intake.specs.Schools.{is_school_header, school_number, school_of}
 use Rattle.sc_intake.specs.Script.{stamped_of}
+use Rattle.sc_intake.specs.Together.{records_below}
 use Rattle.sc_intake.specs.declared.fault.Cause.{Cause}
 use Rattle.sc_intake.specs.declared.fault.Cause.TheVariants.{NotInRoster}
 use Rattle.sc_intake.specs.declared.fault.IntakeFault.{IntakeFault}
 use Rattle.sc_intake.specs.declared.fault.Source.{Source}
 use Rattle.sc_intake.specs.declared.fault.Source.TheVariants.{Schools, Roster, Lists, Script}
-use Rattle.sc_intake.specs.declared.judging.Sheet.{Sheet}
 use Rattle.sc_intake.specs.declared.lists.ListRow.{ListRow}
 use Rattle.sc_intake.specs.declared.roster.RosterRow.{RosterRow}
 use Rattle.sc_intake.specs.declared.schools.SchoolRow.{SchoolRow}
@@ -29,10 +32,6 @@ pub record Judged (A : Type 0) : Type 0 where
 abbrev pub with_row : {A : Type 0} → Source → ℕ → Judged A → Result A Cause → Judged A
 with_row source row so_far (Ok better) = record { good = better; faults = so_far.faults }
 with_row source row so_far (Err cause) = record { good = so_far.good; faults = so_far.faults ++ fault_at source row cause ∷ [] }
-
--- what a sheet holds
-abbrev pub judged_of : {R : Type 0} → Sheet R → Judged (List R)
-judged_of sheet = record { good = sheet.rows; faults = sheet.faults.items }
 
 -- nothing was judged yet
 abbrev pub unjudged : {A : Type 0} → A → Judged A
@@ -66,6 +65,47 @@ abbrev pub faults_alone : {A : Type 0} → Result (Judged A) IntakeFault → Lis
 faults_alone (Ok judged) = judged.faults
 faults_alone (Err fault) = fault ∷ []
 
+-- what was judged good in a file, where it has rows that can be judged
+abbrev pub good_of : {A : Type 0} → Result (Judged A) IntakeFault → Option A
+good_of (Ok judged) = Some judged.good
+good_of (Err fault) = None
+
+-- a file whose faults are told one after the other: those that are left, its good rows once each fault was told, and
+-- those that will be its good rows; there are none where it has no rows that can be judged
+pub record Judging (R : Type 0) : Type 0 where
+  pub faults : List IntakeFault
+  pub rows : Option (List R)
+  pub good : Option (List R)
+
+-- every fault was told, and the good rows are there
+pub record IsJudged {R : Type 0} (judging : Judging R) : Type 0 where
+  pub told : judging.faults ≡ []
+  pub rows : judging.rows ≡ judging.good
+
+-- the school of which a record's first field is the number; its zone and its seats are not known
+abbrev pub named_school : ℕ → List (List ℕ) → Option SchoolRow
+named_school row fields =
+    option_map (λ number. record { row = row; number = number; zone = 0; seats = 0 }) (result_ok (number_of (text_at fields 0) >>= as_school))
+
+-- the schools that are known with one more, unless it is among them or they are as many as there may be
+abbrev pub with_known : List SchoolRow → Option SchoolRow → List SchoolRow
+with_known known (Some school) =
+    if nat_le MOST_SCHOOLS (length known) || list_any (nat_eq school.number) (map school_number known) then known else known ++ school ∷ []
+with_known known None = known
+
+-- the schools that are known with those that the records from this row on name
+unfoldable pub known_from : ℕ → List SchoolRow → List (List (List ℕ)) → List SchoolRow
+known_from row known [] = known
+known_from row known (fields ∷ rest) = known_from (row + 1) (with_known known (named_school row fields)) rest
+
+abbrev pub known_below : List SchoolRow → Result (ℕ × List (List (List ℕ))) IntakeFault → List SchoolRow
+known_below good (Ok below) = known_from 2 good below.1
+known_below good (Err fault) = good
+
+-- the schools that are known by the text of their file: the good rows, and after them the schools that other rows name
+abbrev pub known_schools : List ℕ → List SchoolRow → List SchoolRow
+known_schools text good = known_below good (records_below Schools is_school_header text)
+
 -- the papers after the students of these rows, each judged by those before them whom the papers do not refuse
 unfoldable pub students_judged : List ListRow → Judged Market → List RosterRow → Judged Market
 students_judged lists so_far [] = so_far
@@ -81,19 +121,29 @@ abbrev pub faults_of_rows : List ℕ → List SchoolRow → List RosterRow → L
 faults_of_rows seed schools roster lists =
     (students_judged lists (unjudged (opening seed schools)) roster).faults ++ flat_map (faults_of_list roster) lists
 
--- the faults of what three files say together, by their rows that have no fault; none is told where a file has no rows
--- that can be judged
-abbrev pub faults_together : List ℕ → Result (Judged (List SchoolRow)) IntakeFault → Result (Judged (List RosterRow)) IntakeFault → Result (Judged (List ListRow)) IntakeFault → List IntakeFault
-faults_together seed (Ok schools) (Ok roster) (Ok lists) = faults_of_rows seed schools.good roster.good lists.good
-faults_together seed (Ok schools) (Ok roster) (Err fault) = []
-faults_together seed (Ok schools) (Err fault) lists = []
-faults_together seed (Err fault) roster lists = []
+-- the faults of what three files say together, by their rows that have no fault and the schools that are known beside
+-- those; none is told where a file has no rows that can be judged
+abbrev pub faults_together : List ℕ → (List SchoolRow → List SchoolRow) → Result (Judged (List SchoolRow)) IntakeFault → Result (Judged (List RosterRow)) IntakeFault → Result (Judged (List ListRow)) IntakeFault → List IntakeFault
+faults_together seed known (Ok schools) (Ok roster) (Ok lists) = faults_of_rows seed (known schools.good) roster.good lists.good
+faults_together seed known (Ok schools) (Ok roster) (Err fault) = []
+faults_together seed known (Ok schools) (Err fault) lists = []
+faults_together seed known (Err fault) roster lists = []
 
 -- every fault of three files: of each alone, in the order schools, roster, lists, and then of what they say together
 abbrev pub faults_in : List ℕ → List ℕ → List ℕ → List ℕ → List IntakeFault
 faults_in seed schools roster lists =
     faults_alone (schools_judged schools) ++ faults_alone (roster_judged roster) ++ faults_alone (lists_judged lists)
-    ++ faults_together seed (schools_judged schools) (roster_judged roster) (lists_judged lists)
+    ++ faults_together seed (known_schools schools) (schools_judged schools) (roster_judged roster) (lists_judged lists)
+
+-- the cause that a reading ends with, if there is one
+abbrev pub cause_in : {A : Type 0} → Result A Cause → Option Cause
+cause_in (Ok x) = None
+cause_in (Err cause) = Some cause
+
+-- the fault of a row, where there is a cause
+abbrev pub fault_by : Source → ℕ → Option Cause → List IntakeFault
+fault_by source row None = []
+fault_by source row (Some cause) = fault_at source row cause ∷ []
 
 -- the fault of a row, where its reading has a cause
 abbrev pub fault_of : {A : Type 0} → Source → ℕ → Result A Cause → List IntakeFault

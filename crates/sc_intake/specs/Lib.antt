@@ -15,6 +15,7 @@ pub mod Lists
 pub mod Papers
 pub mod Together
 pub mod Checking
+pub mod Sheets
 pub mod Script
 pub mod Log
 pub mod Seen

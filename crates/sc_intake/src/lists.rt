@@ -30,11 +30,16 @@ pub type ListRows = Rows<ListRow>;
 
 impl Numbered for ListRow {
     ghost use Rattle.sc_papers.specs.declared.limits.TheConstants.{MOST_STUDENTS};
-    ghost use Rattle.sc_intake.specs.Lists.{list_number};
+    ghost use Rattle.sc_intake.specs.Lists.{list_number, choices_of};
+    ghost use Rattle.sc_intake.specs.declared.fault.Source.TheVariants.{Lists};
 
     ghost MOST = { MOST_STUDENTS };
 
     ghost number = { list_number };
+
+    ghost source = { Lists };
+
+    ghost reading = { choices_of };
 
     const MOST: usize = MOST_STUDENTS;
 
@@ -44,14 +49,9 @@ impl Numbered for ListRow {
 }
 
 impl Row for ListRow {
-    ghost use Rattle.sc_intake.specs.Lists.{choices_of, is_list_header};
-    ghost use Rattle.sc_intake.specs.declared.fault.Source.TheVariants.{Lists};
-
-    ghost source = { Lists };
+    ghost use Rattle.sc_intake.specs.Lists.{is_list_header};
 
     ghost is_header = { is_list_header };
-
-    ghost reading = { choices_of };
 
     fn source() -> Source {
         Source::Lists

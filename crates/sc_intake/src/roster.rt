@@ -52,11 +52,16 @@ pub type RosterRows = Rows<RosterRow>;
 
 impl Numbered for RosterRow {
     ghost use Rattle.sc_papers.specs.declared.limits.TheConstants.{MOST_STUDENTS};
-    ghost use Rattle.sc_intake.specs.Roster.{roster_number};
+    ghost use Rattle.sc_intake.specs.Roster.{roster_number, student_of};
+    ghost use Rattle.sc_intake.specs.declared.fault.Source.TheVariants.{Roster};
 
     ghost MOST = { MOST_STUDENTS };
 
     ghost number = { roster_number };
+
+    ghost source = { Roster };
+
+    ghost reading = { student_of };
 
     const MOST: usize = MOST_STUDENTS;
 
@@ -66,14 +71,9 @@ impl Numbered for RosterRow {
 }
 
 impl Row for RosterRow {
-    ghost use Rattle.sc_intake.specs.Roster.{student_of, is_roster_header};
-    ghost use Rattle.sc_intake.specs.declared.fault.Source.TheVariants.{Roster};
-
-    ghost source = { Roster };
+    ghost use Rattle.sc_intake.specs.Roster.{is_roster_header};
 
     ghost is_header = { is_roster_header };
-
-    ghost reading = { student_of };
 
     fn source() -> Source {
         Source::Roster

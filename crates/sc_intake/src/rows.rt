@@ -12,7 +12,7 @@ use crate::fault::{Cause, IntakeFault, Source};
 use crate::input::records_in;
 use crate::records::Records;
 use crate::seen::SeenNumbers;
-use std::alloc::Global;
+use std::alloc::{AllocError, Global};
 use std::marker::Model;
 
 /// A row with a number. No two rows of a file have the same one.
@@ -22,6 +22,12 @@ pub trait Numbered: Drop {
 
     // The row's number.
     ghost number: { Self → ℕ };
+
+    // Which file it is.
+    ghost source: { Input };
+
+    // What these fields read as in this row.
+    ghost reading: { ℕ → List (List ℕ) → Reading Self Why };
 
     /// The most rows that a file may have.
     const MOST: usize;
@@ -33,18 +39,12 @@ pub trait Numbered: Drop {
 
 /// How the rows of a file are read: the file's header, and a record as a row.
 pub(crate) trait Row: Numbered {
-    // Which file it is.
-    ghost source: { Input };
-
     // Whether these fields are the header.
     ghost is_header: { List (List ℕ) → Bool };
 
-    // What these fields read as in this row.
-    ghost reading: { ℕ → List (List ℕ) → Reading Self Why };
-
     /// Which file it is.
     fn source() -> Source
-        ensures { result ≡ source };
+        ensures { result ≡ Self.source };
 
     /// Whether the record read last is the header.
     fn is_header(fields: &Records) -> bool
@@ -53,7 +53,7 @@ pub(crate) trait Row: Numbered {
     /// The row that the record read last is, under the record's number, or why it is none. It has as many fields as
     /// the header.
     fn read(alloc: Global, row: u64, fields: &Records) -> Result<Self, Cause>
-        ensures { Gives (λ found. found) OutOfMemory (reading row fields.now.current) result };
+        ensures { Gives (λ found. found) OutOfMemory (Self.reading row fields.now.current) result };
 }
 
 /// The rows of a file, in order. Their numbers are all different, and there are no more than there
@@ -98,6 +98,17 @@ impl<R: Numbered> Rows<R> {
     {
         self.rows.len()
     }
+}
+
+/// The numbers of rows.
+pub(crate) fn numbers_of<R: Numbered>(alloc: Global, rows: &[R]) -> Result<SeenNumbers, AllocError>
+    ensures { IfOk result (λ numbers. AreNumbers R.number rows.now numbers) }
+{
+    let mut numbers = SeenNumbers::new(alloc);
+    for row in rows {
+        numbers.insert(row.number())?;
+    }
+    Ok(numbers)
 }
 
 /// Takes the header, and says how many fields it has.

@@ -29,11 +29,16 @@ pub type SchoolRows = Rows<SchoolRow>;
 
 impl Numbered for SchoolRow {
     ghost use Rattle.sc_papers.specs.declared.limits.TheConstants.{MOST_SCHOOLS};
-    ghost use Rattle.sc_intake.specs.Schools.{school_number};
+    ghost use Rattle.sc_intake.specs.Schools.{school_number, school_of};
+    ghost use Rattle.sc_intake.specs.declared.fault.Source.TheVariants.{Schools};
 
     ghost MOST = { MOST_SCHOOLS };
 
     ghost number = { school_number };
+
+    ghost source = { Schools };
+
+    ghost reading = { school_of };
 
     const MOST: usize = MOST_SCHOOLS;
 
@@ -43,14 +48,9 @@ impl Numbered for SchoolRow {
 }
 
 impl Row for SchoolRow {
-    ghost use Rattle.sc_intake.specs.Schools.{school_of, is_school_header};
-    ghost use Rattle.sc_intake.specs.declared.fault.Source.TheVariants.{Schools};
-
-    ghost source = { Schools };
+    ghost use Rattle.sc_intake.specs.Schools.{is_school_header};
 
     ghost is_header = { is_school_header };
-
-    ghost reading = { school_of };
 
     fn source() -> Source {
         Source::Schools

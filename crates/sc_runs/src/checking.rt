@@ -3,16 +3,18 @@
 ghost use Rattle.std.specs.Prelude.{◌≡◌, ◌||◌, ◌++◌, ℕ, List, All, is_some};
 ghost use Rattle.sc_intake.specs.declared.fault.Source.TheVariants as input;
 ghost use Rattle.sc_checks.specs.Checks.{every_fault};
+ghost use Rattle.sc_checks.specs.FaultLines.{files_of};
+ghost use Rattle.sc_checks.specs.Representation.{files_view, names_view};
 ghost use Rattle.sc_report.specs.Watched.{device_of, has_failed};
-ghost use Rattle.sc_runs.specs.Checking.{checked_of, ChecksFiles, WritesFaults};
+ghost use Rattle.sc_runs.specs.Checking.{ChecksFiles, WritesFaults};
 ghost use Rattle.sc_runs.specs.Inputs.{opening_turns, turns_if_any, TakesWithin};
 ghost use Rattle.sc_runs.specs.Opening.{is_output_fault};
 
 use crate::fault::RunFault;
 use crate::inputs::{Opening, OpeningSlices, read_opening_and};
-use crate::writing::write_text;
-use sc_checks::{every_fault, faults_text};
-use sc_intake::{IntakeFault, Source};
+use crate::writing::{flush_output, write_line};
+use sc_checks::{FaultLines, FileNames, InputFile, InputFiles, every_fault};
+use sc_intake::Source;
 use sc_papers::Seed;
 use sc_report::Watched;
 use std::alloc::Global;
@@ -27,77 +29,139 @@ pub enum Checked {
     Faulty,
 }
 
-/// Whether there is a fault.
-fn checked_of(faults: &[IntakeFault]) -> Checked
-    ensures { result ≡ checked_of faults.now }
-{
-    match faults {
-        [] => Checked::Clean,
-        [_, ..] => Checked::Faulty,
-    }
-}
-
-/// Writes the lines of faults, and flushes them.
-fn write_faults<W: Write>(
+/// Writes the lines of the faults that are left, a piece after the other, and does not flush them.
+fn write_pieces<W: Write>(
     alloc: Global,
-    faults: &[IntakeFault],
+    lines: &mut FaultLines<'_>,
     out: &mut Watched<W>,
 ) -> Result<Checked, RunFault>
-    ensures bytes { WritesFaults faults.now (W.contents (device_of out.old)) (W.contents (device_of out.new)) result }
+    ensures bytes { WritesFaults lines.old.files lines.old.left (W.contents (device_of out.old)) (W.contents (device_of out.new)) result }
     ensures failed { has_failed out.new ≡ (has_failed out.old || is_output_fault result) }
 {
-    match faults_text(alloc, faults) {
-        Ok(text) => match write_text(text.as_slice(), out) {
-            Ok(()) => Ok(checked_of(faults)),
-            Err(fault) => Err(fault),
-        },
-        Err(_) => Err(RunFault::OutOfMemory),
+    let mut text = Vec::new(alloc);
+    let mut checked = Checked::Clean;
+    'pieces: loop {
+        match lines.next_piece(&mut text) {
+            Ok(true) => checked = Checked::Faulty,
+            Ok(false) => return Ok(checked),
+            Err(_) => return Err(RunFault::OutOfMemory),
+        }
+        if let Err(fault) = write_line(text.as_slice(), out) {
+            return Err(fault);
+        }
     }
 }
 
-/// Writes the lines of every fault of the texts and of a script, and flushes them.
+/// Writes the lines of the faults that are left, and flushes them.
+fn write_faults<W: Write>(
+    alloc: Global,
+    lines: &mut FaultLines<'_>,
+    out: &mut Watched<W>,
+) -> Result<Checked, RunFault>
+    ensures bytes { WritesFaults lines.old.files lines.old.left (W.contents (device_of out.old)) (W.contents (device_of out.new)) result }
+    ensures failed { has_failed out.new ≡ (has_failed out.old || is_output_fault result) }
+{
+    match write_pieces(alloc, lines, out) {
+        Ok(checked) => match flush_output(out) {
+            Ok(()) => Ok(checked),
+            Err(fault) => Err(fault),
+        },
+        Err(fault) => Err(fault),
+    }
+}
+
+/// The inputs of these names and texts.
+fn files_of<'a>(names: &FileNames<'a>, texts: OpeningSlices<'a>, script: &'a [u8]) -> InputFiles<'a>
+    ensures { files_view result ≡ files_of (names_view names.now) texts.entry.schools.now texts.entry.roster.now texts.entry.lists.now script.now }
+{
+    InputFiles {
+        schools: InputFile {
+            name: names.schools,
+            text: texts.schools,
+        },
+        roster: InputFile {
+            name: names.roster,
+            text: texts.roster,
+        },
+        lists: InputFile {
+            name: names.lists,
+            text: texts.lists,
+        },
+        script: InputFile {
+            name: names.script,
+            text: script,
+        },
+    }
+}
+
+/// Writes the lines of every fault of the inputs, and flushes them.
 fn check_texts<W: Write>(
     alloc: Global,
     seed: &Seed,
-    texts: OpeningSlices<'_>,
-    script: &[u8],
+    files: &InputFiles<'_>,
     out: &mut Watched<W>,
 ) -> Result<Checked, RunFault>
-    ensures bytes { (any : List ℕ) → WritesFaults (every_fault any texts.entry.schools.now texts.entry.roster.now texts.entry.lists.now script.now)
+    ensures bytes { (any : List ℕ) → WritesFaults (files_view files.now)
+        (every_fault any files.now.schools.text.now files.now.roster.text.now files.now.lists.text.now files.now.script.text.now)
         (W.contents (device_of out.old)) (W.contents (device_of out.new)) result }
     ensures failed { has_failed out.new ≡ (has_failed out.old || is_output_fault result) }
 {
     match every_fault(
         alloc,
         *seed,
-        texts.schools,
-        texts.roster,
-        texts.lists,
-        script,
+        files.schools.text,
+        files.roster.text,
+        files.lists.text,
+        files.script.text,
     ) {
-        Ok(faults) => write_faults(alloc, faults.as_slice(), out),
+        Ok(faults) => {
+            let mut lines = FaultLines::new(alloc, *files, faults);
+            let checked = write_faults(alloc, &mut lines, out);
+            drop(lines);
+            checked
+        }
         Err(_) => Err(RunFault::OutOfMemory),
     }
 }
 
+/// Writes the lines of every fault of texts of these names, and flushes them.
+fn check_named<W: Write>(
+    alloc: Global,
+    seed: &Seed,
+    names: &FileNames<'_>,
+    texts: OpeningSlices<'_>,
+    script: &[u8],
+    out: &mut Watched<W>,
+) -> Result<Checked, RunFault>
+    ensures bytes { (any : List ℕ) → WritesFaults
+        (files_of (names_view names.now) texts.entry.schools.now texts.entry.roster.now texts.entry.lists.now script.now)
+        (every_fault any texts.entry.schools.now texts.entry.roster.now texts.entry.lists.now script.now)
+        (W.contents (device_of out.old)) (W.contents (device_of out.new)) result }
+    ensures failed { has_failed out.new ≡ (has_failed out.old || is_output_fault result) }
+{
+    let files = files_of(names, texts, script);
+    check_texts(alloc, seed, &files, out)
+}
+
 /// Reads the three files and a script, if there is one, in the order schools, roster, lists, script, and writes a line
-/// for each of their faults, as `every_fault` of `sc_checks` finds them. It answers whether there is one. No seed changes
-/// the faults: a line is written exactly where the files make no papers or a record of the
-/// script is no amendment, and the first line of the files is the fault with which `match_files` ends. One that nobody
-/// could know keeps the call fast for whatever numbers.
+/// for each of their faults, as `every_fault` of `sc_checks` finds them and `FaultLines` tells them by these names. It
+/// answers whether there is one. No seed changes the faults: a line is written exactly where the files make no papers or a
+/// record of the script is no amendment, and the first line of the files is of the fault with which `match_files` ends. One
+/// that nobody could know keeps the call fast for whatever numbers.
 ///
-/// An error is that an input cannot be read or is longer than 64 MiB, after which nothing was written; that the output
-/// failed, after which a prefix of the lines was; or want of memory, after which nothing was. Each input is read whole
-/// before any is looked into. Where reading one ends early, those after it are not touched; of none more than one byte
-/// past 64 MiB is taken.
+/// The lines are written in pieces of some 64 KiB, as the faults are found, and no fault is kept. An error is that an
+/// input cannot be read or is longer than 64 MiB, after which nothing was written; or that the output failed, or want of
+/// memory, after which a prefix of the lines was. Each input is read whole before any is looked into. Where reading one
+/// ends early, those after it are not touched; of none more than one byte past 64 MiB is taken.
 pub fn check_files<R: Read, W: Write>(
     alloc: Global,
     seed: &Seed,
+    names: &FileNames<'_>,
     opening: &mut Opening<R>,
     script: &mut Option<Watched<R>>,
     out: &mut Watched<W>,
 ) -> Result<Checked, RunFault>
-    ensures checked { ChecksFiles (opening_turns R.remaining opening.old opening.new) (turns_if_any R.remaining input.Script script.old script.new)
+    ensures checked { ChecksFiles (names_view names.now) (opening_turns R.remaining opening.old opening.new) (turns_if_any R.remaining input.Script script.old script.new)
         (W.contents (device_of out.old)) (W.contents (device_of out.new)) result }
     ensures failed { has_failed out.new ≡ (has_failed out.old || is_output_fault result) }
     ensures limit { All TakesWithin (opening_turns R.remaining opening.old opening.new ++ turns_if_any R.remaining input.Script script.old script.new) }
@@ -107,9 +171,10 @@ pub fn check_files<R: Read, W: Write>(
         Ok(texts) => texts,
         Err(fault) => return Err(fault),
     };
-    check_texts(
+    check_named(
         alloc,
         seed,
+        names,
         texts.opening.as_slices(),
         texts.last.as_slice(),
         out,

@@ -47,6 +47,7 @@ pub use publishing::{Finding, audit_report_files};
 pub use replaying::{Replayed, replay_files};
 pub use running::run;
 pub use sc_audit::Verdict;
+pub use sc_checks::FileNames;
 pub use sc_export::PapersFiles;
 pub use sc_journal::{JournalCause, JournalFault, Tail};
 pub use sc_report::{Table, table_named};

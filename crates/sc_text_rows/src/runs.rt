@@ -12,7 +12,9 @@ use sc_markets::roster_header;
 use sc_papers::Seed;
 use sc_report::Watched;
 use sc_report::devices::{Ending, FailingWriter};
-use sc_runs::{Inputs, Opening, Settling, fault_line, match_files, run, run_bundle, status_of};
+use sc_runs::{
+    FileNames, Inputs, Opening, Settling, fault_line, match_files, run, run_bundle, status_of,
+};
 use std::alloc::{AllocError, Global};
 use std::process::Abort;
 
@@ -461,6 +463,14 @@ fn opening((schools, roster, lists): Files) -> Opening<&'static [u8]> {
         lists: Watched::new(lists.as_bytes()),
     }
 }
+
+/// The names of files that are checked.
+const NAMES: FileNames<'static> = FileNames {
+    schools: "schools.csv",
+    roster: "roster.csv",
+    lists: "lists.csv",
+    script: "script.csv",
+};
 
 /// Market B as files.
 const MARKET_B_FILES: Files = (

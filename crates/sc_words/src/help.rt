@@ -18,10 +18,11 @@ pub(crate) const CHECK: &str =
     "Tell every fault of the files of an opening, and of a script if there is one";
 
 pub(crate) const CHECK_AFTER: &str = "\
-Writes a line SOURCE row ROW: CAUSE for each row that has a fault, with its first cause: first what is wrong with
-each file alone, in the order schools, roster, lists, then what the rows say together, then the records of the
-script that are no amendments. A row is judged by those that have no fault, so to mend one may show others. No seed
-is needed: none changes the faults.
+Writes a line for each row that has a fault, with its first cause: the file, the line as an editor counts it, the
+school or the student whose row it is, what stands there, what is expected, and the cause. First comes what is wrong
+with each file alone, in the order schools, roster, lists, then what the rows say together, then the records of the
+script that are no amendments. A row is judged by those that have no fault, so to mend one may show others; but a
+school is known where its number can be read. No seed is needed: none changes the faults.
 
 Exit status: 0 no fault, 2 wrong words, 3 a fault, 4 a file or stream that cannot be opened, read or written, 5 out
 of memory.

@@ -377,7 +377,7 @@ const HELP_TEXTS: &[(&str, &str)] = &[
         "check|--help",
         "Tell every fault of the files of an opening",
     ),
-    ("check|--help", "SOURCE row ROW: CAUSE"),
+    ("check|--help", "the line as an editor counts it"),
     ("check|--help", "Example:\n  clearinghouse check"),
     ("replay|--help", "Replay a journal over an opening"),
     ("replay|--help", "--journal <FILE>"),

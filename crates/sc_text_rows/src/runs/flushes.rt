@@ -1,11 +1,11 @@
 //! That each text is flushed, and in which order: no clause can say it, since `Write` says nothing of a flush.
-use super::{MARKET_B_FILES, ZEROS, opening};
+use super::{MARKET_B_FILES, NAMES, ZEROS, opening};
 use sc_papers::{SchoolNo, Seed, StudentNo};
 use sc_report::Watched;
 use sc_runs::{
-    Ending, Inputs, RunFault, Settling, Table, admissions_files, audit_files, audit_report_files,
-    changes_files, check_files, explain_files, match_files, replay_files, run, run_bundle,
-    summary_files, table_files,
+    Ending, FileNames, Inputs, RunFault, Settling, Table, admissions_files, audit_files,
+    audit_report_files, changes_files, check_files, explain_files, match_files, replay_files, run,
+    run_bundle, summary_files, table_files,
 };
 use std::alloc::Global;
 use std::cell::Cell;
@@ -156,9 +156,10 @@ fn fault_of(alloc: Global, seed: &Seed, call: Call) -> Option<RunFault> {
             let mut journal = Watched::new(b"".as_slice());
             changes_files(alloc, seed, files, &mut journal, 0, out).err()
         }
-        Call::Check => check_files(alloc, seed, files, &mut None, out).err(),
+        Call::Check => check_files(alloc, seed, &NAMES, files, &mut None, out).err(),
         Call::CheckOfFaults => {
-            check_files(alloc, seed, &mut opening(("", "", "")), &mut None, out).err()
+            let files = &mut opening(("", "", ""));
+            check_files(alloc, seed, &NAMES, files, &mut None, out).err()
         }
     }
 }

@@ -1,0 +1,6 @@
+use Rattle.std.proofs.Common.{◌∙◌}
+use Rattle.sc_checks.proofs.Bytes.{byte-found}
+use Rattle.sc_checks.proofs.lines.has_quote.Goals as goal
+
+pub returns : goal.returns
+returns c = c.is_some.ensures ∙ byte-found 34 c.args.text.now c.memchr.result c.memchr.ensures
