@@ -5,9 +5,11 @@
 #![tactic(auto)]
 
 use sc_words::Word;
+use std::io::IsTerminal;
 use std::process::ExitCode;
 use std::{env, io};
 
+mod counted;
 mod perform;
 #[cfg(test)]
 mod tests;
@@ -18,10 +20,27 @@ fn words(rt: &HostRuntime) -> io::Result<Vec<Word>> {
     Ok(words.collect(rt.alloc())?)
 }
 
+/// The terminal on which a long run may show how far it is: that of the errors, where the output goes elsewhere.
+fn terminal(rt: &HostRuntime) -> Option<io::Stderr> {
+    if rt.stderr().is_terminal() && !rt.stdout().is_terminal() {
+        Some(rt.stderr())
+    } else {
+        None
+    }
+}
+
 fn main(rt: HostRuntime) -> ExitCode {
     let errors = rt.stderr();
+    let terminal = terminal(&rt);
     let status = match words(&rt) {
-        Ok(words) => perform::perform(&rt, words.as_slice(), rt.stdin(), rt.stdout(), errors),
+        Ok(words) => perform::perform(
+            &rt,
+            words.as_slice(),
+            rt.stdin(),
+            rt.stdout(),
+            errors,
+            terminal,
+        ),
         Err(error) => perform::end_without_words(rt.alloc(), &error, errors),
     };
     ExitCode::from(status)

@@ -1,5 +1,6 @@
 //! The program, over any files and streams.
 
+use crate::counted::Counted;
 use clap::Error;
 use clap::error::ErrorKind;
 use sc_intake::Source;
@@ -699,19 +700,45 @@ fn perform_order<R: Files + AllocGlobal + RandomSource, I: Read + Drop, W: Write
     }
 }
 
+/// Whether an order is to settle papers after each amendment, so that its replies may be long in coming.
+fn settles_each(order: &Order<'_>) -> bool {
+    match order {
+        Order::Opening {
+            subcommand: Subcommand::Run { settle_each, .. },
+            ..
+        } => *settle_each,
+        _ => false,
+    }
+}
+
+/// Does what an order asks for, and counts its replies on a terminal, if there is one and they may be long in coming.
+fn perform_shown<
+    R: Files + AllocGlobal + RandomSource,
+    I: Read + Drop,
+    O: Write + Drop,
+    T: Write + Drop,
+>(rt: &R, order: &Order<'_>, input: I, output: O, terminal: Option<T>) -> Ending {
+    let terminal = if settles_each(order) { terminal } else { None };
+    let mut counted = Counted::new(rt.alloc(), output, terminal);
+    let ending = perform_order(rt, order, input, &mut Watched::new(&mut counted));
+    counted.end();
+    ending
+}
+
 /// Does what the words after the program's name order, over these files and streams: the reply lines
-/// and the report go to the output, the line of a fault to the errors. It answers the exit status.
+/// and the report go to the output, the line of a fault to the errors, and to the terminal, if there is one, how many
+/// records of a script are answered while one is settled after each. It answers the exit status.
 pub fn perform<
     R: Files + AllocGlobal + RandomSource,
     I: Read + Drop,
     O: Write + Drop,
     E: Write + Drop,
->(rt: &R, words: &[Word], input: I, output: O, errors: E) -> u8 {
-    let mut output = Watched::new(output);
+    T: Write + Drop,
+>(rt: &R, words: &[Word], input: I, output: O, errors: E, terminal: Option<T>) -> u8 {
     let mut errors = Watched::new(errors);
     match order_of(rt.alloc(), words) {
         Ok(order) => {
-            let ending = perform_order(rt, &order, input, &mut output);
+            let ending = perform_shown(rt, &order, input, output, terminal);
             write_ending(rt.alloc(), &ending, &mut errors);
             status_of(&ending)
         }
@@ -720,7 +747,7 @@ pub fn perform<
             status_of_words(&error)
         }
         Err(help) => {
-            let ending = write_help(rt.alloc(), &help, &mut output);
+            let ending = write_help(rt.alloc(), &help, &mut Watched::new(output));
             write_ending(rt.alloc(), &ending, &mut errors);
             status_of(&ending)
         }

@@ -51,7 +51,15 @@ fn performed(rt: &HostRuntime, words: &[Word], input: &str) -> Result<String, Al
     let alloc = rt.alloc();
     let mut output = Vec::new(alloc);
     let mut errors = Vec::new(alloc);
-    let status = perform(rt, words, input.as_bytes(), &mut output, &mut errors);
+    let terminal: Option<Vec<u8>> = None;
+    let status = perform(
+        rt,
+        words,
+        input.as_bytes(),
+        &mut output,
+        &mut errors,
+        terminal,
+    );
     let output = String::from_utf8_lossy(alloc, output.as_slice())?;
     let errors = String::from_utf8_lossy(alloc, errors.as_slice())?;
     format!(in alloc; "{output}{errors}{status}")
@@ -265,6 +273,35 @@ fn a_run_and_its_replay(rt: HostRuntime) -> io::Result<()> {
     Ok(())
 }
 
+/// What a terminal is given while a script is run with these options.
+fn shown(rt: &HostRuntime, options: &[&str]) -> io::Result<String> {
+    let alloc = rt.alloc();
+    fs::write(rt, "script", "0,enter,3,1,10,10\nnonsense\n")?;
+    let words = ordering(alloc, "run", "schools", options)?;
+    let mut terminal = Vec::new(alloc);
+    let (output, errors): (Vec<u8>, Vec<u8>) = (Vec::new(alloc), Vec::new(alloc));
+    let input = b"".as_slice();
+    perform(
+        rt,
+        words.as_slice(),
+        input,
+        output,
+        errors,
+        Some(&mut terminal),
+    );
+    Ok(String::from_utf8_lossy(alloc, terminal.as_slice())?)
+}
+
+#[test]
+fn a_terminal_shows_how_many_records_are_answered(rt: HostRuntime) -> io::Result<()> {
+    write_files(&rt)?;
+    let want =
+        "\rrecords answered: 1\rrecords answered: 2\r                                        \r";
+    expect(&rt, shown(&rt, RUN_SETTLED_EACH_TIME), want, "");
+    expect(&rt, shown(&rt, RUN), "", "");
+    Ok(())
+}
+
 /// Three amendments that are alike, so that one made twice would show.
 const THREE_SEATS: &str = "0,add,10,1\n1,add,10,1\n2,add,10,1\n";
 
@@ -280,7 +317,15 @@ fn stopped(rt: &HostRuntime, room: usize) -> io::Result<String> {
     let words = ordering(alloc, "run", "schools", RUN)?;
     let output = FailingWriter::new(Vec::with_capacity(alloc, room)?, room, 99, Ending::Fails);
     let mut errors = Vec::new(alloc);
-    let status = perform(rt, words.as_slice(), b"".as_slice(), output, &mut errors);
+    let terminal: Option<Vec<u8>> = None;
+    let status = perform(
+        rt,
+        words.as_slice(),
+        b"".as_slice(),
+        output,
+        &mut errors,
+        terminal,
+    );
     let journal = fs::read(rt, "journal")?;
     let journal = String::from_utf8_lossy(alloc, journal.as_slice())?;
     Ok(format!(in alloc; "{status}|{journal}")?)
@@ -712,7 +757,15 @@ fn performed_within(rt: &HostRuntime, line: &str, room: usize) -> io::Result<Str
     }
     let output = FailingWriter::new(Vec::with_capacity(alloc, room)?, room, 99, Ending::Fails);
     let mut errors = Vec::new(alloc);
-    let status = perform(rt, words.as_slice(), b"".as_slice(), output, &mut errors);
+    let terminal: Option<Vec<u8>> = None;
+    let status = perform(
+        rt,
+        words.as_slice(),
+        b"".as_slice(),
+        output,
+        &mut errors,
+        terminal,
+    );
     let errors = String::from_utf8_lossy(alloc, errors.as_slice())?;
     Ok(format!(in alloc; "{errors}{status}")?)
 }

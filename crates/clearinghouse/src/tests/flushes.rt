@@ -40,7 +40,15 @@ const BUNDLE: &str = "clearinghouse: bundle\n";
 fn a_fault_line_is_flushed(rt: HostRuntime) {
     let alloc = rt.alloc();
     let mut errors = unflushed(&rt, alloc, BUNDLE);
-    let status = perform(&rt, &[], b"".as_slice(), Vec::new(alloc), &mut errors);
+    let terminal: Option<Vec<u8>> = None;
+    let status = perform(
+        &rt,
+        &[],
+        b"".as_slice(),
+        Vec::new(alloc),
+        &mut errors,
+        terminal,
+    );
     assert!(rt; status == 3);
     expect_flushed(&rt, errors, BUNDLE);
 }
