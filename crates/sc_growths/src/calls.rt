@@ -18,7 +18,7 @@ use std::process::Abort;
 
 /// A writer with room for each text of the trials.
 fn writer(alloc: Global) -> Result<Watched<Vec<u8>>, AllocError> {
-    Ok(Watched::new(Vec::with_capacity(alloc, 400)?))
+    Ok(Watched::new(Vec::with_capacity(alloc, 800)?))
 }
 
 /// The files of Market B.
