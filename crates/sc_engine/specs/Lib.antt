@@ -7,3 +7,4 @@ pub mod Proposals
 pub mod Newcomers
 pub mod Outcome
 pub mod Noted
+pub mod Fresh

@@ -6,7 +6,7 @@ ghost use Rattle.sc_papers.specs.Assignment.{assigned};
 ghost use Rattle.sc_papers.specs.Key.{key_of};
 ghost use Rattle.sc_papers.specs.Market.{choices_of, is_school, is_student, schools_of, seats_of, students_of, student_at};
 ghost use Rattle.sc_engine.specs.Proposals.{IsProposal, first_choice};
-ghost use Rattle.sc_engine.specs.RoundView.{OffersAt, roll_at, next_of, Fits, FitsBut, only, Proposes, ChainEnds, Enters, Continues, has_entered, without_log, AreEmpty, StandNowhere};
+ghost use Rattle.sc_engine.specs.RoundView.{OffersAt, roll_at, next_of, Fits, FitsBut, only, Proposes, ChainEnds, Enters, has_entered, without_log, AreEmpty, StandNowhere};
 ghost use Rattle.sc_engine.specs.Rolls.{rolls_of};
 
 mod resume;
@@ -225,6 +225,7 @@ fn offer_to<R: Roll>(rolls: &mut Vec<R>, at: usize, key: Key) -> Result<Option<K
 }
 
 impl<R: Roll> Round<R> {
+    ghost use Rattle.sc_engine.specs.Fresh.{IsFresh};
     ghost use Rattle.sc_engine.specs.Round.{view_of, is_spent};
 
     /// Offers a seat of the school at the position to the key, which is one proposal.
@@ -367,12 +368,7 @@ impl<R: Roll> Round<R> {
         requires length { length rolls.items ≡ length papers.now.schools }
         requires empty { AreEmpty papers.now (rolls_of R.keys R.seats rolls.items) (length papers.now.schools) }
         requires log { log.items ≡ [] }
-        ensures fits { Fits papers.now (view_of R.keys R.seats result) }
-        ensures nobody { (i : ℕ) → has_entered papers.now (view_of R.keys R.seats result).ranks i ≡ false }
-        ensures settled { Continues papers.now [] (view_of R.keys R.seats result) }
-        ensures log { (view_of R.keys R.seats result).log ≡ [] }
-        ensures proposals { (view_of R.keys R.seats result).proposals ≡ 0 }
-        ensures ready { is_spent result ≡ false }
+        ensures { IsFresh R.keys R.seats papers.now result }
     {
         // This call tells that the papers are well-formed and within their limits.
         prove!(papers.students_len() <= MOST_STUDENTS);
@@ -393,12 +389,7 @@ impl<R: Roll> Round<R> {
         papers: &Papers,
         students: usize,
     ) -> Result<Self, AllocError>
-        ensures fits { IfOk result (λ round. Fits papers.now (view_of R.keys R.seats round)) }
-        ensures nobody { IfOk result (λ round. (i : ℕ) → has_entered papers.now (view_of R.keys R.seats round).ranks i ≡ false) }
-        ensures settled { IfOk result (λ round. Continues papers.now [] (view_of R.keys R.seats round)) }
-        ensures log { IfOk result (λ round. (view_of R.keys R.seats round).log ≡ []) }
-        ensures proposals { IfOk result (λ round. (view_of R.keys R.seats round).proposals ≡ 0) }
-        ensures ready { IfOk result (λ round. is_spent round ≡ false) }
+        ensures { IfOk result (IsFresh R.keys R.seats papers.now) }
     {
         let ranks = RankTable::with_room(alloc, papers.students_len())?;
         let rolls = empty_rolls(alloc, papers)?;
@@ -409,12 +400,7 @@ impl<R: Roll> Round<R> {
     /// What `with_room` gives, in the memory of a round that is done with, whatever papers it was of and whether or not
     /// it is spent.
     pub(crate) fn again(self, papers: &Papers, students: usize) -> Result<Self, AllocError>
-        ensures fits { IfOk result (λ round. Fits papers.now (view_of R.keys R.seats round)) }
-        ensures nobody { IfOk result (λ round. (i : ℕ) → has_entered papers.now (view_of R.keys R.seats round).ranks i ≡ false) }
-        ensures settled { IfOk result (λ round. Continues papers.now [] (view_of R.keys R.seats round)) }
-        ensures log { IfOk result (λ round. (view_of R.keys R.seats round).log ≡ []) }
-        ensures proposals { IfOk result (λ round. (view_of R.keys R.seats round).proposals ≡ 0) }
-        ensures ready { IfOk result (λ round. is_spent round ≡ false) }
+        ensures { IfOk result (IsFresh R.keys R.seats papers.now) }
     {
         let mut ranks = self.ranks;
         ranks.clear(papers.students_len());
@@ -429,12 +415,7 @@ impl<R: Roll> Round<R> {
     /// A round in which nobody has entered, or the error of a refused growth. It takes memory for each
     /// student and each school; the rolls take theirs by the offers.
     pub fn start(alloc: Global, papers: &Papers) -> Result<Self, AllocError>
-        ensures fits { IfOk result (λ round. Fits papers.now (view_of R.keys R.seats round)) }
-        ensures nobody { IfOk result (λ round. (i : ℕ) → has_entered papers.now (view_of R.keys R.seats round).ranks i ≡ false) }
-        ensures settled { IfOk result (λ round. Continues papers.now [] (view_of R.keys R.seats round)) }
-        ensures log { IfOk result (λ round. (view_of R.keys R.seats round).log ≡ []) }
-        ensures proposals { IfOk result (λ round. (view_of R.keys R.seats round).proposals ≡ 0) }
-        ensures ready { IfOk result (λ round. is_spent round ≡ false) }
+        ensures { IfOk result (IsFresh R.keys R.seats papers.now) }
     {
         Round::with_room(alloc, papers, papers.students_len())
     }

@@ -1,12 +1,10 @@
 //! Rounds that go on from where students stand.
 
-ghost use Rattle.std.specs.Prelude.{◌≡◌, ℕ, ◌<◌, ◌≤◌, length, nat_eq, position, true, false, List, [], Contains, Option, Some, slice_get, IfOk, OnOk, IfSome};
+ghost use Rattle.std.specs.Prelude.{◌≡◌, ℕ, ◌<◌, ◌≤◌, length, nat_eq, position, true, false, Contains, Option, Some, slice_get, IfOk, OnOk, IfSome};
 ghost use Rattle.sc_papers.specs.Key.{key_of};
 ghost use Rattle.sc_papers.specs.Market.{choices_of, is_student, schools_of, seats_of, student_at};
 ghost use Rattle.sc_papers.specs.Matching.{held};
-ghost use Rattle.sc_papers.specs.declared.rejection.Rejection.{Rejection};
-ghost use Rattle.sc_checkpoint.specs.NextChoices.{stands, AreNextChoices};
-ghost use Rattle.sc_engine.specs.RoundView.{Fits, Continues, StandsToo, has_entered, next_of};
+ghost use Rattle.sc_engine.specs.RoundView.{Fits, StandsToo, has_entered, next_of};
 
 use super::{Round, offer_to, position_near};
 use sc_checkpoint::Standing;
@@ -61,6 +59,7 @@ fn rank_guess_of(told: &[u8], turn: usize) -> usize {
 }
 
 impl<R: Roll> Round<R> {
+    ghost use Rattle.sc_engine.specs.Fresh.{CanResume, IsFresh, IsResumed};
     ghost use Rattle.sc_engine.specs.Round.{view_of, is_spent};
 
     /// Puts the student at its next choice, and on the roll of that school, which has room. That is no
@@ -108,15 +107,8 @@ impl<R: Roll> Round<R> {
         papers: &Papers,
         next_choices: &[Standing],
     ) -> Result<Self, AllocError>
-        // Some earlier log is settled for the papers of these students alone, who are different
-        // students of the papers, and leaves them these next choices.
-        requires { (earlier : List Rejection) × AreNextChoices papers.now earlier next_choices.now }
-        ensures fits { IfOk result (λ round. Fits papers.now (view_of R.keys R.seats round)) }
-        ensures entered { IfOk result (λ round. (i : ℕ) → has_entered papers.now (view_of R.keys R.seats round).ranks i ≡ stands next_choices.now i) }
-        ensures continues { IfOk result (λ round. (earlier : List Rejection) → AreNextChoices papers.now earlier next_choices.now → Continues papers.now earlier (view_of R.keys R.seats round)) }
-        ensures log { IfOk result (λ round. (view_of R.keys R.seats round).log ≡ []) }
-        ensures proposals { IfOk result (λ round. (view_of R.keys R.seats round).proposals ≡ 0) }
-        ensures ready { IfOk result (λ round. is_spent round ≡ false) }
+        requires { CanResume papers.now next_choices.now }
+        ensures { IfOk result (IsResumed R.keys R.seats papers.now next_choices.now) }
     {
         Round::resume_near(alloc, papers, next_choices, &[], &[], papers.students_len())
     }
@@ -135,13 +127,8 @@ impl<R: Roll> Round<R> {
         ranks: &[u8],
         expected: usize,
     ) -> Result<Self, AllocError>
-        requires { (earlier : List Rejection) × AreNextChoices papers.now earlier next_choices.now }
-        ensures fits { IfOk result (λ round. Fits papers.now (view_of R.keys R.seats round)) }
-        ensures entered { IfOk result (λ round. (i : ℕ) → has_entered papers.now (view_of R.keys R.seats round).ranks i ≡ stands next_choices.now i) }
-        ensures continues { IfOk result (λ round. (earlier : List Rejection) → AreNextChoices papers.now earlier next_choices.now → Continues papers.now earlier (view_of R.keys R.seats round)) }
-        ensures log { IfOk result (λ round. (view_of R.keys R.seats round).log ≡ []) }
-        ensures proposals { IfOk result (λ round. (view_of R.keys R.seats round).proposals ≡ 0) }
-        ensures ready { IfOk result (λ round. is_spent round ≡ false) }
+        requires { CanResume papers.now next_choices.now }
+        ensures { IfOk result (IsResumed R.keys R.seats papers.now next_choices.now) }
     {
         Round::with_room(alloc, papers, expected)?.stand(papers, next_choices, near, ranks)
     }
@@ -160,13 +147,8 @@ impl<R: Roll> Round<R> {
         ranks: &[u8],
         expected: usize,
     ) -> Result<Self, AllocError>
-        requires { (earlier : List Rejection) × AreNextChoices papers.now earlier next_choices.now }
-        ensures fits { IfOk result (λ round. Fits papers.now (view_of R.keys R.seats round)) }
-        ensures entered { IfOk result (λ round. (i : ℕ) → has_entered papers.now (view_of R.keys R.seats round).ranks i ≡ stands next_choices.now i) }
-        ensures continues { IfOk result (λ round. (earlier : List Rejection) → AreNextChoices papers.now earlier next_choices.now → Continues papers.now earlier (view_of R.keys R.seats round)) }
-        ensures log { IfOk result (λ round. (view_of R.keys R.seats round).log ≡ []) }
-        ensures proposals { IfOk result (λ round. (view_of R.keys R.seats round).proposals ≡ 0) }
-        ensures ready { IfOk result (λ round. is_spent round ≡ false) }
+        requires { CanResume papers.now next_choices.now }
+        ensures { IfOk result (IsResumed R.keys R.seats papers.now next_choices.now) }
     {
         self.again(papers, expected)?
             .stand(papers, next_choices, near, ranks)
@@ -180,18 +162,9 @@ impl<R: Roll> Round<R> {
         near: &[usize],
         ranks: &[u8],
     ) -> Result<Self, AllocError>
-        requires after { (earlier : List Rejection) × AreNextChoices papers.now earlier next_choices.now }
-        requires fits { Fits papers.now (view_of R.keys R.seats self) }
-        requires nobody { (i : ℕ) → has_entered papers.now (view_of R.keys R.seats self).ranks i ≡ false }
-        requires log { (view_of R.keys R.seats self).log ≡ [] }
-        requires proposals { (view_of R.keys R.seats self).proposals ≡ 0 }
-        requires ready { is_spent self ≡ false }
-        ensures fits { IfOk result (λ round. Fits papers.now (view_of R.keys R.seats round)) }
-        ensures entered { IfOk result (λ round. (i : ℕ) → has_entered papers.now (view_of R.keys R.seats round).ranks i ≡ stands next_choices.now i) }
-        ensures continues { IfOk result (λ round. (earlier : List Rejection) → AreNextChoices papers.now earlier next_choices.now → Continues papers.now earlier (view_of R.keys R.seats round)) }
-        ensures log { IfOk result (λ round. (view_of R.keys R.seats round).log ≡ []) }
-        ensures proposals { IfOk result (λ round. (view_of R.keys R.seats round).proposals ≡ 0) }
-        ensures ready { IfOk result (λ round. is_spent round ≡ false) }
+        requires after { CanResume papers.now next_choices.now }
+        requires fresh { IsFresh R.keys R.seats papers.now self }
+        ensures { IfOk result (IsResumed R.keys R.seats papers.now next_choices.now) }
     {
         let mut round = self;
         for (turn, choice) in next_choices.iter().enumerate() {
