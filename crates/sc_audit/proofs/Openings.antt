@@ -125,9 +125,6 @@ opened-all m l k all opened = record {
 pub record SeatsUpTo (m : Market) (k : ℕ) (seats : List ℕ) : Type 0 where
   pub are : seats ≡ map (seats_of m) (take k (schools_of m))
 
-pub seats-none : (m : Market) → SeatsUpTo m 0 []
-seats-none m = record { are = refl }
-
 pub seats-more : (m : Market) (k n : ℕ) (seats : List ℕ) → k < length m.schools → ((s : ℕ) → slice_get (schools_of m) k ≡ Some s → n ≡ seats_of m s) → SeatsUpTo m k seats → SeatsUpTo m (k + 1) (seats ++ n ∷ [])
 seats-more m k n seats low is upto =
     let s : ℕ = get_or (schools_of m) k 0 in

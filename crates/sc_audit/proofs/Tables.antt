@@ -33,10 +33,6 @@ stand-at m stands i at now long found is =
     let low : at < length stands = omega (arith, (position-at (students_of m) i at found).0, length-keys_of m.students, long) in
     get_or_read stands at now low is None ∙ sym (looked-at (students_of m) stands None i at found)
 
-pub stand-there : (m : Market) (stands : List (Option ℕ)) (i at : ℕ) → length stands ≡ length m.students → position (nat_eq i) (students_of m) ≡ Some at → get_or stands at None ≡ stand_of m stands i
-unfolding stand_of
-stand-there m stands i at long found = sym (looked-at (students_of m) stands None i at found)
-
 pub stand-away : (m : Market) (stands : List (Option ℕ)) (i : ℕ) → position (nat_eq i) (students_of m) ≡ None → None ≡ stand_of m stands i
 unfolding stand_of
 stand-away m stands i away = sym (ap (λ o. option_map_or (λ k. get_or stands k None) o None) away)

@@ -1,16 +1,14 @@
 -- One more entry of a log, put into a table of ranks.
-use Rattle.std.proofs.Common.{◌≡◌, inl, inr, refl, ap, sym, ◌∙◌, ℕ, ◌<◌, ◌≤◌, ◌==◌, nat_eq, nat_lt, Bool, true, false, ◌&&◌, ◌||◌, List, [], ◌∷◌, ◌++◌, length, get_or, set, replicate, Option, Some, None, slice_get, position, arith, length-set}
+use Rattle.std.proofs.Common.{◌≡◌, inl, inr, refl, ap, sym, ◌∙◌, ℕ, ◌<◌, ◌≤◌, ◌==◌, nat_eq, nat_lt, Bool, true, false, ◌&&◌, ◌||◌, List, [], ◌∷◌, ◌++◌, length, get_or, set, Some, None, slice_get, position, arith, length-set}
 use Rattle.std.specs.List.{position_or_len}
-use Rattle.std.specs.Option.{option_and_then, option_map_or}
 use Rattle.std.proofs.lemmas.Bool.{cases_eq, cases_lt, cond-true, lt-ltb, eqb-true, eq-eqb, ne_eqb, false≢true, false_from_ne_true, and_parts}
-use Rattle.std.proofs.lemmas.List.{get_or-set_same, get_or-set_other, get_or-replicate, length-replicate}
+use Rattle.std.proofs.lemmas.List.{get_or-set_same, get_or-set_other}
 use Rattle.std.proofs.lemmas.List.Quantifiers.{position-Some}
 use Rattle.std.proofs.lemmas.List.Sums.{fails_before_first}
 use Rattle.std.proofs.lemmas.Option.{none-some, same_Some, slice_get_within, slice_get-get_or, get_or_from_slice_get}
-use Rattle.sc_papers.specs.Market.{Market, student_of, students_of, choices_of}
+use Rattle.sc_papers.specs.Market.{Market, students_of, choices_of}
 use Rattle.sc_papers.specs.WellFormed.{WellFormed, WithinLimits}
 use Rattle.sc_papers.specs.Log.{is_rejected}
-use Rattle.sc_papers.specs.declared.records.Student.{Student}
 use Rattle.sc_papers.specs.declared.rejection.Rejection.{Rejection}
 use Rattle.sc_papers.proofs.Choices.{one-place}
 use Rattle.sc_papers.proofs.Rejections.{is_of, rejected-push}
@@ -37,12 +35,6 @@ position-none test xs k x none here =
           ap test (sym (get_or_from_slice_get xs k x x here))
           ∙ fails_before_first test xs k x (omega (arith, over, slice_get_within xs k x here))
     ]
-
--- what the papers hold at a student's position has its choices
-pub choices-here : (m : Market) (i at : ℕ) (held : Option Student) → slice_get (students_of m) at ≡ Some i → held ≡ option_and_then (student_of m) (slice_get (students_of m) at)
-    → option_map_or (λ student. student.choices) held [] ≡ choices_of m i
-unfolding choices_of
-choices-here m i at held here is = ap (λ found. option_map_or (λ student. student.choices) found []) (is ∙ ap (option_and_then (student_of m)) here)
 
 -- an entry of another student or school
 other-entry : (e : Rejection) (i s : ℕ) → (e.student ≡ i → e.school ≡ s → ⊥) → is_of e i s ≡ false
@@ -157,13 +149,3 @@ table-marked m students log e table position_of rank_of old new well once studen
         before.at at i ranks at_student here rank s at_school
         ∙ sym (other-kept log e i s (λ same_student same_school.
         apart (once at position_of i at_student (student ∙ ap Some same_student))))
-
--- before the first entry
-pub table-new : (m : Market) (students : List ℕ) (k : ℕ) (ranks : RankSet) (table : List RankSet) → ((rank : ℕ) → has_rank ranks rank ≡ false) → table ≡ replicate k ranks → AreTabled m students [] table
-table-new m students k ranks table none made = record {
-  at = λ at i row at_student at_table rank s at_school.
-      let low : at < k = omega (arith, slice_get_within table at row at_table, ap length made, length-replicate k ranks) in
-      let is_row : row ≡ ranks =
-      same_Some row ranks (sym at_table ∙ ap (λ rows. slice_get rows at) made ∙ slice_get-get_or (replicate k ranks) at ranks (omega (arith, low, length-replicate k ranks)) ∙ ap Some (get_or-replicate k at ranks ranks low)) in
-      ap (λ set_of. has_rank set_of rank) is_row ∙ none rank;
-}

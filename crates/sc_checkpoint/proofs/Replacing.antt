@@ -1,5 +1,5 @@
 -- Chains that give way to renewed ones.
-use Rattle.std.proofs.Common.{◌≡◌, refl, ap, subst, sym, ◌∙◌, ℕ, zero, suc, ◌+◌, ◌<◌, List, [], ◌∷◌, ◌++◌, length, map, drop, get_or, set, Some, Contains, slice_get, length-set, arith}
+use Rattle.std.proofs.Common.{◌≡◌, refl, ap, subst, ◌∙◌, ℕ, zero, suc, ◌+◌, ◌<◌, List, [], ◌∷◌, ◌++◌, length, map, drop, get_or, set, Some, Contains, slice_get, length-set, arith}
 use Rattle.std.proofs.lemmas.List.{at_drop_more}
 use Rattle.sc_papers.proofs.Counting.{contains-head, contains-tail}
 use Rattle.sc_checkpoint.specs.Chains.{replaced}
@@ -45,16 +45,6 @@ replaced-push xs [] [] at x same = refl
 replaced-push xs [] (c ∷ renewed) at x same = absurd (omega (arith, same))
 replaced-push xs (p ∷ positions) [] at x same = absurd (omega (arith, same))
 replaced-push xs (p ∷ positions) (c ∷ renewed) at x same = replaced-push (set xs p c) positions renewed at x (omega (arith, same))
-
--- the next of the positions, and the next of the renewed
-pub replaced-next : {X : Type 0} (xs after : List X) (positions : List ℕ) (k at : ℕ) (renewed rest : List X) (x : X) → k < length positions → get_or positions k 0 ≡ at → renewed ≡ x ∷ rest → after ≡ set xs at x
-    → replaced xs (drop k positions) renewed ≡ replaced after (drop (k + 1) positions) rest
-replaced-next xs after positions k at renewed rest x low is next write =
-    (λ t. replaced xs (split t) (next t))
-    ∙ ap (λ cs. replaced cs (drop (k + 1) positions) rest) (sym write)
-  where
-    split : drop k positions ≡ at ∷ drop (k + 1) positions
-    split = drop-next positions k 0 low ∙ ap (λ p. p ∷ drop (k + 1) positions) is
 
 -- what each of them is seen as gives way alike
 pub map-replaced : {X Y : Type 0} (f : X → Y) (xs : List X) (positions : List ℕ) (renewed : List X) → map f (replaced xs positions renewed) ≡ replaced (map f xs) positions (map f renewed)

@@ -1,11 +1,11 @@
 -- The moves of a chain, as the code makes them.
-use Rattle.std.proofs.Common.{◌≡◌, refl, ap, sym, subst, ◌∙◌, ℕ, ◌+◌, ◌<◌, nat_eq, List, [], ◌∷◌, ◌++◌, length, set, Option, Some, None, Contains, position, is_some, append_assoc, append-nil, arith}
+use Rattle.std.proofs.Common.{◌≡◌, refl, ap, sym, subst, ◌∙◌, ℕ, ◌+◌, ◌<◌, nat_eq, List, [], ◌∷◌, ◌++◌, length, set, Option, Some, None, Contains, position, is_some, append-nil, arith}
 use Rattle.sc_papers.specs.Market.{Market, students_of, schools_of}
 use Rattle.sc_papers.specs.Key.{key_of}
 use Rattle.sc_papers.specs.declared.key.Key.{Key}
 use Rattle.sc_papers.specs.declared.rejection.Rejection.{Rejection}
 use Rattle.sc_seats.specs.Roll.{RollView}
-use Rattle.sc_engine.specs.RoundView.{RoundView, rank_of, next_of, FitsBut, only, OffersAt, RollFits, roll_at, ChainEnds, ChainGoesOn, Extends, Proposes}
+use Rattle.sc_engine.specs.RoundView.{RoundView, rank_of, next_of, FitsBut, only, OffersAt, RollFits, roll_at, ChainEnds, Extends, Proposes}
 use Rattle.std.proofs.lemmas.Bool.{eq-eqb}
 use Rattle.sc_engine.proofs.Rolls.{away-off}
 use Rattle.sc_engine.proofs.Tables.{rank-low, roll-at, stands-at, StandsAt, position-of, PositionOf}
@@ -27,9 +27,6 @@ proposed-told m r proposer s at key rolls told out fits stands school is offered
 
 pub extends-same : (old new : List Rejection) → new ≡ old → Extends old new
 extends-same old new same = ([], same ∙ sym (append-nil old))
-
-pub extends-trans : (a b c : List Rejection) → Extends a b → Extends b c → Extends a c
-extends-trans a b c (first, is_b) (second, is_c) = (first ++ second, is_c ∙ ap (λ l. l ++ second) is_b ∙ append_assoc a first second)
 
 -- the student in hand has no choice left
 pub ends-none : (m : Market) (r : RoundView) (proposer : ℕ) → FitsBut m r (only proposer) → next_of m r.ranks proposer ≡ None → ChainEnds m r r proposer
@@ -79,34 +76,6 @@ goes-on m r r' proposer s at rolls out done same_rolls log moved one_more =
       },
       omega (arith, left-put_out m r r' out.student s where_is.at stood.rank done.fits.well_formed step),
     )
-
--- a chain that has not begun
-pub goes-on_first : (m : Market) (r : RoundView) (proposer : ℕ) → FitsBut m r (only proposer) → ChainGoesOn m r r proposer proposer
-goes-on_first m r proposer fits = record {
-  fits = fits;
-  entered = λ i. refl;
-  continues = λ earlier midway. midway;
-  counted = refl;
-  extends = extends-same r.log r.log refl;
-}
-
-pub goes-on_more : (m : Market) (a b c : RoundView) (i j k : ℕ) → ChainGoesOn m a b i j → ChainGoesOn m b c j k → ChainGoesOn m a c i k
-goes-on_more m a b c i j k first second = record {
-  fits = second.fits;
-  entered = λ x. second.entered x ∙ first.entered x;
-  continues = λ earlier midway. second.continues earlier (first.continues earlier midway);
-  counted = omega (arith, first.counted, second.counted);
-  extends = extends-trans a.log b.log c.log first.extends second.extends;
-}
-
-pub goes-on_ends : (m : Market) (a b c : RoundView) (i j : ℕ) → ChainGoesOn m a b i j → ChainEnds m b c j → ChainEnds m a c i
-goes-on_ends m a b c i j first last = record {
-  fits = last.fits;
-  entered = λ x. last.entered x ∙ first.entered x;
-  continues = λ earlier midway. last.continues earlier (first.continues earlier midway);
-  counted = omega (arith, first.counted, last.counted);
-  extends = extends-trans a.log b.log c.log first.extends last.extends;
-}
 
 -- what an offer asks of the roll
 pub roll-new : (m : Market) (r : RoundView) (proposer s at : ℕ) (key : Key) → FitsBut m r (only proposer) → position (nat_eq s) (schools_of m) ≡ Some at → key ≡ key_of m proposer s → Contains (roll_at r.rolls at).keys key → ⊥

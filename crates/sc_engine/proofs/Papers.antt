@@ -3,21 +3,17 @@ use Rattle.std.proofs.Common.{◌≡◌, sym, ◌∙◌, ℕ, ◌<◌, nat_eq, t
 use Rattle.std.proofs.lemmas.Map.Made.{is_some-lookup}
 use Rattle.std.proofs.lemmas.Option.{slice_get_within}
 use Rattle.sc_papers.specs.Market.{Market, is_school, is_student, schools_of, choices_of}
-use Rattle.sc_papers.specs.WellFormed.{WellFormed, WithinLimits}
+use Rattle.sc_papers.specs.WellFormed.{WithinLimits}
 use Rattle.sc_papers.specs.declared.limits.TheConstants.{LONGEST_LIST}
 use Rattle.sc_papers.proofs.Choices.{contains-at}
 use Rattle.sc_papers.proofs.Positions.{any-among, among-student}
-use Rattle.sc_papers.proofs.Students.{choice-known, choices-short}
+use Rattle.sc_papers.proofs.Students.{choices-short}
 use Rattle.sc_engine.specs.RoundView.{next_of, rank_of}
-use Rattle.sc_engine.proofs.Tables.{stands-at, next-among, next-by}
+use Rattle.sc_engine.proofs.Tables.{next-among, next-by}
 
 -- who stands at a choice is a student of the papers, and the choice a school of them
 pub stander-student : (m : Market) (ranks : List (Option ℕ)) (i s : ℕ) → next_of m ranks i ≡ Some s → is_student m i ≡ true
 stander-student m ranks i s next = among-student m i (next-among m ranks i s next)
-
-pub stander-school : (m : Market) (ranks : List (Option ℕ)) (i s : ℕ) → WellFormed m → next_of m ranks i ≡ Some s → is_school m s ≡ true
-stander-school m ranks i s well next =
-    let at = stands-at m ranks i s next in choice-known m well i s (contains-at (choices_of m i) at.rank s at.choice)
 
 -- and its rank is below the length of the longest list
 pub stander-short : (m : Market) (ranks : List (Option ℕ)) (i s rank : ℕ) → WithinLimits m → next_of m ranks i ≡ Some s → rank_of m ranks i ≡ Some rank → rank < LONGEST_LIST

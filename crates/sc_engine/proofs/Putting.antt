@@ -1,13 +1,11 @@
 -- One student who comes back to where it stood.
-use Rattle.std.proofs.Common.{◌≡◌, refl, ap, subst, ◌∙◌, ℕ, ◌+◌, ◌<◌, nat_eq, true, false, not, ◌&&◌, length, Some, None, Option, position, slice_get, is_some, arith}
-use Rattle.sc_papers.specs.Market.{Market, choices_of, schools_of, seats_of, is_school}
+use Rattle.std.proofs.Common.{◌≡◌, refl, ap, subst, ◌∙◌, ℕ, ◌+◌, ◌<◌, nat_eq, false, not, ◌&&◌, length, Some, None, Option, position, slice_get, is_some, arith}
+use Rattle.sc_papers.specs.Market.{Market, choices_of, schools_of, seats_of}
 use Rattle.sc_papers.specs.Matching.{Matching, has, held}
-use Rattle.sc_papers.proofs.Choices.{contains-at}
 use Rattle.sc_papers.proofs.Students.{how_many-agree}
 use Rattle.sc_engine.specs.RoundView.{RoundView, rank_of, next_of, Fits, nobody, roll_at, RollFits, StandsToo}
 use Rattle.sc_engine.proofs.Tables.{roll-at, next-by}
 use Rattle.sc_engine.proofs.Rolls.{roll-length}
-use Rattle.sc_papers.proofs.Students.{choice-known}
 use Rattle.sc_engine.proofs.Proposals.{Proposed, stays, fits-held, fits-ended, counted-held}
 use Rattle.sc_engine.proofs.Beginning.{Begun, rank-begun, next-others, entered-begun, fits-begun}
 
@@ -25,10 +23,6 @@ put-nowhere {m} {r} {r'} {i} begun choice here none = record {
   log = begun.log;
   proposals = begun.proposals;
 }
-
--- the school that a student stands at is in the papers
-pub put-school : (m : Market) (r : RoundView) (i rank s : ℕ) → Fits m r → slice_get (choices_of m i) rank ≡ Some s → is_school m s ≡ true
-put-school m r i rank s fits here = choice-known m fits.well_formed i s (contains-at (choices_of m i) rank s here)
 
 -- a school at which fewer stand than it has seats has room on its roll
 pub roll-open : (m : Market) (r : RoundView) (s at : ℕ) → Fits m r → position (nat_eq s) (schools_of m) ≡ Some at → held m (next_of m r.ranks) s < seats_of m s → length (roll_at r.rolls at).keys < (roll_at r.rolls at).seats

@@ -87,11 +87,6 @@ settles-permuted m r xs ys moved these = record {
   counted = these.counted;
 }
 
--- all have entered, in order of entry
-pub settles-in_order : (m : Market) (r : RoundView) → SettlesFirst m r (length m.students) → SettlesThese m r (students_of m)
-settles-in_order m r first =
-    subst (SettlesThese m r) (ap (λ n. take n (students_of m)) (sym (length-mapped (λ (e : ℕ × Student). e.0) m.students)) ∙ take-all (students_of m)) first
-
 -- nobody stands at a choice where nobody has entered
 pub settles-none : (m : Market) (r : RoundView) → Fits m r → ((i : ℕ) → has_entered m r.ranks i ≡ false) → Continues m [] r → r.log ≡ [] → r.proposals ≡ 0 → SettlesFirst m r 0
 settles-none m r fits nowhere continues no_log none = record {

@@ -12,7 +12,7 @@ use Rattle.sc_papers.specs.declared.records.School.{School}
 use Rattle.sc_papers.proofs.Restriction.{restricted-restricts, next-dropped}
 use Rattle.sc_papers.proofs.Students.{how_many-none}
 use Rattle.sc_seats.specs.Roll.{RollView}
-use Rattle.sc_engine.specs.RoundView.{RoundView, rank_of, next_of, has_entered, roll_of, roll_at, no_roll, RollFits, Fits, nobody, Continues, AreEmpty, standing_but, entered_papers, StandNowhere}
+use Rattle.sc_engine.specs.RoundView.{RoundView, rank_of, next_of, has_entered, roll_of, roll_at, no_roll, RollFits, Fits, nobody, Continues, AreEmpty, entered_papers, StandNowhere}
 use Rattle.sc_engine.proofs.Tables.{next-none, roll-at, length-mapped}
 use Rattle.sc_papers.proofs.Positions.{position-at, school-position}
 use Rattle.sc_engine.proofs.Papers.{school-at}
@@ -87,13 +87,6 @@ fits-start m r start = record {
   where
     nowhere : (j : ℕ) → next_of m r.ranks j ≡ None
     nowhere j = next-none m r.ranks j (no-rank m r.ranks start.nobody j)
-
--- nobody stands at a choice
-pub none-standing : (m : Market) (r : RoundView) → IsStart m r → standing_but m r.ranks nobody ≡ 0
-unfolding standing_but
-none-standing m r start =
-    how_many-none m (λ j. is_some (next_of m r.ranks j) && not false)
-    (λ j among. and_left (is_some (next_of m r.ranks j)) (not false) (ap is_some (next-none m r.ranks j (no-rank m r.ranks start.nobody j))))
 
 -- and the empty log is settled for nobody
 pub continues-start : (m : Market) (r : RoundView) → IsStart m r → Continues m [] r

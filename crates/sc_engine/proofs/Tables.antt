@@ -1,5 +1,5 @@
 -- Look-ups by position, and what one write changes.
-use Rattle.std.proofs.Common.{◌≡◌, refl, ap, ◌∙◌, ℕ, zero, suc, ◌<◌, nat_eq, true, List, [], ◌∷◌, ◌++◌, length, get_or, set, map, Option, Some, None, Contains, is_some, position, slice_get, arith, get_or-set_other, get_or-set_same}
+use Rattle.std.proofs.Common.{◌≡◌, refl, ap, ◌∙◌, ℕ, zero, suc, ◌<◌, nat_eq, true, List, [], ◌∷◌, length, get_or, set, map, Option, Some, None, Contains, is_some, position, slice_get, arith, get_or-set_other, get_or-set_same}
 use Rattle.std.specs.Option.{option_map_or, option_and_then}
 use Rattle.std.proofs.lemmas.Option.{none-some}
 use Rattle.sc_papers.specs.Market.{Market, students_of, schools_of, choices_of}
@@ -46,13 +46,6 @@ pub rank-low : (ranks : List (Option ℕ)) (at rank : ℕ) → get_or ranks at N
 rank-low [] at rank is = absurd (none-some rank is)
 rank-low (p ∷ ps) zero rank is = omega arith
 rank-low (p ∷ ps) (suc at) rank is = omega (arith, rank-low ps at rank is)
-
--- one position more, at which nobody stands
-pub rank-room : (ranks : List (Option ℕ)) (k : ℕ) → get_or (ranks ++ None ∷ []) k None ≡ get_or ranks k None
-rank-room [] zero = refl
-rank-room [] (suc k) = refl
-rank-room (p ∷ ps) zero = refl
-rank-room (p ∷ ps) (suc k) = rank-room ps k
 
 -- the rank of a student at a known position
 pub rank-at : (m : Market) (ranks : List (Option ℕ)) (i at : ℕ) → position (nat_eq i) (students_of m) ≡ Some at → rank_of m ranks i ≡ get_or ranks at None

@@ -1,13 +1,7 @@
 -- Answers that are a reading's, or want of memory.
-use Rattle.std.proofs.Common.{◌≡◌, inl, Ok, Err}
+use Rattle.std.proofs.Common.{◌≡◌, Err}
 use Rattle.std.specs.Prelude.{Result}
 use Rattle.sc_intake.specs.Fault.{Gives, IsFault}
-
--- an answer that is the reading's error
-pub Gives-fault : {A B E : Type 0} (seen : A → B) (none : E) (reading : Result B E) (answer : Result A E) (e : E)
-    → reading ≡ Err e → answer ≡ Err e → Gives seen none reading answer
-Gives-fault seen none reading (Ok x) e fault same = cc same
-Gives-fault seen none reading (Err f) e fault same = let is : f ≡ e = cc in inl (rw is fault)
 
 -- an answer that is an error of the reading, or want of memory
 pub Gives-error : {A B E : Type 0} (seen : A → B) (none : E) (reading : Result B E) (answer : Result A E) (e : E)

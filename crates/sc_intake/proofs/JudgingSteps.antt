@@ -1,9 +1,8 @@
 -- One row more, in judging.
-use Rattle.std.proofs.Common.{◌≡◌, ℕ, ◌+◌, ◌<◌, ◌≤◌, Bool, true, false, ◌||◌, nat_eq, List, [], ◌∷◌, ◌++◌, length, map, get_or, take, drop, refl, sym, ap, ◌∙◌, arith, Ok, append_assoc, append-nil, Err, Option, None, Some}
-use Rattle.std.specs.Prelude.{Result, not, flat_map}
+use Rattle.std.proofs.Common.{◌≡◌, ℕ, ◌+◌, ◌<◌, ◌≤◌, Bool, true, false, ◌||◌, nat_eq, List, [], ◌∷◌, ◌++◌, length, map, get_or, take, drop, refl, sym, ap, ◌∙◌, Ok, append_assoc, append-nil, Err, Option, None, Some}
+use Rattle.std.specs.Prelude.{Result, flat_map}
 use Rattle.std.specs.List.{list_any}
 use Rattle.std.proofs.lemmas.Grind.{flat_map-append}
-use Rattle.std.proofs.lemmas.Bool.Decides.{nat_tests}
 use Rattle.std.proofs.lemmas.List.Folds.{list_any-append}
 use Rattle.std.proofs.lemmas.List.{at_drop_all, at_drop_more, map-append, take_more}
 use Rattle.sc_papers.specs.Market.{Market}
@@ -101,21 +100,6 @@ AreNumbers-more number rows i row old new are within at more = λ n.
     turned true false = refl
     turned false true = refl
     turned false false = refl
-
--- a number that was seen before changes nothing
-pub AreNumbers-again : {R : Type 0} (number : R → ℕ) (rows : List R) (again : ℕ) (old new : List ℕ) → AreNumbers number rows old
-    → not (list_any (nat_eq again) old) ≡ false
-    → ((n : ℕ) → list_any (nat_eq n) new ≡ (nat_eq n again || list_any (nat_eq n) old))
-    → AreNumbers number rows new
-AreNumbers-again number rows again old new are known more = λ n. more n ∙ by n (nat_eq n again) refl ∙ are n
-  where
-    there : (b : Bool) → not b ≡ false → b ≡ true
-    there true is = refl
-    there false is = cc is
-
-    by : (n : ℕ) (b : Bool) → nat_eq n again ≡ b → (b || list_any (nat_eq n) old) ≡ list_any (nat_eq n) old
-    by n true same = let is : n ≡ again = grind (arith, nat_tests) in sym (rw is (there (list_any (nat_eq again) old) known))
-    by n false other = refl
 
 -- whether a student is in the roster, by the roster's numbers
 pub in_roster-numbers : (roster : List RosterRow) (i : ℕ) → is_in_roster roster i ≡ list_any (nat_eq i) (map roster_number roster)

@@ -1,9 +1,8 @@
 -- The records of a text without a quote, line by line and field by field.
-use Rattle.std.proofs.Common.{◌≡◌, ℕ, zero, suc, ◌-◌, ◌<◌, ◌≤◌, ◌==◌, ◌||◌, Bool, true, false, nat_lt, List, [], ◌∷◌, ◌++◌, length, map, take, drop, get_or, refl, sym, ap, ◌∙◌, append_assoc, arith, cond, Option, Some, None, unwrap_or, option_map, is_some, IfSome, ltb-false, ltb-true}
+use Rattle.std.proofs.Common.{◌≡◌, ℕ, zero, suc, ◌-◌, ◌<◌, ◌≤◌, ◌==◌, ◌||◌, Bool, true, false, List, [], ◌∷◌, ◌++◌, length, map, take, drop, get_or, refl, sym, ap, ◌∙◌, append_assoc, arith, cond, Option, Some, None, unwrap_or}
 use Rattle.std.specs.Prelude.{slice_index}
 use Rattle.std.specs.Borrow.{Bor}
 use Rattle.std.proofs.lemmas.List.{map-append, take_rest}
-use Rattle.csv.specs.Records.{field_at}
 use Rattle.memchr.specs.Find.{IsFirstByte, Passes, is_byte3}
 use Rattle.std.specs.List.{list_any}
 use Rattle.std.proofs.lemmas.Bool.{false_from_ne_true, or_parts}
@@ -146,23 +145,3 @@ pub records-line : (text : List ℕ) → (length text == 0) ≡ false → ((c : 
     → plain_records text ≡ fields_from [] (first_line text) ∷ plain_records (after_line text)
 records-line [] some begins = cc some
 records-line (c ∷ cs) some begins = records-first c cs (begins c cs refl)
-
-field-there : (slices : List (Bor (List ℕ))) (index : ℕ) (d : Bor (List ℕ)) → index < length slices → field_at (fields_in slices) index ≡ Some (get_or slices index d).now
-unfolding field_at
-field-there [] index d within = absurd (omega arith)
-field-there (s ∷ ss) zero d within = refl
-field-there (s ∷ ss) (suc index) d within = field-there ss index d (omega arith)
-
-field-past : (slices : List (Bor (List ℕ))) (index : ℕ) → length slices ≤ index → field_at (fields_in slices) index ≡ None
-unfolding field_at
-field-past [] index past = refl
-field-past (s ∷ ss) zero past = absurd (omega arith)
-field-past (s ∷ ss) (suc index) past = field-past ss index (omega arith)
-
--- the field at a place is the slice there
-pub field-found : (slices : List (Bor (List ℕ))) (index : ℕ) (found : Option (Bor (Bor (List ℕ)))) → is_some found ≡ nat_lt index (length slices)
-    → IfSome found (λ s. s.now ≡ get_or slices index s.now)
-    → option_map (λ (s : Bor (List ℕ)). s.now) (option_map (λ (s : Bor (Bor (List ℕ))). s.now) found) ≡ field_at (fields_in slices) index
-field-found slices index None within is = sym (field-past slices index (ltb-false index (length slices) (sym within)))
-field-found slices index (Some s) within is =
-    sym (field-there slices index s.now (ltb-true index (length slices) (sym within)) ∙ ap (λ (t : Bor (List ℕ)). Some t.now) (sym is))

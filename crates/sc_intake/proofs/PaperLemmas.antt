@@ -8,14 +8,14 @@ use Rattle.std.specs.Cmp.{nat_cmp_is}
 use Rattle.std.specs.Ordering.{is_eq, nat_cmp}
 use Rattle.std.specs.declared.cmp.Ordering.TheVariants.{Less, Equal, Greater}
 use Rattle.std.proofs.lemmas.Cmp.{nat_eq_equiv}
-use Rattle.std.proofs.lemmas.List.{at_drop_all, at_drop_more, get_or-map, length-map, length-take, map-append, take_more}
+use Rattle.std.proofs.lemmas.List.{at_drop_all, at_drop_more, get_or-map, length-map, length-take, take_more}
 use Rattle.std.proofs.lemmas.List.Folds.{find-append}
 use Rattle.std.proofs.lemmas.Option.{slice_get-get_or}
 use Rattle.std.proofs.lemmas.Bool.Decides.{nat_tests}
 use Rattle.std.proofs.lemmas.Map.Keys.{IsDistinct-tail, apart_from_distinct}
 use Rattle.std.specs.Map.{lookup}
 use Rattle.sc_papers.specs.Market.{Market, is_school, is_student}
-use Rattle.sc_papers.specs.Verdict.{IsRefusal, IsSchoolRefusal, after, school_verdict, verdict, with_school}
+use Rattle.sc_papers.specs.Verdict.{IsRefusal, IsSchoolRefusal, after, school_verdict, verdict}
 use Rattle.sc_papers.specs.declared.amendment.Amendment.{Amendment}
 use Rattle.sc_papers.specs.declared.amendment.Amendment.TheVariants.{Enter}
 use Rattle.sc_papers.specs.declared.amendment.Refusal.{Refusal}
@@ -36,12 +36,6 @@ use Rattle.sc_intake.specs.declared.fault.Source.TheVariants.{Lists, Roster}
 use Rattle.sc_intake.specs.declared.lists.ListRow.{ListRow}
 use Rattle.sc_intake.specs.declared.roster.RosterRow.{RosterRow}
 use Rattle.sc_intake.specs.declared.schools.SchoolRow.{SchoolRow}
-
--- a school more
-pub opening-more : (seed : List ℕ) (schools : List SchoolRow) (i : ℕ) (row : SchoolRow) → i < length schools → row ≡ get_or schools i row
-    → with_school (opening seed (take i schools)) row.number (record { zone = row.zone; seats = row.seats }) ≡ opening seed (take (i + 1) schools)
-opening-more seed schools i row within at =
-    rw (take_more schools i row within, ← at) (ap (λ entries. record { seed = seed; schools = entries; students = [] }) (sym (map-append _ (take i schools) (row ∷ []))))
 
 -- a list's student has no earlier list
 none-earlier : (lists : List ListRow) (i : ℕ) (d : ListRow) → IsDistinct nat_eq (map list_number lists) → i < length lists

@@ -8,10 +8,6 @@ use Rattle.memchr.specs.Find.{IsFirstByte, is_byte3}
 use Rattle.sc_intake.specs.Plain.{EndsField, ends_field}
 use Rattle.sc_intake.proofs.Lines.{clean-before}
 
--- a text from a byte on that ends a field
-ends-at : (text : List ℕ) (i d : ℕ) → i < length text → ends_field (get_or text i d) ≡ true → EndsField (drop i text)
-ends-at text i d within end = rw (at_drop_more (λ (t : List ℕ). t) text i d within) end
-
 -- a run of bytes after those of a field so far
 module _ (text : List ℕ) (len : ℕ) (run rest : List ℕ) (next : drop len text ≡ run ++ rest) (clean : list_any ends_field (take len text) ≡ false) where
   -- the bytes of the run before its first end of a field

@@ -13,14 +13,6 @@ use Rattle.std.proofs.lemmas.List.Folds.{list_any-append, list_any_at}
 use Rattle.std.proofs.lemmas.List.Sorted.{searched}
 use Rattle.sc_intake.specs.Seen.{AreBelow, Ascend}
 
--- a number is not below a bound on all
-pub fresh-above : (bound n : ℕ) (ns : List ℕ) → AreBelow bound ns → bound ≤ n → list_any (nat_eq n) ns ≡ false
-fresh-above bound n ns below above = by (list_any (nat_eq n) ns) refl
-  where
-    by : (b : Bool) → list_any (nat_eq n) ns ≡ b → b ≡ false
-    by true is = absurd (omega (arith, below n is))
-    by false is = refl
-
 same-number : (n : ℕ) → nat_eq n n ≡ true
 same-number n = grind arith
 

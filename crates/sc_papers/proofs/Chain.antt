@@ -76,10 +76,6 @@ others-le m log i t =
     how_many-le m (λ j. has (matching_of m log) t j && not (j == i)) (has (matching_of m log) t)
     (λ j holds. (and_parts (has (matching_of m log) t j) (not (j == i)) holds).0)
 
--- the entry that a step adds
-out_entry : ℕ → ℕ → Rejection
-out_entry out s = record { student = out; school = s }
-
 -- the one put out and the one in hand leave as many others
 others-same : (m : Market) → WellFormed m → (log : List Rejection) (hand s out : ℕ) → PutsOut m log hand s out → held_by_others m log out s ≡ held_by_others m log hand s
 others-same m well log hand s out puts =

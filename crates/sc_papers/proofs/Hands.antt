@@ -1,10 +1,9 @@
 -- Students by their positions in the order of entry.
-use Rattle.std.proofs.Common.{◌≡◌, refl, ap, sym, subst, ◌∙◌, ℕ, ◌<◌, ◌≤◌, nat_eq, true, List, [], length, get_or, Option, Some, None, Bor, IfSome, is_some, position, slice_get, arith}
-use Rattle.std.specs.Prelude.{nat_lt}
-use Rattle.std.specs.Option.{option_and_then, option_copied, option_map_or}
-use Rattle.std.proofs.lemmas.Bool.{false≢true, ltb-false, ltb-true}
+use Rattle.std.proofs.Common.{◌≡◌, refl, ap, sym, subst, ◌∙◌, ℕ, ◌<◌, ◌≤◌, nat_eq, true, [], length, Option, Some, None, IfSome, is_some, position, slice_get, arith}
+use Rattle.std.specs.Option.{option_and_then, option_map_or}
+use Rattle.std.proofs.lemmas.Bool.{false≢true}
 use Rattle.std.proofs.lemmas.Map.Entries.{All-lookup, length-keys_of}
-use Rattle.std.proofs.lemmas.Option.{get_or_from_slice_get, slice_get-get_or, slice_get_past, slice_get_read, none-some}
+use Rattle.std.proofs.lemmas.Option.{get_or_from_slice_get, slice_get-get_or, none-some}
 use Rattle.sc_papers.specs.Key.{key_of, key_at}
 use Rattle.sc_papers.specs.Market.{Market, is_school, is_student, choices_of, schools_of, siblings_of, student_at, student_of, students_of}
 use Rattle.sc_papers.specs.WellFormed.{WellFormed, WithinLimits, IsShort}
@@ -71,8 +70,3 @@ record-short m limits at held is = go (slice_get (students_of m) at) is
     go (Some i) known =
         let short : IsShort held = subst (λ found. IfSome found IsShort) (sym known) (All-lookup IsShort (nat_eq i) m.students limits.lists) in
         short.choices
-
--- what a read of a list gives
-pub copied-read : {X : Type 0} (found : Option (Bor X)) (xs : List X) (k : ℕ) → is_some found ≡ nat_lt k (length xs) → IfSome found (λ x. x.now ≡ get_or xs k x.now) → option_copied found ≡ slice_get xs k
-copied-read None xs k test at = sym (slice_get_past xs k (ltb-false k (length xs) (sym test)))
-copied-read (Some x) xs k test at = sym (slice_get_read xs (length xs) k x.now refl (ltb-true k (length xs) (sym test)) at)

@@ -1,5 +1,5 @@
 -- The students enter, the last one first.
-use Rattle.std.proofs.Common.{◌≡◌, refl, ap, sym, ◌∙◌, ℕ, suc, ◌+◌, ◌<◌, ◌≤◌, ◌==◌, nat_eq, Bool, true, false, ◌||◌, List, [], ◌∷◌, length, get_or, drop, Some, slice_get, add-one, length-drop, arith}
+use Rattle.std.proofs.Common.{◌≡◌, refl, ap, sym, ◌∙◌, ℕ, suc, ◌+◌, ◌<◌, ◌≤◌, ◌==◌, nat_eq, Bool, true, false, ◌||◌, List, length, get_or, drop, Some, slice_get, add-one, length-drop, arith}
 use Rattle.std.specs.List.{list_any}
 use Rattle.std.proofs.Math.Seq.{drop-cons}
 use Rattle.std.proofs.lemmas.Bool.{false≢true, eqb-true, eq-eqb, false_from_ne_true}
@@ -8,9 +8,7 @@ use Rattle.std.proofs.lemmas.List.{get_or-drop, get_or_default}
 use Rattle.std.proofs.lemmas.List.Folds.{list_any_none}
 use Rattle.std.proofs.lemmas.Map.Keys.{apart_from_distinct}
 use Rattle.sc_papers.specs.Market.{Market, students_of}
-use Rattle.sc_papers.specs.declared.records.Student.{Student}
 use Rattle.sc_engine.specs.RoundView.{RoundView, Fits, has_entered, Enters}
-use Rattle.sc_engine.proofs.Tables.{length-mapped}
 
 -- the students from the k-th on have entered, and nobody else
 pub record EnteredFrom (m : Market) (r : RoundView) (spent : Bool) (k : ℕ) : Type 0 where
@@ -48,18 +46,3 @@ absent-before m r spent k i here before =
     false_from_ne_true (nat_eq i (get_or (drop (k + 1) xs) j d)) (λ same.
     let is : i ≡ get_or xs ((k + 1) + j) d = eqb-true i (get_or (drop (k + 1) xs) j d) same ∙ get_or-drop (k + 1) xs j d in
     false≢true (sym apart ∙ eq-eqb (get_or xs k i) (get_or xs ((k + 1) + j) i) (get_or_from_slice_get xs k i i here ∙ is ∙ get_or_default xs ((k + 1) + j) d i within))))
-
-drop-length : (xs : List ℕ) → drop (length xs) xs ≡ []
-drop-length [] = refl
-drop-length (x ∷ xs) = drop-length xs
-
--- nobody has entered yet
-pub entered-none : (m : Market) (r : RoundView) (spent : Bool) → spent ≡ false → Fits m r → ((i : ℕ) → has_entered m r.ranks i ≡ false) → (k : ℕ) → k ≡ length m.students → EnteredFrom m r spent k
-entered-none m r spent ready fits nowhere k all =
-    let at_end : k ≡ length (students_of m) = all ∙ sym (length-mapped (λ (e : ℕ × Student). e.0) m.students) in
-    record {
-      ready = ready;
-      low = omega arith;
-      fits = fits;
-      entered = λ i. nowhere i ∙ sym (ap (λ n. list_any (nat_eq i) (drop n (students_of m))) at_end ∙ ap (list_any (nat_eq i)) (drop-length (students_of m)));
-    }

@@ -8,7 +8,7 @@ use Rattle.std.proofs.lemmas.List.Sorted.{IsPermutation-refl, IsPermutation-swap
 use Rattle.sc_papers.specs.Key.{is_before}
 use Rattle.sc_papers.specs.declared.key.Key.{Key}
 use Rattle.sc_papers.proofs.Counting.{contains-cons, contains-head, contains-tail, count-cons_passes, count-cons_fails, count-none, count-some}
-use Rattle.sc_papers.proofs.Priority.{before-asymm, before-trans, one-key}
+use Rattle.sc_papers.proofs.Priority.{before-trans, one-key}
 use Rattle.sc_seats.specs.Roll.{IsAscending, put_in_order, in_order}
 
 -- whether neither key is ahead of the other
@@ -120,50 +120,6 @@ ascending-in_order [] differ = tt
 ascending-in_order (key ∷ keys) differ =
     ascending-put key (in_order keys) (ascending-in_order keys (Differ-tail key keys differ))
     (λ x among. Differ-head key keys differ x (Contains-permutation (in_order keys) keys x (IsPermutation-sym keys (in_order keys) (in_order-permutes keys)) among))
-
--- two ascending lists with the same keys are one list
-same-head : (a : Key) (xs : List Key) (b : Key) (ys : List Key) → IsAscending (a ∷ xs) → IsAscending (b ∷ ys) → Contains (b ∷ ys) a → Contains (a ∷ xs) b → a ≡ b
-same-head a xs b ys up_a up_b a_in b_in = elim (contains-cons b ys a a_in) [
-  | inl same ↦ sym same
-  | inr later ↦ elim (contains-cons a xs b b_in) [
-    | inl same ↦ same
-    | inr later_b ↦ absurd (true≢false (sym (All-contains (λ x. is_before a x ≡ true) xs b up_a.0 later_b) ∙ before-asymm b a (All-contains (λ x. is_before b x ≡ true) ys a up_b.0 later)))
-  ]
-]
-
-pub ascending-unique : (xs ys : List Key) → IsAscending xs → IsAscending ys → ((x : Key) → Contains xs x → Contains ys x) → ((x : Key) → Contains ys x → Contains xs x) → xs ≡ ys
-ascending-unique [] [] up_x up_y there back = refl
-ascending-unique [] (y ∷ ys) up_x up_y there back = absurd (empty (back y (contains-head y ys)))
-  where
-    empty : Contains [] y → ⊥
-    empty (k, low, at) = omega (arith, low)
-ascending-unique (x ∷ xs) [] up_x up_y there back = absurd (empty (there x (contains-head x xs)))
-  where
-    empty : Contains [] x → ⊥
-    empty (k, low, at) = omega (arith, low)
-ascending-unique (x ∷ xs) (y ∷ ys) up_x up_y there back =
-    let same : x ≡ y = same-head x xs y ys up_x up_y (there x (contains-head x xs)) (back y (contains-head y ys)) in
-    let rest : xs ≡ ys = ascending-unique xs ys up_x.1 up_y.1
-    (λ z among. later x xs y ys same up_x there z among)
-    (λ z among. later y ys x xs (sym same) up_y back z among) in
-    λ t. same t ∷ rest t
-  where
-    later : (a : Key) (rest_a : List Key) (b : Key) (rest_b : List Key) → a ≡ b → IsAscending (a ∷ rest_a) → ((z : Key) → Contains (a ∷ rest_a) z → Contains (b ∷ rest_b) z) → (z : Key) → Contains rest_a z → Contains rest_b z
-    later a rest_a b rest_b same up over z among = elim (contains-cons b rest_b z (over z (contains-tail a rest_a z among))) [
-      | inr here ↦ here
-      | inl is_b ↦
-          let ahead : is_before a z ≡ true = All-contains (λ x. is_before a x ≡ true) rest_a z up.0 among in
-          absurd (true≢false (sym (ties-self z) ∙ ap (λ k. ties k z) (sym is_b ∙ sym same) ∙ before-apart a z ahead))
-    ]
-
--- the same keys in any order are put in the same order
-pub in_order-same : (xs ys : List Key) → Differ xs → IsPermutation xs ys → in_order xs ≡ in_order ys
-in_order-same xs ys differ moved =
-    let across : IsPermutation (in_order xs) (in_order ys) =
-    IsPermutation-trans (in_order xs) xs (in_order ys) (IsPermutation-sym xs (in_order xs) (in_order-permutes xs)) (IsPermutation-trans xs ys (in_order ys) moved (in_order-permutes ys)) in
-    ascending-unique (in_order xs) (in_order ys) (ascending-in_order xs differ) (ascending-in_order ys (Differ-permutation xs ys moved differ))
-    (λ x. Contains-permutation (in_order xs) (in_order ys) x across)
-    (λ x. Contains-permutation (in_order ys) (in_order xs) x (IsPermutation-sym (in_order xs) (in_order ys) across))
 
 -- a key that is ahead of none of an ascending list that contains it is its last
 pub last-of : (keys : List Key) (x : Key) → IsAscending keys → Contains keys x → All (λ y. is_before x y ≡ false) keys → slice_get keys (length keys - 1) ≡ Some x
