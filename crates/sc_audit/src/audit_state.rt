@@ -9,10 +9,9 @@ ghost use Rattle.sc_audit.specs.Over.{IsFirstOver};
 ghost use Rattle.sc_tallies.specs.Places.{ArePlaces};
 
 use crate::best_keys::BestKeys;
-use crate::guesses::Guesses;
 use crate::least::lesser;
 use crate::waiting::Waiting;
-use sc_papers::{Papers, Rejection, SchoolNo, Seats};
+use sc_papers::{Hints, Papers, Rejection, SchoolNo, Seats};
 use std::alloc::{AllocError, Global};
 
 /// Who stands where after the entries so far, and the best keys of each school, as many as it has
@@ -23,8 +22,8 @@ pub(crate) struct AuditState {
     // The rank in their choices at which each student stands, if they stand anywhere.
     stands: Vec<Option<u8>>,
     schools: Vec<BestKeys>,
-    // Where the students stand in the papers, by their numbers.
-    guesses: Guesses,
+    // Where the students may stand in the papers, by their numbers.
+    hints: Hints,
 }
 
 /// The seats of the school at the position.
@@ -48,6 +47,18 @@ fn no_keys(alloc: Global, papers: &Papers) -> Result<Vec<BestKeys>, AllocError>
         schools.push(BestKeys::none(alloc, seats_at(papers, position)))?;
     }
     Ok(schools)
+}
+
+/// A hint for each student of the papers. The only error is want of memory; the cost is a pass over the students.
+fn hints_of(alloc: Global, papers: &Papers) -> Result<Hints, AllocError> {
+    let students = papers.students_len();
+    let mut hints = Hints::with_room(alloc, students)?;
+    for position in 0..students {
+        if let Some(student) = papers.student_at(position) {
+            hints.note(student, position);
+        }
+    }
+    Ok(hints)
 }
 
 impl AuditState {
@@ -79,7 +90,7 @@ impl AuditState {
         let mut state = AuditState {
             stands: Vec::from_elem(alloc, None, papers.students_len())?,
             schools: no_keys(alloc, papers)?,
-            guesses: Guesses::at_students(alloc, papers)?,
+            hints: hints_of(alloc, papers)?,
         };
         state.start_all(papers)?;
         Ok(state)
@@ -119,7 +130,7 @@ impl AuditState {
         ensures position { IfSome result (λ found. position (nat_eq entry.student) (students_of papers.now) ≡ Some found.0) }
         ensures rank { option_map (λ found. found.1) result ≡ waiting_rank (waiting_at papers.now (view_of self.now) entry.student) entry.school }
     {
-        let guess = self.guesses.guess(entry.student);
+        let guess = self.hints.guess(entry.student);
         let student = papers.student_position_near(entry.student, guess)?;
         let waiting = self.waiting_at(papers, student)?;
         if waiting.school == entry.school {

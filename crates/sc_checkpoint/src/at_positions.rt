@@ -9,12 +9,11 @@ ghost use Rattle.sc_checkpoint.specs.Chains.{logs_at};
 ghost use Rattle.sc_checkpoint.specs.NextChoices.{next_choices_after};
 ghost use Rattle.sc_checkpoint.specs.Ranks.{AreTabled};
 
-use crate::hints::Hints;
 use crate::next_choices::first_outside;
 use crate::rank_set::RankSet;
 use crate::segments::Segments;
 use crate::standing::{Standing, Standings};
-use sc_papers::{MOST_STUDENTS, Papers, Rejection, StudentNo};
+use sc_papers::{Hints, MOST_STUDENTS, Papers, Rejection, StudentNo};
 use std::alloc::{AllocError, Global};
 
 /// How many hints there is room for, for each student: so few of them take the place of others.

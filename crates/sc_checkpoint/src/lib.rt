@@ -3,14 +3,12 @@
 #![tactic(auto)]
 
 mod at_positions;
-mod hints;
 mod next_choices;
 mod rank_set;
 mod segments;
 mod span;
 mod standing;
 
-pub use hints::Hints;
 pub use segments::Segments;
 pub use span::Spans;
 pub use standing::{Standing, Standings};

@@ -13,10 +13,9 @@ mod resume;
 
 use crate::rank_table::RankTable;
 use crate::settled::{Outcome, Settled};
-use sc_checkpoint::Hints;
 use sc_papers::{
-    Assignment, Key, LONGEST_LIST, MOST_STUDENTS, Papers, Proposal, Rejection, SchoolNo, Seats,
-    StudentNo,
+    Assignment, Hints, Key, LONGEST_LIST, MOST_STUDENTS, Papers, Proposal, Rejection, SchoolNo,
+    Seats, StudentNo,
 };
 use sc_seats::Roll;
 use std::alloc::{AllocError, Global};

@@ -7,9 +7,9 @@ ghost use Rattle.sc_checkpoint.specs.Spans.{AreWithin};
 
 use crate::given::{school, student};
 use crate::rounds::{expect_both, resume_with_the_third};
-use sc_checkpoint::{Hints, Segments, Spans, Standing};
+use sc_checkpoint::{Segments, Spans, Standing};
 use sc_papers::{
-    Amendment, Papers, Refusal, Rejection, SchoolList, SchoolRefusal, Seats, Seed, Zone,
+    Amendment, Hints, Papers, Refusal, Rejection, SchoolList, SchoolRefusal, Seats, Seed, Zone,
 };
 use sc_seats::{HeapRoll, SortedRoll};
 use std::alloc::{AllocError, Global};

@@ -25,7 +25,7 @@ start_all-requires-clause-fits c =
     let stands = c.in_ok-from_elem.field-0 in
     let schools = c.in_ok-no_keys.field-0 in
     let nobody : stands.items ≡ replicate c.students_len.result None = c.in_ok-from_elem.ensures.items_if_clones_equal (search rules) in
-    fits-empty m (view_of (record { stands = stands; schools = schools; guesses = c.in_ok-at_students.field-0 })) c.students_len.ensures.well_formed c.students_len.ensures.within_limits
+    fits-empty m (view_of (record { stands = stands; schools = schools; hints = c.in_ok-hints_of.field-0 })) c.students_len.ensures.well_formed c.students_len.ensures.within_limits
     (ap length nobody ∙ length-replicate c.students_len.result None ∙ c.students_len.ensures.count)
     (length-map schools.items (λ (b : BestView). b.keys) ∙ sym (length-map schools.items (λ (b : BestView). b.seats)) ∙ ap length c.in_ok-no_keys.ensures.seats ∙ length-map (schools_of m) (seats_of m) ∙ length-keys_of m.schools)
     c.in_ok-no_keys.ensures.seats

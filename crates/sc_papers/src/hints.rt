@@ -1,6 +1,6 @@
-//! Guesses at where students stand in the order of entry.
+//! Guesses at where students stand.
 
-use sc_papers::StudentNo;
+use sc_lottery::StudentNumber;
 use std::alloc::{AllocError, Global};
 
 /// By students' numbers: the position that was noted last for a student with such a number.
@@ -13,8 +13,8 @@ pub struct Hints {
     positions: Vec<u32>,
 }
 
-/// How many places there are for so many students' hints: a power of two, by which a remainder costs no division.
-fn places_for(students: usize) -> usize {
+/// How many slots there are for so many students' hints: a power of two, by which a remainder costs no division.
+fn slots_for(students: usize) -> usize {
     students.checked_next_power_of_two().unwrap_or(students)
 }
 
@@ -23,28 +23,28 @@ impl Hints {
     /// apart, some hints take the place of others. The only error is want of memory. Nothing is promised of the hints.
     pub fn with_room(alloc: Global, students: usize) -> Result<Self, AllocError> {
         Ok(Hints {
-            positions: Vec::from_elem(alloc, 0, places_for(students))?,
+            positions: Vec::from_elem(alloc, 0, slots_for(students))?,
         })
     }
 
-    /// Where the student's hint is kept: numbers with the same last bits share a place.
-    fn place(&self, student: StudentNo) -> usize {
+    /// Where the student's hint is kept: numbers with the same last bits share a slot.
+    fn slot(&self, student: StudentNumber) -> usize {
         student.get() as usize & self.positions.len().wrapping_sub(1)
     }
 
     /// Keeps the student's position, unless another's takes its place. Nothing is promised of what `guess` answers then. In
     /// constant time.
-    pub fn note(&mut self, student: StudentNo, position: usize) {
-        let place = self.place(student);
-        if let Some(hint) = self.positions.get_mut(place) {
+    pub fn note(&mut self, student: StudentNumber, position: usize) {
+        let slot = self.slot(student);
+        if let Some(hint) = self.positions.get_mut(slot) {
             *hint = u32::try_from(position).unwrap_or(0);
         }
     }
 
     /// The position at which the student may be: any number, also none of a position, which its reader tests. In constant
     /// time.
-    pub fn guess(&self, student: StudentNo) -> usize {
-        let hint = self.positions.get(self.place(student));
+    pub fn guess(&self, student: StudentNumber) -> usize {
+        let hint = self.positions.get(self.slot(student));
         hint.map_or(0, |position| *position as usize)
     }
 }
