@@ -1,12 +1,14 @@
 //! Rounds that go on from where students stand.
 
-ghost use Rattle.std.specs.Prelude.{◌≡◌, ℕ, ◌<◌, ◌≤◌, length, nat_eq, position, true, false, Contains, Option, Some, slice_get, IfOk, OnOk, IfSome};
+ghost use Rattle.std.specs.Prelude.{◌≡◌, ◌<◌, ◌≤◌, length, nat_eq, position, true, false, Contains, Some, slice_get, IfOk, OnOk, IfSome};
 ghost use Rattle.sc_papers.specs.Key.{key_of};
 ghost use Rattle.sc_papers.specs.Market.{choices_of, is_student, schools_of, seats_of, student_at};
 ghost use Rattle.sc_papers.specs.Matching.{held};
 ghost use Rattle.sc_engine.specs.RoundView.{Fits, StandsToo, has_entered, next_of};
 
-use super::{Round, offer_to, position_near};
+use super::Round;
+use super::ranks::position_near;
+use super::rolls::offer_to;
 use sc_checkpoint::Standing;
 use sc_papers::{Key, LONGEST_LIST, Papers, SchoolNo};
 use sc_seats::Roll;

@@ -6,7 +6,7 @@ use Rattle.sc_papers.specs.Market.{students_of}
 use Rattle.sc_papers.proofs.Positions.{place-position}
 use Rattle.sc_engine.specs.RoundView.{next_of}
 use Rattle.sc_engine.proofs.Settling.{take-next}
-use Rattle.sc_engine.proofs.round.places_of.Goals as goal
+use Rattle.sc_engine.proofs.round.ranks.places_of.Goals as goal
 
 pub loop-position-preserved : goal.loop-position-preserved
 loop-position-preserved c =

@@ -1,5 +1,5 @@
 use Rattle.sc_engine.proofs.Offers.{OffersAt-from, seen_by}
-use Rattle.sc_engine.proofs.round.offer_to.Goals as goal
+use Rattle.sc_engine.proofs.round.rolls.offer_to.Goals as goal
 
 pub returns : goal.returns
 returns g c =

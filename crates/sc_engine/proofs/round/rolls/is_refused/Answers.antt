@@ -1,5 +1,5 @@
 use Rattle.sc_engine.proofs.Offers.{OffersAt-refused, seen_by}
-use Rattle.sc_engine.proofs.round.is_refused.Goals as goal
+use Rattle.sc_engine.proofs.round.rolls.is_refused.Goals as goal
 
 pub returns : goal.returns
 returns g c refused =

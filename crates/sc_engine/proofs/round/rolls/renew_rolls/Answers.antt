@@ -1,7 +1,7 @@
 use Rattle.std.proofs.Common.{arith, length}
 use Rattle.sc_engine.specs.Rolls.{rolls_of}
 use Rattle.sc_engine.proofs.Renewing.{are-empty_next}
-use Rattle.sc_engine.proofs.round.renew_rolls.Goals as goal
+use Rattle.sc_engine.proofs.round.rolls.renew_rolls.Goals as goal
 
 pub loop-position-preserved : goal.loop-position-preserved
 loop-position-preserved g c = (

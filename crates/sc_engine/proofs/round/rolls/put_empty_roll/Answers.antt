@@ -2,7 +2,7 @@ use Rattle.std.proofs.Common.{◌∙◌, arith}
 use Rattle.sc_seats.specs.Roll.{RollView}
 use Rattle.sc_engine.proofs.Offers.{seen_by}
 use Rattle.sc_engine.proofs.Renewing.{roll-set_same, roll-set_other}
-use Rattle.sc_engine.proofs.round.put_empty_roll.Goals as goal
+use Rattle.sc_engine.proofs.round.rolls.put_empty_roll.Goals as goal
 
 pub returns-then-at-len-clause-own : goal.returns-then-at-len-clause-own
 returns-then-at-len-clause-own g c =

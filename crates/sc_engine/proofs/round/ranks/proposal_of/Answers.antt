@@ -4,7 +4,7 @@ use Rattle.sc_engine.specs.Proposals.{IsProposal}
 use Rattle.sc_engine.proofs.Hands.{next-absent}
 use Rattle.sc_engine.proofs.Proposing.{proposes-nothing, proposes-there}
 use Rattle.sc_engine.proofs.Tables.{next-by, rank-at}
-use Rattle.sc_engine.proofs.round.proposal_of.Goals as goal
+use Rattle.sc_engine.proofs.round.ranks.proposal_of.Goals as goal
 
 pub returns-in_err-rank : goal.returns-in_err-rank
 returns-in_err-rank c i found =

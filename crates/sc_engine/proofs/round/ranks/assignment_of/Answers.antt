@@ -2,7 +2,7 @@ use Rattle.std.proofs.Common.{◌≡◌, cond, nat_eq, sym, ap, subst, ◌∙◌
 use Rattle.sc_papers.specs.Assignment.{assigned}
 use Rattle.sc_papers.proofs.Positions.{place-position}
 use Rattle.sc_engine.proofs.Settling.{GivesFirst, gives-more, gives-none, gives-all}
-use Rattle.sc_engine.proofs.round.assignment_of.Goals as goal
+use Rattle.sc_engine.proofs.round.ranks.assignment_of.Goals as goal
 
 pub loop-position-preserved : goal.loop-position-preserved
 loop-position-preserved c =

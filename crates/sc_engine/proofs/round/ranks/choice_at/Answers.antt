@@ -4,7 +4,7 @@ use Rattle.sc_papers.specs.Market.{choices_of}
 use Rattle.sc_papers.proofs.Hands.{student-there}
 use Rattle.sc_engine.proofs.Hands.{next-absent}
 use Rattle.sc_engine.proofs.Tables.{next-by, rank-at}
-use Rattle.sc_engine.proofs.round.choice_at.Goals as goal
+use Rattle.sc_engine.proofs.round.ranks.choice_at.Goals as goal
 
 pub returns-in_err-rank : goal.returns-in_err-rank
 returns-in_err-rank c i found =

@@ -1,0 +1,144 @@
+//! Chains of proposals, by which students enter a round.
+
+ghost use Rattle.std.specs.Prelude.{◌≡◌, ℕ, ◌+◌, ◌^◌, ◌<◌, false, [], ◌∷◌, ◌++◌, Contains, None, Some, length, position, nat_eq, slice_index_or, slice_set, IfOk, IfSome, OnOk};
+ghost use Rattle.std.specs.Option.{option_map};
+ghost use Rattle.sc_papers.specs.Market.{students_of, student_at};
+ghost use Rattle.sc_engine.specs.Proposals.{IsProposal, first_choice};
+ghost use Rattle.sc_engine.specs.RoundView.{OffersAt, roll_at, next_of, Fits, FitsBut, only, Proposes, ChainEnds, Enters, has_entered};
+
+use super::Round;
+use super::ranks::{position_near, proposal_of};
+use super::rolls::offer_to;
+use sc_papers::{Key, LONGEST_LIST, Papers, Proposal, Rejection, StudentNo};
+use sc_seats::Roll;
+use std::alloc::AllocError;
+
+impl<R: Roll> Round<R> {
+    ghost use Rattle.sc_engine.specs.Round.{view_of};
+
+    /// Offers a seat of the school at the position to the key, which is one proposal.
+    fn offer(&mut self, at: usize, key: Key) -> Result<Option<Key>, AllocError>
+        requires within { at < length self.old.rolls.items }
+        requires count_fits { self.old.proposals + 1 < 2 ^ 64 }
+        requires new { ¬ Contains (roll_at (view_of R.keys R.seats self.old).rolls at).keys key }
+        ensures offered { IfOk result (λ out. OffersAt (view_of R.keys R.seats self.old).rolls (view_of R.keys R.seats self.new).rolls at key out) }
+        ensures ranks { self.new.ranks ≡ self.old.ranks }
+        ensures log { self.new.log.items ≡ self.old.log.items }
+        ensures proposals { OnOk result (self.new.proposals ≡ self.old.proposals + 1) }
+    {
+        let out = offer_to(&mut self.rolls, at, key)?;
+        self.proposals += 1;
+        Ok(out)
+    }
+
+    /// Notes that the school rejects the student at the position, who moves on to the next choice.
+    fn reject(&mut self, at: usize, entry: Rejection) -> Result<(), AllocError>
+        requires { (rank : ℕ) → slice_index_or self.old.ranks at None ≡ Some rank → rank < LONGEST_LIST }
+        ensures log { OnOk result (self.new.log.items ≡ self.old.log.items ++ entry ∷ []) }
+        ensures moved { OnOk result ((rank : ℕ) → slice_index_or self.old.ranks at None ≡ Some rank → self.new.ranks ≡ slice_set self.old.ranks at (Some (rank + 1))) }
+        ensures rolls { self.new.rolls.items ≡ self.old.rolls.items }
+        ensures proposals { self.new.proposals ≡ self.old.proposals }
+    {
+        self.log.push(entry)?;
+        self.ranks.move_on(at);
+        Ok(())
+    }
+
+    /// The student at the position proposes to its next choice, if it has one: the position
+    /// of whoever is put out, if anybody.
+    fn propose(&mut self, papers: &Papers, proposer: usize) -> Result<Option<usize>, AllocError>
+        requires within { proposer < length papers.now.students }
+        requires fits { FitsBut papers.now (view_of R.keys R.seats self.old) (only (student_at papers.now proposer)) }
+        ensures within { IfOk result (λ out. IfSome out (λ next. next < length papers.now.students)) }
+        ensures proposes { IfOk result (λ out. Proposes papers.now (view_of R.keys R.seats self.old) (view_of R.keys R.seats self.new) (student_at papers.now proposer) (option_map (student_at papers.now) out)) }
+    {
+        let proposal = proposal_of(self.ranks.as_slice(), papers, proposer);
+        let out = self.propose_with(papers, proposer, proposal)?;
+        Ok(out)
+    }
+
+    /// Does what `propose` does, where the proposal that the student is to make is known, or that there is none.
+    fn propose_with(
+        &mut self,
+        papers: &Papers,
+        proposer: usize,
+        proposal: Option<Proposal>,
+    ) -> Result<Option<usize>, AllocError>
+        requires within { proposer < length papers.now.students }
+        requires fits { FitsBut papers.now (view_of R.keys R.seats self.old) (only (student_at papers.now proposer)) }
+        requires next { IsProposal papers.now (student_at papers.now proposer) (next_of papers.now self.old.ranks (student_at papers.now proposer)) proposal }
+        ensures within { IfOk result (λ out. IfSome out (λ next. next < length papers.now.students)) }
+        ensures proposes { IfOk result (λ out. Proposes papers.now (view_of R.keys R.seats self.old) (view_of R.keys R.seats self.new) (student_at papers.now proposer) (option_map (student_at papers.now) out)) }
+    {
+        let Some(proposal) = proposal else {
+            return Ok(None);
+        };
+        let Some(out) = self.offer(proposal.position, proposal.key)? else {
+            return Ok(None);
+        };
+        let school = proposal.school;
+        let student = out.student;
+        // Most often the school has no seat for the proposer, whose position is known.
+        let guess = if student == proposal.key.student {
+            proposer
+        } else {
+            self.hints.guess(student)
+        };
+        let next = position_near(papers, student, guess);
+        self.reject(next, Rejection { student, school })?;
+        Ok(Some(next))
+    }
+
+    /// The chain of the student at the position: whoever is put out proposes to the next choice, until
+    /// nobody is put out or the one put out has no choice left.
+    fn chain(&mut self, papers: &Papers, first: usize) -> Result<(), AllocError>
+        requires within { first < length papers.now.students }
+        requires fits { FitsBut papers.now (view_of R.keys R.seats self.old) (only (student_at papers.now first)) }
+        ensures { OnOk result (ChainEnds papers.now (view_of R.keys R.seats self.old) (view_of R.keys R.seats self.new) (student_at papers.now first)) }
+    {
+        let mut proposer = first;
+        while let Some(out) = self.propose(papers, proposer)? {
+            proposer = out;
+        }
+        Ok(())
+    }
+
+    /// Does what `chain` does, where the proposal that the student is to make is known, or that there is none.
+    fn chain_with(
+        &mut self,
+        papers: &Papers,
+        first: usize,
+        proposal: Option<Proposal>,
+    ) -> Result<(), AllocError>
+        requires within { first < length papers.now.students }
+        requires fits { FitsBut papers.now (view_of R.keys R.seats self.old) (only (student_at papers.now first)) }
+        requires next { IsProposal papers.now (student_at papers.now first) (next_of papers.now self.old.ranks (student_at papers.now first)) proposal }
+        ensures { OnOk result (ChainEnds papers.now (view_of R.keys R.seats self.old) (view_of R.keys R.seats self.new) (student_at papers.now first)) }
+    {
+        if let Some(out) = self.propose_with(papers, first, proposal)? {
+            self.chain(papers, out)?;
+        }
+        Ok(())
+    }
+
+    /// The student at the position goes to their first choice by this proposal, and their chain follows.
+    pub(super) fn enter(
+        &mut self,
+        papers: &Papers,
+        student: StudentNo,
+        at: usize,
+        first: Option<Proposal>,
+    ) -> Result<(), AllocError>
+        requires fits { Fits papers.now (view_of R.keys R.seats self.old) }
+        requires stands { position (nat_eq student) (students_of papers.now) ≡ Some at }
+        requires absent { has_entered papers.now self.old.ranks student ≡ false }
+        requires first { IsProposal papers.now student (first_choice papers.now student) first }
+        ensures { OnOk result (Enters papers.now (view_of R.keys R.seats self.old) (view_of R.keys R.seats self.new) student) }
+    {
+        self.hints.note(student, at);
+        self.ranks.make_room(at)?;
+        self.ranks.put(at, 0)?;
+        self.chain_with(papers, at, first)?;
+        Ok(())
+    }
+}

@@ -1,0 +1,102 @@
+//! Where the students of a round stand, by the ranks of their choices.
+
+ghost use Rattle.std.specs.Prelude.{◌≡◌, ℕ, ◌<◌, true, None, Some, length, position, nat_eq, map, slice_index_or, IfOk, IsSome};
+ghost use Rattle.sc_papers.specs.Assignment.{assigned};
+ghost use Rattle.sc_papers.specs.Market.{is_student, students_of};
+ghost use Rattle.sc_engine.specs.Proposals.{IsProposal};
+ghost use Rattle.sc_engine.specs.RoundView.{next_of};
+
+use sc_papers::{Assignment, Papers, Proposal, SchoolNo, StudentNo};
+use std::alloc::{AllocError, Global};
+
+/// Each student's choice, in order of entry.
+pub(super) fn assignment_of(
+    alloc: Global,
+    ranks: &[Option<u8>],
+    papers: &Papers,
+) -> Result<Assignment, AllocError>
+    ensures { IfOk result (λ assignment. (i : ℕ) → assigned assignment i ≡ next_of papers.now ranks.now i) }
+{
+    let mut assignment = Assignment::with_room(alloc, papers.seed(), papers.students_len())?;
+    for position in 0..papers.students_len() {
+        let Some(student) = papers.student_at(position) else {
+            unreachable!()
+        };
+        assignment.give(student, choice_at(ranks, papers, position))?;
+    }
+    Ok(assignment)
+}
+
+/// The choice at which each student stands, in order of entry.
+pub(super) fn places_of(
+    alloc: Global,
+    ranks: &[Option<u8>],
+    papers: &Papers,
+) -> Result<Vec<Option<SchoolNo>>, AllocError>
+    ensures { IfOk result (λ places. places.items ≡ map (next_of papers.now ranks.now) (students_of papers.now)) }
+{
+    let mut places = Vec::with_capacity(alloc, papers.students_len())?;
+    for position in 0..papers.students_len() {
+        places.push(choice_at(ranks, papers, position))?;
+    }
+    Ok(places)
+}
+
+/// The rank of the choice at which the student at the position stands: none past the end.
+fn rank_at(ranks: &[Option<u8>], at: usize) -> Option<usize>
+    ensures rank { result ≡ slice_index_or ranks.now at None }
+    ensures within { IsSome result → at < length ranks.now }
+{
+    match ranks.get(at) {
+        Some(rank) => rank.map(usize::from),
+        None => None,
+    }
+}
+
+/// The choice at which the student at the position stands.
+fn choice_at(ranks: &[Option<u8>], papers: &Papers, at: usize) -> Option<SchoolNo>
+    requires { at < length papers.now.students }
+    ensures { (i : ℕ) → position (nat_eq i) (students_of papers.now) ≡ Some at → result ≡ next_of papers.now ranks.now i }
+{
+    let rank = rank_at(ranks, at)?;
+    papers.choice_at(at, rank)
+}
+
+/// The choice at which the student at the position stands, with its position and the student's key there.
+pub(super) fn proposal_of(ranks: &[Option<u8>], papers: &Papers, at: usize) -> Option<Proposal>
+    requires { at < length papers.now.students }
+    ensures { (i : ℕ) → position (nat_eq i) (students_of papers.now) ≡ Some at → IsProposal papers.now i (next_of papers.now ranks.now i) result }
+{
+    let rank = rank_at(ranks, at)?;
+    papers.proposal(at, rank)
+}
+
+/// The choice at which the student stands.
+pub(super) fn next_in(ranks: &[Option<u8>], papers: &Papers, student: StudentNo) -> Option<SchoolNo>
+    ensures { result ≡ next_of papers.now ranks.now student }
+{
+    choice_at(ranks, papers, papers.student_position(student)?)
+}
+
+/// The choice at which the student stands, who often is at the guessed position: then no number is looked up.
+pub(super) fn next_near(
+    ranks: &[Option<u8>],
+    papers: &Papers,
+    student: StudentNo,
+    guess: usize,
+) -> Option<SchoolNo>
+    ensures { result ≡ next_of papers.now ranks.now student }
+{
+    choice_at(ranks, papers, papers.student_position_near(student, guess)?)
+}
+
+/// The position of a student of the papers, who often stands at the guess: then no number is looked up.
+pub(super) fn position_near(papers: &Papers, student: StudentNo, guess: usize) -> usize
+    requires { is_student papers.now student ≡ true }
+    ensures { position (nat_eq student) (students_of papers.now) ≡ Some result }
+{
+    let Some(at) = papers.student_position_near(student, guess) else {
+        unreachable!()
+    };
+    at
+}

@@ -1,0 +1,106 @@
+//! The rolls of the schools of a round, by position.
+
+ghost use Rattle.std.specs.Prelude.{◌≡◌, ℕ, ◌<◌, ◌≤◌, true, [], Contains, Some, length, position, slice_get, IfOk, OnOk};
+ghost use Rattle.sc_papers.specs.Market.{schools_of, seats_of};
+ghost use Rattle.sc_engine.specs.RoundView.{OffersAt, roll_at, AreEmpty};
+ghost use Rattle.sc_engine.specs.Rolls.{rolls_of};
+
+use sc_papers::{Key, Papers, Seats};
+use sc_seats::Roll;
+use std::alloc::{AllocError, Global};
+
+/// The seats of the school at the position.
+fn seats_at(papers: &Papers, position: usize) -> Seats
+    requires { position < length papers.now.schools }
+    ensures { (s : ℕ) → slice_get (schools_of papers.now) position ≡ Some s → result ≡ seats_of papers.now s }
+{
+    let Some(seats) = papers.seats_at(position) else {
+        unreachable!()
+    };
+    seats
+}
+
+/// Empties a roll in the memory that it has, and gives it these seats. One that is so already stays as it is.
+fn renew_roll<R: Roll>(roll: &mut R, seats: Seats)
+    ensures keys { R.keys roll.new ≡ [] }
+    ensures seats { R.seats roll.new ≡ seats }
+{
+    if roll.len() > 0 || roll.capacity() != seats {
+        roll.renew(seats);
+    }
+}
+
+/// Makes the roll at a position one with these seats on which nobody is; where there is none yet, it comes last.
+fn put_empty_roll<R: Roll>(
+    alloc: Global,
+    rolls: &mut Vec<R>,
+    at: usize,
+    seats: Seats,
+) -> Result<(), AllocError>
+    requires { at ≤ length rolls.old.items }
+    ensures own { OnOk result (roll_at (rolls_of R.keys R.seats rolls.new.items) at ≡ record { keys = []; seats = seats }) }
+    ensures others { OnOk result ((k : ℕ) → k < at → roll_at (rolls_of R.keys R.seats rolls.new.items) k ≡ roll_at (rolls_of R.keys R.seats rolls.old.items) k) }
+    ensures longer { OnOk result (at < length rolls.new.items) }
+    ensures within { OnOk result ((n : ℕ) → at < n → length rolls.old.items ≤ n → length rolls.new.items ≤ n) }
+{
+    if at < rolls.len() {
+        renew_roll(&mut rolls[at], seats);
+        return Ok(());
+    }
+    rolls.push(R::with_capacity(alloc, seats))?;
+    Ok(())
+}
+
+/// Makes these rolls one of its capacity for each school, on which nobody is, in the memory that they have.
+pub(super) fn renew_rolls<R: Roll>(
+    alloc: Global,
+    rolls: &mut Vec<R>,
+    papers: &Papers,
+) -> Result<(), AllocError>
+    ensures length { OnOk result (length rolls.new.items ≡ length papers.now.schools) }
+    ensures empty { OnOk result (AreEmpty papers.now (rolls_of R.keys R.seats rolls.new.items) (length papers.now.schools)) }
+{
+    rolls.truncate(papers.schools_len());
+    for position in 0..papers.schools_len() {
+        put_empty_roll(alloc, rolls, position, seats_at(papers, position))?;
+    }
+    Ok(())
+}
+
+/// A roll of its capacity for each school, on which nobody is.
+pub(super) fn empty_rolls<R: Roll>(alloc: Global, papers: &Papers) -> Result<Vec<R>, AllocError>
+    ensures length { IfOk result (λ rolls. length rolls.items ≡ length papers.now.schools) }
+    ensures empty { IfOk result (λ rolls. AreEmpty papers.now (rolls_of R.keys R.seats rolls.items) (length papers.now.schools)) }
+{
+    let mut rolls = Vec::with_capacity(alloc, papers.schools_len())?;
+    renew_rolls(alloc, &mut rolls, papers)?;
+    Ok(rolls)
+}
+
+/// Whether an offer of a seat of the school at the position would put out the key itself.
+fn is_refused<R: Roll>(rolls: &Vec<R>, at: usize, key: &Key) -> bool
+    requires within { at < length rolls.now.items }
+    requires new { ¬ Contains (roll_at (rolls_of R.keys R.seats rolls.now.items) at).keys key.now }
+    ensures { result ≡ true → OffersAt (rolls_of R.keys R.seats rolls.now.items) (rolls_of R.keys R.seats rolls.now.items) at key.now (Some key.now) }
+{
+    rolls[at].refuses(key)
+}
+
+/// Offers a seat of the school at the position to the key.
+pub(super) fn offer_to<R: Roll>(
+    rolls: &mut Vec<R>,
+    at: usize,
+    key: Key,
+) -> Result<Option<Key>, AllocError>
+    requires within { at < length rolls.old.items }
+    requires new { ¬ Contains (roll_at (rolls_of R.keys R.seats rolls.old.items) at).keys key }
+    ensures { IfOk result (λ out. OffersAt (rolls_of R.keys R.seats rolls.old.items) (rolls_of R.keys R.seats rolls.new.items) at key out) }
+{
+    // Most offers are refused, and then nothing is changed or copied.
+    if is_refused(rolls, at, &key) {
+        return Ok(Some(key));
+    }
+    let roll = &mut rolls[at];
+    let out = roll.offer(key)?;
+    Ok(out)
+}

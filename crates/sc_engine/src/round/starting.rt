@@ -1,0 +1,82 @@
+//! Rounds in which nobody has entered.
+
+ghost use Rattle.std.specs.Prelude.{◌≡◌, ◌≤◌, [], length, IfOk};
+ghost use Rattle.sc_engine.specs.RoundView.{AreEmpty, StandNowhere};
+ghost use Rattle.sc_engine.specs.Rolls.{rolls_of};
+
+use super::Round;
+use super::rolls::{empty_rolls, renew_rolls};
+use crate::rank_table::RankTable;
+use sc_papers::{Hints, MOST_STUDENTS, Papers, Rejection};
+use sc_seats::Roll;
+use std::alloc::{AllocError, Global};
+
+impl<R: Roll> Round<R> {
+    ghost use Rattle.sc_engine.specs.Fresh.{IsFresh};
+
+    /// A round of these parts, in which nobody has entered.
+    fn of_parts(
+        papers: &Papers,
+        alloc: Global,
+        ranks: RankTable,
+        rolls: Vec<R>,
+        log: Vec<Rejection>,
+        hints: Hints,
+    ) -> Self
+        requires within { length ranks ≤ length papers.now.students }
+        requires nobody { StandNowhere ranks }
+        requires length { length rolls.items ≡ length papers.now.schools }
+        requires empty { AreEmpty papers.now (rolls_of R.keys R.seats rolls.items) (length papers.now.schools) }
+        requires log { log.items ≡ [] }
+        ensures { IsFresh R.keys R.seats papers.now result }
+    {
+        // This call tells that the papers are well-formed and within their limits.
+        prove!(papers.students_len() <= MOST_STUDENTS);
+        Round {
+            alloc,
+            ranks,
+            rolls,
+            log,
+            proposals: 0,
+            spent: false,
+            hints,
+        }
+    }
+
+    /// A round in which nobody has entered, with room for guesses at where so many students stand.
+    pub(crate) fn with_room(
+        alloc: Global,
+        papers: &Papers,
+        students: usize,
+    ) -> Result<Self, AllocError>
+        ensures { IfOk result (IsFresh R.keys R.seats papers.now) }
+    {
+        let ranks = RankTable::with_room(alloc, papers.students_len())?;
+        let rolls = empty_rolls(alloc, papers)?;
+        let hints = Hints::with_room(alloc, students)?;
+        Ok(Round::of_parts(papers, alloc, ranks, rolls, Vec::new(alloc), hints))
+    }
+
+    /// What `with_room` gives, in the memory of a round that is done with, whatever papers it was of and whether or not
+    /// it is spent.
+    pub(crate) fn again(self, papers: &Papers, students: usize) -> Result<Self, AllocError>
+        ensures { IfOk result (IsFresh R.keys R.seats papers.now) }
+    {
+        let mut ranks = self.ranks;
+        ranks.clear(papers.students_len());
+        let mut rolls = self.rolls;
+        renew_rolls(self.alloc, &mut rolls, papers)?;
+        let mut log = self.log;
+        log.clear();
+        let hints = Hints::with_room(self.alloc, students)?;
+        Ok(Round::of_parts(papers, self.alloc, ranks, rolls, log, hints))
+    }
+
+    /// A round in which nobody has entered, or the error of a refused growth. It takes memory for each
+    /// student and each school; the rolls take theirs by the offers.
+    pub fn start(alloc: Global, papers: &Papers) -> Result<Self, AllocError>
+        ensures { IfOk result (IsFresh R.keys R.seats papers.now) }
+    {
+        Round::with_room(alloc, papers, papers.students_len())
+    }
+}
