@@ -19,19 +19,19 @@ use std::alloc::{AllocError, Global};
 /// How many hints there is room for, for each student: so few of them take the place of others.
 const ROOM: usize = 4;
 
-/// Whether the student stands at the position with this place among the positions.
-fn is_at(papers: &Papers, positions: &[usize], student: StudentNo, place: usize) -> bool
-    ensures { result ≡ true → slice_get (map (student_at papers.now) positions.now) place ≡ Some student }
+/// Whether the student stands at the position with this turn among the positions.
+fn is_at(papers: &Papers, positions: &[usize], student: StudentNo, turn: usize) -> bool
+    ensures { result ≡ true → slice_get (map (student_at papers.now) positions.now) turn ≡ Some student }
 {
-    let Some(position) = positions.get(place) else {
+    let Some(position) = positions.get(turn) else {
         return false;
     };
     papers.student_at(*position) == Some(student)
 }
 
-/// The place, among the positions, of that at which the student stands, or `None` where they stand at none. One who
-/// stands at the guessed place is not looked up by number.
-fn place_near(
+/// The turn, among the positions, of that at which the student stands, or `None` where they stand at none. One who
+/// stands at the guessed turn is not looked up by number.
+fn turn_near(
     papers: &Papers,
     positions: &[usize],
     student: StudentNo,
@@ -39,8 +39,8 @@ fn place_near(
 ) -> Option<usize>
     requires rising { IsStrictlyIncreasing positions.now }
     requires within { (k : ℕ) → k < length positions.now → slice_index positions.now k < length (students_of papers.now) }
-    ensures place { IfSome result (λ place. slice_get (map (student_at papers.now) positions.now) place ≡ Some student) }
-    ensures none { result ≡ None → (place : ℕ) → slice_get (map (student_at papers.now) positions.now) place ≡ Some student → ⊥ }
+    ensures turn { IfSome result (λ turn. slice_get (map (student_at papers.now) positions.now) turn ≡ Some student) }
+    ensures none { result ≡ None → (turn : ℕ) → slice_get (map (student_at papers.now) positions.now) turn ≡ Some student → ⊥ }
 {
     if is_at(papers, positions, student, guess) {
         return Some(guess);
@@ -51,13 +51,13 @@ fn place_near(
         return None;
     };
     match positions.binary_search(&position) {
-        Ok(place) => Some(place),
+        Ok(turn) => Some(turn),
         Err(_) => None,
     }
 }
 
 /// Puts the entry's school among the ranks of the entry's student, where the student stands at one of the
-/// positions and lists the school. A student who stands at the guessed place among them is not looked up by number.
+/// positions and lists the school. A student who stands at the guessed turn among them is not looked up by number.
 fn mark_at(
     papers: &Papers,
     positions: &[usize],
@@ -71,30 +71,30 @@ fn mark_at(
     ensures tabled { (log : List Rejection) → AreTabled papers.now (map (student_at papers.now) positions.now) log table.old.items → AreTabled papers.now (map (student_at papers.now) positions.now) (log ++ entry ∷ []) table.new.items }
     ensures same_length { length table.new.items ≡ length table.old.items }
 {
-    let Some(place) = place_near(papers, positions, entry.student, guess) else {
+    let Some(turn) = turn_near(papers, positions, entry.student, guess) else {
         return;
     };
     // This call tells that the papers are well-formed and within their limits: no number and no choice stands
     // twice, and a set has room for each rank.
     prove!(papers.students_len() <= MOST_STUDENTS);
-    let Some(rank) = papers.choice_rank_at(positions[place], entry.school) else {
+    let Some(rank) = papers.choice_rank_at(positions[turn], entry.school) else {
         return;
     };
-    table[place] = table[place].with(rank);
+    table[turn] = table[turn].with(rank);
 }
 
-/// A student, and the place among some positions of that at which they stand.
+/// A student, and the turn among some positions of that at which they stand.
 #[derive(Clone, Copy)]
 struct Owner {
     student: StudentNo,
-    place: usize,
+    turn: usize,
 }
 
 impl Owner {
-    /// The place at which a student may be: most rejections of a segment are those of its own student.
+    /// The turn at which a student may be: most rejections of a segment are those of its own student.
     fn guess(&self, hints: &Hints, student: StudentNo) -> usize {
         if student == self.student {
-            self.place
+            self.turn
         } else {
             hints.guess(student)
         }
@@ -123,13 +123,13 @@ fn mark_all_at(
     }
 }
 
-/// Hints by which the students of the segments at some positions are found: each one's place among the positions.
+/// Hints by which the students of the segments at some positions are found: each one's turn among the positions.
 fn hints_of(alloc: Global, segments: &Segments, positions: &[usize]) -> Result<Hints, AllocError>
     requires held { (k : ℕ) → k < length positions.now → slice_index positions.now k < length segments.now }
 {
     let mut hints = Hints::with_room(alloc, positions.len().saturating_mul(ROOM))?;
-    for (place, position) in positions.iter().enumerate() {
-        hints.note(segments.student(*position), place);
+    for (turn, position) in positions.iter().enumerate() {
+        hints.note(segments.student(*position), turn);
     }
     Ok(hints)
 }
@@ -150,10 +150,10 @@ fn rejected_ranks_at(
 {
     let mut table = vec![in alloc; RankSet::new(); positions.len()]?;
     let hints = hints_of(alloc, segments, positions)?;
-    for (place, position) in positions.iter().enumerate() {
+    for (turn, position) in positions.iter().enumerate() {
         let owner = Owner {
             student: segments.student(*position),
-            place,
+            turn,
         };
         mark_all_at(
             papers,
@@ -183,13 +183,13 @@ pub(crate) fn next_choices_at_positions(
     let rejected = rejected_ranks_at(alloc, papers, segments, positions)?;
     let mut choices = Vec::with_capacity(alloc, positions.len())?;
     let mut ranks = Vec::with_capacity(alloc, positions.len())?;
-    for (place, position) in positions.iter().enumerate() {
+    for (turn, position) in positions.iter().enumerate() {
         let Some(student) = papers.student_at(*position) else {
             unreachable!()
         };
-        let next = first_outside(papers, *position, rejected[place]);
+        let next = first_outside(papers, *position, rejected[turn]);
         choices.push_reserved(Standing { student, next });
-        ranks.push(rejected[place].first_outside())?;
+        ranks.push(rejected[turn].first_outside())?;
     }
     Ok(Standings { choices, ranks })
 }

@@ -9,7 +9,7 @@ use Rattle.sc_papers.specs.declared.key.Key.{Key}
 use Rattle.sc_papers.specs.declared.proposal.Proposal.{Proposal}
 use Rattle.sc_papers.proofs.Hands.{hand-is, hand-key}
 use Rattle.sc_papers.proofs.Positions.{position-there}
-use Rattle.sc_engine.specs.Newcomers.{IsFirstPlace}
+use Rattle.sc_engine.specs.Newcomers.{IsFirstPosition}
 use Rattle.sc_engine.specs.Proposals.{IsProposal, first_choice}
 
 -- no proposal to no choice
@@ -34,29 +34,29 @@ proposes-there m i at rank proposal there school place key =
     subst (λ (j : ℕ). IsProposal m j (slice_get (choices_of m j) rank) proposal) there (record { school = school; position = place; key = key })
 
 -- where the first choice stands, by the positions of all choices
-pub first-place : (m : Market) (choices places : List ℕ) (found : Option ℕ) → found ≡ slice_get places 0 → map Some places ≡ map (λ s. position (nat_eq s) (schools_of m)) choices
+pub first-position : (m : Market) (choices positions : List ℕ) (found : Option ℕ) → found ≡ slice_get positions 0 → map Some positions ≡ map (λ s. position (nat_eq s) (schools_of m)) choices
     → option_map Some found ≡ option_map (λ s. position (nat_eq s) (schools_of m)) (slice_get choices 0)
-first-place m choices places found is theirs =
-    ap (option_map Some) is ∙ sym (slice_get-map Some places 0) ∙ ap (λ (os : List (Option ℕ)). slice_get os 0) theirs
+first-position m choices positions found is theirs =
+    ap (option_map Some) is ∙ sym (slice_get-map Some positions 0) ∙ ap (λ (os : List (Option ℕ)). slice_get os 0) theirs
     ∙ slice_get-map (λ s. position (nat_eq s) (schools_of m)) choices 0
 
--- where a choice has a place, its school stands there
-first-found : (m : Market) (i place : ℕ) → IsFirstPlace m i (Some place) → (s : ℕ) × (first_choice m i ≡ Some s) × (position (nat_eq s) (schools_of m) ≡ Some place)
-first-found m i place is = go (first_choice m i) is
+-- where a first choice has a position, its school stands there
+first-found : (m : Market) (i at_school : ℕ) → IsFirstPosition m i (Some at_school) → (s : ℕ) × (first_choice m i ≡ Some s) × (position (nat_eq s) (schools_of m) ≡ Some at_school)
+first-found m i at_school is = go (first_choice m i) is
   where
-    go : (choice : Option ℕ) → Some (Some place) ≡ option_map (λ s. position (nat_eq s) (schools_of m)) choice → (s : ℕ) × (choice ≡ Some s) × (position (nat_eq s) (schools_of m) ≡ Some place)
-    go None none = absurd (none-some (Some place) (sym none))
-    go (Some s) found = (s, refl, sym (same_Some (Some place) (position (nat_eq s) (schools_of m)) found))
+    go : (choice : Option ℕ) → Some (Some at_school) ≡ option_map (λ s. position (nat_eq s) (schools_of m)) choice → (s : ℕ) × (choice ≡ Some s) × (position (nat_eq s) (schools_of m) ≡ Some at_school)
+    go None none = absurd (none-some (Some at_school) (sym none))
+    go (Some s) found = (s, refl, sym (same_Some (Some at_school) (position (nat_eq s) (schools_of m)) found))
 
 -- so the student proposes there
-pub proposes-found : (m : Market) (i at place school : ℕ) (key : Key) → slice_get (students_of m) at ≡ Some i → IsFirstPlace m i (Some place) → Some school ≡ slice_get (schools_of m) place → Some key ≡ key_at m at place
-    → IsProposal m i (first_choice m i) (Some (record { school = school; position = place; key = key }))
-proposes-found m i at place school key stands is there keyed =
-    let (s, chosen, found) = first-found m i place is in
-    let same : school ≡ s = same_Some school s (there ∙ position-there (schools_of m) s place found) in
+pub proposes-found : (m : Market) (i at at_school school : ℕ) (key : Key) → slice_get (students_of m) at ≡ Some i → IsFirstPosition m i (Some at_school) → Some school ≡ slice_get (schools_of m) at_school → Some key ≡ key_at m at at_school
+    → IsProposal m i (first_choice m i) (Some (record { school = school; position = at_school; key = key }))
+proposes-found m i at at_school school key stands is there keyed =
+    let (s, chosen, found) = first-found m i at_school is in
+    let same : school ≡ s = same_Some school s (there ∙ position-there (schools_of m) s at_school found) in
     record {
       school = ap Some same ∙ sym chosen;
       position = ap (λ x. position (nat_eq x) (schools_of m)) same ∙ found;
-      key = same_Some key (key_of m (student_at m at) s) (keyed ∙ hand-key m at s place (stands-low m i at stands) found)
+      key = same_Some key (key_of m (student_at m at) s) (keyed ∙ hand-key m at s at_school (stands-low m i at stands) found)
           ∙ ap (λ j. key_of m j s) (hand-is m at i stands) ∙ ap (key_of m i) (sym same);
     }

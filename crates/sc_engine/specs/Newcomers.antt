@@ -13,13 +13,13 @@ abbrev pub entrants_of : List Newcomer → List Entrant
 entrants_of newcomers = map (λ newcomer. newcomer.entrant) newcomers
 
 -- this is the position of the school of a student's first choice, and none where there is no choice
-abbrev pub IsFirstPlace : Market → ℕ → Option ℕ → Type 0
-IsFirstPlace m i place = option_map Some place ≡ option_map (λ s. position (nat_eq s) (schools_of m)) (first_choice m i)
+abbrev pub IsFirstPosition : Market → ℕ → Option ℕ → Type 0
+IsFirstPosition m i at = option_map Some at ≡ option_map (λ s. position (nat_eq s) (schools_of m)) (first_choice m i)
 
 -- who stands at their position, with that of their first choice's school
 pub record KnowsFirst (m : Market) (newcomer : Newcomer) : Type 0 where
   pub stands : StandsAt m newcomer.entrant
-  pub first : IsFirstPlace m newcomer.entrant.student newcomer.first
+  pub first : IsFirstPosition m newcomer.entrant.student newcomer.first
 
 -- those before the batch have entered, and with the batch and those after it they are everybody
 pub record ComesNext (m : Market) (r : RoundView) (before batch after : List Entrant) : Type 0 where

@@ -2,7 +2,7 @@
 
 ghost use Rattle.std.specs.Prelude.{◌≡◌, false, All, List, [], ◌++◌, OnOk};
 ghost use Rattle.sc_papers.specs.Market.{students_of};
-ghost use Rattle.sc_engine.specs.Newcomers.{entrants_of, ComesNext, IsFirstPlace, KnowsFirst};
+ghost use Rattle.sc_engine.specs.Newcomers.{entrants_of, ComesNext, IsFirstPosition, KnowsFirst};
 ghost use Rattle.sc_engine.specs.Proposals.{IsProposal, first_choice};
 ghost use Rattle.sc_engine.specs.Entrants.{numbers_of, AreEverybody, StandsAt};
 ghost use Rattle.sc_engine.specs.Round.{view_of, is_spent};
@@ -26,18 +26,18 @@ struct Newcomer {
 }
 
 /// The position of the school of an entrant's first choice, if they have one.
-fn first_place(papers: &Papers, entrant: &Entrant) -> Option<usize>
+fn first_position(papers: &Papers, entrant: &Entrant) -> Option<usize>
     requires { StandsAt papers.now entrant.now }
-    ensures { IsFirstPlace papers.now entrant.now.student result }
+    ensures { IsFirstPosition papers.now entrant.now.student result }
 {
-    let places = papers.choice_positions_at(entrant.position as usize);
-    Some(usize::from(*places.first()?))
+    let positions = papers.choice_positions_at(entrant.position as usize);
+    Some(usize::from(*positions.first()?))
 }
 
 /// What an entrant proposes first, whose first choice's school stands at this position, if they have a choice.
 fn first_proposal(papers: &Papers, entrant: &Entrant, first: Option<usize>) -> Option<Proposal>
     requires stands { StandsAt papers.now entrant.now }
-    requires first { IsFirstPlace papers.now entrant.now.student first }
+    requires first { IsFirstPosition papers.now entrant.now.student first }
     ensures { IsProposal papers.now entrant.now.student (first_choice papers.now entrant.now.student) result }
 {
     let position = first?;
@@ -69,7 +69,7 @@ fn read_batch(
     for entrant in batch {
         // No read waits for another, and nothing is decided by what was read, so the processor makes several reads at
         // once. What a student's priority is at the school is asked when the row has come.
-        let first = first_place(papers, entrant);
+        let first = first_position(papers, entrant);
         newcomers.push(Newcomer {
             entrant: *entrant,
             first,

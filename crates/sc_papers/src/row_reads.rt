@@ -8,11 +8,11 @@ use crate::papers::Papers;
 use crate::school_no::SchoolNo;
 use sc_lottery::StudentNumber;
 
-/// The first rank at which this place stands among the places.
-fn rank_of(places: &[u16], place: usize) -> Option<usize>
-    ensures { result ≡ position (λ p. p == place) places.now }
+/// The first rank at which this position stands among the positions.
+fn rank_of(positions: &[u16], at: usize) -> Option<usize>
+    ensures { result ≡ position (λ p. p == at) positions.now }
 {
-    places.iter().position(|other| usize::from(*other) == place)
+    positions.iter().position(|other| usize::from(*other) == at)
 }
 
 impl Papers {
@@ -48,7 +48,7 @@ impl Papers {
         requires { student < length self.now.students }
         ensures { result ≡ position (λ s. s == school) (choices_of self.now (student_at self.now student)) }
     {
-        let places = self.choice_positions_at(student);
-        rank_of(places, self.school_position(school)?)
+        let positions = self.choice_positions_at(student);
+        rank_of(positions, self.school_position(school)?)
     }
 }

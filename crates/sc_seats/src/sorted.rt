@@ -26,7 +26,7 @@ impl Model for SortedRoll {
 }
 
 /// How many of the keys are ahead of one that is not among them.
-fn place_of(keys: &[Key], key: &Key) -> usize
+fn position_of(keys: &[Key], key: &Key) -> usize
     requires ascending { IsAscending keys.now }
     requires new { ¬ Contains keys.now key.now }
     ensures within { result ≤ length keys.now }
@@ -34,18 +34,18 @@ fn place_of(keys: &[Key], key: &Key) -> usize
     ensures behind { (k : ℕ) (d : Key) → result ≤ k → k < length keys.now → is_before key.now (slice_index_or keys.now k d) ≡ true }
 {
     match keys.binary_search(key) {
-        Ok(place) => place,
-        Err(place) => place,
+        Ok(position) => position,
+        Err(position) => position,
     }
 }
 
-/// Puts the key in at the place.
-fn put_in(keys: &mut Vec<Key>, place: usize, key: Key) -> Result<(), AllocError>
-    requires { place ≤ vec_len keys.old }
-    ensures put { OnOk result (keys.new.items ≡ insert keys.old.items place key) }
+/// Puts the key in at the position.
+fn put_in(keys: &mut Vec<Key>, position: usize, key: Key) -> Result<(), AllocError>
+    requires { position ≤ vec_len keys.old }
+    ensures put { OnOk result (keys.new.items ≡ insert keys.old.items position key) }
     ensures unchanged { OnErr result (keys.new.items ≡ keys.old.items) }
 {
-    keys.insert(place, key)?;
+    keys.insert(position, key)?;
     Ok(())
 }
 
@@ -93,8 +93,8 @@ impl Roll for SortedRoll {
     }
 
     fn offer(&mut self, key: Key) -> Result<Option<Key>, AllocError> {
-        let place = place_of(self.keys.as_slice(), &key);
-        put_in(&mut self.keys, place, key)?;
+        let position = position_of(self.keys.as_slice(), &key);
+        put_in(&mut self.keys, position, key)?;
         let capacity = self.capacity.get() as usize;
         Ok(take_excess(&mut self.keys, capacity))
     }

@@ -11,7 +11,7 @@ returns-in_default-clause-tabled c = λ log before.
     let m = c.args.papers.now in
     let e = c.args.entry in
     table-unknown m (map (student_at m) c.args.positions.now) log e c.args.table.now.items
-    (c.place_near.ensures.none c.in_default.is)
+    (c.turn_near.ensures.none c.in_default.is)
     before
 
 pub returns-in_default-choice_rank_at-clause-tabled : goal.returns-in_default-choice_rank_at-clause-tabled
@@ -19,8 +19,8 @@ returns-in_default-choice_rank_at-clause-tabled c = λ log before.
     let m = c.args.papers.now in
     let ps = c.args.positions.now in
     let e = c.args.entry in
-    let at = c.in-Some.place in
-    let (low, there) = picked-student m ps at e.student c.requires.within c.in-Some.ensures.place in
+    let at = c.in-Some.turn in
+    let (low, there) = picked-student m ps at e.student c.requires.within c.in-Some.ensures.turn in
     let own : student_at m (get_or ps at 0) ≡ e.student = hand-is m (get_or ps at 0) e.student there in
     let none : position (λ s. s == e.school) (choices_of m e.student) ≡ None =
     ap (λ i. position (λ s. s == e.school) (choices_of m i)) (sym own) ∙ sym c.choice_rank_at.ensures ∙ c.in_default-choice_rank_at.is in
@@ -28,18 +28,18 @@ returns-in_default-choice_rank_at-clause-tabled c = λ log before.
 
 pub index-requires : goal.index-requires
 index-requires c =
-    let (low, there) = picked-student c.args.papers.now c.args.positions.now c.in-Some.place c.args.entry.student c.requires.within c.in-Some.ensures.place in
+    let (low, there) = picked-student c.args.papers.now c.args.positions.now c.in-Some.turn c.args.entry.student c.requires.within c.in-Some.ensures.turn in
     omega (arith, low, c.requires.one_each)
 
 pub with-requires : goal.with-requires
 with-requires c =
     let m = c.args.papers.now in
-    rank-low m (student_at m (get_or c.args.positions.now c.in-Some.place 0)) c.args.entry.school c.in-Some-choice_rank_at.rank c.students_len.ensures.within_limits
+    rank-low m (student_at m (get_or c.args.positions.now c.in-Some.turn 0)) c.args.entry.school c.in-Some-choice_rank_at.rank c.students_len.ensures.within_limits
     (sym c.choice_rank_at.ensures ∙ c.in-Some-choice_rank_at.is)
 
 pub index_mut-requires : goal.index_mut-requires
 index_mut-requires c =
-    let (low, there) = picked-student c.args.papers.now c.args.positions.now c.in-Some.place c.args.entry.student c.requires.within c.in-Some.ensures.place in
+    let (low, there) = picked-student c.args.papers.now c.args.positions.now c.in-Some.turn c.args.entry.student c.requires.within c.in-Some.ensures.turn in
     omega (arith, low, c.requires.one_each)
 
 pub returns-clause-tabled : goal.returns-clause-tabled
@@ -47,12 +47,12 @@ returns-clause-tabled c = λ log before.
     let m = c.args.papers.now in
     let ps = c.args.positions.now in
     let e = c.args.entry in
-    let at = c.in-Some.place in
-    let (low, there) = picked-student m ps at e.student c.requires.within c.in-Some.ensures.place in
+    let at = c.in-Some.turn in
+    let (low, there) = picked-student m ps at e.student c.requires.within c.in-Some.ensures.turn in
     let own : student_at m (get_or ps at 0) ≡ e.student = hand-is m (get_or ps at 0) e.student there in
     let rank : position (λ s. s == e.school) (choices_of m e.student) ≡ Some c.in-Some-choice_rank_at.rank =
     ap (λ i. position (λ s. s == e.school) (choices_of m i)) (sym own) ∙ sym c.choice_rank_at.ensures ∙ c.in-Some-choice_rank_at.is in
     table-marked m (map (student_at m) ps) log e c.args.table.now.items at c.in-Some-choice_rank_at.rank _ c.with.result c.students_len.ensures.well_formed
     (picked-once m ps c.students_len.ensures.well_formed c.requires.rising c.requires.within)
-    c.in-Some.ensures.place rank
+    c.in-Some.ensures.turn rank
     (slice_get_read c.args.table.now.items (length c.args.table.now.items) at c.index.result.now refl (omega (arith, low, c.requires.one_each)) c.index.ensures) c.with.ensures before

@@ -9,24 +9,24 @@ use Rattle.sc_checkpoint.proofs.Finding.{next-found, standings-more}
 use Rattle.sc_checkpoint.proofs.Passing.{picked-here}
 use Rattle.sc_checkpoint.proofs.at_positions.next_choices_at_positions.Goals as goal
 
-pub loop-place-preserved : goal.loop-place-preserved
-loop-place-preserved c =
+pub loop-turn-preserved : goal.loop-turn-preserved
+loop-turn-preserved c =
     let m = c.args.papers.now in
     let ps = c.args.positions.now in
     let log = joined (logs_at ps c.args.segments.now) in
     let table = c.in_ok-rejected.rejected.items in
-    let at = c.loop-place.place in
+    let at = c.loop-turn.turn in
     let i = c.in-Some.student in
     let own : slice_get (students_of m) (get_or ps at 0) ≡ Some i = sym c.student_at.ensures ∙ c.in-Some.is in
-    let here : slice_get (map (student_at m) ps) at ≡ Some i = picked-here m ps at (get_or ps at 0) i c.loop-place-test.true refl own in
-    let low : at < length table = omega (arith, c.in_ok-rejected.ensures.count, c.loop-place-test.true) in
+    let here : slice_get (map (student_at m) ps) at ≡ Some i = picked-here m ps at (get_or ps at 0) i c.loop-turn-test.true refl own in
+    let low : at < length table = omega (arith, c.in_ok-rejected.ensures.count, c.loop-turn-test.true) in
     let row : slice_get table at ≡ Some c.index.result.now = slice_get_read table (length table) at c.index.result.now refl low c.index.ensures in
     let next : c.first_outside-next.result ≡ next_choice m log i =
     next-found m log i c.index.result.now (choices_of m (student_at m (get_or ps at 0))) c.first_outside-next.result
     (ap (choices_of m) (hand-is m (get_or ps at 0) i own)) (c.in_ok-rejected.ensures.tabled.at at i c.index.result.now here row) c.first_outside-next.ensures in (
       c.push_reserved.ensures.items
-          ∙ ap (λ items. items ++ record { student = i; next = c.first_outside-next.result } ∷ []) c.loop-place.invariant.0
+          ∙ ap (λ items. items ++ record { student = i; next = c.first_outside-next.result } ∷ []) c.loop-turn.invariant.0
           ∙ standings-more m log (map (student_at m) ps) at i _ here (λ t. record { student = i; next = next t }),
-      omega (arith, c.push_reserved.ensures.len, c.loop-place.invariant.1),
-      c.push_reserved.ensures.capacity ∙ c.loop-place.invariant.2,
+      omega (arith, c.push_reserved.ensures.len, c.loop-turn.invariant.1),
+      c.push_reserved.ensures.capacity ∙ c.loop-turn.invariant.2,
     )

@@ -5,7 +5,7 @@ use Rattle.sc_checkpoint.specs.Chains.{logs_at}
 use Rattle.sc_checkpoint.specs.NextChoices.{next_choices_after}
 use Rattle.sc_checkpoint.proofs.at_positions.next_choices_at_positions.Given as goal
 
-abbrev pub invariant-loop-place : goal.invariant-loop-place
-invariant-loop-place l =
-    (l.choices.items ≡ next_choices_after l.papers (joined (logs_at l.positions l.segments)) (take l.place (map (student_at l.papers) l.positions)))
-    × (vec_len l.choices ≡ l.place) × (vec_capacity l.choices ≡ length l.positions)
+abbrev pub invariant-loop-turn : goal.invariant-loop-turn
+invariant-loop-turn l =
+    (l.choices.items ≡ next_choices_after l.papers (joined (logs_at l.positions l.segments)) (take l.turn (map (student_at l.papers) l.positions)))
+    × (vec_len l.choices ≡ l.turn) × (vec_capacity l.choices ≡ length l.positions)

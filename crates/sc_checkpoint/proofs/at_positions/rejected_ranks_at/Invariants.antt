@@ -5,6 +5,6 @@ use Rattle.sc_checkpoint.specs.Chains.{logs_at}
 use Rattle.sc_checkpoint.specs.Ranks.{AreTabled}
 use Rattle.sc_checkpoint.proofs.at_positions.rejected_ranks_at.Given as goal
 
-abbrev pub invariant-loop-place : goal.invariant-loop-place
-invariant-loop-place l =
-    AreTabled l.papers (map (student_at l.papers) l.positions) (joined (take l.place (logs_at l.positions l.segments))) l.table.items × (length l.table.items ≡ length l.positions)
+abbrev pub invariant-loop-turn : goal.invariant-loop-turn
+invariant-loop-turn l =
+    AreTabled l.papers (map (student_at l.papers) l.positions) (joined (take l.turn (logs_at l.positions l.segments))) l.table.items × (length l.table.items ≡ length l.positions)

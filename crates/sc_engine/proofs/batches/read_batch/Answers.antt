@@ -12,8 +12,8 @@ loop-entrant-preserved c =
     let stands : StandsAt papers entrant = subst (StandsAt papers) (sym c.entrant-item.is) (c.requires c.loop-entrant.entrant-index entrant c.loop-entrant-test.true) in
     record {
       entrants = ap entrants_of c.in_ok-push.ensures.items
-          ∙ newcomers-more c.args.batch.now c.loop-entrant.newcomers.items c.loop-entrant.entrant-index entrant c.first_place-first.result c.loop-entrant-test.true c.entrant-item.is c.loop-entrant.invariant.entrants;
+          ∙ newcomers-more c.args.batch.now c.loop-entrant.newcomers.items c.loop-entrant.entrant-index entrant c.first_position-first.result c.loop-entrant-test.true c.entrant-item.is c.loop-entrant.invariant.entrants;
       firsts = subst (All (KnowsFirst papers)) (sym c.in_ok-push.ensures.items)
-          (All-push (KnowsFirst papers) c.loop-entrant.newcomers.items (record { entrant = entrant; first = c.first_place-first.result }) c.loop-entrant.invariant.firsts
-          (record { stands = stands; first = c.first_place-first.ensures }));
+          (All-push (KnowsFirst papers) c.loop-entrant.newcomers.items (record { entrant = entrant; first = c.first_position-first.result }) c.loop-entrant.invariant.firsts
+          (record { stands = stands; first = c.first_position-first.ensures }));
     }

@@ -7,12 +7,12 @@ pub returns-in_err-school_position : goal.returns-in_err-school_position
 returns-in_err-school_position c =
     let m = c.args.self.now in
     c.from_residual.ensures
-    ∙ sym (no-rank m (choices_of m (student_at m c.args.student)) c.choice_positions_at-places.result.now c.args.school c.choice_positions_at-places.ensures
+    ∙ sym (no-rank m (choices_of m (student_at m c.args.student)) c.choice_positions_at-positions.result.now c.args.school c.choice_positions_at-positions.ensures
     (sym c.school_position.ensures ∙ c.in_err-school_position.was))
 
 pub returns : goal.returns
 returns c =
     let m = c.args.self.now in
     c.rank_of.ensures
-    ∙ choice-rank m (choices_of m (student_at m c.args.student)) c.choice_positions_at-places.result.now c.args.school c.in_ok-school_position.field-0 c.choice_positions_at-places.ensures
+    ∙ choice-rank m (choices_of m (student_at m c.args.student)) c.choice_positions_at-positions.result.now c.args.school c.in_ok-school_position.field-0 c.choice_positions_at-positions.ensures
     (sym c.school_position.ensures ∙ c.in_ok-school_position.was)

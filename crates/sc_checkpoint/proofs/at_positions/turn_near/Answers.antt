@@ -4,7 +4,7 @@ use Rattle.sc_papers.proofs.Choices.{one-place}
 use Rattle.sc_checkpoint.proofs.Marking.{student-here, unknown-nowhere}
 use Rattle.sc_checkpoint.proofs.Passing.{picked-here, picked-student}
 use Rattle.sc_checkpoint.proofs.Rising.{search-finds, search-lacks}
-use Rattle.sc_checkpoint.proofs.at_positions.place_near.Goals as goal
+use Rattle.sc_checkpoint.proofs.at_positions.turn_near.Goals as goal
 
 pub returns-in_default-clause-none : goal.returns-in_default-clause-none
 returns-in_default-clause-none c = λ none at here.
@@ -13,12 +13,12 @@ returns-in_default-clause-none c = λ none at here.
     let (low, there) = picked-student m ps at c.args.student c.requires.within here in
     unknown-nowhere m c.args.student (sym c.student_position.ensures ∙ c.in_default.is) (get_or ps at 0) there
 
-pub returns-in-Ok-clause-place : goal.returns-in-Ok-clause-place
-returns-in-Ok-clause-place c =
+pub returns-in-Ok-clause-turn : goal.returns-in-Ok-clause-turn
+returns-in-Ok-clause-turn c =
     let m = c.args.papers.now in
     let ps = c.args.positions.now in
-    let (low, is) = search-finds ps c.in-Some.position c.in-Ok.place c.requires.rising c.in-Ok.ensures.position in
-    picked-here m ps c.in-Ok.place c.in-Some.position c.args.student low is (student-here m c.args.student c.in-Some.position (sym c.student_position.ensures ∙ c.in-Some.is))
+    let (low, is) = search-finds ps c.in-Some.position c.in-Ok.turn c.requires.rising c.in-Ok.ensures.position in
+    picked-here m ps c.in-Ok.turn c.in-Some.position c.args.student low is (student-here m c.args.student c.in-Some.position (sym c.student_position.ensures ∙ c.in-Some.is))
 
 pub returns-in-Err-clause-none : goal.returns-in-Err-clause-none
 returns-in-Err-clause-none c = λ none at here.

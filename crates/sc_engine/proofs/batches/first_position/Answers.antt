@@ -3,13 +3,13 @@ use Rattle.std.specs.Option.{option_map}
 use Rattle.sc_papers.specs.Market.{choices_of, schools_of, student_at}
 use Rattle.sc_papers.proofs.Hands.{hand-is}
 use Rattle.sc_engine.specs.Proposals.{first_choice}
-use Rattle.sc_engine.proofs.Proposing.{first-place}
-use Rattle.sc_engine.proofs.batches.first_place.Goals as goal
+use Rattle.sc_engine.proofs.Proposing.{first-position}
+use Rattle.sc_engine.proofs.batches.first_position.Goals as goal
 
 pub returns : goal.returns
 returns c =
     let m = c.args.papers.now in
     let entrant = c.args.entrant.now in
-    first-place m (choices_of m (student_at m entrant.position)) c.choice_positions_at-places.result.now (Some c.from.result)
-    (ap Some c.from.ensures ∙ c.in_ok-first.ensures.value) c.choice_positions_at-places.ensures
+    first-position m (choices_of m (student_at m entrant.position)) c.choice_positions_at-positions.result.now (Some c.from.result)
+    (ap Some c.from.ensures ∙ c.in_ok-first.ensures.value) c.choice_positions_at-positions.ensures
     ∙ ap (λ j. option_map (λ s. position (nat_eq s) (schools_of m)) (first_choice m j)) (hand-is m entrant.position entrant.student c.requires)

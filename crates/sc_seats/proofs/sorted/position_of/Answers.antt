@@ -1,7 +1,7 @@
 use Rattle.std.proofs.Common.{arith, get_or}
 use Rattle.sc_seats.proofs.Offers.{ascending-searchable}
 use Rattle.sc_seats.proofs.Order.{before-from_less, before-from_greater}
-use Rattle.sc_seats.proofs.sorted.place_of.Goals as goal
+use Rattle.sc_seats.proofs.sorted.position_of.Goals as goal
 
 pub returns-in-Err-clause-ahead : goal.returns-in-Err-clause-ahead
 returns-in-Err-clause-ahead c k d below =
