@@ -6,7 +6,7 @@ use Rattle.sc_papers.specs.Log.{is_rejected, next_choice}
 use Rattle.sc_papers.specs.Market.{choices_of, Market}
 use Rattle.sc_papers.specs.declared.rejection.Rejection.{Rejection}
 use Rattle.sc_papers.proofs.Choices.{found-is, found-none, places-end}
-use Rattle.sc_checkpoint.specs.Ranks.{has_rank, AreRejectedRanks}
+use Rattle.sc_checkpoint.specs.Ranks.{has_rank, AreRejectedRanks, IsFirstOutside}
 use Rattle.sc_checkpoint.specs.NextChoices.{next_choices_after}
 use Rattle.sc_checkpoint.specs.declared.standing.Standing.{Standing}
 use Rattle.sc_checkpoint.specs.declared.rank_set.RankSet.{RankSet}
@@ -46,7 +46,7 @@ standings-more m log students at i choice here stands =
 
 -- the first of a student's choices that is not among those that rejected them is their next choice
 pub next-found : (m : Market) (log : List Rejection) (i : ℕ) (ranks : RankSet) (choices : List ℕ) (next : Option ℕ) → choices ≡ choices_of m i → AreRejectedRanks m log i ranks
-    → ((test : ℕ → Bool) → ((rank s : ℕ) → slice_get choices rank ≡ Some s → has_rank ranks rank ≡ test s) → next ≡ find (λ s. not (test s)) choices) → next ≡ next_choice m log i
+    → IsFirstOutside choices ranks next → next ≡ next_choice m log i
 unfolding next_choice
 next-found m log i ranks choices next theirs agree found =
     found (is_rejected log i) (λ rank s here. agree rank s (ap (λ list. slice_get list rank) (sym theirs) ∙ here)) ∙ ap (find (λ s. not (is_rejected log i s))) theirs

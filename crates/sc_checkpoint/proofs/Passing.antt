@@ -10,6 +10,7 @@ use Rattle.sc_papers.specs.declared.rejection.Rejection.{Rejection}
 use Rattle.sc_papers.proofs.Choices.{one-place}
 use Rattle.sc_papers.specs.WellFormed.{WellFormed}
 use Rattle.sc_checkpoint.specs.Chains.{logs_at, logs_in, students_in, Chain}
+use Rattle.sc_checkpoint.specs.Positions.{LieBelow}
 use Rattle.sc_checkpoint.proofs.Joining.{joined-next}
 use Rattle.sc_checkpoint.proofs.Rising.{rising-once}
 
@@ -20,7 +21,7 @@ chain-at (chain ∷ chains) zero i log here its = λ t. Some (record { student =
 chain-at (chain ∷ chains) (suc at) i log here its = chain-at chains at i log here its
 
 -- the student at the position that stands at an index
-pub picked-student : (m : Market) (positions : List ℕ) (k i : ℕ) → ((k : ℕ) → k < length positions → get_or positions k 0 < length (students_of m)) → slice_get (map (student_at m) positions) k ≡ Some i
+pub picked-student : (m : Market) (positions : List ℕ) (k i : ℕ) → LieBelow (length (students_of m)) positions → slice_get (map (student_at m) positions) k ≡ Some i
     → (k < length positions) × (slice_get (students_of m) (get_or positions k 0) ≡ Some i)
 picked-student m positions k i within here =
     let low : k < length positions = omega (arith, slice_get_within (map (student_at m) positions) k i here, length-map positions (student_at m)) in
@@ -33,7 +34,7 @@ picked-here m positions k at i low is here =
     slice_get-map (student_at m) positions k ∙ ap (option_map (student_at m)) (slice_get-get_or positions k 0 low)
     ∙ ap Some (ap (student_at m) is ∙ get_or_from_slice_get (students_of m) at i 0 here)
 
-pub picked-once : (m : Market) (positions : List ℕ) → WellFormed m → IsStrictlyIncreasing positions → ((k : ℕ) → k < length positions → get_or positions k 0 < length (students_of m))
+pub picked-once : (m : Market) (positions : List ℕ) → WellFormed m → IsStrictlyIncreasing positions → LieBelow (length (students_of m)) positions
     → (j k t : ℕ) → slice_get (map (student_at m) positions) j ≡ Some t → slice_get (map (student_at m) positions) k ≡ Some t → j ≡ k
 picked-once m positions well rising within j k t here there =
     let (low_j, at_j) = picked-student m positions j t within here in

@@ -2,3 +2,4 @@ pub mod NextChoices
 pub mod Chains
 pub mod Ranks
 pub mod Spans
+pub mod Positions

@@ -1,5 +1,5 @@
 -- Sets of ranks in a list of choices, and which ranks the schools that rejected a student have.
-use Rattle.std.specs.Prelude.{◌≡◌, ℕ, ◌==◌, Bool, List, Some, slice_get}
+use Rattle.std.specs.Prelude.{◌≡◌, ℕ, ◌==◌, Bool, not, List, ◌++◌, Option, Some, find, slice_get}
 use Rattle.std.specs.Int.{bit_at}
 use Rattle.sc_papers.specs.Market.{Market, choices_of}
 use Rattle.sc_papers.specs.Log.{is_rejected}
@@ -15,6 +15,17 @@ abbrev pub AreRejectedRanks : Market → List Rejection → ℕ → RankSet → 
 AreRejectedRanks m log i ranks =
     (rank s : ℕ) → slice_get (choices_of m i) rank ≡ Some s → has_rank ranks rank ≡ is_rejected log i s
 
+-- this is the first of the choices whose rank is not in the set, whatever test of schools the set goes by
+abbrev pub IsFirstOutside : List ℕ → RankSet → Option ℕ → Type 0
+IsFirstOutside choices ranks first =
+    (test : ℕ → Bool) → ((rank s : ℕ) → slice_get choices rank ≡ Some s → has_rank ranks rank ≡ test s)
+    → first ≡ find (λ s. not (test s)) choices
+
 -- a table of such sets, one for each of the first of these students
 pub record AreTabled (m : Market) (students : List ℕ) (log : List Rejection) (table : List RankSet) : Type 0 where
   pub at : (position i : ℕ) (ranks : RankSet) → slice_get students position ≡ Some i → slice_get table position ≡ Some ranks → AreRejectedRanks m log i ranks
+
+-- where the old table is that of a log, the new one is that of the log with these entries after it
+abbrev pub MarksEntries : Market → List ℕ → List Rejection → List RankSet → List RankSet → Type 0
+MarksEntries m students entries old new =
+    (log : List Rejection) → AreTabled m students log old → AreTabled m students (log ++ entries) new

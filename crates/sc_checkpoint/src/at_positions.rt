@@ -1,13 +1,13 @@
 //! The next choices of some students of the papers, by their own segments.
 
-ghost use Rattle.std.specs.Prelude.{◌≡◌, ℕ, ◌<◌, ◌++◌, ◌∷◌, [], List, None, Some, true, length, map, slice_get, slice_index, IfOk, IfSome};
+ghost use Rattle.std.specs.Prelude.{◌≡◌, ℕ, ◌∷◌, [], None, Some, true, length, map, slice_get, IfOk, IfSome};
 ghost use Rattle.std.specs.List.Sorted.{IsStrictlyIncreasing};
 ghost use Rattle.sc_papers.specs.Market.{student_at, students_of};
 ghost use Rattle.sc_papers.specs.Restriction.{joined};
-ghost use Rattle.sc_papers.specs.declared.rejection.Rejection.{Rejection};
 ghost use Rattle.sc_checkpoint.specs.Chains.{logs_at};
 ghost use Rattle.sc_checkpoint.specs.NextChoices.{next_choices_after};
-ghost use Rattle.sc_checkpoint.specs.Ranks.{AreTabled};
+ghost use Rattle.sc_checkpoint.specs.Positions.{LieBelow};
+ghost use Rattle.sc_checkpoint.specs.Ranks.{AreTabled, MarksEntries};
 
 use crate::next_choices::first_outside;
 use crate::rank_set::RankSet;
@@ -38,9 +38,10 @@ fn turn_near(
     guess: usize,
 ) -> Option<usize>
     requires rising { IsStrictlyIncreasing positions.now }
-    requires within { (k : ℕ) → k < length positions.now → slice_index positions.now k < length (students_of papers.now) }
+    requires within { LieBelow (length (students_of papers.now)) positions.now }
     ensures turn { IfSome result (λ turn. slice_get (map (student_at papers.now) positions.now) turn ≡ Some student) }
-    ensures none { result ≡ None → (turn : ℕ) → slice_get (map (student_at papers.now) positions.now) turn ≡ Some student → ⊥ }
+    ensures none { result ≡ None → (turn : ℕ)
+        → slice_get (map (student_at papers.now) positions.now) turn ≡ Some student → ⊥ }
 {
     if is_at(papers, positions, student, guess) {
         return Some(guess);
@@ -66,9 +67,10 @@ fn mark_at(
     entry: Rejection,
 )
     requires rising { IsStrictlyIncreasing positions.now }
-    requires within { (k : ℕ) → k < length positions.now → slice_index positions.now k < length (students_of papers.now) }
+    requires within { LieBelow (length (students_of papers.now)) positions.now }
     requires one_each { length table.old.items ≡ length positions.now }
-    ensures tabled { (log : List Rejection) → AreTabled papers.now (map (student_at papers.now) positions.now) log table.old.items → AreTabled papers.now (map (student_at papers.now) positions.now) (log ++ entry ∷ []) table.new.items }
+    ensures tabled { MarksEntries papers.now (map (student_at papers.now) positions.now)
+        (entry ∷ []) table.old.items table.new.items }
     ensures same_length { length table.new.items ≡ length table.old.items }
 {
     let Some(turn) = turn_near(papers, positions, entry.student, guess) else {
@@ -112,9 +114,10 @@ fn mark_all_at(
     entries: &[Rejection],
 )
     requires rising { IsStrictlyIncreasing positions.now }
-    requires within { (k : ℕ) → k < length positions.now → slice_index positions.now k < length (students_of papers.now) }
+    requires within { LieBelow (length (students_of papers.now)) positions.now }
     requires one_each { length table.old.items ≡ length positions.now }
-    ensures tabled { (log : List Rejection) → AreTabled papers.now (map (student_at papers.now) positions.now) log table.old.items → AreTabled papers.now (map (student_at papers.now) positions.now) (log ++ entries.now) table.new.items }
+    ensures tabled { MarksEntries papers.now (map (student_at papers.now) positions.now) entries.now table.old.items
+        table.new.items }
     ensures same_length { length table.new.items ≡ length table.old.items }
 {
     for entry in entries {
@@ -125,7 +128,7 @@ fn mark_all_at(
 
 /// Hints by which the students of the segments at some positions are found: each one's turn among the positions.
 fn hints_of(alloc: Global, segments: &Segments, positions: &[usize]) -> Result<Hints, AllocError>
-    requires held { (k : ℕ) → k < length positions.now → slice_index positions.now k < length segments.now }
+    requires held { LieBelow (length segments.now) positions.now }
 {
     let mut hints = Hints::with_room(alloc, positions.len().saturating_mul(ROOM))?;
     for (turn, position) in positions.iter().enumerate() {
@@ -143,10 +146,11 @@ fn rejected_ranks_at(
     positions: &[usize],
 ) -> Result<Vec<RankSet>, AllocError>
     requires rising { IsStrictlyIncreasing positions.now }
-    requires within { (k : ℕ) → k < length positions.now → slice_index positions.now k < length (students_of papers.now) }
-    requires held { (k : ℕ) → k < length positions.now → slice_index positions.now k < length segments.now }
+    requires within { LieBelow (length (students_of papers.now)) positions.now }
+    requires held { LieBelow (length segments.now) positions.now }
     ensures count { IfOk result (λ table. length table.items ≡ length positions.now) }
-    ensures tabled { IfOk result (λ table. AreTabled papers.now (map (student_at papers.now) positions.now) (joined (logs_at positions.now segments.now)) table.items) }
+    ensures tabled { IfOk result (λ table. AreTabled papers.now (map (student_at papers.now) positions.now)
+        (joined (logs_at positions.now segments.now)) table.items) }
 {
     let mut table = vec![in alloc; RankSet::new(); positions.len()]?;
     let hints = hints_of(alloc, segments, positions)?;
@@ -176,9 +180,10 @@ pub(crate) fn next_choices_at_positions(
     positions: &[usize],
 ) -> Result<Standings, AllocError>
     requires rising { IsStrictlyIncreasing positions.now }
-    requires within { (k : ℕ) → k < length positions.now → slice_index positions.now k < length (students_of papers.now) }
-    requires held { (k : ℕ) → k < length positions.now → slice_index positions.now k < length segments.now }
-    ensures { IfOk result (λ stands. stands.choices.items ≡ next_choices_after papers.now (joined (logs_at positions.now segments.now)) (map (student_at papers.now) positions.now)) }
+    requires within { LieBelow (length (students_of papers.now)) positions.now }
+    requires held { LieBelow (length segments.now) positions.now }
+    ensures { IfOk result (λ stands. stands.choices.items ≡ next_choices_after papers.now
+        (joined (logs_at positions.now segments.now)) (map (student_at papers.now) positions.now)) }
 {
     let rejected = rejected_ranks_at(alloc, papers, segments, positions)?;
     let mut choices = Vec::with_capacity(alloc, positions.len())?;

@@ -1,12 +1,10 @@
 //! The next choices of the first students of the papers after any log.
 
-ghost use Rattle.std.specs.Prelude.{◌≡◌, ℕ, ◌<◌, ◌≤◌, ◌++◌, ◌∷◌, [], List, Bool, filter, length, take, find, not, slice_get, Some, IfOk, IfSome};
-ghost use Rattle.sc_papers.specs.Log.{next_choice};
+ghost use Rattle.std.specs.Prelude.{◌≡◌, ◌<◌, ◌≤◌, ◌∷◌, [], length, take, IfOk};
 ghost use Rattle.sc_papers.specs.Market.{choices_of, student_at, students_of};
 ghost use Rattle.sc_papers.specs.Restriction.{joined};
-ghost use Rattle.sc_papers.specs.declared.rejection.Rejection.{Rejection};
 ghost use Rattle.sc_checkpoint.specs.Chains.{logs_in};
-ghost use Rattle.sc_checkpoint.specs.Ranks.{has_rank, AreRejectedRanks, AreTabled};
+ghost use Rattle.sc_checkpoint.specs.Ranks.{AreTabled, IsFirstOutside, MarksEntries};
 ghost use Rattle.sc_checkpoint.specs.NextChoices.{next_choices_after};
 
 use crate::rank_set::RankSet;
@@ -29,7 +27,8 @@ pub(crate) fn next_choices_of_first(
 ) -> Result<Vec<Standing>, AllocError>
     requires within { k ≤ length segments.now }
     requires students { k ≤ length (students_of papers.now) }
-    ensures { IfOk result (λ next_choices. next_choices.items ≡ next_choices_after papers.now (joined (take k (logs_in segments.now))) (take k (students_of papers.now))) }
+    ensures { IfOk result (λ next_choices. next_choices.items
+        ≡ next_choices_after papers.now (joined (take k (logs_in segments.now))) (take k (students_of papers.now))) }
 {
     let rejected = rejected_ranks(alloc, papers, segments, k)?;
     let mut next_choices = Vec::with_capacity(alloc, k)?;
@@ -52,7 +51,8 @@ fn rejected_ranks(
 ) -> Result<Vec<RankSet>, AllocError>
     requires { k ≤ length segments.now }
     ensures count { IfOk result (λ table. length table.items ≡ k) }
-    ensures tabled { IfOk result (λ table. AreTabled papers.now (students_of papers.now) (joined (take k (logs_in segments.now))) table.items) }
+    ensures tabled { IfOk result (λ table. AreTabled papers.now (students_of papers.now)
+        (joined (take k (logs_in segments.now))) table.items) }
 {
     let mut table = vec![in alloc; RankSet::new(); k]?;
     for position in 0..k {
@@ -65,7 +65,7 @@ fn rejected_ranks(
 /// Puts the entry's school among the ranks of the entry's student, where the student is in the table
 /// and lists the school. A student who stands at the guess is not looked up by number.
 fn mark(papers: &Papers, table: &mut [RankSet], guess: usize, entry: Rejection)
-    ensures { (log : List Rejection) → AreTabled papers.now (students_of papers.now) log table.old → AreTabled papers.now (students_of papers.now) (log ++ entry ∷ []) table.new }
+    ensures { MarksEntries papers.now (students_of papers.now) (entry ∷ []) table.old table.new }
 {
     let Some(position) = papers.student_position_near(entry.student, guess) else {
         return;
@@ -84,7 +84,7 @@ fn mark(papers: &Papers, table: &mut [RankSet], guess: usize, entry: Rejection)
 /// Puts each entry's school among the ranks of the entry's student. The students who stand at the guess are
 /// not looked up by number.
 fn mark_all(papers: &Papers, table: &mut Vec<RankSet>, guess: usize, entries: &[Rejection])
-    ensures tabled { (log : List Rejection) → AreTabled papers.now (students_of papers.now) log table.old.items → AreTabled papers.now (students_of papers.now) (log ++ entries.now) table.new.items }
+    ensures tabled { MarksEntries papers.now (students_of papers.now) entries.now table.old.items table.new.items }
     ensures same_length { length table.new.items ≡ length table.old.items }
 {
     for entry in entries {
@@ -96,7 +96,7 @@ fn mark_all(papers: &Papers, table: &mut Vec<RankSet>, guess: usize, entries: &[
 /// the set, and at one choice in the student's row.
 pub(crate) fn first_outside(papers: &Papers, position: usize, ranks: RankSet) -> Option<SchoolNo>
     requires { position < length papers.now.students }
-    ensures { (test : ℕ → Bool) → ((rank s : ℕ) → slice_get (choices_of papers.now (student_at papers.now position)) rank ≡ Some s → has_rank ranks rank ≡ test s) → result ≡ find (λ s. not (test s)) (choices_of papers.now (student_at papers.now position)) }
+    ensures { IsFirstOutside (choices_of papers.now (student_at papers.now position)) ranks result }
 {
     // This call tells that the papers are within their limits, and so are their lists.
     prove!(position < papers.students_len());

@@ -35,11 +35,12 @@ impl Model for Segments {
 }
 
 impl Segments {
-    ghost use Rattle.std.specs.Prelude.{◌≡◌, ℕ, ◌<◌, ◌≤◌, [], length, map, min, remove, take, slice_get, slice_index, Some, IfOk, OnOk, OnErr};
+    ghost use Rattle.std.specs.Prelude.{◌≡◌, ◌<◌, ◌≤◌, [], length, map, min, remove, take, slice_get, Some, IfOk, OnOk, OnErr};
     ghost use Rattle.std.specs.List.Sorted.{IsStrictlyIncreasing};
     ghost use Rattle.sc_papers.specs.Restriction.{joined};
     ghost use Rattle.sc_checkpoint.specs.Chains.{students_in, logs_in, logs_at, replaced, with_chain};
     ghost use Rattle.sc_checkpoint.specs.NextChoices.{next_choices_after};
+    ghost use Rattle.sc_checkpoint.specs.Positions.{LieBelow};
     ghost use Rattle.sc_checkpoint.specs.Spans.{chains_in, AreWithin};
     ghost use Rattle.sc_papers.specs.Market.{student_at, students_of};
 
@@ -169,7 +170,8 @@ impl Segments {
     pub fn next_choices_at(&self, papers: &Papers, k: usize) -> Result<Vec<Standing>, AllocError>
         requires within { k ≤ length self.now }
         requires students { take k (students_in self.now) ≡ take k (students_of papers.now) }
-        ensures { IfOk result (λ next_choices. next_choices.items ≡ next_choices_after papers.now (joined (take k (logs_in self.now))) (take k (students_of papers.now))) }
+        ensures { IfOk result (λ next_choices. next_choices.items
+            ≡ next_choices_after papers.now (joined (take k (logs_in self.now))) (take k (students_of papers.now))) }
     {
         next_choices_of_first(self.alloc, papers, self, k)
     }
@@ -186,9 +188,11 @@ impl Segments {
         positions: &[usize],
     ) -> Result<Standings, AllocError>
         requires rising { IsStrictlyIncreasing positions.now }
-        requires within { (k : ℕ) → k < length positions.now → slice_index positions.now k < length (students_of papers.now) }
-        requires held { (k : ℕ) → k < length positions.now → slice_index positions.now k < length self.now }
-        ensures { IfOk result (λ stands. stands.choices.items ≡ next_choices_after papers.now (joined (logs_at positions.now self.now)) (map (student_at papers.now) positions.now)) }
+        requires within { LieBelow (length (students_of papers.now)) positions.now }
+        requires held { LieBelow (length self.now) positions.now }
+        ensures { IfOk result (λ stands. stands.choices.items
+            ≡ next_choices_after papers.now (joined (logs_at positions.now self.now))
+            (map (student_at papers.now) positions.now)) }
     {
         next_choices_at_positions(self.alloc, papers, self, positions)
     }
@@ -205,7 +209,7 @@ impl Segments {
         renewed: &Spans,
         log: &[Rejection],
     ) -> Result<(), AllocError>
-        requires within { (k : ℕ) → k < length positions.now → slice_index positions.now k < length self.old }
+        requires within { LieBelow (length self.old) positions.now }
         requires one_each { length renewed.now ≡ length positions.now }
         requires log { AreWithin log.now renewed.now }
         ensures replaced { OnOk result (self.new ≡ replaced self.old positions.now (chains_in log.now renewed.now)) }

@@ -1,9 +1,10 @@
 //! Segments as spans of one list of entries.
 
-ghost use Rattle.std.specs.Prelude.{◌≡◌, ℕ, ◌+◌, ◌≤◌, ◌<◌, ◌^◌, length, map, slice_get, slice_index, Some, OnErr, OnOk};
+ghost use Rattle.std.specs.Prelude.{◌≡◌, ℕ, ◌+◌, ◌≤◌, ◌<◌, ◌^◌, length, map, slice_get, Some, OnErr, OnOk};
 ghost use Rattle.sc_checkpoint.specs.Chains.{replaced, with_chain};
+ghost use Rattle.sc_checkpoint.specs.Positions.{LieBelow};
 ghost use Rattle.sc_checkpoint.specs.declared.span.Span.{Span};
-ghost use Rattle.sc_checkpoint.specs.Spans.{chains_in, shifted, AreWithin, IsWithin};
+ghost use Rattle.sc_checkpoint.specs.Spans.{chains_in, shifted, AreWithin};
 
 use sc_papers::{Rejection, StudentNo};
 use std::alloc::{AllocError, Global};
@@ -47,8 +48,10 @@ pub(crate) fn push_span(
 ) -> Result<(), AllocError>
     requires { AreWithin entries.old.items spans.old.items }
     ensures within { AreWithin entries.new.items spans.new.items }
-    ensures pushed { OnOk result (chains_in entries.new.items spans.new.items ≡ with_chain (chains_in entries.old.items spans.old.items) student rejections.now) }
-    ensures unchanged { OnErr result (chains_in entries.new.items spans.new.items ≡ chains_in entries.old.items spans.old.items) }
+    ensures pushed { OnOk result (chains_in entries.new.items spans.new.items
+        ≡ with_chain (chains_in entries.old.items spans.old.items) student rejections.now) }
+    ensures unchanged { OnErr result (chains_in entries.new.items spans.new.items
+        ≡ chains_in entries.old.items spans.old.items) }
 {
     let start = entries.len();
     spans.reserve(1)?;
@@ -100,7 +103,8 @@ impl Spans {
         requires start { start ≤ length log.now }
         requires before { AreWithin (take start log.now) self.old }
         ensures within { OnOk result (AreWithin log.now self.new) }
-        ensures pushed { OnOk result (chains_in log.now self.new ≡ with_chain (chains_in (take start log.now) self.old) student (drop start log.now)) }
+        ensures pushed { OnOk result (chains_in log.now self.new
+            ≡ with_chain (chains_in (take start log.now) self.old) student (drop start log.now)) }
         ensures unchanged { OnErr result (self.new ≡ self.old) }
     {
         self.spans.push(Span {
@@ -122,7 +126,7 @@ impl Spans {
 /// Gives the spans at some positions up for renewed ones, in turn, each so many entries further on. The answer is how
 /// many entries those had that are given up.
 fn replace_at(spans: &mut Vec<Span>, positions: &[usize], renewed: &[Span], by: usize) -> usize
-    requires within { (k : ℕ) → k < length positions.now → slice_index positions.now k < length spans.old.items }
+    requires within { LieBelow (length spans.old.items) positions.now }
     requires one_each { length renewed.now ≡ length positions.now }
     requires ordered { (k : ℕ) (span : Span) → slice_get renewed.now k ≡ Some span → span.start ≤ span.end }
     requires fits { (k : ℕ) (span : Span) → slice_get renewed.now k ≡ Some span → by + span.end < 2 ^ 64 }
@@ -145,13 +149,15 @@ pub(crate) fn replace_spans(
     renewed: &[Span],
     more: &[Rejection],
 ) -> Result<usize, AllocError>
-    requires within { (k : ℕ) → k < length positions.now → slice_index positions.now k < length spans.old.items }
+    requires within { LieBelow (length spans.old.items) positions.now }
     requires one_each { length renewed.now ≡ length positions.now }
     requires own { AreWithin entries.old.items spans.old.items }
     requires theirs { AreWithin more.now renewed.now }
     ensures within { AreWithin entries.new.items spans.new.items }
-    ensures replaced { OnOk result (chains_in entries.new.items spans.new.items ≡ replaced (chains_in entries.old.items spans.old.items) positions.now (chains_in more.now renewed.now)) }
-    ensures unchanged { OnErr result (chains_in entries.new.items spans.new.items ≡ chains_in entries.old.items spans.old.items) }
+    ensures replaced { OnOk result (chains_in entries.new.items spans.new.items
+        ≡ replaced (chains_in entries.old.items spans.old.items) positions.now (chains_in more.now renewed.now)) }
+    ensures unchanged { OnErr result (chains_in entries.new.items spans.new.items
+        ≡ chains_in entries.old.items spans.old.items) }
 {
     let by = entries.len();
     entries.extend_from_slice(more)?;

@@ -1,10 +1,9 @@
-use Rattle.std.proofs.Common.{◌≡◌, ◌++◌, List, length, map, take}
+use Rattle.std.proofs.Common.{◌≡◌, length, map, take}
 use Rattle.sc_papers.specs.Market.{student_at}
-use Rattle.sc_papers.specs.declared.rejection.Rejection.{Rejection}
-use Rattle.sc_checkpoint.specs.Ranks.{AreTabled}
+use Rattle.sc_checkpoint.specs.Ranks.{MarksEntries}
 use Rattle.sc_checkpoint.proofs.at_positions.mark_all_at.Given as goal
 
 abbrev pub invariant-loop-entry : goal.invariant-loop-entry
 invariant-loop-entry l =
-    ((log : List Rejection) → AreTabled l.papers (map (student_at l.papers) l.positions) log l.initial.table.items → AreTabled l.papers (map (student_at l.papers) l.positions) (log ++ take l.entry-index l.entries) l.table.items)
+    MarksEntries l.papers (map (student_at l.papers) l.positions) (take l.entry-index l.entries) l.initial.table.items l.table.items
     × (length l.table.items ≡ length l.initial.table.items)
