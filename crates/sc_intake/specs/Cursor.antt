@@ -1,7 +1,11 @@
 -- Where a reader stands in a text that is cut into records.
-use Rattle.std.specs.Prelude.{ℕ, List}
+use Rattle.std.specs.Prelude.{◌≡◌, ℕ, Bool, List, [], ◌∷◌, MatchBool}
 
 -- the fields of the record read last, and the records after it
 pub record Cursor : Type 0 where
   pub current : List (List ℕ)
   pub left : List (List (List ℕ))
+
+-- whether there is a record more, which is then the one read last
+abbrev pub ReadsNext : Cursor → Cursor → Bool → Type 0
+ReadsNext old new found = MatchBool found (old.left ≡ new.current ∷ new.left) (old.left ≡ [])

@@ -19,7 +19,8 @@ pub(crate) fn records_in<'a>(
     source: Source,
     text: &'a [u8],
 ) -> Result<Records<'a>, IntakeFault>
-    ensures { MatchResult result (λ records. records_in source text.now ≡ Ok records.left) (λ fault. records_in source text.now ≡ Err fault) }
+    ensures { MatchResult result (λ records. records_in source text.now ≡ Ok records.left)
+        (λ fault. records_in source text.now ≡ Err fault) }
 {
     if text.len() > MOST_BYTES {
         return Err(IntakeFault::at(source, 0, Cause::TooLong));

@@ -49,7 +49,8 @@ fn judge_student(
     faults: &mut Vec<IntakeFault>,
 ) -> Result<(), AllocError>
     ensures { OnOk result (record { good = papers.new; faults = faults.new.items }
-        ≡ with_row source.Roster row.now.row (record { good = papers.old; faults = faults.old.items }) (entered_by papers.old row.now (option_copied list.entry))) }
+        ≡ with_row source.Roster row.now.row (record { good = papers.old; faults = faults.old.items })
+        (entered_by papers.old row.now (option_copied list.entry))) }
 {
     match enter_copied(alloc, papers, row, list) {
         Ok(()) => Ok(()),
@@ -83,7 +84,8 @@ fn judge_list(
     in_roster: bool,
     faults: &mut Vec<IntakeFault>,
 ) -> Result<(), AllocError>
-    ensures { OnOk result (faults.new.items ≡ faults.old.items ++ (if in_roster then [] else fault_at source.Lists list.now.row NotInRoster ∷ [])) }
+    ensures { OnOk result (faults.new.items ≡ faults.old.items
+        ++ (if in_roster then [] else fault_at source.Lists list.now.row NotInRoster ∷ [])) }
 {
     if in_roster {
         return Ok(());

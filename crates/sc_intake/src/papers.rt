@@ -108,7 +108,8 @@ pub(crate) fn enter_copied(
     row: &RosterRow,
     list: Option<&ListRow>,
 ) -> Result<(), Cause>
-    ensures entered { Gives (λ _. papers.new) OutOfMemory (entered_by papers.old row.now (option_copied list.entry)) result }
+    ensures entered { Gives (λ _. papers.new) OutOfMemory (entered_by papers.old row.now (option_copied list.entry))
+        result }
     ensures unchanged { OnErr result (papers.new ≡ papers.old) }
 {
     let Some(list) = list else {
@@ -121,7 +122,8 @@ pub(crate) fn enter_copied(
 
 /// Enters a student of the roster with these choices.
 pub(crate) fn enter(papers: &mut Papers, row: RosterRow, choices: SchoolList) -> Result<(), Cause>
-    ensures entered { Gives (λ _. papers.new) OutOfMemory (amended papers.old (Enter row.student row.zone row.siblings choices row.continuing)) result }
+    ensures entered { Gives (λ _. papers.new) OutOfMemory (amended papers.old
+        (Enter row.student row.zone row.siblings choices row.continuing)) result }
     ensures unchanged { OnErr result (papers.new ≡ papers.old) }
 {
     let student = Student {

@@ -107,7 +107,8 @@ fn field_of(line: &[u8], index: usize) -> Option<&[u8]>
 
 /// Adds the first fields of a text's first line, as many as are kept, and says where they end.
 fn take_line<'a>(text: &'a [u8], fields: &mut Vec<&'a [u8]>) -> Result<LineEnd<'a>, AllocError>
-    ensures fields { IfOk result (λ end. fields_in fields.new.items ++ fields_beyond end.beyond ≡ fields_in fields.old.items ++ fields_from [] (first_line text.now)) }
+    ensures fields { IfOk result (λ end. fields_in fields.new.items ++ fields_beyond end.beyond
+        ≡ fields_in fields.old.items ++ fields_from [] (first_line text.now)) }
     ensures rest { IfOk result (λ end. end.rest.now ≡ after_line text.now) }
 {
     let mut rest = text;
@@ -134,8 +135,9 @@ fn take_line<'a>(text: &'a [u8], fields: &mut Vec<&'a [u8]>) -> Result<LineEnd<'
 }
 
 impl<'a> PlainRecords<'a> {
-    ghost use Rattle.std.specs.Prelude.{◌≡◌, ◌∷◌, [], IfOk, MatchBool, length, option_map};
+    ghost use Rattle.std.specs.Prelude.{◌≡◌, IfOk, length, option_map};
     ghost use Rattle.csv.specs.Records.{field_at};
+    ghost use Rattle.sc_intake.specs.Cursor.{ReadsNext};
     ghost use Rattle.sc_intake.specs.Plain.{plain_records};
 
     /// The records of a text; none is read yet.
@@ -152,7 +154,7 @@ impl<'a> PlainRecords<'a> {
     /// Reads the next record, and says whether there was one. The only error is want of memory, after which the
     /// records that are left are not known.
     pub(crate) fn advance(&mut self) -> Result<bool, AllocError>
-        ensures { IfOk result (λ found. MatchBool found (self.old.left ≡ self.new.current ∷ self.new.left) (self.old.left ≡ [])) }
+        ensures { IfOk result (ReadsNext self.old self.new) }
     {
         let line = without_line_ends(self.rest);
         if line.is_empty() {

@@ -57,7 +57,8 @@ fn reader_of(alloc: Global, text: &[u8]) -> Reader<&[u8]>
 #[inline(never)]
 fn boxed_reader_of(alloc: Global, text: &[u8]) -> Result<Box<Reader<&[u8]>>, AllocError>
     ensures reading { IfOk result (λ reader. IsReading reader.value) }
-    ensures left { IfOk result (λ reader. records_of (reader_state reader.value) (unread reader.value) ≡ records default_config (strip_bom text.now)) }
+    ensures left { IfOk result (λ reader. records_of (reader_state reader.value) (unread reader.value)
+        ≡ records default_config (strip_bom text.now)) }
 {
     let boxed = Box::new(alloc, reader_of(alloc, text))?;
     Ok(boxed)
@@ -66,7 +67,8 @@ fn boxed_reader_of(alloc: Global, text: &[u8]) -> Result<Box<Reader<&[u8]>>, All
 /// Reads the next record of a text, and says whether there was one.
 fn read(reader: &mut Reader<&[u8]>, fields: &mut ByteRecord) -> Result<bool, AllocError>
     requires { IsReading reader.old }
-    ensures { IfOk result (λ found. MatchBool found (Moves reader.old reader.new (fields_of fields.new)) (records_of (reader_state reader.old) (unread reader.old) ≡ [])) }
+    ensures { IfOk result (λ found. MatchBool found (Moves reader.old reader.new (fields_of fields.new))
+        (records_of (reader_state reader.old) (unread reader.old) ≡ [])) }
 {
     match reader.read_byte_record(fields) {
         Ok(found) => Ok(found),
@@ -75,9 +77,10 @@ fn read(reader: &mut Reader<&[u8]>, fields: &mut ByteRecord) -> Result<bool, All
 }
 
 impl<'a> QuotedRecords<'a> {
-    ghost use Rattle.std.specs.Prelude.{◌≡◌, [], ◌∷◌, IfOk, MatchBool, length, option_map};
+    ghost use Rattle.std.specs.Prelude.{◌≡◌, IfOk, length, option_map};
     ghost use Rattle.csv.specs.Reading.{default_config, records, strip_bom};
     ghost use Rattle.csv.specs.Records.{field_at};
+    ghost use Rattle.sc_intake.specs.Cursor.{ReadsNext};
 
     /// The records of a text, whose first byte order mark is passed over; none is read yet.
     pub(crate) fn new(alloc: Global, text: &'a [u8]) -> Self
@@ -95,7 +98,7 @@ impl<'a> QuotedRecords<'a> {
     /// Reads the next record, and says whether there was one. The only error is want of memory, after which there are
     /// no more.
     pub(crate) fn advance(&mut self) -> Result<bool, AllocError>
-        ensures { IfOk result (λ found. MatchBool found (self.old.left ≡ self.new.current ∷ self.new.left) (self.old.left ≡ [])) }
+        ensures { IfOk result (ReadsNext self.old self.new) }
     {
         if self.stopped {
             return Ok(false);

@@ -1,11 +1,5 @@
 //! The records of a text, one at a time.
 
-ghost use Rattle.std.specs.Prelude.{◌≡◌, ℕ, [], ◌∷◌, List, length, IfErr, IfOk, MatchBool};
-ghost use Rattle.csv.specs.Reading.{default_config, records, strip_bom};
-ghost use Rattle.std.specs.Str.{bytes_eq};
-ghost use Rattle.sc_intake.specs.Fault.{no_memory};
-ghost use Rattle.sc_intake.specs.File.{text_at};
-
 use crate::blanks::{Blanks, trimmed};
 use crate::byte_order_mark::without_mark;
 use crate::fault::{IntakeFault, Source};
@@ -39,10 +33,11 @@ impl<'a> Model for Records<'a> {
 }
 
 impl<'a> Records<'a> {
-    ghost use Rattle.std.specs.Prelude.{◌≡◌, ℕ, [], ◌∷◌, List, length, option_map, IfErr, IfOk, MatchBool};
+    ghost use Rattle.std.specs.Prelude.{◌≡◌, [], length, option_map, IfErr, IfOk};
     ghost use Rattle.csv.specs.Reading.{default_config, records, strip_bom};
     ghost use Rattle.csv.specs.Records.{field_at};
     ghost use Rattle.std.specs.Str.{bytes_eq};
+    ghost use Rattle.sc_intake.specs.Cursor.{ReadsNext};
     ghost use Rattle.sc_intake.specs.Fault.{no_memory};
     ghost use Rattle.sc_intake.specs.File.{text_at};
 
@@ -73,7 +68,7 @@ impl<'a> Records<'a> {
 
     /// Reads the next record, and says whether there was one. The only error is want of memory.
     pub(crate) fn read(&mut self) -> Result<bool, AllocError>
-        ensures { IfOk result (λ found. MatchBool found (self.old.left ≡ self.new.current ∷ self.new.left) (self.old.left ≡ [])) }
+        ensures { IfOk result (ReadsNext self.old self.new) }
     {
         match &mut self.cutter {
             Cutter::Plain(records) => records.advance(),
@@ -84,7 +79,7 @@ impl<'a> Records<'a> {
     /// Reads the next record, and says whether there was one. The fault is want of memory in
     /// reading this input.
     pub(crate) fn advance(&mut self, source: Source) -> Result<bool, IntakeFault>
-        ensures next { IfOk result (λ found. MatchBool found (self.old.left ≡ self.new.current ∷ self.new.left) (self.old.left ≡ [])) }
+        ensures next { IfOk result (ReadsNext self.old self.new) }
         ensures fault { IfErr result (λ fault. fault ≡ no_memory source) }
     {
         match self.read() {

@@ -114,7 +114,8 @@ pub(crate) fn numbers_of<R: Numbered>(alloc: Global, rows: &[R]) -> Result<SeenN
 /// Takes the header, and says how many fields it has.
 #[tactic(auto, unfolding(crate::specs::File::after_header))]
 pub(crate) fn take_header<R: Row>(records: &mut Records) -> Result<usize, IntakeFault>
-    ensures { Gives (λ width. (width, records.new.left)) (no_memory R.source) (after_header R.source R.is_header records.old.left) result }
+    ensures { Gives (λ width. (width, records.new.left)) (no_memory R.source)
+        (after_header R.source R.is_header records.old.left) result }
 {
     if records.advance(R::source())? && R::is_header(records) {
         return Ok(records.len());
@@ -134,7 +135,8 @@ pub(crate) fn add_row<R: Row>(
 ) -> Result<(), Cause>
     requires rows { AreRows R.number R.MOST rows.old.items }
     requires seen { AreNumbers R.number rows.old.items seen.old }
-    ensures gives { Gives (λ _. rows.new.items) OutOfMemory (added rows.old.items (next_row_at R.MOST R.number R.reading width row rows.old.items fields.now.current)) result }
+    ensures gives { Gives (λ _. rows.new.items) OutOfMemory (added rows.old.items
+        (next_row_at R.MOST R.number R.reading width row rows.old.items fields.now.current)) result }
     ensures rows { OnOk result (AreRows R.number R.MOST rows.new.items) }
     ensures seen { OnOk result (AreNumbers R.number rows.new.items seen.new) }
     ensures more { OnOk result (length rows.new.items ≡ length rows.old.items + 1) }
@@ -161,7 +163,8 @@ fn take_rows<R: Row>(
     width: usize,
     records: &mut Records,
 ) -> Result<Vec<R>, IntakeFault>
-    ensures gives { Gives (λ rows. rows.items) (no_memory R.source) (rows_after 2 R.source (next_row R.MOST R.number R.reading width) [] records.old.left) result }
+    ensures gives { Gives (λ rows. rows.items) (no_memory R.source)
+        (rows_after 2 R.source (next_row R.MOST R.number R.reading width) [] records.old.left) result }
     ensures rows { IfOk result (λ rows. AreRows R.number R.MOST rows.items) }
 {
     let mut rows = Vec::new(alloc);
@@ -177,7 +180,8 @@ fn take_rows<R: Row>(
 
 /// The rows of a file, or the first fault of the first faulty row.
 pub(crate) fn read_rows<R: Row>(alloc: Global, bytes: &[u8]) -> Result<Rows<R>, IntakeFault>
-    ensures { Gives (λ rows. rows) (no_memory R.source) (rows_in R.source R.is_header (next_row R.MOST R.number R.reading) bytes.now) result }
+    ensures { Gives (λ rows. rows) (no_memory R.source) (rows_in R.source R.is_header
+        (next_row R.MOST R.number R.reading) bytes.now) result }
 {
     let mut records = records_in(alloc, R::source(), bytes)?;
     let width = take_header::<R>(&mut records)?;

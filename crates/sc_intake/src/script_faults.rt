@@ -65,7 +65,8 @@ fn next_cause(
 ) -> Result<Option<Cause>, AllocError>
     requires few { row.old + length records.old.left ≤ 67108866 }
     ensures next { IfOk result (λ found. MatchOption found (script_faults_from (row.old + 1) records.old.left ≡ [])
-        (λ cause. script_faults_from (row.old + 1) records.old.left ≡ fault_at source.Script row.new cause ∷ script_faults_from (row.new + 1) records.new.left)) }
+        (λ cause. script_faults_from (row.old + 1) records.old.left
+        ≡ fault_at source.Script row.new cause ∷ script_faults_from (row.new + 1) records.new.left)) }
     ensures few { IfOk result (λ found. IfSome found (λ cause. row.new + length records.new.left ≤ 67108866)) }
 {
     'records: while records.read()? {
@@ -112,7 +113,8 @@ impl<'a> ScriptFaults<'a> {
     ///
     /// The cost is the length of the records up to the fault, and the memory that of one record.
     pub fn next_fault(&mut self) -> Result<Option<IntakeFault>, AllocError>
-        ensures { IfOk result (λ found. MatchOption found ((self.old ≡ []) × (self.new ≡ [])) (λ fault. self.old ≡ fault ∷ self.new)) }
+        ensures { IfOk result (λ found. MatchOption found ((self.old ≡ []) × (self.new ≡ []))
+            (λ fault. self.old ≡ fault ∷ self.new)) }
     {
         if let Some(fault) = self.whole.take() {
             return Ok(Some(fault));

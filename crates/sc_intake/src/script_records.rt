@@ -37,7 +37,8 @@ impl<'a> ScriptRecords<'a> {
     /// The fault is `TooLong` of row 0 where the script is longer than 64 MiB, and `Header` of row 1 where a second
     /// byte order mark follows the first.
     pub fn open(alloc: Global, bytes: &'a [u8]) -> Result<Self, IntakeFault>
-        ensures script { MatchResult result (λ records. script_in bytes.now ≡ Ok records) (λ fault. script_in bytes.now ≡ Err fault) }
+        ensures script { MatchResult result (λ records. script_in bytes.now ≡ Ok records)
+            (λ fault. script_in bytes.now ≡ Err fault) }
         ensures bounded { IfOk result (λ records. length records ≤ MOST_BYTES + 1) }
     {
         let records = records_in(alloc, Source::Script, bytes)?;

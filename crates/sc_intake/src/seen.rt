@@ -47,7 +47,8 @@ impl SeenNumbers {
     /// many there are.
     pub(crate) fn insert(&mut self, number: u32) -> Result<bool, AllocError>
         ensures new { IfOk result (λ new. new ≡ not (list_any (nat_eq number) self.old)) }
-        ensures numbers { OnOk result ((n : ℕ) → list_any (nat_eq n) self.new ≡ (nat_eq n number || list_any (nat_eq n) self.old)) }
+        ensures numbers { OnOk result ((n : ℕ)
+            → list_any (nat_eq n) self.new ≡ (nat_eq n number || list_any (nat_eq n) self.old)) }
     {
         if u64::from(number) >= self.bound {
             self.rising.push(number)?;

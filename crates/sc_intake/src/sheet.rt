@@ -76,7 +76,8 @@ fn judge_row<R: Row>(
     requires rows { AreRows R.number R.MOST rows.old.items }
     requires seen { AreNumbers R.number rows.old.items seen.old }
     ensures judged { IfOk result (λ found. record { good = rows.new.items; faults = fault_by R.source row found }
-        ≡ with_row R.source row (unjudged rows.old.items) (added rows.old.items (next_row_at R.MOST R.number R.reading width row rows.old.items fields.now.current))) }
+        ≡ with_row R.source row (unjudged rows.old.items) (added rows.old.items
+        (next_row_at R.MOST R.number R.reading width row rows.old.items fields.now.current))) }
     ensures rows { OnOk result (AreRows R.number R.MOST rows.new.items) }
     ensures seen { OnOk result (AreNumbers R.number rows.new.items seen.new) }
 {
@@ -100,9 +101,11 @@ fn next_cause<R: Row>(
     requires seen { AreNumbers R.number rows.old.items seen.old }
     requires few { row.old + length records.old.left ≤ 67108866 }
     ensures next { IfOk result (λ found. MatchOption found
-        (left_from R.source R.MOST R.number R.reading width row.old rows.old.items records.old.left ≡ unjudged rows.new.items)
+        (left_from R.source R.MOST R.number R.reading width row.old rows.old.items records.old.left
+        ≡ unjudged rows.new.items)
         (λ cause. left_from R.source R.MOST R.number R.reading width row.old rows.old.items records.old.left
-        ≡ with_told (fault_at R.source row.new cause ∷ []) (left_from R.source R.MOST R.number R.reading width row.new rows.new.items records.new.left))) }
+        ≡ with_told (fault_at R.source row.new cause ∷ [])
+        (left_from R.source R.MOST R.number R.reading width row.new rows.new.items records.new.left))) }
     ensures rows { OnOk result (AreRows R.number R.MOST rows.new.items) }
     ensures seen { OnOk result (AreNumbers R.number rows.new.items seen.new) }
     ensures few { IfOk result (λ found. IfSome found (λ cause. row.new + length records.new.left ≤ 67108866)) }
@@ -118,7 +121,8 @@ fn next_cause<R: Row>(
 
 /// The rows of a file below its header; none is judged yet.
 fn open_rows<'a, R: Row>(alloc: Global, bytes: &'a [u8]) -> Result<Underway<'a, R>, IntakeFault>
-    ensures opened { Gives (left_of R.source R.MOST R.number R.reading) (no_memory R.source) (judged_in R.source R.is_header (next_row_at R.MOST R.number R.reading) bytes.now) result }
+    ensures opened { Gives (left_of R.source R.MOST R.number R.reading) (no_memory R.source)
+        (judged_in R.source R.is_header (next_row_at R.MOST R.number R.reading) bytes.now) result }
     ensures sound { IfOk result (IsSound R.MOST R.number) }
 {
     let mut records = records_in(alloc, R::source(), bytes)?;
@@ -134,8 +138,10 @@ fn open_rows<'a, R: Row>(alloc: Global, bytes: &'a [u8]) -> Result<Underway<'a, 
 
 /// A file of rows that is to be judged.
 fn judge_rows<'a, R: Row>(alloc: Global, bytes: &'a [u8]) -> Result<Sheet<'a, R>, AllocError>
-    ensures faults { IfOk result (λ sheet. sheet.faults ≡ faults_alone (judged_in R.source R.is_header (next_row_at R.MOST R.number R.reading) bytes.now)) }
-    ensures good { IfOk result (λ sheet. sheet.good ≡ good_of (judged_in R.source R.is_header (next_row_at R.MOST R.number R.reading) bytes.now)) }
+    ensures faults { IfOk result (λ sheet. sheet.faults ≡ faults_alone
+        (judged_in R.source R.is_header (next_row_at R.MOST R.number R.reading) bytes.now)) }
+    ensures good { IfOk result (λ sheet. sheet.good ≡ good_of
+        (judged_in R.source R.is_header (next_row_at R.MOST R.number R.reading) bytes.now)) }
 {
     match open_rows(alloc, bytes) {
         Ok(underway) => Ok(Sheet {
@@ -205,7 +211,8 @@ impl<'a, R: Row> Sheet<'a, R> {
     ///
     /// The cost is the length of the records up to the fault, and the memory that of the rows that have none.
     pub fn next_fault(&mut self) -> Result<Option<IntakeFault>, AllocError>
-        ensures next { IfOk result (λ found. MatchOption found (self.old.faults ≡ []) (λ fault. self.old.faults ≡ fault ∷ self.new.faults)) }
+        ensures next { IfOk result (λ found. MatchOption found (self.old.faults ≡ [])
+            (λ fault. self.old.faults ≡ fault ∷ self.new.faults)) }
         ensures end { IfOk result (λ found. IfNone found (IsJudged self.new)) }
         ensures good { OnOk result (self.new.good ≡ self.old.good) }
     {

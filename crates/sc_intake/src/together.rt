@@ -1,7 +1,8 @@
 //! The papers of the texts of the three files.
 
-ghost use Rattle.std.specs.Prelude.{◌≡◌, ◌⊎◌, ◌∷◌, [], Err, IfErr, IfOk, IfSome, MatchBool, Ok};
+ghost use Rattle.std.specs.Prelude.{◌≡◌, ◌⊎◌, [], Err, IfErr, IfOk, IfSome, Ok};
 ghost use Rattle.std.specs.Bool.{OnTrue};
+ghost use Rattle.sc_intake.specs.Cursor.{ReadsNext};
 ghost use Rattle.sc_intake.specs.Lists.{choices_of};
 ghost use Rattle.sc_intake.specs.Papers.{papers_in, IsWantOfMemory};
 ghost use Rattle.sc_intake.specs.Roster.{student_of};
@@ -29,7 +30,8 @@ struct Below<'a> {
 
 /// The records of a file below its header. `None` says nothing of the file: `read_rows` tells what is wrong.
 fn below_header<'a, R: Row>(alloc: Global, text: &'a [u8]) -> Option<Below<'a>>
-    ensures { IfSome result (λ below. records_below R.source R.is_header text.now ≡ Ok (below.width, below.records.left)) }
+    ensures { IfSome result (λ below. records_below R.source R.is_header text.now
+        ≡ Ok (below.width, below.records.left)) }
 {
     let Ok(mut records) = records_in(alloc, R::source(), text) else {
         return None;
@@ -43,8 +45,8 @@ fn below_header<'a, R: Row>(alloc: Global, text: &'a [u8]) -> Option<Below<'a>>
 /// Reads the next record of both files, and says whether there was one of each or of neither. `None` says nothing:
 /// one of them is longer, or memory is wanting.
 fn advance_both(roster: &mut Below<'_>, lists: &mut Below<'_>) -> Option<bool>
-    ensures roster { IfSome result (λ more. MatchBool more (roster.old.records.left ≡ roster.new.records.current ∷ roster.new.records.left) (roster.old.records.left ≡ [])) }
-    ensures lists { IfSome result (λ more. MatchBool more (lists.old.records.left ≡ lists.new.records.current ∷ lists.new.records.left) (lists.old.records.left ≡ [])) }
+    ensures roster { IfSome result (ReadsNext roster.old.records roster.new.records) }
+    ensures lists { IfSome result (ReadsNext lists.old.records lists.new.records) }
     ensures width { roster.new.width ≡ roster.old.width }
     ensures list_width { lists.new.width ≡ lists.old.width }
 {
@@ -72,7 +74,8 @@ fn row_at<R: Row>(alloc: Global, row: u64, below: &Below<'_>) -> Option<R>
 /// Enters the student of whom the records read last are, and says whether they are of one student who may enter.
 /// Otherwise, or where memory is wanting, the papers are no longer to be used.
 fn enter_both(alloc: Global, papers: &mut Papers, roster: &Below<'_>, lists: &Below<'_>) -> bool
-    ensures { OnTrue result (EntersBoth roster.now.width lists.now.width papers.old roster.now.records.current lists.now.records.current papers.new) }
+    ensures { OnTrue result (EntersBoth roster.now.width lists.now.width papers.old
+        roster.now.records.current lists.now.records.current papers.new) }
 {
     let number = papers.students_len() as u64 + 2;
     let Some(row) = row_at::<RosterRow>(alloc, number, roster) else {
@@ -93,7 +96,8 @@ fn enter_together(
     lists: &mut Below<'_>,
 ) -> bool
     requires { papers.old.students ≡ [] }
-    ensures { OnTrue result (AreReadTo roster.old.width lists.old.width roster.old.records.left lists.old.records.left papers.old [] [] papers.new) }
+    ensures { OnTrue result (AreReadTo roster.old.width lists.old.width
+        roster.old.records.left lists.old.records.left papers.old [] [] papers.new) }
 {
     'rows: loop {
         match advance_both(roster, lists) {
@@ -152,7 +156,8 @@ pub fn read_papers(
     lists: &[u8],
 ) -> Result<Papers, IntakeFault>
     ensures read { IfOk result (λ papers. papers_in seed schools.now roster.now lists.now ≡ Ok papers) }
-    ensures fault { IfErr result (λ fault. (papers_in seed schools.now roster.now lists.now ≡ Err fault) ⊎ IsWantOfMemory fault) }
+    ensures fault { IfErr result (λ fault. (papers_in seed schools.now roster.now lists.now ≡ Err fault)
+        ⊎ IsWantOfMemory fault) }
 {
     let schools = read_schools(alloc, schools)?;
     if let Some(papers) = papers_together(alloc, seed, &schools, roster, lists) {

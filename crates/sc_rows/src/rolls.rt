@@ -27,7 +27,8 @@ fn offer_again<R: Roll>(rt: &impl Abort, roll: &mut R, key: &Key) -> Result<Opti
     requires within { length (R.keys roll.old) ≤ R.seats roll.old }
     requires new { ¬ Contains (R.keys roll.old) key.now }
     ensures within { length (R.keys roll.new) ≤ R.seats roll.new }
-    ensures together { IfOk result (λ out. IsPermutation (key.now ∷ R.keys roll.old) (option_to_list out ++ R.keys roll.new)) }
+    ensures together { IfOk result (λ out. IsPermutation (key.now ∷ R.keys roll.old)
+        (option_to_list out ++ R.keys roll.new)) }
 {
     let held = roll.len();
     let worst = roll.worst();

@@ -121,7 +121,8 @@ fn first_two_stand<R: Roll>(
 ) -> Result<[Standing; 2], AllocError>
     requires one { slice_get (students_of papers.now) 0 ≡ Some one }
     requires two { slice_get (students_of papers.now) 1 ≡ Some two }
-    ensures after { IfOk result (λ next_choices. (earlier : List Rejection) × AreNextChoices papers.now earlier next_choices) }
+    ensures after { IfOk result (λ next_choices. (earlier : List Rejection)
+        × AreNextChoices papers.now earlier next_choices) }
     ensures students { IfOk result (λ next_choices. map (λ choice. choice.student) next_choices ≡ one ∷ two ∷ []) }
 {
     let mut round: Round<R> = Round::start(alloc, papers)?;
@@ -209,7 +210,8 @@ fn enter_all<R: Roll>(round: &mut Round<R>, papers: &Papers) -> Result<(), Alloc
     requires first { SettlesFirst papers.now (view_of R.keys R.seats round.old) 0 }
     requires ready { is_spent round.old ≡ false }
     ensures ready { OnOk result (is_spent round.new ≡ false) }
-    ensures all { OnOk result (SettlesFirst papers.now (view_of R.keys R.seats round.new) (length papers.now.students)) }
+    ensures all { OnOk result (SettlesFirst papers.now (view_of R.keys R.seats round.new)
+        (length papers.now.students)) }
 {
     for position in 0..papers.students_len() {
         let Some(student) = papers.student_at(position) else {
@@ -258,7 +260,8 @@ fn spend(
     requires fits { Fits papers.now (view_of (⟦<SortedRoll as Roll>⟧.keys) (⟦<SortedRoll as Roll>⟧.seats) round) }
     requires ready { is_spent round ≡ false }
     requires student { is_student papers.now one ≡ true }
-    requires absent { has_entered papers.now (view_of (⟦<SortedRoll as Roll>⟧.keys) (⟦<SortedRoll as Roll>⟧.seats) round).ranks one ≡ false }
+    requires absent { has_entered papers.now (view_of (⟦<SortedRoll as Roll>⟧.keys)
+        (⟦<SortedRoll as Roll>⟧.seats) round).ranks one ≡ false }
 {
     if round.enter_one(papers, one).is_err() {
         assert!(rt; round.is_spent());
