@@ -11,7 +11,7 @@ use Rattle.sc_papers.specs.Key.{is_before}
 use Rattle.sc_papers.specs.declared.key.Key.{Key}
 use Rattle.sc_papers.proofs.Counting.{contains-cons, contains-tail}
 use Rattle.sc_papers.proofs.Priority.{before-asymm, before-trans, one-key}
-use Rattle.sc_audit.specs.BestKeys.{IsLastOf}
+use Rattle.sc_papers.specs.LastKey.{IsLastOf}
 use Rattle.sc_audit.specs.Offers.{Offers}
 use Rattle.sc_audit.proofs.Keeping.{both-ways}
 use Rattle.sc_audit.proofs.Tables.{all-from}

@@ -39,7 +39,8 @@ fn seats_at(papers: &Papers, position: usize) -> Seats
 
 /// Each school with its seats, before anything is offered.
 fn no_keys(alloc: Global, papers: &Papers) -> Result<Vec<BestKeys>, AllocError>
-    ensures seats { IfOk result (λ schools. map (λ (best : BestView). best.seats) schools.items ≡ map (seats_of papers.now) (schools_of papers.now)) }
+    ensures seats { IfOk result (λ schools. map (λ (best : BestView). best.seats) schools.items
+        ≡ map (seats_of papers.now) (schools_of papers.now)) }
     ensures empty { IfOk result (λ schools. All (λ (best : BestView). best.keys ≡ []) schools.items) }
 {
     let mut schools = Vec::with_capacity(alloc, papers.schools_len())?;
@@ -72,7 +73,8 @@ impl AuditState {
         requires fits { Fits papers.now (view_of self.old) }
         requires within { student < length papers.now.students }
         requires nowhere { next_of papers.now self.old.stands.items (student_at papers.now student) ≡ None }
-        ensures { OnOk result (MovesTo papers.now (view_of self.old) (student_at papers.now student) rank (view_of self.new)) }
+        ensures { OnOk result (MovesTo papers.now (view_of self.old) (student_at papers.now student)
+            rank (view_of self.new)) }
     {
         let Some(proposal) = papers.proposal(student, usize::from(rank)) else {
             return Ok(());
@@ -113,7 +115,8 @@ impl AuditState {
     /// at where they stand is wrong.
     pub(crate) fn take(&mut self, papers: &Papers, entry: Rejection) -> Result<bool, AllocError>
         requires fits { Fits papers.now (view_of self.old) }
-        ensures { IfOk result (λ valid. (log : List Rejected) → IsValidLog papers.now log → Follows papers.now log (view_of self.old) → Finds papers.now log entry valid (view_of self.new)) }
+        ensures { IfOk result (λ valid. (log : List Rejected) → IsValidLog papers.now log
+            → Follows papers.now log (view_of self.old) → Finds papers.now log entry valid (view_of self.new)) }
     {
         let Some((student, rank)) = self.waiting_rank(papers, entry) else {
             return Ok(false);
@@ -127,8 +130,10 @@ impl AuditState {
     /// without being kept there.
     fn waiting_rank(&self, papers: &Papers, entry: Rejection) -> Option<(usize, u8)>
         requires { Fits papers.now (view_of self.now) }
-        ensures position { IfSome result (λ found. position (nat_eq entry.student) (students_of papers.now) ≡ Some found.0) }
-        ensures rank { option_map (λ found. found.1) result ≡ waiting_rank (waiting_at papers.now (view_of self.now) entry.student) entry.school }
+        ensures position { IfSome result (λ found. position (nat_eq entry.student) (students_of papers.now)
+            ≡ Some found.0) }
+        ensures rank { option_map (λ found. found.1) result ≡ waiting_rank
+            (waiting_at papers.now (view_of self.now) entry.student) entry.school }
     {
         let guess = self.hints.guess(entry.student);
         let student = papers.student_position_near(entry.student, guess)?;

@@ -31,7 +31,8 @@ pub struct AuditedLog {
 /// proportion to the students and the schools.
 pub fn audit(alloc: Global, papers: &Papers, log: &[Rejection]) -> Result<Verdict, AllocError>
     ensures verdict { IfOk result (IsVerdict papers.now log.now) }
-    ensures optimal { IfOk result (λ verdict. verdict ≡ Certified → IsStudentOptimal papers.now (matching_of papers.now log.now)) }
+    ensures optimal { IfOk result (λ verdict. verdict ≡ Certified
+        → IsStudentOptimal papers.now (matching_of papers.now log.now)) }
 {
     let mut state = AuditState::start(alloc, papers)?;
     read(&mut state, papers, log)
@@ -48,7 +49,8 @@ pub fn audit_and_place(
     log: &[Rejection],
 ) -> Result<AuditedLog, AllocError>
     ensures verdict { IfOk result (λ audit. IsVerdict papers.now log.now audit.verdict) }
-    ensures places { IfOk result (λ audit. audit.verdict ≡ Certified → ArePlaces papers.now (matching_of papers.now log.now) audit.places.items) }
+    ensures places { IfOk result (λ audit. audit.verdict ≡ Certified
+        → ArePlaces papers.now (matching_of papers.now log.now) audit.places.items) }
     ensures none { IfOk result (λ audit. (audit.verdict ≡ Certified → ⊥) → audit.places.items ≡ []) }
 {
     let mut state = AuditState::start(alloc, papers)?;

@@ -3,7 +3,7 @@ ghost use Rattle.std.specs.BinaryHeap.{heap_items, IsHeap};
 ghost use Rattle.std.specs.List.Sorted.{IsPermutation};
 ghost use Rattle.std.specs.Option.{option_map_or};
 ghost use Rattle.sc_papers.specs.Key.{is_before, key_cmp};
-ghost use Rattle.sc_audit.specs.BestKeys.{IsLastOf};
+ghost use Rattle.sc_papers.specs.LastKey.{IsLastOf};
 
 use sc_papers::{Key, Seats};
 use std::alloc::{AllocError, Global};
@@ -96,7 +96,8 @@ impl BestKeys {
     /// Offers one of the seats to a key: the best are kept, and the last of all is not where they are more than the
     /// seats. The cost is the logarithm of the seats, and a comparison where the key itself is the last.
     pub(crate) fn offer(&mut self, key: Key) -> Result<(), AllocError>
-        ensures offered { OnOk result ((out : Option Priority) × Offers self.old.keys self.old.seats key self.new.keys out) }
+        ensures offered { OnOk result ((out : Option Priority)
+            × Offers self.old.keys self.old.seats key self.new.keys out) }
         ensures seats { self.new.seats ≡ self.old.seats }
     {
         if self.keys.len() < self.seats.get() as usize {

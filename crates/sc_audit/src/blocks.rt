@@ -66,8 +66,10 @@ fn earliest_block(
     requires within { position < length papers.now.students }
     requires matching { IsMatching papers.now (assigned assignment.now) }
     requires tallies { AreTallies papers.now (assigned assignment.now) tallies.now }
-    ensures block { IfSome result (IsEarliestBlock papers.now (assigned assignment.now) (student_at papers.now position)) }
-    ensures none { IfNone result ((s : ℕ) → ¬ Blocks papers.now (assigned assignment.now) (student_at papers.now position) s) }
+    ensures block { IfSome result (IsEarliestBlock papers.now (assigned assignment.now)
+        (student_at papers.now position)) }
+    ensures none { IfNone result ((s : ℕ) → ¬ Blocks papers.now (assigned assignment.now)
+        (student_at papers.now position) s) }
 {
     let choices = papers.choices_at(position);
     for rank in 0..choices.len() {

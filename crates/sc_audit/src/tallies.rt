@@ -14,7 +14,8 @@ use sc_tallies::Tally;
 fn over_at(tallies: &[Tally], papers: &Papers, position: usize) -> Option<SchoolNo>
     requires within { position < length papers.now.schools }
     requires tallies { length tallies.now ≡ length papers.now.schools }
-    ensures { (a : Matching) (s : ℕ) → AreTallies papers.now a tallies.now → slice_get (schools_of papers.now) position ≡ Some s → result ≡ over_at papers.now a s }
+    ensures { (a : Matching) (s : ℕ) → AreTallies papers.now a tallies.now
+        → slice_get (schools_of papers.now) position ≡ Some s → result ≡ over_at papers.now a s }
 {
     let Some(school) = papers.school_at(position) else {
         unreachable!()
@@ -29,7 +30,8 @@ fn over_at(tallies: &[Tally], papers: &Papers, position: usize) -> Option<School
 /// The least number of a school that more students have than it has seats.
 pub(crate) fn least_over(tallies: &[Tally], papers: &Papers) -> Option<SchoolNo>
     requires { length tallies.now ≡ length papers.now.schools }
-    ensures { (a : Matching) → AreTallies papers.now a tallies.now → LeastOf (schools_of papers.now) (over_at papers.now a) (length papers.now.schools) result }
+    ensures { (a : Matching) → AreTallies papers.now a tallies.now
+        → LeastOf (schools_of papers.now) (over_at papers.now a) (length papers.now.schools) result }
 {
     let mut least = None;
     for position in 0..papers.schools_len() {
@@ -49,7 +51,8 @@ pub(crate) fn would_take(
     requires student { student < length papers.now.students }
     requires school { is_school papers.now school ≡ true }
     requires tallies { length tallies.now ≡ length papers.now.schools }
-    ensures { (a : Matching) → AreTallies papers.now a tallies.now → result ≡ would_take papers.now a (student_at papers.now student) school }
+    ensures { (a : Matching) → AreTallies papers.now a tallies.now
+        → result ≡ would_take papers.now a (student_at papers.now student) school }
 {
     let (at, key) = papers.position_and_key(student, school);
     let tally = tallies[at];

@@ -10,7 +10,7 @@ use Rattle.sc_papers.specs.declared.proposal.Proposal.{Proposal}
 use Rattle.sc_papers.proofs.Hands.{hand-is, hand-key}
 use Rattle.sc_papers.proofs.Positions.{position-there}
 use Rattle.sc_engine.specs.Newcomers.{IsFirstPosition}
-use Rattle.sc_engine.specs.Proposals.{IsProposal, first_choice}
+use Rattle.sc_engine.specs.Proposals.{IsFirstProposal, IsProposal}
 
 -- no proposal to no choice
 pub proposes-nothing : (m : Market) (i : ℕ) (choice : Option ℕ) (proposal : Option Proposal) → proposal ≡ None → choice ≡ None → IsProposal m i choice proposal
@@ -41,8 +41,8 @@ first-position m choices positions found is theirs =
     ∙ slice_get-map (λ s. position (nat_eq s) (schools_of m)) choices 0
 
 -- where a first choice has a position, its school stands there
-first-found : (m : Market) (i at_school : ℕ) → IsFirstPosition m i (Some at_school) → (s : ℕ) × (first_choice m i ≡ Some s) × (position (nat_eq s) (schools_of m) ≡ Some at_school)
-first-found m i at_school is = go (first_choice m i) is
+first-found : (m : Market) (i at_school : ℕ) → IsFirstPosition m i (Some at_school) → (s : ℕ) × (slice_get (choices_of m i) 0 ≡ Some s) × (position (nat_eq s) (schools_of m) ≡ Some at_school)
+first-found m i at_school is = go (slice_get (choices_of m i) 0) is
   where
     go : (choice : Option ℕ) → Some (Some at_school) ≡ option_map (λ s. position (nat_eq s) (schools_of m)) choice → (s : ℕ) × (choice ≡ Some s) × (position (nat_eq s) (schools_of m) ≡ Some at_school)
     go None none = absurd (none-some (Some at_school) (sym none))
@@ -50,7 +50,7 @@ first-found m i at_school is = go (first_choice m i) is
 
 -- so the student proposes there
 pub proposes-found : (m : Market) (i at at_school school : ℕ) (key : Key) → slice_get (students_of m) at ≡ Some i → IsFirstPosition m i (Some at_school) → Some school ≡ slice_get (schools_of m) at_school → Some key ≡ key_at m at at_school
-    → IsProposal m i (first_choice m i) (Some (record { school = school; position = at_school; key = key }))
+    → IsFirstProposal m i (Some (record { school = school; position = at_school; key = key }))
 proposes-found m i at at_school school key stands is there keyed =
     let (s, chosen, found) = first-found m i at_school is in
     let same : school ≡ s = same_Some school s (there ∙ position-there (schools_of m) s at_school found) in

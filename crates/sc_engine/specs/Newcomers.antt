@@ -1,9 +1,8 @@
 -- Students who enter in batches, each with where their first choice's school stands.
-use Rattle.std.specs.Prelude.{◌≡◌, ℕ, nat_eq, List, ◌++◌, map, Option, Some, position}
+use Rattle.std.specs.Prelude.{◌≡◌, ℕ, nat_eq, List, ◌++◌, map, Option, Some, position, slice_get}
 use Rattle.std.specs.Option.{option_map}
-use Rattle.sc_papers.specs.Market.{Market, schools_of}
+use Rattle.sc_papers.specs.Market.{Market, choices_of, schools_of}
 use Rattle.sc_engine.specs.Entrants.{numbers_of, AreEverybody, StandsAt}
-use Rattle.sc_engine.specs.Proposals.{first_choice}
 use Rattle.sc_engine.specs.RoundView.{RoundView, SettlesThese}
 use Rattle.sc_engine.specs.declared.batches.Newcomer.{Newcomer}
 use Rattle.sc_engine.specs.declared.entrants.Entrant.{Entrant}
@@ -14,7 +13,7 @@ entrants_of newcomers = map (λ newcomer. newcomer.entrant) newcomers
 
 -- this is the position of the school of a student's first choice, and none where there is no choice
 abbrev pub IsFirstPosition : Market → ℕ → Option ℕ → Type 0
-IsFirstPosition m i at = option_map Some at ≡ option_map (λ s. position (nat_eq s) (schools_of m)) (first_choice m i)
+IsFirstPosition m i at = option_map Some at ≡ option_map (λ s. position (nat_eq s) (schools_of m)) (slice_get (choices_of m i) 0)
 
 -- who stands at their position, with that of their first choice's school
 pub record KnowsFirst (m : Market) (newcomer : Newcomer) : Type 0 where

@@ -11,6 +11,6 @@ pub record IsProposal (m : Market) (i : ℕ) (choice : Option ℕ) (proposal : O
   pub position : IfSome proposal (λ p. position (nat_eq p.school) (schools_of m) ≡ Some p.position)
   pub key : IfSome proposal (λ p. p.key ≡ key_of m i p.school)
 
--- a student's first choice
-abbrev pub first_choice : Market → ℕ → Option ℕ
-first_choice m i = slice_get (choices_of m i) 0
+-- a student proposes so first
+abbrev pub IsFirstProposal : Market → ℕ → Option Proposal → Type 0
+IsFirstProposal m i proposal = IsProposal m i (slice_get (choices_of m i) 0) proposal

@@ -3,7 +3,7 @@
 ghost use Rattle.std.specs.Prelude.{◌≡◌, false, All, List, [], ◌++◌, OnOk};
 ghost use Rattle.sc_papers.specs.Market.{students_of};
 ghost use Rattle.sc_engine.specs.Newcomers.{entrants_of, ComesNext, IsFirstPosition, KnowsFirst};
-ghost use Rattle.sc_engine.specs.Proposals.{IsProposal, first_choice};
+ghost use Rattle.sc_engine.specs.Proposals.{IsFirstProposal};
 ghost use Rattle.sc_engine.specs.Entrants.{numbers_of, AreEverybody, StandsAt};
 ghost use Rattle.sc_engine.specs.Round.{view_of, is_spent};
 ghost use Rattle.sc_engine.specs.RoundView.{SettlesThese};
@@ -38,7 +38,7 @@ fn first_position(papers: &Papers, entrant: &Entrant) -> Option<usize>
 fn first_proposal(papers: &Papers, entrant: &Entrant, first: Option<usize>) -> Option<Proposal>
     requires stands { StandsAt papers.now entrant.now }
     requires first { IsFirstPosition papers.now entrant.now.student first }
-    ensures { IsProposal papers.now entrant.now.student (first_choice papers.now entrant.now.student) result }
+    ensures { IsFirstProposal papers.now entrant.now.student result }
 {
     let position = first?;
     let Some(school) = papers.school_at(position) else {
@@ -84,10 +84,14 @@ fn enter_batch<R: Roll>(
     papers: &Papers,
     newcomers: &[Newcomer],
 ) -> Result<(), AllocError>
-    requires next { (before : List Entrant) × (after : List Entrant) × ComesNext papers.now (view_of R.keys R.seats round.old) before (entrants_of newcomers.now) after }
+    requires next { (before : List Entrant) × (after : List Entrant)
+        × ComesNext papers.now (view_of R.keys R.seats round.old) before (entrants_of newcomers.now) after }
     requires firsts { All (KnowsFirst papers.now) newcomers.now }
     requires ready { is_spent round.old ≡ false }
-    ensures entered { OnOk result ((before after : List Entrant) → ComesNext papers.now (view_of R.keys R.seats round.old) before (entrants_of newcomers.now) after → SettlesThese papers.now (view_of R.keys R.seats round.new) (numbers_of (before ++ entrants_of newcomers.now))) }
+    ensures entered { OnOk result ((before after : List Entrant)
+        → ComesNext papers.now (view_of R.keys R.seats round.old) before (entrants_of newcomers.now) after
+        → SettlesThese papers.now (view_of R.keys R.seats round.new)
+        (numbers_of (before ++ entrants_of newcomers.now))) }
     ensures ready { OnOk result (is_spent round.new ≡ false) }
 {
     for newcomer in newcomers {

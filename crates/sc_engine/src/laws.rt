@@ -12,28 +12,35 @@ ghost use Rattle.sc_engine.specs.RoundView.{RoundView, Continues, Enters, Fits, 
 /// students who stand at a choice: so it is where nobody has entered, and so it stays with each student
 /// who enters.
 pub fn proposals_after_start_are_counted_exactly()
-    ensures start { (m : Market) (r : RoundView) → ((i : ℕ) → has_entered m r.ranks i ≡ false) → r.log ≡ [] → r.proposals ≡ 0 → CountsExactly m r }
-    ensures enter { (m : Market) (old new : RoundView) (i : ℕ) → CountsExactly m old → Enters m old new i → CountsExactly m new }
+    ensures start { (m : Market) (r : RoundView) → ((i : ℕ) → has_entered m r.ranks i ≡ false) → r.log ≡ []
+        → r.proposals ≡ 0 → CountsExactly m r }
+    ensures enter { (m : Market) (old new : RoundView) (i : ℕ) → CountsExactly m old → Enters m old new i
+        → CountsExactly m new }
 {}
 
 /// A round has made at most as many proposals as the students whom it holds have choices, all together,
 /// where all its calls had the same papers: whichever log it goes on from, it makes none twice.
 pub fn proposals_are_at_most_the_choices()
-    ensures { (m : Market) (r : RoundView) (earlier : List Rejection) → Fits m r → Continues m earlier r → r.proposals ≤ all_choices (entered_papers m r.ranks) }
+    ensures { (m : Market) (r : RoundView) (earlier : List Rejection) → Fits m r → Continues m earlier r
+        → r.proposals ≤ all_choices (entered_papers m r.ranks) }
 {}
 
 /// A round that fits papers fits them with more students at the end, who have not entered: its students
 /// are the same and stand at the same choices, and it goes on from the same logs.
 pub fn round_fits_papers_that_grew()
     ensures fits { (m : Market) (k : ℕ) (r : RoundView) → WellFormed m → WithinLimits m → Fits (cut m k) r → Fits m r }
-    ensures entered { (m : Market) (k : ℕ) (r : RoundView) → WellFormed m → Fits (cut m k) r → (i : ℕ) → has_entered m r.ranks i ≡ has_entered (cut m k) r.ranks i }
-    ensures next { (m : Market) (k : ℕ) (r : RoundView) → WellFormed m → Fits (cut m k) r → (i : ℕ) → next_of m r.ranks i ≡ next_of (cut m k) r.ranks i }
-    ensures continues { (m : Market) (k : ℕ) (r : RoundView) (earlier : List Rejection) → WellFormed m → Fits (cut m k) r → Continues (cut m k) earlier r → Continues m earlier r }
+    ensures entered { (m : Market) (k : ℕ) (r : RoundView) → WellFormed m → Fits (cut m k) r → (i : ℕ)
+        → has_entered m r.ranks i ≡ has_entered (cut m k) r.ranks i }
+    ensures next { (m : Market) (k : ℕ) (r : RoundView) → WellFormed m → Fits (cut m k) r → (i : ℕ)
+        → next_of m r.ranks i ≡ next_of (cut m k) r.ranks i }
+    ensures continues { (m : Market) (k : ℕ) (r : RoundView) (earlier : List Rejection) → WellFormed m
+        → Fits (cut m k) r → Continues (cut m k) earlier r → Continues m earlier r }
 {}
 
 /// A round that forgets its log fits the papers as before, and goes on from each log from which it went on, with
 /// what it forgets after it.
 pub fn round_goes_on_without_its_log()
     ensures fits { (m : Market) (r : RoundView) → Fits m r → Fits m (without_log r) }
-    ensures continues { (m : Market) (r : RoundView) (earlier : List Rejection) → Continues m earlier r → Continues m (earlier ++ r.log) (without_log r) }
+    ensures continues { (m : Market) (r : RoundView) (earlier : List Rejection) → Continues m earlier r
+        → Continues m (earlier ++ r.log) (without_log r) }
 {}

@@ -51,7 +51,8 @@ fn make_room(ranks: &mut Vec<Option<u8>>, at: usize) -> Result<(), AllocError>
 /// Makes nobody stand at a position.
 fn clear_one(ranks: &mut Vec<Option<u8>>, at: usize)
     ensures gone { slice_index_or ranks.new.items at None ≡ None }
-    ensures others { (k : ℕ) → (k ≡ at → ⊥) → slice_index_or ranks.new.items k None ≡ slice_index_or ranks.old.items k None }
+    ensures others { (k : ℕ) → (k ≡ at → ⊥) → slice_index_or ranks.new.items k None
+        ≡ slice_index_or ranks.old.items k None }
     ensures same_length { length ranks.new.items ≡ length ranks.old.items }
 {
     if at < ranks.len() {
@@ -62,7 +63,8 @@ fn clear_one(ranks: &mut Vec<Option<u8>>, at: usize)
 /// Makes nobody stand at these positions.
 fn clear_at(ranks: &mut Vec<Option<u8>>, positions: &[usize])
     ensures gone { (at : ℕ) → Contains positions.now at → slice_index_or ranks.new.items at None ≡ None }
-    ensures others { (at rank : ℕ) → slice_index_or ranks.new.items at None ≡ Some rank → slice_index_or ranks.old.items at None ≡ Some rank }
+    ensures others { (at rank : ℕ) → slice_index_or ranks.new.items at None ≡ Some rank
+        → slice_index_or ranks.old.items at None ≡ Some rank }
     ensures same_length { length ranks.new.items ≡ length ranks.old.items }
 {
     for at in positions {
@@ -136,7 +138,8 @@ impl RankTable {
     /// The student at the position moves on to the next rank of its choices.
     pub(crate) fn move_on(&mut self, at: usize)
         requires { (rank : ℕ) → slice_index_or self.old at None ≡ Some rank → rank < LONGEST_LIST }
-        ensures { (rank : ℕ) → slice_index_or self.old at None ≡ Some rank → self.new ≡ slice_set self.old at (Some (rank + 1)) }
+        ensures { (rank : ℕ) → slice_index_or self.old at None ≡ Some rank
+            → self.new ≡ slice_set self.old at (Some (rank + 1)) }
     {
         if let Some(Some(rank)) = self.ranks.get(at).copied() {
             self.ranks[at] = Some(rank + 1);

@@ -3,7 +3,7 @@
 ghost use Rattle.std.specs.Prelude.{◌≡◌, ℕ, true, false, Some, length, position, nat_eq, map, IfOk, OnOk, OnErr};
 ghost use Rattle.sc_papers.specs.Assignment.{assigned};
 ghost use Rattle.sc_papers.specs.Market.{is_student, students_of};
-ghost use Rattle.sc_engine.specs.Proposals.{IsProposal, first_choice};
+ghost use Rattle.sc_engine.specs.Proposals.{IsFirstProposal};
 ghost use Rattle.sc_engine.specs.RoundView.{next_of, Fits, Enters, has_entered, without_log};
 
 mod chains;
@@ -54,8 +54,10 @@ impl<R: Roll> Round<R> {
         // entered.
         requires fits { is_spent self.old ≡ false → Fits papers.now (view_of R.keys R.seats self.old) }
         requires student { is_spent self.old ≡ false → is_student papers.now student ≡ true }
-        requires absent { is_spent self.old ≡ false → has_entered papers.now (view_of R.keys R.seats self.old).ranks student ≡ false }
-        ensures enters { OnOk result (Enters papers.now (view_of R.keys R.seats self.old) (view_of R.keys R.seats self.new) student) }
+        requires absent { is_spent self.old ≡ false
+            → has_entered papers.now (view_of R.keys R.seats self.old).ranks student ≡ false }
+        ensures enters { OnOk result (Enters papers.now (view_of R.keys R.seats self.old)
+            (view_of R.keys R.seats self.new) student) }
         ensures was_ready { OnOk result (is_spent self.old ≡ false) }
         ensures ready { OnOk result (is_spent self.new ≡ false) }
         ensures spent { OnErr result (is_spent self.new ≡ true) }
@@ -75,8 +77,10 @@ impl<R: Roll> Round<R> {
     ) -> Result<(), AllocError>
         requires fits { is_spent self.old ≡ false → Fits papers.now (view_of R.keys R.seats self.old) }
         requires student { is_spent self.old ≡ false → is_student papers.now student ≡ true }
-        requires absent { is_spent self.old ≡ false → has_entered papers.now (view_of R.keys R.seats self.old).ranks student ≡ false }
-        ensures enters { OnOk result (Enters papers.now (view_of R.keys R.seats self.old) (view_of R.keys R.seats self.new) student) }
+        requires absent { is_spent self.old ≡ false
+            → has_entered papers.now (view_of R.keys R.seats self.old).ranks student ≡ false }
+        ensures enters { OnOk result (Enters papers.now (view_of R.keys R.seats self.old)
+            (view_of R.keys R.seats self.new) student) }
         ensures was_ready { OnOk result (is_spent self.old ≡ false) }
         ensures ready { OnOk result (is_spent self.new ≡ false) }
         ensures spent { OnErr result (is_spent self.new ≡ true) }
@@ -99,9 +103,11 @@ impl<R: Roll> Round<R> {
     ) -> Result<(), AllocError>
         requires fits { is_spent self.old ≡ false → Fits papers.now (view_of R.keys R.seats self.old) }
         requires stands { is_spent self.old ≡ false → position (nat_eq student) (students_of papers.now) ≡ Some at }
-        requires absent { is_spent self.old ≡ false → has_entered papers.now (view_of R.keys R.seats self.old).ranks student ≡ false }
-        requires first { is_spent self.old ≡ false → IsProposal papers.now student (first_choice papers.now student) first }
-        ensures enters { OnOk result (Enters papers.now (view_of R.keys R.seats self.old) (view_of R.keys R.seats self.new) student) }
+        requires absent { is_spent self.old ≡ false
+            → has_entered papers.now (view_of R.keys R.seats self.old).ranks student ≡ false }
+        requires first { is_spent self.old ≡ false → IsFirstProposal papers.now student first }
+        ensures enters { OnOk result (Enters papers.now (view_of R.keys R.seats self.old)
+            (view_of R.keys R.seats self.new) student) }
         ensures was_ready { OnOk result (is_spent self.old ≡ false) }
         ensures ready { OnOk result (is_spent self.new ≡ false) }
         ensures spent { OnErr result (is_spent self.new ≡ true) }
@@ -118,7 +124,8 @@ impl<R: Roll> Round<R> {
     /// the student has not entered. In constant time. Of a spent round nothing is said.
     pub fn next_choice(&self, papers: &Papers, student: StudentNo) -> Option<SchoolNo>
         requires { is_spent self.now ≡ false → Fits papers.now (view_of R.keys R.seats self.now) }
-        ensures { is_spent self.now ≡ false → result ≡ next_of papers.now (view_of R.keys R.seats self.now).ranks student }
+        ensures { is_spent self.now ≡ false → result ≡ next_of papers.now
+            (view_of R.keys R.seats self.now).ranks student }
     {
         if self.spent {
             return None;
@@ -135,7 +142,8 @@ impl<R: Roll> Round<R> {
         guess: usize,
     ) -> Option<SchoolNo>
         requires { is_spent self.now ≡ false → Fits papers.now (view_of R.keys R.seats self.now) }
-        ensures { is_spent self.now ≡ false → result ≡ next_of papers.now (view_of R.keys R.seats self.now).ranks student }
+        ensures { is_spent self.now ≡ false → result ≡ next_of papers.now
+            (view_of R.keys R.seats self.now).ranks student }
     {
         if self.spent {
             return None;
@@ -179,7 +187,8 @@ impl<R: Roll> Round<R> {
     pub fn assignment(&self, papers: &Papers) -> Result<Assignment, AllocError>
         requires { is_spent self.now ≡ false → Fits papers.now (view_of R.keys R.seats self.now) }
         ensures was_ready { OnOk result (is_spent self.now ≡ false) }
-        ensures given { IfOk result (λ assignment. (i : ℕ) → assigned assignment i ≡ next_of papers.now (view_of R.keys R.seats self.now).ranks i) }
+        ensures given { IfOk result (λ assignment. (i : ℕ)
+            → assigned assignment i ≡ next_of papers.now (view_of R.keys R.seats self.now).ranks i) }
     {
         if self.spent {
             return Err(AllocError);
@@ -194,7 +203,8 @@ impl<R: Roll> Round<R> {
     pub(crate) fn into_outcome(self, papers: &Papers) -> Result<Outcome, AllocError>
         requires { is_spent self ≡ false → Fits papers.now (view_of R.keys R.seats self) }
         ensures was_ready { OnOk result (is_spent self ≡ false) }
-        ensures places { IfOk result (λ outcome. outcome.places.items ≡ map (next_of papers.now (view_of R.keys R.seats self).ranks) (students_of papers.now)) }
+        ensures places { IfOk result (λ outcome. outcome.places.items
+            ≡ map (next_of papers.now (view_of R.keys R.seats self).ranks) (students_of papers.now)) }
         ensures rejections { IfOk result (λ outcome. outcome.rejections ≡ length (view_of R.keys R.seats self).log) }
         ensures proposals { IfOk result (λ outcome. outcome.proposals ≡ (view_of R.keys R.seats self).proposals) }
     {
@@ -215,7 +225,8 @@ impl<R: Roll> Round<R> {
         requires { is_spent self ≡ false → Fits papers.now (view_of R.keys R.seats self) }
         ensures was_ready { OnOk result (is_spent self ≡ false) }
         ensures log { IfOk result (λ settled. settled.log.items ≡ (view_of R.keys R.seats self).log) }
-        ensures given { IfOk result (λ settled. (i : ℕ) → assigned settled.assignment i ≡ next_of papers.now (view_of R.keys R.seats self).ranks i) }
+        ensures given { IfOk result (λ settled. (i : ℕ)
+            → assigned settled.assignment i ≡ next_of papers.now (view_of R.keys R.seats self).ranks i) }
         ensures proposals { IfOk result (λ settled. settled.proposals ≡ (view_of R.keys R.seats self).proposals) }
     {
         let assignment = self.assignment(papers)?;

@@ -48,9 +48,11 @@ pub struct Outcome {
 /// students, the schools and the rejections.
 pub fn settle(alloc: Global, papers: &Papers) -> Result<Settled, AllocError>
     ensures settled { IfOk result (λ settled. IsSettled papers.now settled.log.items) }
-    ensures matching { IfOk result (λ settled. (i : ℕ) → assigned settled.assignment i ≡ next_choice papers.now settled.log.items i) }
+    ensures matching { IfOk result (λ settled. (i : ℕ)
+        → assigned settled.assignment i ≡ next_choice papers.now settled.log.items i) }
     ensures optimal { IfOk result (λ settled. IsStudentOptimal papers.now (assigned settled.assignment)) }
-    ensures proposals { IfOk result (λ settled. settled.proposals ≡ length settled.log.items + placed papers.now (assigned settled.assignment)) }
+    ensures proposals { IfOk result (λ settled. settled.proposals
+        ≡ length settled.log.items + placed papers.now (assigned settled.assignment)) }
 {
     settle_over::<HeapRoll>(alloc, papers)
 }
@@ -82,9 +84,11 @@ fn outcome_of<R: Roll>(round: Round<R>, papers: &Papers) -> Result<Outcome, Allo
 /// As `settle`, over a kind of roll.
 pub(crate) fn settle_over<R: Roll>(alloc: Global, papers: &Papers) -> Result<Settled, AllocError>
     ensures settled { IfOk result (λ settled. IsSettled papers.now settled.log.items) }
-    ensures matching { IfOk result (λ settled. (i : ℕ) → assigned settled.assignment i ≡ next_choice papers.now settled.log.items i) }
+    ensures matching { IfOk result (λ settled. (i : ℕ)
+        → assigned settled.assignment i ≡ next_choice papers.now settled.log.items i) }
     ensures optimal { IfOk result (λ settled. IsStudentOptimal papers.now (assigned settled.assignment)) }
-    ensures proposals { IfOk result (λ settled. settled.proposals ≡ length settled.log.items + placed papers.now (assigned settled.assignment)) }
+    ensures proposals { IfOk result (λ settled. settled.proposals
+        ≡ length settled.log.items + placed papers.now (assigned settled.assignment)) }
 {
     let mut round: Round<R> = Round::start(alloc, papers)?;
     enter_all(&mut round, papers)?;
@@ -96,9 +100,11 @@ pub(crate) fn settle_over<R: Roll>(alloc: Global, papers: &Papers) -> Result<Set
 fn come_to<R: Roll>(round: Round<R>, papers: &Papers) -> Result<Settled, AllocError>
     requires all { SettlesThese papers.now (view_of R.keys R.seats round) (students_of papers.now) }
     ensures settled { IfOk result (λ settled. IsSettled papers.now settled.log.items) }
-    ensures matching { IfOk result (λ settled. (i : ℕ) → assigned settled.assignment i ≡ next_choice papers.now settled.log.items i) }
+    ensures matching { IfOk result (λ settled. (i : ℕ)
+        → assigned settled.assignment i ≡ next_choice papers.now settled.log.items i) }
     ensures optimal { IfOk result (λ settled. IsStudentOptimal papers.now (assigned settled.assignment)) }
-    ensures proposals { IfOk result (λ settled. settled.proposals ≡ length settled.log.items + placed papers.now (assigned settled.assignment)) }
+    ensures proposals { IfOk result (λ settled. settled.proposals
+        ≡ length settled.log.items + placed papers.now (assigned settled.assignment)) }
 {
     let settled = round.into_settled(papers)?;
     Ok(settled)

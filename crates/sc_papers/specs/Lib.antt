@@ -19,3 +19,4 @@ pub mod Reordering
 pub mod EntryOrder
 pub mod Interleaving
 pub mod NumberHash
+pub mod LastKey

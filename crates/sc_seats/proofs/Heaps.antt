@@ -11,7 +11,7 @@ use Rattle.std.proofs.lemmas.List.Sorted.{IsPermutation-swap, IsPermutation-cons
 use Rattle.sc_papers.specs.Key.{is_before}
 use Rattle.sc_papers.specs.declared.key.Key.{Key}
 use Rattle.sc_papers.proofs.Counting.{contains-cons, contains-head, contains-tail}
-use Rattle.sc_seats.specs.Last.{IsLastOf}
+use Rattle.sc_papers.specs.LastKey.{IsLastOf}
 use Rattle.sc_seats.specs.Roll.{IsAscending, in_order}
 use Rattle.sc_papers.proofs.Priority.{before-trans}
 use Rattle.sc_seats.proofs.Ordering.{ties, ties-same, ties-self, before-apart, behind-apart, Differ, Differ-ascending, Differ-permutation, Differ-cons, Differ-head, Differ-tail, in_order-permutes, ascending-in_order, last-of}

@@ -1,4 +1,3 @@
 pub mod Roll
-pub mod Last
 pub mod Held
 pub mod Heap

@@ -2,7 +2,7 @@ ghost use Rattle.std.specs.Prelude.{◌≡◌, ◌<◌, true, false, List, [], �
 ghost use Rattle.std.specs.List.Sorted.{IsPermutation};
 ghost use Rattle.sc_papers.specs.Key.{is_before};
 ghost use Rattle.sc_seats.specs.Held.{is_heap, keys_of};
-ghost use Rattle.sc_seats.specs.Last.{IsLastOf};
+ghost use Rattle.sc_papers.specs.LastKey.{IsLastOf};
 
 use crate::key_heap::KeyHeap;
 use crate::key_list::KeyList;

@@ -3,7 +3,7 @@ ghost use Rattle.std.specs.BinaryHeap.{heap_items, IsHeap};
 ghost use Rattle.std.specs.List.Sorted.{IsPermutation};
 ghost use Rattle.sc_papers.specs.Key.{is_before, key_cmp};
 ghost use Rattle.sc_papers.specs.declared.key.Key.{Key as Priority};
-ghost use Rattle.sc_seats.specs.Last.{IsLastOf};
+ghost use Rattle.sc_papers.specs.LastKey.{IsLastOf};
 
 use crate::held_key::HeldKey;
 use crate::key_memory::KeyMemory;

@@ -1,7 +1,7 @@
 ghost use Rattle.std.specs.Prelude.{◌≡◌, List, [], ◌∷◌, ◌++◌, length, Some, IfOk, OnOk, OnErr};
 ghost use Rattle.std.specs.List.Sorted.{IsPermutation};
 ghost use Rattle.sc_papers.specs.declared.key.Key.{Key as Priority};
-ghost use Rattle.sc_seats.specs.Last.{IsLastOf};
+ghost use Rattle.sc_papers.specs.LastKey.{IsLastOf};
 
 use crate::held_key::HeldKey;
 use crate::key_heap::KeyHeap;

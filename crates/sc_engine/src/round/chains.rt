@@ -3,7 +3,7 @@
 ghost use Rattle.std.specs.Prelude.{◌≡◌, ℕ, ◌+◌, ◌^◌, ◌<◌, false, [], ◌∷◌, ◌++◌, Contains, None, Some, length, position, nat_eq, slice_index_or, slice_set, IfOk, IfSome, OnOk};
 ghost use Rattle.std.specs.Option.{option_map};
 ghost use Rattle.sc_papers.specs.Market.{students_of, student_at};
-ghost use Rattle.sc_engine.specs.Proposals.{IsProposal, first_choice};
+ghost use Rattle.sc_engine.specs.Proposals.{IsFirstProposal, IsProposal};
 ghost use Rattle.sc_engine.specs.RoundView.{OffersAt, roll_at, next_of, Fits, FitsBut, only, Proposes, ChainEnds, Enters, has_entered};
 
 use super::Round;
@@ -21,7 +21,8 @@ impl<R: Roll> Round<R> {
         requires within { at < length self.old.rolls.items }
         requires count_fits { self.old.proposals + 1 < 2 ^ 64 }
         requires new { ¬ Contains (roll_at (view_of R.keys R.seats self.old).rolls at).keys key }
-        ensures offered { IfOk result (λ out. OffersAt (view_of R.keys R.seats self.old).rolls (view_of R.keys R.seats self.new).rolls at key out) }
+        ensures offered { IfOk result (λ out. OffersAt (view_of R.keys R.seats self.old).rolls
+            (view_of R.keys R.seats self.new).rolls at key out) }
         ensures ranks { self.new.ranks ≡ self.old.ranks }
         ensures log { self.new.log.items ≡ self.old.log.items }
         ensures proposals { OnOk result (self.new.proposals ≡ self.old.proposals + 1) }
@@ -35,7 +36,8 @@ impl<R: Roll> Round<R> {
     fn reject(&mut self, at: usize, entry: Rejection) -> Result<(), AllocError>
         requires { (rank : ℕ) → slice_index_or self.old.ranks at None ≡ Some rank → rank < LONGEST_LIST }
         ensures log { OnOk result (self.new.log.items ≡ self.old.log.items ++ entry ∷ []) }
-        ensures moved { OnOk result ((rank : ℕ) → slice_index_or self.old.ranks at None ≡ Some rank → self.new.ranks ≡ slice_set self.old.ranks at (Some (rank + 1))) }
+        ensures moved { OnOk result ((rank : ℕ) → slice_index_or self.old.ranks at None ≡ Some rank
+            → self.new.ranks ≡ slice_set self.old.ranks at (Some (rank + 1))) }
         ensures rolls { self.new.rolls.items ≡ self.old.rolls.items }
         ensures proposals { self.new.proposals ≡ self.old.proposals }
     {
@@ -50,7 +52,9 @@ impl<R: Roll> Round<R> {
         requires within { proposer < length papers.now.students }
         requires fits { FitsBut papers.now (view_of R.keys R.seats self.old) (only (student_at papers.now proposer)) }
         ensures within { IfOk result (λ out. IfSome out (λ next. next < length papers.now.students)) }
-        ensures proposes { IfOk result (λ out. Proposes papers.now (view_of R.keys R.seats self.old) (view_of R.keys R.seats self.new) (student_at papers.now proposer) (option_map (student_at papers.now) out)) }
+        ensures proposes { IfOk result (λ out. Proposes papers.now (view_of R.keys R.seats self.old)
+            (view_of R.keys R.seats self.new) (student_at papers.now proposer)
+            (option_map (student_at papers.now) out)) }
     {
         let proposal = proposal_of(self.ranks.as_slice(), papers, proposer);
         let out = self.propose_with(papers, proposer, proposal)?;
@@ -66,9 +70,12 @@ impl<R: Roll> Round<R> {
     ) -> Result<Option<usize>, AllocError>
         requires within { proposer < length papers.now.students }
         requires fits { FitsBut papers.now (view_of R.keys R.seats self.old) (only (student_at papers.now proposer)) }
-        requires next { IsProposal papers.now (student_at papers.now proposer) (next_of papers.now self.old.ranks (student_at papers.now proposer)) proposal }
+        requires next { IsProposal papers.now (student_at papers.now proposer)
+            (next_of papers.now self.old.ranks (student_at papers.now proposer)) proposal }
         ensures within { IfOk result (λ out. IfSome out (λ next. next < length papers.now.students)) }
-        ensures proposes { IfOk result (λ out. Proposes papers.now (view_of R.keys R.seats self.old) (view_of R.keys R.seats self.new) (student_at papers.now proposer) (option_map (student_at papers.now) out)) }
+        ensures proposes { IfOk result (λ out. Proposes papers.now (view_of R.keys R.seats self.old)
+            (view_of R.keys R.seats self.new) (student_at papers.now proposer)
+            (option_map (student_at papers.now) out)) }
     {
         let Some(proposal) = proposal else {
             return Ok(None);
@@ -94,7 +101,8 @@ impl<R: Roll> Round<R> {
     fn chain(&mut self, papers: &Papers, first: usize) -> Result<(), AllocError>
         requires within { first < length papers.now.students }
         requires fits { FitsBut papers.now (view_of R.keys R.seats self.old) (only (student_at papers.now first)) }
-        ensures { OnOk result (ChainEnds papers.now (view_of R.keys R.seats self.old) (view_of R.keys R.seats self.new) (student_at papers.now first)) }
+        ensures { OnOk result (ChainEnds papers.now (view_of R.keys R.seats self.old) (view_of R.keys R.seats self.new)
+            (student_at papers.now first)) }
     {
         let mut proposer = first;
         while let Some(out) = self.propose(papers, proposer)? {
@@ -112,8 +120,10 @@ impl<R: Roll> Round<R> {
     ) -> Result<(), AllocError>
         requires within { first < length papers.now.students }
         requires fits { FitsBut papers.now (view_of R.keys R.seats self.old) (only (student_at papers.now first)) }
-        requires next { IsProposal papers.now (student_at papers.now first) (next_of papers.now self.old.ranks (student_at papers.now first)) proposal }
-        ensures { OnOk result (ChainEnds papers.now (view_of R.keys R.seats self.old) (view_of R.keys R.seats self.new) (student_at papers.now first)) }
+        requires next { IsProposal papers.now (student_at papers.now first)
+            (next_of papers.now self.old.ranks (student_at papers.now first)) proposal }
+        ensures { OnOk result (ChainEnds papers.now (view_of R.keys R.seats self.old) (view_of R.keys R.seats self.new)
+            (student_at papers.now first)) }
     {
         if let Some(out) = self.propose_with(papers, first, proposal)? {
             self.chain(papers, out)?;
@@ -132,8 +142,9 @@ impl<R: Roll> Round<R> {
         requires fits { Fits papers.now (view_of R.keys R.seats self.old) }
         requires stands { position (nat_eq student) (students_of papers.now) ≡ Some at }
         requires absent { has_entered papers.now self.old.ranks student ≡ false }
-        requires first { IsProposal papers.now student (first_choice papers.now student) first }
-        ensures { OnOk result (Enters papers.now (view_of R.keys R.seats self.old) (view_of R.keys R.seats self.new) student) }
+        requires first { IsFirstProposal papers.now student first }
+        ensures { OnOk result (Enters papers.now (view_of R.keys R.seats self.old)
+            (view_of R.keys R.seats self.new) student) }
     {
         self.hints.note(student, at);
         self.ranks.make_room(at)?;

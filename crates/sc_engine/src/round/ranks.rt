@@ -56,7 +56,8 @@ fn rank_at(ranks: &[Option<u8>], at: usize) -> Option<usize>
 /// The choice at which the student at the position stands.
 fn choice_at(ranks: &[Option<u8>], papers: &Papers, at: usize) -> Option<SchoolNo>
     requires { at < length papers.now.students }
-    ensures { (i : ℕ) → position (nat_eq i) (students_of papers.now) ≡ Some at → result ≡ next_of papers.now ranks.now i }
+    ensures { (i : ℕ) → position (nat_eq i) (students_of papers.now) ≡ Some at
+        → result ≡ next_of papers.now ranks.now i }
 {
     let rank = rank_at(ranks, at)?;
     papers.choice_at(at, rank)
@@ -65,7 +66,8 @@ fn choice_at(ranks: &[Option<u8>], papers: &Papers, at: usize) -> Option<SchoolN
 /// The choice at which the student at the position stands, with its position and the student's key there.
 pub(super) fn proposal_of(ranks: &[Option<u8>], papers: &Papers, at: usize) -> Option<Proposal>
     requires { at < length papers.now.students }
-    ensures { (i : ℕ) → position (nat_eq i) (students_of papers.now) ≡ Some at → IsProposal papers.now i (next_of papers.now ranks.now i) result }
+    ensures { (i : ℕ) → position (nat_eq i) (students_of papers.now) ≡ Some at
+        → IsProposal papers.now i (next_of papers.now ranks.now i) result }
 {
     let rank = rank_at(ranks, at)?;
     papers.proposal(at, rank)

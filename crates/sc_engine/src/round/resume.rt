@@ -77,8 +77,10 @@ impl<R: Roll> Round<R> {
         requires student { is_student papers.now choice.student ≡ true }
         requires absent { has_entered papers.now self.old.ranks choice.student ≡ false }
         requires listed { IfSome choice.next (λ s. Contains (choices_of papers.now choice.student) s) }
-        requires room { IfSome choice.next (λ s. held papers.now (next_of papers.now self.old.ranks) s < seats_of papers.now s) }
-        ensures stands { OnOk result (StandsToo papers.now (view_of R.keys R.seats self.old) (view_of R.keys R.seats self.new) choice.student choice.next) }
+        requires room { IfSome choice.next (λ s. held papers.now
+            (next_of papers.now self.old.ranks) s < seats_of papers.now s) }
+        ensures stands { OnOk result (StandsToo papers.now (view_of R.keys R.seats self.old)
+            (view_of R.keys R.seats self.new) choice.student choice.next) }
         ensures spent { is_spent self.new ≡ is_spent self.old }
     {
         let at = position_near(papers, choice.student, position_guess);

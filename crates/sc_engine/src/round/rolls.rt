@@ -38,8 +38,10 @@ fn put_empty_roll<R: Roll>(
     seats: Seats,
 ) -> Result<(), AllocError>
     requires { at ≤ length rolls.old.items }
-    ensures own { OnOk result (roll_at (rolls_of R.keys R.seats rolls.new.items) at ≡ record { keys = []; seats = seats }) }
-    ensures others { OnOk result ((k : ℕ) → k < at → roll_at (rolls_of R.keys R.seats rolls.new.items) k ≡ roll_at (rolls_of R.keys R.seats rolls.old.items) k) }
+    ensures own { OnOk result (roll_at (rolls_of R.keys R.seats rolls.new.items) at
+        ≡ record { keys = []; seats = seats }) }
+    ensures others { OnOk result ((k : ℕ) → k < at
+        → roll_at (rolls_of R.keys R.seats rolls.new.items) k ≡ roll_at (rolls_of R.keys R.seats rolls.old.items) k) }
     ensures longer { OnOk result (at < length rolls.new.items) }
     ensures within { OnOk result ((n : ℕ) → at < n → length rolls.old.items ≤ n → length rolls.new.items ≤ n) }
 {
@@ -58,7 +60,8 @@ pub(super) fn renew_rolls<R: Roll>(
     papers: &Papers,
 ) -> Result<(), AllocError>
     ensures length { OnOk result (length rolls.new.items ≡ length papers.now.schools) }
-    ensures empty { OnOk result (AreEmpty papers.now (rolls_of R.keys R.seats rolls.new.items) (length papers.now.schools)) }
+    ensures empty { OnOk result (AreEmpty papers.now (rolls_of R.keys R.seats rolls.new.items)
+        (length papers.now.schools)) }
 {
     rolls.truncate(papers.schools_len());
     for position in 0..papers.schools_len() {
@@ -70,7 +73,8 @@ pub(super) fn renew_rolls<R: Roll>(
 /// A roll of its capacity for each school, on which nobody is.
 pub(super) fn empty_rolls<R: Roll>(alloc: Global, papers: &Papers) -> Result<Vec<R>, AllocError>
     ensures length { IfOk result (λ rolls. length rolls.items ≡ length papers.now.schools) }
-    ensures empty { IfOk result (λ rolls. AreEmpty papers.now (rolls_of R.keys R.seats rolls.items) (length papers.now.schools)) }
+    ensures empty { IfOk result (λ rolls. AreEmpty papers.now (rolls_of R.keys R.seats rolls.items)
+        (length papers.now.schools)) }
 {
     let mut rolls = Vec::with_capacity(alloc, papers.schools_len())?;
     renew_rolls(alloc, &mut rolls, papers)?;
@@ -81,7 +85,8 @@ pub(super) fn empty_rolls<R: Roll>(alloc: Global, papers: &Papers) -> Result<Vec
 fn is_refused<R: Roll>(rolls: &Vec<R>, at: usize, key: &Key) -> bool
     requires within { at < length rolls.now.items }
     requires new { ¬ Contains (roll_at (rolls_of R.keys R.seats rolls.now.items) at).keys key.now }
-    ensures { result ≡ true → OffersAt (rolls_of R.keys R.seats rolls.now.items) (rolls_of R.keys R.seats rolls.now.items) at key.now (Some key.now) }
+    ensures { result ≡ true → OffersAt (rolls_of R.keys R.seats rolls.now.items)
+        (rolls_of R.keys R.seats rolls.now.items) at key.now (Some key.now) }
 {
     rolls[at].refuses(key)
 }
@@ -94,7 +99,8 @@ pub(super) fn offer_to<R: Roll>(
 ) -> Result<Option<Key>, AllocError>
     requires within { at < length rolls.old.items }
     requires new { ¬ Contains (roll_at (rolls_of R.keys R.seats rolls.old.items) at).keys key }
-    ensures { IfOk result (λ out. OffersAt (rolls_of R.keys R.seats rolls.old.items) (rolls_of R.keys R.seats rolls.new.items) at key out) }
+    ensures { IfOk result (λ out. OffersAt (rolls_of R.keys R.seats rolls.old.items)
+        (rolls_of R.keys R.seats rolls.new.items) at key out) }
 {
     // Most offers are refused, and then nothing is changed or copied.
     if is_refused(rolls, at, &key) {

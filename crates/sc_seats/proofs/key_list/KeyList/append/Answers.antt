@@ -1,6 +1,6 @@
 use Rattle.std.proofs.Common.{Some, List, subst, sym, ◌∙◌}
 use Rattle.sc_papers.specs.declared.key.Key.{Key}
-use Rattle.sc_seats.specs.Last.{IsLastOf}
+use Rattle.sc_papers.specs.LastKey.{IsLastOf}
 use Rattle.sc_seats.proofs.Heaps.{last-renewed, last-stays}
 use Rattle.sc_seats.proofs.key_list.KeyList.append.Goals as goal
 
