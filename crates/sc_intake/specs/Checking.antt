@@ -125,9 +125,7 @@ faults_of_rows seed schools roster lists =
 -- those; none is told where a file has no rows that can be judged
 abbrev pub faults_together : List ℕ → (List SchoolRow → List SchoolRow) → Result (Judged (List SchoolRow)) IntakeFault → Result (Judged (List RosterRow)) IntakeFault → Result (Judged (List ListRow)) IntakeFault → List IntakeFault
 faults_together seed known (Ok schools) (Ok roster) (Ok lists) = faults_of_rows seed (known schools.good) roster.good lists.good
-faults_together seed known (Ok schools) (Ok roster) (Err fault) = []
-faults_together seed known (Ok schools) (Err fault) lists = []
-faults_together seed known (Err fault) roster lists = []
+faults_together seed known _ _ _ = []
 
 -- every fault of three files: of each alone, in the order schools, roster, lists, and then of what they say together
 abbrev pub faults_in : List ℕ → List ℕ → List ℕ → List ℕ → List IntakeFault

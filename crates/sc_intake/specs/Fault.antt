@@ -1,22 +1,14 @@
 -- Faults of inputs, and answers that may be want of memory.
 use Rattle.std.specs.Prelude.{◌≡◌, ◌⊎◌, ℕ, Result, Ok, Err}
 use Rattle.sc_intake.specs.declared.fault.Cause.{Cause}
-use Rattle.sc_intake.specs.declared.fault.Cause.TheVariants.{TooLong, Header, Fields, Number, Range, Twice, NoList, NotInRoster, Refused, OutOfMemory}
+use Rattle.sc_intake.specs.declared.fault.Cause.TheVariants.{OutOfMemory}
 use Rattle.sc_intake.specs.declared.fault.IntakeFault.{IntakeFault}
 use Rattle.sc_intake.specs.declared.fault.Source.{Source}
 
 -- the row that is named with a cause: want of memory is of no row
 abbrev pub row_of : ℕ → Cause → ℕ
-row_of row TooLong = row
-row_of row Header = row
-row_of row Fields = row
-row_of row Number = row
-row_of row Range = row
-row_of row Twice = row
-row_of row NoList = row
-row_of row NotInRoster = row
-row_of row (Refused r) = row
 row_of row OutOfMemory = 0
+row_of row _ = row
 
 -- the fault of a row of an input
 abbrev pub fault_at : Source → ℕ → Cause → IntakeFault

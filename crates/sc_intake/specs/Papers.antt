@@ -8,7 +8,7 @@ use Rattle.sc_papers.specs.Verdict.{after, verdict}
 use Rattle.sc_papers.specs.declared.amendment.Amendment.{Amendment}
 use Rattle.sc_papers.specs.declared.amendment.Amendment.TheVariants.{Enter}
 use Rattle.sc_papers.specs.declared.amendment.Refusal.{Refusal}
-use Rattle.sc_papers.specs.declared.amendment.Refusal.TheVariants.{Shape, UnknownStudent, StudentExists, EmptyList, ListTooLong, UnknownSchool, SchoolTwice, RosterFull, TooManySeats, TooFewSeats, OutOfMemory, Stale, Spent}
+use Rattle.sc_papers.specs.declared.amendment.Refusal.TheVariants.{OutOfMemory}
 use Rattle.sc_intake.specs.Fault.{◌>>=◌, fault_at, no_memory}
 use Rattle.sc_intake.specs.File.{in_row}
 use Rattle.sc_intake.specs.declared.fault.Cause.{Cause}
@@ -34,18 +34,7 @@ list_of lists i = find (λ list. nat_eq i list.student) lists
 -- the cause of a student whom the papers refuse
 abbrev pub cause_of : Refusal → Cause
 cause_of OutOfMemory = no_room
-cause_of Shape = Refused Shape
-cause_of UnknownStudent = Refused UnknownStudent
-cause_of StudentExists = Refused StudentExists
-cause_of EmptyList = Refused EmptyList
-cause_of ListTooLong = Refused ListTooLong
-cause_of (UnknownSchool s) = Refused (UnknownSchool s)
-cause_of (SchoolTwice s) = Refused (SchoolTwice s)
-cause_of RosterFull = Refused RosterFull
-cause_of TooManySeats = Refused TooManySeats
-cause_of TooFewSeats = Refused TooFewSeats
-cause_of (Stale stamp) = Refused (Stale stamp)
-cause_of Spent = Refused Spent
+cause_of refusal = Refused refusal
 
 -- the papers after an amendment, unless it is refused
 abbrev pub unless_refused : Market → Amendment → Option Refusal → Result Market Cause

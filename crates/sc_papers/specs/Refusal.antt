@@ -38,19 +38,10 @@ name_of Spent = codes "Spent"
 
 -- the number that a refusal tells, if it tells one: the school that it names, or the record's stamp
 abbrev pub number_of : Refusal → Option ℕ
-number_of Shape = None
-number_of UnknownStudent = None
-number_of StudentExists = None
-number_of EmptyList = None
-number_of ListTooLong = None
 number_of (UnknownSchool s) = Some s
 number_of (SchoolTwice s) = Some s
-number_of RosterFull = None
-number_of TooManySeats = None
-number_of TooFewSeats = None
-number_of OutOfMemory = None
 number_of (Stale stamp) = Some stamp
-number_of Spent = None
+number_of _ = None
 
 -- a space and the number, or nothing for none
 abbrev pub number_words : Option ℕ → List ℕ

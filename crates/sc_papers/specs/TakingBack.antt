@@ -3,25 +3,17 @@ use Rattle.std.specs.Prelude.{◌≡◌, Bool, true, false, None}
 use Rattle.sc_papers.specs.Market.{Market}
 use Rattle.sc_papers.specs.Verdict.{after, verdict}
 use Rattle.sc_papers.specs.declared.amendment.Amendment.{Amendment}
-use Rattle.sc_papers.specs.declared.amendment.Amendment.TheVariants.{Enter, Withdraw, Rerank, Add, Close, Correct}
+use Rattle.sc_papers.specs.declared.amendment.Amendment.TheVariants.{Enter, Withdraw}
 
 -- whether a student enters, which alone takes memory
 abbrev pub is_entry : Amendment → Bool
 is_entry (Enter i zone siblings choices continuing) = true
-is_entry (Withdraw i) = false
-is_entry (Rerank i choices) = false
-is_entry (Add s count) = false
-is_entry (Close s count) = false
-is_entry (Correct i zone siblings continuing) = false
+is_entry _ = false
 
 -- whether a student withdraws: they come back only by entering
 abbrev pub is_withdrawal : Amendment → Bool
-is_withdrawal (Enter i zone siblings choices continuing) = false
 is_withdrawal (Withdraw i) = true
-is_withdrawal (Rerank i choices) = false
-is_withdrawal (Add s count) = false
-is_withdrawal (Close s count) = false
-is_withdrawal (Correct i zone siblings continuing) = false
+is_withdrawal _ = false
 
 -- an amendment takes the papers of now back to those before: it is allowed, takes no memory, and leaves
 -- them as they were

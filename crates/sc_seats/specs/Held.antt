@@ -13,5 +13,4 @@ keys_of (Heaped keys) = keys
 -- whether they are kept as a heap
 abbrev pub is_heap : Held → Bool
 is_heap (Heaped keys) = true
-is_heap (Listed keys) = false
-is_heap (Nobody memory) = false
+is_heap _ = false
