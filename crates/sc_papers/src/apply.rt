@@ -20,7 +20,8 @@ impl Papers {
         ensures allowed { OnOk result (verdict self.old amendment ≡ None) }
         ensures accepted { OnOk result (self.new ≡ after self.old amendment) }
         ensures refused { IfErr result (IsRefusal (verdict self.old amendment)) }
-        ensures memory { IfErr result (λ refusal. is_entry amendment ≡ false → verdict self.old amendment ≡ Some refusal) }
+        ensures memory { IfErr result (λ refusal. is_entry amendment ≡ false
+            → verdict self.old amendment ≡ Some refusal) }
         ensures unchanged { OnErr result (self.new ≡ self.old) }
     {
         match amendment {

@@ -62,7 +62,8 @@ impl Assignment {
         school: Option<SchoolNo>,
     ) -> Result<(), AllocError>
         requires { assigned self.old student ≡ None }
-        ensures given { OnOk result ((j : ℕ) → assigned self.new j ≡ (if nat_eq j student then school else assigned self.old j)) }
+        ensures given { OnOk result ((j : ℕ)
+            → assigned self.new j ≡ (if nat_eq j student then school else assigned self.old j)) }
         ensures unchanged { OnErr result (self.new ≡ self.old) }
     {
         if let Some(school) = school {
@@ -74,8 +75,10 @@ impl Assignment {
     /// Gives a student who has a school another one, or none; one who has none stays without. It takes no
     /// memory. In constant time. Where the student is to have none, the last pair takes the place of theirs.
     pub fn move_to(&mut self, student: StudentNumber, school: Option<SchoolNo>)
-        ensures moved { (j : ℕ) → assigned self.new j ≡ (if nat_eq j student && is_some (assigned self.old j) then school else assigned self.old j) }
-        ensures counted { (s : ℕ) → holders self.new s + holding (assigned self.old) s student ≡ holders self.old s + holding (assigned self.new) s student }
+        ensures moved { (j : ℕ) → assigned self.new j
+            ≡ (if nat_eq j student && is_some (assigned self.old j) then school else assigned self.old j) }
+        ensures counted { (s : ℕ) → holders self.new s + holding (assigned self.old) s student
+            ≡ holders self.old s + holding (assigned self.new) s student }
     {
         match school {
             Some(school) => self.replace(student, school),
@@ -85,8 +88,10 @@ impl Assignment {
 
     /// Gives a student who has a school this one instead.
     fn replace(&mut self, student: StudentNumber, school: SchoolNo)
-        ensures moved { (j : ℕ) → assigned self.new j ≡ (if nat_eq j student && is_some (assigned self.old j) then Some school else assigned self.old j) }
-        ensures counted { (s : ℕ) → holders self.new s + holding (assigned self.old) s student ≡ holders self.old s + holding (assigned self.new) s student }
+        ensures moved { (j : ℕ) → assigned self.new j
+            ≡ (if nat_eq j student && is_some (assigned self.old j) then Some school else assigned self.old j) }
+        ensures counted { (s : ℕ) → holders self.new s + holding (assigned self.old) s student
+            ≡ holders self.old s + holding (assigned self.new) s student }
     {
         if let Some(place) = self.places.get_mut(&student) {
             *place = school;
@@ -95,8 +100,10 @@ impl Assignment {
 
     /// Takes a student's school away, if there is one.
     fn remove(&mut self, student: StudentNumber)
-        ensures moved { (j : ℕ) → assigned self.new j ≡ (if nat_eq j student && is_some (assigned self.old j) then None else assigned self.old j) }
-        ensures counted { (s : ℕ) → holders self.new s + holding (assigned self.old) s student ≡ holders self.old s + holding (assigned self.new) s student }
+        ensures moved { (j : ℕ) → assigned self.new j
+            ≡ (if nat_eq j student && is_some (assigned self.old j) then None else assigned self.old j) }
+        ensures counted { (s : ℕ) → holders self.new s + holding (assigned self.old) s student
+            ≡ holders self.old s + holding (assigned self.new) s student }
     {
         let _ = self.places.swap_remove(&student);
     }
@@ -104,7 +111,8 @@ impl Assignment {
     /// Takes the last pair away, such as the one that was put last: so a growth that is refused later can
     /// leave what was there before. Where there is none, it does nothing. It takes no memory. In constant time.
     pub fn take_last(&mut self)
-        ensures pair { (pairs : List (ℕ × ℕ)) (student school : ℕ) → self.old ≡ pairs ++ (student, school) ∷ [] → self.new ≡ pairs }
+        ensures pair { (pairs : List (ℕ × ℕ)) (student school : ℕ) → self.old ≡ pairs ++ (student, school) ∷ []
+            → self.new ≡ pairs }
         ensures none { self.old ≡ [] → self.new ≡ [] }
     {
         let _ = self.places.pop();

@@ -124,7 +124,8 @@ pub(crate) fn check_enter(
     choices: &[SchoolNo],
     continuing: Option<SchoolNo>,
 ) -> Result<(), Refusal>
-    ensures { result ≡ unless_refused (first_of (objections_to_enter papers.now student siblings.now choices.now continuing)) }
+    ensures { result ≡ unless_refused
+        (first_of (objections_to_enter papers.now student siblings.now choices.now continuing)) }
 {
     if papers.student(student).is_some() {
         return Err(Refusal::StudentExists);

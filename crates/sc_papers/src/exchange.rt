@@ -24,7 +24,8 @@ impl Papers {
         ensures accepted { OnOk result (self.new ≡ after self.old amendment) }
         ensures back { IfOk result (λ back. TakesBack self.old self.new back) }
         ensures refused { IfErr result (IsRefusal (verdict self.old amendment)) }
-        ensures memory { IfErr result (λ refusal. is_entry amendment ≡ false → verdict self.old amendment ≡ Some refusal) }
+        ensures memory { IfErr result (λ refusal. is_entry amendment ≡ false
+            → verdict self.old amendment ≡ Some refusal) }
         ensures unchanged { OnErr result (self.new ≡ self.old) }
     {
         // This call tells that the papers are well-formed and within their limits, and so are the lists that

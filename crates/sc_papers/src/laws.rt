@@ -53,7 +53,8 @@ pub fn comparison_says_who_is_ahead()
 /// The matching of every settled log is student-optimal, whoever made the log (Gale and Shapley,
 /// Theorem 2). So a settled log certifies its matching.
 pub fn settled_log_is_student_optimal()
-    ensures { (m : Market) (log : List Rejection) → WellFormed m → IsSettled m log → IsStudentOptimal m (matching_of m log) }
+    ensures { (m : Market) (log : List Rejection) → WellFormed m → IsSettled m log
+        → IsStudentOptimal m (matching_of m log) }
 {}
 
 /// Two student-optimal matchings of the same papers give every student the same.
@@ -70,26 +71,36 @@ pub fn settled_log_exists()
 
 /// Every settled log of the same papers rejects the same students at the same schools, in some order.
 pub fn settled_logs_reject_the_same()
-    ensures rejected { (m : Market) (log other : List Rejection) → WellFormed m → IsSettled m log → IsSettled m other → (i s : ℕ) → is_rejected log i s ≡ is_rejected other i s }
-    ensures length { (m : Market) (log other : List Rejection) → WellFormed m → IsSettled m log → IsSettled m other → length log ≡ length other }
+    ensures rejected { (m : Market) (log other : List Rejection) → WellFormed m → IsSettled m log → IsSettled m other
+        → (i s : ℕ) → is_rejected log i s ≡ is_rejected other i s }
+    ensures length { (m : Market) (log other : List Rejection) → WellFormed m → IsSettled m log → IsSettled m other
+        → length log ≡ length other }
 {}
 
 /// The entries of a valid log and the students that it places are no more than all choices.
 pub fn valid_log_is_bounded()
-    ensures { (m : Market) (log : List Rejection) → WellFormed m → IsValidLog m log → length log + placed m (matching_of m log) ≤ all_choices m }
+    ensures { (m : Market) (log : List Rejection) → WellFormed m → IsValidLog m log
+        → length log + placed m (matching_of m log) ≤ all_choices m }
 {}
 
 /// What follows a valid log depends on the next choices alone: what settles it settles each other valid
 /// log that leaves them the same.
 pub fn next_choices_decide_what_follows()
-    ensures settled { (m : Market) (log other rest : List Rejection) → WellFormed m → IsValidLog m log → IsValidLog m other → ((i : ℕ) → next_choice m log i ≡ next_choice m other i) → IsSettled m (log ++ rest) → IsSettled m (other ++ rest) }
-    ensures next { (m : Market) (log other rest : List Rejection) → WellFormed m → IsValidLog m log → IsValidLog m other → ((i : ℕ) → next_choice m log i ≡ next_choice m other i) → (i : ℕ) → next_choice m (log ++ rest) i ≡ next_choice m (other ++ rest) i }
+    ensures settled { (m : Market) (log other rest : List Rejection) → WellFormed m → IsValidLog m log
+        → IsValidLog m other → ((i : ℕ) → next_choice m log i ≡ next_choice m other i) → IsSettled m (log ++ rest)
+        → IsSettled m (other ++ rest) }
+    ensures next { (m : Market) (log other rest : List Rejection) → WellFormed m → IsValidLog m log → IsValidLog m other
+        → ((i : ℕ) → next_choice m log i ≡ next_choice m other i) → (i : ℕ)
+        → next_choice m (log ++ rest) i ≡ next_choice m (other ++ rest) i }
 {}
 
 /// A valid entry moves its student's next choice on by one place of the list, and no other student's.
 pub fn rejection_moves_one_student_on()
-    ensures own { (m : Market) (log : List Rejection) (entry : Rejection) (k : ℕ) → WellFormed m → IsValidLog m log → IsValidEntry m log entry → slice_get (choices_of m entry.student) k ≡ Some entry.school → next_choice m (log ++ entry ∷ []) entry.student ≡ slice_get (choices_of m entry.student) (k + 1) }
-    ensures others { (m : Market) (log : List Rejection) (entry : Rejection) (i : ℕ) → (entry.student ≡ i → ⊥) → next_choice m (log ++ entry ∷ []) i ≡ next_choice m log i }
+    ensures own { (m : Market) (log : List Rejection) (entry : Rejection) (k : ℕ) → WellFormed m → IsValidLog m log
+        → IsValidEntry m log entry → slice_get (choices_of m entry.student) k ≡ Some entry.school
+        → next_choice m (log ++ entry ∷ []) entry.student ≡ slice_get (choices_of m entry.student) (k + 1) }
+    ensures others { (m : Market) (log : List Rejection) (entry : Rejection) (i : ℕ) → (entry.student ≡ i → ⊥)
+        → next_choice m (log ++ entry ∷ []) i ≡ next_choice m log i }
 {}
 
 /// Papers cut at k are restricted to their first k students.
@@ -111,93 +122,122 @@ pub fn accepted_amendment_keeps_papers_well_formed()
 /// A student who enters has a chain in hand: a log that is settled for those who entered is in the
 /// course of a chain for them and the new student.
 pub fn entering_begins_a_chain()
-    ensures { (m : Market) (entered : ℕ → Bool) (i : ℕ) (log : List Rejection) → IsSettled (restricted m entered) log → InChain (restricted m (and_one entered i)) log i }
+    ensures { (m : Market) (entered : ℕ → Bool) (i : ℕ) (log : List Rejection) → IsSettled (restricted m entered) log
+        → InChain (restricted m (and_one entered i)) log i }
 {}
 
 /// A proposal to a full school, which puts its last student out, keeps the log valid and every other
 /// school within its seats: the log is in the course of the chain of the student put out.
 pub fn putting_out_keeps_a_chain()
-    ensures { (m : Market) (log : List Rejection) (hand : ℕ) (entry : Rejection) → WellFormed m → InChain m log hand → PutsOut m log hand entry.school entry.student → InChain m (log ++ entry ∷ []) entry.student }
+    ensures { (m : Market) (log : List Rejection) (hand : ℕ) (entry : Rejection) → WellFormed m → InChain m log hand
+        → PutsOut m log hand entry.school entry.student → InChain m (log ++ entry ∷ []) entry.student }
 {}
 
 /// A proposal to a school with room, or none where no choice is left, settles the log.
 pub fn end_of_a_chain_settles()
-    ensures { (m : Market) (log : List Rejection) (hand : ℕ) → WellFormed m → InChain m log hand → Ends m log hand → IsSettled m log }
+    ensures { (m : Market) (log : List Rejection) (hand : ℕ) → WellFormed m → InChain m log hand → Ends m log hand
+        → IsSettled m log }
 {}
 
 /// A log that is settled for those who entered, followed by a whole chain of a new student, is
 /// settled for those who entered and the new student.
 pub fn whole_chain_settles()
-    ensures { (m : Market) (entered : ℕ → Bool) (i : ℕ) (log chain : List Rejection) → WellFormed m → IsSettled (restricted m entered) log → IsChain (restricted m (and_one entered i)) log i chain → IsSettled (restricted m (and_one entered i)) (log ++ chain) }
+    ensures { (m : Market) (entered : ℕ → Bool) (i : ℕ) (log chain : List Rejection) → WellFormed m
+        → IsSettled (restricted m entered) log → IsChain (restricted m (and_one entered i)) log i chain
+        → IsSettled (restricted m (and_one entered i)) (log ++ chain) }
 {}
 
 /// A segmented log, joined, is settled, and the segments of the first k students with a chain of the
 /// next one are segments of the first k + 1.
 pub fn segments_follow_one_another()
-    ensures joined { (m : Market) (segments : List (List Rejection)) → IsSegmented m segments → IsSettled m (joined segments) }
-    ensures push { (m : Market) (k i : ℕ) (segments : List (List Rejection)) (chain : List Rejection) → WellFormed m → slice_get (students_of m) k ≡ Some i → IsSegmented (cut m k) segments → IsChain (cut m (k + 1)) (joined segments) i chain → IsSegmented (cut m (k + 1)) (segments ++ chain ∷ []) }
+    ensures joined { (m : Market) (segments : List (List Rejection)) → IsSegmented m segments
+        → IsSettled m (joined segments) }
+    ensures push { (m : Market) (k i : ℕ) (segments : List (List Rejection)) (chain : List Rejection) → WellFormed m
+        → slice_get (students_of m) k ≡ Some i → IsSegmented (cut m k) segments
+        → IsChain (cut m (k + 1)) (joined segments) i chain → IsSegmented (cut m (k + 1)) (segments ++ chain ∷ []) }
 {}
 
 /// Decomposition: where no student of a set lists a school that a student outside it lists, a log is
 /// settled exactly where its entries of the set are settled for the papers restricted to the set, and
 /// its other entries for the papers restricted to the rest.
 pub fn settled_log_falls_apart()
-    ensures { (m : Market) (test : ℕ → Bool) (log : List Rejection) → AreApart m test → (IsSettled m log ↔ (IsSettled (restricted m test) (entries_of test log) × IsSettled (restricted m (outside test)) (entries_of (outside test) log))) }
+    ensures { (m : Market) (test : ℕ → Bool) (log : List Rejection) → AreApart m test
+        → (IsSettled m log ↔ (IsSettled (restricted m test) (entries_of test log)
+        × IsSettled (restricted m (outside test)) (entries_of (outside test) log))) }
 {}
 
 /// Papers are alike up to k where only students from position k on have changed, or only the seats of a
 /// school that none of the first k students lists.
 pub fn late_changes_keep_papers_alike()
-    ensures students { (m n : Market) (k : ℕ) → n.seed ≡ m.seed → n.schools ≡ m.schools → take k n.students ≡ take k m.students → AlikeUpTo k m n }
-    ensures seats { (m n : Market) (k s : ℕ) → n.seed ≡ m.seed → n.students ≡ m.students → ((t : ℕ) → zone_at n t ≡ zone_at m t) → ((t : ℕ) → (t ≡ s → ⊥) → seats_of n t ≡ seats_of m t) → ((i : ℕ) → Contains (choices_of (cut m k) i) s → ⊥) → AlikeUpTo k m n }
+    ensures students { (m n : Market) (k : ℕ) → n.seed ≡ m.seed → n.schools ≡ m.schools
+        → take k n.students ≡ take k m.students → AlikeUpTo k m n }
+    ensures seats { (m n : Market) (k s : ℕ) → n.seed ≡ m.seed → n.students ≡ m.students
+        → ((t : ℕ) → zone_at n t ≡ zone_at m t) → ((t : ℕ) → (t ≡ s → ⊥) → seats_of n t ≡ seats_of m t)
+        → ((i : ℕ) → Contains (choices_of (cut m k) i) s → ⊥) → AlikeUpTo k m n }
 {}
 
 /// Rewinding: a log that is settled for papers cut at k is settled for others cut at k that are alike
 /// up to k. So the first k segments of a segmented log, joined, are settled for them.
 pub fn rewinding_keeps_a_settled_log()
-    ensures log { (m n : Market) (k : ℕ) (log : List Rejection) → AlikeUpTo k m n → IsSettled (cut m k) log → IsSettled (cut n k) log }
-    ensures segments { (m n : Market) (k : ℕ) (segments : List (List Rejection)) → AlikeUpTo k m n → IsSegmented m segments → k ≤ length segments → IsSettled (cut n k) (joined (take k segments)) }
+    ensures log { (m n : Market) (k : ℕ) (log : List Rejection) → AlikeUpTo k m n → IsSettled (cut m k) log
+        → IsSettled (cut n k) log }
+    ensures segments { (m n : Market) (k : ℕ) (segments : List (List Rejection)) → AlikeUpTo k m n
+        → IsSegmented m segments → k ≤ length segments → IsSettled (cut n k) (joined (take k segments)) }
 {}
 
 /// The order of entry decides nothing: a matching is student-optimal for papers exactly where it is so
 /// for the same schools and students in another order.
 pub fn order_of_entry_decides_nothing()
-    ensures { (m n : Market) (a : Matching) → WellFormed m → IsReordering m n → (IsStudentOptimal m a ↔ IsStudentOptimal n a) }
+    ensures { (m n : Market) (a : Matching) → WellFormed m → IsReordering m n
+        → (IsStudentOptimal m a ↔ IsStudentOptimal n a) }
 {}
 
 /// Locality: where no student of a set lists a school that a student outside it lists, before and after a
 /// change, and papers change only within the set, every student outside has the same.
 pub fn nothing_changes_outside()
-    ensures { (m n : Market) (test : ℕ → Bool) (a b : Matching) → WellFormed m → WellFormed n → AreApart m test → AreApart n test → AlikeOutside test m n → IsStudentOptimal m a → IsStudentOptimal n b → (i : ℕ) → test i ≡ false → a i ≡ b i }
+    ensures { (m n : Market) (test : ℕ → Bool) (a b : Matching) → WellFormed m → WellFormed n → AreApart m test
+        → AreApart n test → AlikeOutside test m n → IsStudentOptimal m a → IsStudentOptimal n b → (i : ℕ)
+        → test i ≡ false → a i ≡ b i }
 {}
 
 /// The order of entry decides nothing about what anybody has: papers that are equal up to order have
 /// student-optimal matchings that give every student the same.
 pub fn papers_equal_up_to_order_leave_one_matching()
-    ensures { (m n : Market) (a b : Matching) → WellFormed m → IsReordering m n → IsStudentOptimal m a → IsStudentOptimal n b → (i : ℕ) → a i ≡ b i }
+    ensures { (m n : Market) (a b : Matching) → WellFormed m → IsReordering m n → IsStudentOptimal m a
+        → IsStudentOptimal n b → (i : ℕ) → a i ≡ b i }
 {}
 
 /// Amendments in turn: each is answered by its verdict in the papers after those before it, an accepted
 /// one is made, a refused one changes nothing, and the papers stay well-formed. So it is with every
 /// interleaving of several desks' lists.
 pub fn amendments_are_answered_in_turn()
-    ensures verdicts { (m : Market) (list : List Amendment) (k : ℕ) → slice_get (verdicts m list) k ≡ option_map (verdict (after_list m (take k list))) (slice_get list k) }
-    ensures accepted { (m : Market) (list : List Amendment) (a : Amendment) → verdict (after_list m list) a ≡ None → after_list m (list ++ a ∷ []) ≡ after (after_list m list) a }
-    ensures refused { (m : Market) (list : List Amendment) (a : Amendment) (refusal : Refusal) → verdict (after_list m list) a ≡ Some refusal → after_list m (list ++ a ∷ []) ≡ after_list m list }
+    ensures verdicts { (m : Market) (list : List Amendment) (k : ℕ)
+        → slice_get (verdicts m list) k ≡ option_map (verdict (after_list m (take k list))) (slice_get list k) }
+    ensures accepted { (m : Market) (list : List Amendment) (a : Amendment) → verdict (after_list m list) a ≡ None
+        → after_list m (list ++ a ∷ []) ≡ after (after_list m list) a }
+    ensures refused { (m : Market) (list : List Amendment) (a : Amendment) (refusal : Refusal)
+        → verdict (after_list m list) a ≡ Some refusal → after_list m (list ++ a ∷ []) ≡ after_list m list }
     ensures well_formed { (m : Market) (list : List Amendment) → WellFormed m → WellFormed (after_list m list) }
 {}
 
 /// An interleaving of several desks' lists has all their members, each once, and each list keeps its order
 /// in it.
 pub fn interleaving_has_each_member_once_in_order()
-    ensures members { (desks : List (List Amendment)) (woven : List Amendment) → IsInterleaving desks woven → IsPermutation (flat_map (λ list. list) desks) woven }
-    ensures order { (desks : List (List Amendment)) (woven : List Amendment) → IsInterleaving desks woven → All (λ list. StandsInOrder list woven) desks }
+    ensures members { (desks : List (List Amendment)) (woven : List Amendment) → IsInterleaving desks woven
+        → IsPermutation (flat_map (λ list. list) desks) woven }
+    ensures order { (desks : List (List Amendment)) (woven : List Amendment) → IsInterleaving desks woven
+        → All (λ list. StandsInOrder list woven) desks }
 {}
 
 /// The order of amendments decides nothing either, where it leaves the same papers: two lists of
 /// amendments of the same papers, or two interleavings of several desks' lists, after which the papers
 /// are equal up to order, leave every student the same.
 pub fn amendments_that_leave_the_same_papers_leave_one_matching()
-    ensures lists { (m : Market) (first second : List Amendment) (a b : Matching) → WellFormed m → IsReordering (after_list m first) (after_list m second) → IsStudentOptimal (after_list m first) a → IsStudentOptimal (after_list m second) b → (i : ℕ) → a i ≡ b i }
-    ensures interleavings { (m : Market) (desks : List (List Amendment)) (first second : List Amendment) (a b : Matching) → WellFormed m → IsInterleaving desks first → IsInterleaving desks second → IsReordering (after_list m first) (after_list m second) → IsStudentOptimal (after_list m first) a → IsStudentOptimal (after_list m second) b → (i : ℕ) → a i ≡ b i }
+    ensures lists { (m : Market) (first second : List Amendment) (a b : Matching) → WellFormed m
+        → IsReordering (after_list m first) (after_list m second) → IsStudentOptimal (after_list m first) a
+        → IsStudentOptimal (after_list m second) b → (i : ℕ) → a i ≡ b i }
+    ensures interleavings { (m : Market) (desks : List (List Amendment)) (first second : List Amendment)
+        (a b : Matching) → WellFormed m → IsInterleaving desks first → IsInterleaving desks second
+        → IsReordering (after_list m first) (after_list m second) → IsStudentOptimal (after_list m first) a
+        → IsStudentOptimal (after_list m second) b → (i : ℕ) → a i ≡ b i }
 {}

@@ -23,7 +23,8 @@ impl Papers {
     #[inline]
     pub fn proposal(&self, student: usize, rank: usize) -> Option<Proposal>
         requires { student < length self.now.students }
-        ensures school { option_map (λ p. p.school) result ≡ slice_get (choices_of self.now (student_at self.now student)) rank }
+        ensures school { option_map (λ p. p.school) result
+            ≡ slice_get (choices_of self.now (student_at self.now student)) rank }
         ensures position { IfSome result (λ p. position (nat_eq p.school) (schools_of self.now) ≡ Some p.position) }
         ensures key { IfSome result (λ p. p.key ≡ key_of self.now (student_at self.now student) p.school) }
     {

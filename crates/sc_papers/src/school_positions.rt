@@ -73,7 +73,8 @@ impl SchoolPositions {
     /// Gives a school a position, where there is room.
     pub(crate) fn put(&mut self, school: SchoolNo, position: u16)
         requires { school < length self.old }
-        ensures { (s : ℕ) → slice_index_or self.new s None ≡ (if nat_eq s school then Some position else slice_index_or self.old s None) }
+        ensures { (s : ℕ) → slice_index_or self.new s None
+            ≡ (if nat_eq s school then Some position else slice_index_or self.old s None) }
     {
         self.by_number[school.get() as usize] = Some(position);
     }

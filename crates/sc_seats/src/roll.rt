@@ -33,8 +33,10 @@ pub trait Roll: Drop {
     /// A refused growth changes nothing.
     fn offer(&mut self, key: Key) -> Result<Option<Key>, AllocError>
         requires { ¬ Contains (keys self.old) key }
-        ensures together { IfOk result (λ out. IsPermutation (key ∷ keys self.old) (option_to_list out ++ keys self.new)) }
-        ensures last { IfOk result (λ out. IfSome out (λ worst. All (λ held. is_before held worst ≡ true) (keys self.new))) }
+        ensures together { IfOk result (λ out. IsPermutation (key ∷ keys self.old)
+            (option_to_list out ++ keys self.new)) }
+        ensures last { IfOk result
+            (λ out. IfSome out (λ worst. All (λ held. is_before held worst ≡ true) (keys self.new))) }
         ensures full { IfOk result (λ out. IsSome out → length (keys self.old) ≡ seats self.old) }
         ensures unchanged { OnErr result (keys self.new ≡ keys self.old) }
         ensures capacity { seats self.new ≡ seats self.old }

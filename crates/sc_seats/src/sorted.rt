@@ -31,7 +31,8 @@ fn position_of(keys: &[Key], key: &Key) -> usize
     requires new { ¬ Contains keys.now key.now }
     ensures within { result ≤ length keys.now }
     ensures ahead { (k : ℕ) (d : Key) → k < result → is_before (slice_index_or keys.now k d) key.now ≡ true }
-    ensures behind { (k : ℕ) (d : Key) → result ≤ k → k < length keys.now → is_before key.now (slice_index_or keys.now k d) ≡ true }
+    ensures behind { (k : ℕ) (d : Key) → result ≤ k → k < length keys.now
+        → is_before key.now (slice_index_or keys.now k d) ≡ true }
 {
     match keys.binary_search(key) {
         Ok(position) => position,
