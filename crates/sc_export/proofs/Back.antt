@@ -22,7 +22,7 @@ use Rattle.sc_papers.specs.declared.records.Student.{Student}
 use Rattle.sc_papers.proofs.Unobjected.{none-first_of, none-no_choices, none-refuse_if, none-too_long, none-twice_in, none-unknown_in, none-unknown_school}
 use Rattle.sc_intake.specs.Blanks.{trimmed}
 use Rattle.sc_intake.specs.Fault.{◌>>=◌}
-use Rattle.sc_intake.specs.Field.{all_schools, as_school, as_school_or_none, as_seats, as_student, as_zone, list_of, number_of, number_or_none}
+use Rattle.sc_intake.specs.Field.{all_schools, as_school, as_school_or_none, as_seats, as_student, as_zone, numbers_in, number_of, number_or_none}
 use Rattle.sc_intake.specs.File.{after_header, records_in, rows_after, rows_in, text_at}
 use Rattle.sc_intake.specs.Lists as lists
 use Rattle.sc_intake.specs.Lists.{choices_of, list_number, lists_in, next_list}

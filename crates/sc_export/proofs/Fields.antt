@@ -16,7 +16,7 @@ use Rattle.sc_decimal.specs.Number.{has_leading_zero, read_number, read_plain_nu
 use Rattle.sc_decimal.proofs.Spelling.{number-decimal, own}
 use Rattle.sc_intake.specs.Blanks.{is_blank, trim_end, trim_start, trimmed}
 use Rattle.sc_intake.specs.Fault.{◌>>=◌}
-use Rattle.sc_intake.specs.Field.{all_schools, as_school, as_school_or_none, is_within, list_of, number_of, number_or_none, numbers_after, within, word_of, words, words_after}
+use Rattle.sc_intake.specs.Field.{all_schools, as_school, as_school_or_none, is_within, numbers_in, number_of, number_or_none, numbers_after, within, word_of, words, words_after}
 use Rattle.sc_intake.specs.declared.blanks.Blanks.TheVariants.{InLine}
 use Rattle.sc_intake.specs.declared.fault.Cause.{Cause}
 use Rattle.sc_intake.specs.declared.fault.Cause.TheVariants.{Number}
@@ -172,7 +172,7 @@ numbers-read earlier (x ∷ xs) ok =
     rw (number-reads x (omega arith))
     (numbers-read (earlier ++ x ∷ []) xs (All-tail IsSchool x xs ok) ∙ ap Ok (append_assoc earlier (x ∷ []) xs))
 
-pub list-reads : (xs : List ℕ) → All IsSchool xs → list_of (list_text xs) ≡ Ok xs
+pub list-reads : (xs : List ℕ) → All IsSchool xs → numbers_in (list_text xs) ≡ Ok xs
 unfolding numbers_after words_after
 list-reads [] ok = refl
 list-reads (x ∷ xs) ok = ap (numbers_after []) (list-words x xs ok) ∙ numbers-read [] (x ∷ xs) ok

@@ -6,11 +6,13 @@ use Rattle.std.proofs.lemmas.Grind.{flat_map-append}
 use Rattle.std.proofs.lemmas.List.Folds.{list_any-append}
 use Rattle.std.proofs.lemmas.List.{at_drop_all, at_drop_more, map-append, take_more}
 use Rattle.sc_papers.specs.Market.{Market}
-use Rattle.sc_intake.specs.Checking.{Judged, cause_in, fault_of, judged_from, known_from, named_school, script_faults_from, students_judged, unjudged, with_known, with_row}
+use Rattle.sc_intake.specs.Checking.{Judged, fault_of, judged_from, known_from, named_school, script_faults_from, students_judged, unjudged, with_known, with_row}
 use Rattle.sc_intake.specs.Fault.{fault_at}
 use Rattle.sc_intake.specs.Papers.{entered_by, is_in_roster, list_of}
 use Rattle.sc_intake.specs.Roster.{roster_number}
-use Rattle.sc_intake.specs.Rows.{added, AreNumbers}
+use Rattle.sc_intake.specs.Rows.{added}
+use Rattle.sc_intake.specs.Seen.{AreNumbers}
+use Rattle.sc_intake.specs.Sheets.{cause_in}
 use Rattle.sc_intake.specs.Script.{stamped_of}
 use Rattle.sc_intake.specs.Sheets.{with_told}
 use Rattle.sc_intake.specs.declared.fault.Cause.{Cause}

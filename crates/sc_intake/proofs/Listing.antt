@@ -5,7 +5,7 @@ use Rattle.std.specs.List.{list_all}
 use Rattle.std.proofs.lemmas.Bool.{and_right}
 use Rattle.std.proofs.lemmas.List.Folds.{list_all-append}
 use Rattle.sc_papers.specs.declared.school_no.TheConstants.SchoolNo.{GREATEST as greatest_school}
-use Rattle.sc_intake.specs.Field.{is_within, list_of, listed, number_of, numbers_after, word_of, words}
+use Rattle.sc_intake.specs.Field.{is_within, numbers_in, listed, number_of, numbers_after, word_of, words}
 use Rattle.sc_intake.specs.declared.fault.Cause.{Cause}
 use Rattle.sc_intake.specs.declared.fault.Cause.TheVariants.{Range}
 use Rattle.sc_intake.proofs.Words.{numbers-bad, numbers-last, numbers-more, numbers-word}
@@ -13,7 +13,7 @@ use Rattle.sc_intake.proofs.Words.{numbers-bad, numbers-last, numbers-more, numb
 -- the numbers before a place of a text; while each is a school's, they are the schools so far
 pub record SoFar (text : List ℕ) (start : ℕ) (schools : List ℕ) (in_range : Bool) : Type 0 where
   pub numbers : List ℕ
-  pub reading : list_of text ≡ numbers_after numbers (words (drop start text))
+  pub reading : numbers_in text ≡ numbers_after numbers (words (drop start text))
   pub ranged : list_all (is_within 1 greatest_school) numbers ≡ in_range
   pub same : in_range ≡ true → schools ≡ numbers
 
@@ -22,20 +22,20 @@ pub SoFar-none : (text : List ℕ) → SoFar text 0 [] true
 SoFar-none text = record { numbers = []; reading = refl; ranged = refl; same = λ _. refl }
 
 -- a reading that ends in an error
-pub listed-bad : (text : List ℕ) (e : Cause) → list_of text ≡ Err e → listed text ≡ Err e
+pub listed-bad : (text : List ℕ) (e : Cause) → numbers_in text ≡ Err e → listed text ≡ Err e
 listed-bad text e bad = rw bad refl
 
 -- a reading whose numbers are all schools'
-pub listed-whole : (text numbers : List ℕ) → list_of text ≡ Ok numbers → list_all (is_within 1 greatest_school) numbers ≡ true → listed text ≡ Ok (Ok numbers)
+pub listed-whole : (text numbers : List ℕ) → numbers_in text ≡ Ok numbers → list_all (is_within 1 greatest_school) numbers ≡ true → listed text ≡ Ok (Ok numbers)
 listed-whole text numbers reads all = rw reads (rw all refl)
 
-pub listed-out : (text numbers : List ℕ) → list_of text ≡ Ok numbers → list_all (is_within 1 greatest_school) numbers ≡ false → listed text ≡ Ok (Err Range)
+pub listed-out : (text numbers : List ℕ) → numbers_in text ≡ Ok numbers → list_all (is_within 1 greatest_school) numbers ≡ false → listed text ≡ Ok (Err Range)
 listed-out text numbers reads some = rw reads (rw some refl)
 
 -- the reading with a number more
 reading-more : (text : List ℕ) (start next : ℕ) (schools : List ℕ) (in_range : Bool) (piece : List ℕ) (n : ℕ) (so : SoFar text start schools in_range)
     → words (drop start text) ≡ word_of piece ++ words (drop next text) → 0 < length piece → number_of piece ≡ Ok n
-    → list_of text ≡ numbers_after (so.numbers ++ n ∷ []) (words (drop next text))
+    → numbers_in text ≡ numbers_after (so.numbers ++ n ∷ []) (words (drop next text))
 reading-more text start next schools in_range piece n so cut some number =
     so.reading ∙ ap (numbers_after so.numbers) cut ∙ numbers-word so.numbers piece (words (drop next text)) some ∙ numbers-more so.numbers piece (words (drop next text)) n number
 

@@ -14,12 +14,12 @@ use Rattle.sc_papers.specs.declared.amendment.Refusal.TheVariants.{StudentExists
 use Rattle.sc_papers.specs.declared.limits.TheConstants.{MOST_STUDENTS}
 use Rattle.sc_papers.proofs.Objections.{first_of-none, refuse_if-none}
 use Rattle.sc_intake.specs.Fault.{◌>>=◌}
-use Rattle.sc_intake.specs.File.{in_row, rows_after, rows_in}
+use Rattle.sc_intake.specs.File.{in_row, records_below, rows_after, rows_in}
 use Rattle.sc_intake.specs.Lists.{choices_of, is_list_header, list_number, lists_in, next_list}
 use Rattle.sc_intake.specs.Papers.{all_entered, entered_by, is_in_roster, list_of, opening, unless_refused}
 use Rattle.sc_intake.specs.Roster.{is_roster_header, next_student, roster_in, roster_number, student_of}
 use Rattle.sc_intake.specs.Rows.{added, next_row_at, row_at}
-use Rattle.sc_intake.specs.Together.{papers_below, records_below, AreReadTo, EntersBoth}
+use Rattle.sc_intake.specs.Together.{papers_below, AreReadTo, EntersBoth}
 use Rattle.sc_intake.specs.declared.fault.Cause.{Cause}
 use Rattle.sc_intake.specs.declared.fault.Source.{Source}
 use Rattle.sc_intake.specs.declared.fault.Source.TheVariants.{Roster, Lists}

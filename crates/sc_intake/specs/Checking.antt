@@ -6,14 +6,13 @@ use Rattle.sc_papers.specs.Market.{Market}
 use Rattle.sc_papers.specs.declared.limits.TheConstants.{MOST_SCHOOLS, MOST_STUDENTS}
 use Rattle.sc_intake.specs.Fault.{◌>>=◌, fault_at}
 use Rattle.sc_intake.specs.Field.{as_school, number_of}
-use Rattle.sc_intake.specs.File.{after_header, records_in, text_at}
+use Rattle.sc_intake.specs.File.{after_header, records_below, records_in, text_at}
 use Rattle.sc_intake.specs.Lists.{choices_of, is_list_header, list_number}
 use Rattle.sc_intake.specs.Papers.{entered_by, is_in_roster, list_of, opening}
 use Rattle.sc_intake.specs.Roster.{is_roster_header, roster_number, student_of}
 use Rattle.sc_intake.specs.Rows.{added, next_row_at}
 use Rattle.sc_intake.specs.Schools.{is_school_header, school_number, school_of}
 use Rattle.sc_intake.specs.Script.{stamped_of}
-use Rattle.sc_intake.specs.Together.{records_below}
 use Rattle.sc_intake.specs.declared.fault.Cause.{Cause}
 use Rattle.sc_intake.specs.declared.fault.Cause.TheVariants.{NotInRoster}
 use Rattle.sc_intake.specs.declared.fault.IntakeFault.{IntakeFault}
@@ -132,16 +131,6 @@ abbrev pub faults_in : List ℕ → List ℕ → List ℕ → List ℕ → List 
 faults_in seed schools roster lists =
     faults_alone (schools_judged schools) ++ faults_alone (roster_judged roster) ++ faults_alone (lists_judged lists)
     ++ faults_together seed (known_schools schools) (schools_judged schools) (roster_judged roster) (lists_judged lists)
-
--- the cause that a reading ends with, if there is one
-abbrev pub cause_in : {A : Type 0} → Result A Cause → Option Cause
-cause_in (Ok x) = None
-cause_in (Err cause) = Some cause
-
--- the fault of a row, where there is a cause
-abbrev pub fault_by : Source → ℕ → Option Cause → List IntakeFault
-fault_by source row None = []
-fault_by source row (Some cause) = fault_at source row cause ∷ []
 
 -- the fault of a row, where its reading has a cause
 abbrev pub fault_of : {A : Type 0} → Source → ℕ → Result A Cause → List IntakeFault

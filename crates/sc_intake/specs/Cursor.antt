@@ -1,4 +1,4 @@
--- Where a reader stands in a text that is cut into records.
+-- Where a reader stands in a text that is cut into records. Only the crate's own functions and their proofs need this.
 use Rattle.std.specs.Prelude.{◌≡◌, ℕ, Bool, List, [], ◌∷◌, MatchBool}
 
 -- the fields of the record read last, and the records after it

@@ -49,8 +49,8 @@ numbers_after earlier [] = Ok earlier
 numbers_after earlier (w ∷ ws) = number_of w >>= λ n. numbers_after (earlier ++ n ∷ []) ws
 
 -- the numbers of a list: a text of numbers with spaces between them
-abbrev pub list_of : List ℕ → Result (List ℕ) Cause
-list_of text = numbers_after [] (words text)
+abbrev pub numbers_in : List ℕ → Result (List ℕ) Cause
+numbers_in text = numbers_after [] (words text)
 
 -- a number is within a range
 abbrev pub is_within : ℕ → ℕ → ℕ → Bool
@@ -95,4 +95,4 @@ all_schools ns = if list_all (is_within 1 greatest_school) ns then Ok ns else Er
 
 -- what a list of schools reads as: its numbers have to be numbers before one of them is out of range
 abbrev pub listed : List ℕ → Result (Result (List ℕ) Cause) Cause
-listed text = list_of text >>= λ numbers. Ok (all_schools numbers)
+listed text = numbers_in text >>= λ numbers. Ok (all_schools numbers)

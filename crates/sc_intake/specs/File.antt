@@ -43,6 +43,10 @@ unfoldable pub after_header : Source → (List (List ℕ) → Bool) → List (Li
 after_header source is_header [] = Err (fault_at source 1 Header)
 after_header source is_header (fields ∷ rest) = if is_header fields then Ok (length fields, rest) else Err (fault_at source 1 Header)
 
+-- how many fields the header of a text has, and the records after it
+abbrev pub records_below : Source → (List (List ℕ) → Bool) → List ℕ → Result (ℕ × List (List (List ℕ))) IntakeFault
+records_below source is_header text = records_in source text >>= after_header source is_header
+
 -- the rows of a file, which begin at row 2 and are read by the number of the header's fields
 abbrev pub rows_in : {R : Type 0} → Source → (List (List ℕ) → Bool) → (ℕ → List R → List (List ℕ) → Result R Cause) → List ℕ → Result (List R) IntakeFault
 rows_in source is_header read text =

@@ -3,7 +3,7 @@ use Rattle.std.specs.Prelude.{ℕ, ◌==◌, Bool, ◌&&◌, List, length, codes
 use Rattle.std.specs.Str.{bytes_eq}
 use Rattle.sc_papers.specs.declared.limits.TheConstants.{MOST_STUDENTS}
 use Rattle.sc_intake.specs.Fault.{◌>>=◌}
-use Rattle.sc_intake.specs.Field.{all_schools, as_student, list_of, number_of}
+use Rattle.sc_intake.specs.Field.{all_schools, as_student, numbers_in, number_of}
 use Rattle.sc_intake.specs.File.{rows_in, text_at}
 use Rattle.sc_intake.specs.Rows.{next_row}
 use Rattle.sc_intake.specs.declared.fault.Cause.{Cause}
@@ -20,7 +20,7 @@ is_list_header fields =
 abbrev pub choices_of : ℕ → List (List ℕ) → Result ListRow Cause
 choices_of row fields = do
   a ← number_of (text_at fields 0)
-  b ← list_of (text_at fields 1)
+  b ← numbers_in (text_at fields 1)
   student ← as_student a
   choices ← all_schools b
   Ok (record { row = row; student = student; choices = choices })

@@ -69,10 +69,6 @@ is_in_roster roster i = list_any (λ row. nat_eq i row.student) roster
 abbrev pub first_not_in_roster : List RosterRow → List ListRow → Option ListRow
 first_not_in_roster roster lists = find (λ list. not (is_in_roster roster list.student)) lists
 
--- the first list whose student is not in the papers
-abbrev pub unknown_list : Market → List ListRow → Option ListRow
-unknown_list m lists = find (λ list. not (is_student m list.student)) lists
-
 -- papers with schools alone after the students of the roster have entered, unless a list is of nobody
 -- in the roster
 unfoldable pub filled : Market → List RosterRow → List ListRow → Result Market IntakeFault
@@ -94,6 +90,12 @@ papers_in seed schools roster lists = do
 -- want of memory in reading one of the three files, or in making their papers, which is told of the roster
 abbrev pub IsWantOfMemory : IntakeFault → Type 0
 IsWantOfMemory fault = (fault ≡ no_memory Schools) ⊎ ((fault ≡ no_memory Roster) ⊎ (fault ≡ no_memory Lists))
+
+-- Below: what only functions that are not public need.
+
+-- the first list whose student is not in the papers
+abbrev pub unknown_list : Market → List ListRow → Option ListRow
+unknown_list m lists = find (λ list. not (is_student m list.student)) lists
 
 -- the map gives the position of each student's row of the lists
 abbrev pub ArePositions : BTreeMap ℕ ℕ → List ListRow → List ListRow → Type 0

@@ -1,4 +1,5 @@
 -- What a text without a quote is cut into: each line that has a byte is a record, whose fields stand between commas.
+-- Contracts of readers see the records of `csv`: this is what their proofs go by, and how a fault's text finds a field.
 use Rattle.std.specs.Prelude.{◌≡◌, ℕ, ◌==◌, Bool, true, ◌||◌, List, [], ◌∷◌, ◌++◌, map, if◌then◌else◌, ⊤}
 
 -- LF and CR end a line

@@ -1,4 +1,5 @@
--- A reader of `csv` over a text: what is left, and what a read does.
+-- A reader of `csv` over a text: what is left, and what a read does. Only the crate's own functions
+-- and their proofs need this.
 use Rattle.std.specs.Prelude.{◌≡◌, ℕ, ◌+◌, true, List, [], ◌∷◌, length, Option, None, Some}
 use Rattle.std.specs.Borrow.{Bor}
 use Rattle.csv.specs.Reading.{Ready, default_config, is_flexible, reader_config, reader_state, reader_trim, records_from, source_of}

@@ -3,7 +3,7 @@ use Rattle.std.specs.Prelude.{ℕ, ◌==◌, Bool, ◌&&◌, ◌||◌, List, len
 use Rattle.std.specs.Str.{bytes_eq}
 use Rattle.sc_papers.specs.declared.limits.TheConstants.{MOST_STUDENTS}
 use Rattle.sc_intake.specs.Fault.{◌>>=◌}
-use Rattle.sc_intake.specs.Field.{all_schools, as_school_or_none, as_student, as_zone, list_of, number_of, number_or_none}
+use Rattle.sc_intake.specs.Field.{all_schools, as_school_or_none, as_student, as_zone, numbers_in, number_of, number_or_none}
 use Rattle.sc_intake.specs.File.{rows_in, text_at}
 use Rattle.sc_intake.specs.Rows.{next_row}
 use Rattle.sc_intake.specs.declared.fault.Cause.{Cause}
@@ -23,7 +23,7 @@ abbrev pub student_of : ℕ → List (List ℕ) → Result RosterRow Cause
 student_of row fields = do
   a ← number_of (text_at fields 0)
   b ← number_of (text_at fields 1)
-  c ← list_of (text_at fields 2)
+  c ← numbers_in (text_at fields 2)
   d ← number_or_none (text_at fields 3)
   student ← as_student a
   zone ← as_zone b

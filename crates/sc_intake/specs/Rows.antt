@@ -1,5 +1,5 @@
 -- Rows one after the other: what the next one reads as, and what is true of them together.
-use Rattle.std.specs.Prelude.{◌≡◌, ℕ, ◌+◌, ◌≤◌, ◌==◌, nat_eq, nat_le, List, [], ◌∷◌, ◌++◌, length, map, if◌then◌else◌, Result, Ok, Err}
+use Rattle.std.specs.Prelude.{ℕ, ◌+◌, ◌≤◌, ◌==◌, nat_eq, nat_le, List, [], ◌∷◌, ◌++◌, length, map, if◌then◌else◌, Result, Ok, Err}
 use Rattle.std.specs.List.{IsDistinct, list_any}
 use Rattle.sc_intake.specs.Fault.{◌>>=◌}
 use Rattle.sc_intake.specs.declared.fault.Cause.{Cause}
@@ -29,7 +29,3 @@ added earlier next = next >>= λ row. Ok (earlier ++ row ∷ [])
 pub record AreRows {R : Type 0} (number : R → ℕ) (most : ℕ) (rows : List R) : Type 0 where
   pub differ : IsDistinct nat_eq (map number rows)
   pub few : length rows ≤ most
-
--- these are the numbers of the rows, in any order
-abbrev pub AreNumbers : {R : Type 0} → (R → ℕ) → List R → List ℕ → Type 0
-AreNumbers number rows seen = (n : ℕ) → list_any (nat_eq n) seen ≡ list_any (nat_eq n) (map number rows)

@@ -12,7 +12,7 @@ use Rattle.sc_papers.specs.declared.school_no.TheConstants.SchoolNo.{GREATEST as
 use Rattle.sc_papers.specs.declared.stamp.TheConstants.Stamp.{GREATEST as greatest_stamp}
 use Rattle.sc_papers.specs.declared.zone.TheConstants.Zone.{GREATEST as greatest_zone}
 use Rattle.sc_intake.specs.Fault.{◌>>=◌}
-use Rattle.sc_intake.specs.Field.{all_schools, as_school_or_none, list_of, number_of, number_or_none, within}
+use Rattle.sc_intake.specs.Field.{all_schools, as_school_or_none, numbers_in, number_of, number_or_none, within}
 use Rattle.sc_intake.specs.File.{records_in, text_at}
 use Rattle.sc_intake.specs.declared.fault.Cause.{Cause}
 use Rattle.sc_intake.specs.declared.fault.Cause.TheVariants.{Fields}
@@ -45,7 +45,7 @@ count_at = number_at 1 greatest_count
 
 -- the list of schools that a field writes, of any length
 unfoldable pub list_at : List (List ℕ) → ℕ → Result (List ℕ) Cause
-list_at fields index = list_of (text_at fields index) >>= all_schools
+list_at fields index = numbers_in (text_at fields index) >>= all_schools
 
 -- the school's number that a field writes, or none where it is empty or not there
 abbrev pub school_or_none_at : List (List ℕ) → ℕ → Result (Option ℕ) Cause

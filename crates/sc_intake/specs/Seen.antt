@@ -1,5 +1,5 @@
 -- How the type `SeenNumbers` keeps the numbers of the rows so far. Other contracts see the numbers alone.
-use Rattle.std.specs.Prelude.{◌≡◌, ℕ, ◌<◌, ◌≤◌, true, nat_eq, List, ◌++◌, length, get_or}
+use Rattle.std.specs.Prelude.{◌≡◌, ℕ, ◌<◌, ◌≤◌, true, nat_eq, List, ◌++◌, length, map, get_or}
 use Rattle.std.specs.List.{list_any}
 use Rattle.sc_intake.specs.declared.seen.SeenNumbers.TheInside.{Inside}
 
@@ -19,3 +19,7 @@ AreBelow bound ns = (n : ℕ) → list_any (nat_eq n) ns ≡ true → n < bound
 pub record IsSound (i : Inside) : Type 0 where
   pub ascend : Ascend i.rising.items
   pub below : AreBelow i.bound (numbers_of i)
+
+-- these are the numbers of the rows, in any order
+abbrev pub AreNumbers : {R : Type 0} → (R → ℕ) → List R → List ℕ → Type 0
+AreNumbers number rows seen = (n : ℕ) → list_any (nat_eq n) seen ≡ list_any (nat_eq n) (map number rows)

@@ -1,12 +1,24 @@
 -- How files are kept while their faults are told. Other contracts see the faults that are left and the rows alone.
-use Rattle.std.specs.Prelude.{ℕ, ◌+◌, ◌≤◌, List, [], ◌∷◌, ◌++◌, length, Option, None, Some, Result}
+use Rattle.std.specs.Prelude.{ℕ, ◌+◌, ◌≤◌, List, [], ◌∷◌, ◌++◌, length, Option, None, Some, Result, Ok, Err}
 use Rattle.sc_intake.specs.Checking.{judged_from, script_faults_from, unjudged, Judged, Judging}
-use Rattle.sc_intake.specs.Rows.{next_row_at, AreNumbers, AreRows}
+use Rattle.sc_intake.specs.Fault.{fault_at}
+use Rattle.sc_intake.specs.Rows.{next_row_at, AreRows}
+use Rattle.sc_intake.specs.Seen.{AreNumbers}
 use Rattle.sc_intake.specs.declared.fault.Cause.{Cause}
 use Rattle.sc_intake.specs.declared.fault.IntakeFault.{IntakeFault}
 use Rattle.sc_intake.specs.declared.fault.Source.{Source}
 use Rattle.sc_intake.specs.declared.script_faults.Unjudged.{Unjudged}
 use Rattle.sc_intake.specs.declared.sheet.Underway.{Underway}
+
+-- the cause that a reading ends with, if there is one
+abbrev pub cause_in : {A : Type 0} → Result A Cause → Option Cause
+cause_in (Ok x) = None
+cause_in (Err cause) = Some cause
+
+-- the fault of a row, where there is a cause
+abbrev pub fault_by : Source → ℕ → Option Cause → List IntakeFault
+fault_by source row None = []
+fault_by source row (Some cause) = fault_at source row cause ∷ []
 
 -- the fault that was found, if there was one
 abbrev pub told_by : Option IntakeFault → List IntakeFault

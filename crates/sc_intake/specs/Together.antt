@@ -1,22 +1,17 @@
--- The roster and the lists read together, row by row.
-use Rattle.std.specs.Prelude.{◌≡◌, ℕ, ◌+◌, Bool, List, [], length, map, Some, Result, Ok}
+-- The roster and the lists read together, row by row. Only the crate's own functions and their proofs need this.
+use Rattle.std.specs.Prelude.{◌≡◌, ℕ, ◌+◌, List, [], length, map, Some, Result, Ok}
 use Rattle.sc_papers.specs.Market.{Market}
 use Rattle.sc_intake.specs.Fault.{◌>>=◌}
-use Rattle.sc_intake.specs.File.{after_header, records_in, rows_after}
+use Rattle.sc_intake.specs.File.{rows_after}
 use Rattle.sc_intake.specs.Lists.{choices_of, list_number, lists_in, next_list}
 use Rattle.sc_intake.specs.Papers.{all_entered, entered_by, papers_of}
 use Rattle.sc_intake.specs.Roster.{next_student, roster_in, roster_number, student_of}
 use Rattle.sc_intake.specs.Rows.{row_at}
 use Rattle.sc_intake.specs.declared.fault.IntakeFault.{IntakeFault}
-use Rattle.sc_intake.specs.declared.fault.Source.{Source}
 use Rattle.sc_intake.specs.declared.fault.Source.TheVariants.{Roster, Lists}
 use Rattle.sc_intake.specs.declared.lists.ListRow.{ListRow}
 use Rattle.sc_intake.specs.declared.roster.RosterRow.{RosterRow}
 use Rattle.sc_intake.specs.declared.schools.SchoolRow.{SchoolRow}
-
--- how many fields the header of a text has, and the records after it
-abbrev pub records_below : Source → (List (List ℕ) → Bool) → List ℕ → Result (ℕ × List (List (List ℕ))) IntakeFault
-records_below source is_header text = records_in source text >>= after_header source is_header
 
 -- the papers that a roster and lists make under these schools, or the first fault
 abbrev pub papers_below : List ℕ → List SchoolRow → List ℕ → List ℕ → Result Market IntakeFault

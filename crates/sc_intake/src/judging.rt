@@ -6,7 +6,7 @@ ghost use Rattle.sc_intake.specs.Checking.{faults_of_list, faults_of_rows, stude
 ghost use Rattle.sc_intake.specs.Fault.{fault_at};
 ghost use Rattle.sc_intake.specs.Papers.{entered_by, ArePositions};
 ghost use Rattle.sc_intake.specs.Roster.{roster_number};
-ghost use Rattle.sc_intake.specs.Rows.{AreNumbers};
+ghost use Rattle.sc_intake.specs.Seen.{AreNumbers};
 ghost use Rattle.sc_intake.specs.declared.fault.Cause.TheVariants.{NotInRoster, OutOfMemory};
 ghost use Rattle.sc_intake.specs.declared.fault.Source.TheVariants as source;
 

@@ -3,7 +3,8 @@
 ghost use Rattle.std.specs.Prelude.{◌≡◌, ◌≤◌, ◌+◌, length, IfOk, OnOk, Some};
 ghost use Rattle.sc_papers.specs.declared.limits.TheConstants.{MOST_SCHOOLS};
 ghost use Rattle.sc_intake.specs.Checking.{known_from, known_schools, named_school, with_known};
-ghost use Rattle.sc_intake.specs.Rows.{AreNumbers, AreRows};
+ghost use Rattle.sc_intake.specs.Rows.{AreRows};
+ghost use Rattle.sc_intake.specs.Seen.{AreNumbers};
 ghost use Rattle.sc_intake.specs.Schools.{school_number};
 ghost use Rattle.sc_intake.specs.declared.input.TheConstants.{MOST_BYTES};
 

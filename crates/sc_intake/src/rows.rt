@@ -3,7 +3,8 @@
 ghost use Rattle.std.specs.Prelude.{◌≡◌, ℕ, ◌+◌, ◌≤◌, Bool, List, [], ◌≢◌, length, IfErr, IfOk, OnOk, Result as Reading};
 ghost use Rattle.sc_intake.specs.Fault.{Gives, no_memory};
 ghost use Rattle.sc_intake.specs.File.{after_header, rows_after, rows_in};
-ghost use Rattle.sc_intake.specs.Rows.{added, next_row, next_row_at, AreNumbers, AreRows};
+ghost use Rattle.sc_intake.specs.Rows.{added, next_row, next_row_at, AreRows};
+ghost use Rattle.sc_intake.specs.Seen.{AreNumbers};
 ghost use Rattle.sc_intake.specs.declared.fault.Cause.{Cause as Why};
 ghost use Rattle.sc_intake.specs.declared.fault.Cause.TheVariants.{OutOfMemory};
 ghost use Rattle.sc_intake.specs.declared.fault.Source.{Source as Input};

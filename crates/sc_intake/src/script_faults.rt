@@ -1,7 +1,8 @@
 //! A script, judged record by record: its faults one after the other.
 
 ghost use Rattle.std.specs.Prelude.{◌≡◌, ◌∷◌, ◌≤◌, ◌+◌, [], length, IfOk, IfSome, MatchOption};
-ghost use Rattle.sc_intake.specs.Checking.{cause_in, script_faults, script_faults_from};
+ghost use Rattle.sc_intake.specs.Checking.{script_faults, script_faults_from};
+ghost use Rattle.sc_intake.specs.Sheets.{cause_in};
 ghost use Rattle.sc_intake.specs.Fault.{fault_at};
 ghost use Rattle.sc_intake.specs.Script.{stamped_of};
 ghost use Rattle.sc_intake.specs.declared.fault.Source.TheVariants as source;

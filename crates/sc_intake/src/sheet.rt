@@ -1,10 +1,11 @@
 //! A file of rows, judged row by row: its faults one after the other, and then the rows that have none.
 
 ghost use Rattle.std.specs.Prelude.{◌≡◌, ◌≢◌, ◌∷◌, ◌≤◌, ◌+◌, [], length, IfOk, IfSome, MatchOption, OnOk};
-ghost use Rattle.sc_intake.specs.Checking.{fault_by, faults_alone, good_of, judged_in, lists_judged, roster_judged, schools_judged, unjudged, with_row};
+ghost use Rattle.sc_intake.specs.Checking.{faults_alone, good_of, judged_in, lists_judged, roster_judged, schools_judged, unjudged, with_row};
 ghost use Rattle.sc_intake.specs.Fault.{Gives, fault_at, no_memory};
-ghost use Rattle.sc_intake.specs.Rows.{added, next_row_at, AreNumbers, AreRows};
-ghost use Rattle.sc_intake.specs.Sheets.{left_from, left_of, with_told, IsSound};
+ghost use Rattle.sc_intake.specs.Rows.{added, next_row_at, AreRows};
+ghost use Rattle.sc_intake.specs.Seen.{AreNumbers};
+ghost use Rattle.sc_intake.specs.Sheets.{fault_by, left_from, left_of, with_told, IsSound};
 ghost use Rattle.sc_intake.specs.declared.fault.Cause.TheVariants.{OutOfMemory};
 
 use crate::fault::{Cause, IntakeFault};

@@ -3,11 +3,10 @@
 ghost use Rattle.std.specs.Prelude.{◌≡◌, ◌⊎◌, [], Err, IfErr, IfOk, IfSome, Ok};
 ghost use Rattle.std.specs.Bool.{OnTrue};
 ghost use Rattle.sc_intake.specs.Cursor.{ReadsNext};
-ghost use Rattle.sc_intake.specs.Lists.{choices_of};
+ghost use Rattle.sc_intake.specs.File.{records_below};
 ghost use Rattle.sc_intake.specs.Papers.{papers_in, IsWantOfMemory};
-ghost use Rattle.sc_intake.specs.Roster.{student_of};
 ghost use Rattle.sc_intake.specs.Rows.{row_at};
-ghost use Rattle.sc_intake.specs.Together.{papers_below, records_below, AreReadTo, EntersBoth};
+ghost use Rattle.sc_intake.specs.Together.{papers_below, AreReadTo, EntersBoth};
 
 use crate::byte_count::count_of;
 use crate::fault::IntakeFault;

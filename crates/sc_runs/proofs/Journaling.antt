@@ -12,7 +12,7 @@ use Rattle.sc_papers.specs.declared.amendment.Refusal.{Refusal}
 use Rattle.sc_papers.specs.declared.amendment.Stamped.{Stamped}
 use Rattle.sc_stamps.specs.Verdict.{StampedPapers, after_stamped_verdict, stamped_verdict, unamended}
 use Rattle.sc_intake.specs.Fault.{◌>>=◌}
-use Rattle.sc_intake.specs.Field.{all_schools, as_school, as_school_or_none, is_within, list_of, number_of, number_or_none, within}
+use Rattle.sc_intake.specs.Field.{all_schools, as_school, as_school_or_none, is_within, numbers_in, number_of, number_or_none, within}
 use Rattle.sc_intake.specs.File.{text_at, records_in}
 use Rattle.sc_intake.specs.Script.{add_of, amendment_of, close_of, correct_of, count_at, enter_of, list_at, number_at, or_shape, rerank_of, school_at, school_or_none_at, script_in, stamp_at, stamped_in, stamped_of, student_at, withdraw_of, zone_at}
 use Rattle.sc_intake.specs.declared.fault.Cause.{Cause}
@@ -121,7 +121,7 @@ All-schools (n ∷ ns) is =
 list_at-ranged : (fields : List (List ℕ)) (place : ℕ) (schools : List ℕ) → list_at fields place ≡ Ok schools → All IsSchool schools
 unfolding list_at
 list_at-ranged fields place schools is =
-    let (ns, read, ranged) = bind-ok (list_of (text_at fields place)) all_schools schools is in
+    let (ns, read, ranged) = bind-ok (numbers_in (text_at fields place)) all_schools schools is in
     let (tested, same) = schools-by (list_all (is_within 1 99999) ns) ns schools ranged in
     subst (All IsSchool) same (All-schools ns tested)
 

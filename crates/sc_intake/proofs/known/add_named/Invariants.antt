@@ -1,7 +1,8 @@
 use Rattle.std.proofs.Common.{◌≡◌, ◌+◌, length}
 use Rattle.sc_papers.specs.declared.limits.TheConstants.{MOST_SCHOOLS}
 use Rattle.sc_intake.specs.Checking.{known_from}
-use Rattle.sc_intake.specs.Rows.{AreNumbers, AreRows}
+use Rattle.sc_intake.specs.Rows.{AreRows}
+use Rattle.sc_intake.specs.Seen.{AreNumbers}
 use Rattle.sc_intake.specs.Schools.{school_number}
 use Rattle.sc_intake.proofs.known.add_named.Given as goal
 

@@ -1,6 +1,6 @@
 use Rattle.std.proofs.Common.{arith, subst}
 use Rattle.std.proofs.lemmas.List.{take_all}
-use Rattle.sc_intake.specs.Rows.{AreNumbers}
+use Rattle.sc_intake.specs.Seen.{AreNumbers}
 use Rattle.sc_intake.proofs.JudgingSteps.{AreNumbers-more}
 use Rattle.sc_intake.proofs.rows.numbers_of.Goals as goal
 

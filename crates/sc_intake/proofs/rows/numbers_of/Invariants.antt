@@ -1,5 +1,5 @@
 use Rattle.std.proofs.Common.{take}
-use Rattle.sc_intake.specs.Rows.{AreNumbers}
+use Rattle.sc_intake.specs.Seen.{AreNumbers}
 use Rattle.sc_intake.proofs.rows.numbers_of.Given as goal
 
 abbrev pub invariant-loop-row : goal.invariant-loop-row

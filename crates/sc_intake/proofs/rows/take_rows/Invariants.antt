@@ -1,6 +1,7 @@
 use Rattle.std.proofs.Common.{◌≡◌, ◌-◌, [], length}
 use Rattle.sc_intake.specs.File.{rows_after}
-use Rattle.sc_intake.specs.Rows.{next_row, AreNumbers, AreRows}
+use Rattle.sc_intake.specs.Rows.{next_row, AreRows}
+use Rattle.sc_intake.specs.Seen.{AreNumbers}
 use Rattle.sc_intake.proofs.rows.take_rows.Given as goal
 
 abbrev pub invariant-rows : goal.invariant-rows

@@ -1,6 +1,7 @@
 use Rattle.std.proofs.Common.{◌≡◌, ◌+◌, length}
 use Rattle.sc_intake.specs.Checking.{judged_from, unjudged}
-use Rattle.sc_intake.specs.Rows.{next_row_at, AreNumbers, AreRows}
+use Rattle.sc_intake.specs.Rows.{next_row_at, AreRows}
+use Rattle.sc_intake.specs.Seen.{AreNumbers}
 use Rattle.sc_intake.proofs.sheet.next_cause.Given as goal
 
 abbrev pub invariant-rows : goal.invariant-rows
