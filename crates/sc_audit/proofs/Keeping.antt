@@ -46,7 +46,7 @@ keys-own {m} {s} {test} {keys} key are held =
     let same : found.0 ≡ i = eqb-true found.0 i parts.0 in
     (subst (Contains (students_of m)) same found.1, subst (λ j. test j ≡ true) same parts.1, All-contains (λ k. k ≡ key_of m k.student s) keys key are.keyed held)
 
--- and who passes has its key there
+-- and who passes has their key there
 pub keys-hold : {m : Market} {s : ℕ} {test : ℕ → Bool} {keys : List Key} (i : ℕ) → AreKeysOf m s test keys → Contains (students_of m) i → test i ≡ true → Contains keys (key_of m i s)
 keys-hold {m} {s} {test} {keys} i are among passes =
     let one : 0 < count_by (λ (k : Key). k.student == i) keys =

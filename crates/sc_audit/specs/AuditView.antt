@@ -50,7 +50,7 @@ waiting_at m l i = option_and_then (past_at m l.kept i) (stand_of m l.stands i)
 abbrev pub waiting_school : Market → AuditView → ℕ → Option ℕ
 waiting_school m l i = option_map (λ (waiting : Waiting). waiting.school) (waiting_at m l i)
 
--- the rank at which a student waits, if it is at s
+-- the rank at which a student waits, if they do at s
 abbrev pub waiting_rank : Option Waiting → ℕ → Option ℕ
 waiting_rank None s = None
 waiting_rank (Some waiting) s = if waiting.school == s then Some waiting.rank else None

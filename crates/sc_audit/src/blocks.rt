@@ -54,7 +54,7 @@ fn end_at(
     None
 }
 
-/// The first of the choices that the student at the position prefers to what it has at which it would
+/// The first of the choices that the student at the position prefers to what they have at which they would
 /// be taken.
 fn earliest_block(
     tallies: &[Tally],
@@ -80,7 +80,7 @@ fn earliest_block(
     None
 }
 
-/// The block of the student, if it has one and its number is the least so far, and else the first so
+/// The block of the student, if they have one and their number is the least so far, and else the first so
 /// far.
 fn earlier(
     first: Option<(StudentNo, SchoolNo)>,
@@ -102,7 +102,7 @@ fn earlier(
     }
 }
 
-/// The student of the least number who blocks, and its earliest choice at which it does.
+/// The student of the least number who blocks, and their earliest choice at which they do.
 pub(crate) fn first_block(
     tallies: &[Tally],
     papers: &Papers,

@@ -18,8 +18,8 @@ use std::alloc::{AllocError, Global};
 /// a student and a school block.
 ///
 /// The only error is want of memory, and says nothing of the assignment. The cost is a pass over the
-/// assignment, and a few look-ups for each student and each choice that the student prefers to what it
-/// has. Memory is taken in proportion to the schools and the students.
+/// assignment, and a few look-ups for each student and each choice that the student prefers to what they
+/// have. Memory is taken in proportion to the schools and the students.
 pub fn check_stable(
     alloc: Global,
     papers: &Papers,

@@ -71,7 +71,7 @@ table-unlisted m students log e table none =
     table-kept m students log e table (λ at rank low at_student at_school.
     absurd (false≢true (sym (position-none (λ s. s == e.school) (choices_of m e.student) rank e.school none at_school) ∙ eq-eqb e.school e.school refl)))
 
--- the entry's student stands at its position
+-- the entry's student stands at their position
 pub student-here : (m : Market) (i at : ℕ) → position (nat_eq i) (students_of m) ≡ Some at → slice_get (students_of m) at ≡ Some i
 student-here m i at found =
     let here = position-here (nat_eq i) (students_of m) at found in

@@ -7,7 +7,7 @@ use Rattle.sc_papers.specs.Restriction.{restricted}
 use Rattle.sc_papers.specs.declared.rejection.Rejection.{Rejection}
 use Rattle.sc_checkpoint.specs.declared.standing.Standing.{Standing}
 
--- where each of these students stands after a log: at its next choice
+-- where each of these students stands after a log: at their next choice
 abbrev pub next_choices_after : Market → List Rejection → List ℕ → List Standing
 next_choices_after m log students = map (λ i. record { student = i; next = next_choice m log i }) students
 

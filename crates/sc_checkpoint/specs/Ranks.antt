@@ -10,7 +10,7 @@ use Rattle.sc_checkpoint.specs.declared.rank_set.RankSet.{RankSet}
 unfoldable pub has_rank : RankSet → ℕ → Bool
 has_rank set rank = bit_at set.bits rank == 1
 
--- the ranks of the student's choices that are in the set are those of the schools that rejected it
+-- the ranks of the student's choices that are in the set are those of the schools that rejected them
 abbrev pub AreRejectedRanks : Market → List Rejection → ℕ → RankSet → Type 0
 AreRejectedRanks m log i ranks =
     (rank s : ℕ) → slice_get (choices_of m i) rank ≡ Some s → has_rank ranks rank ≡ is_rejected log i s

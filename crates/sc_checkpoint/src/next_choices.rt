@@ -16,7 +16,7 @@ use std::alloc::{AllocError, Global};
 /// Where the first `k` students of the papers stand after the log of the first `k` segments. The only error is
 /// a refused growth.
 ///
-/// One pass over the log marks, for each student, which of its choices rejected it, and one over the
+/// One pass over the log marks, for each student, which of their choices rejected them, and one over the
 /// students finds the first that did not. An entry costs a pass over its student's row in the papers, and a
 /// look-up by number where that student's segment is another one.
 pub(crate) fn next_choices_of_first(
@@ -42,7 +42,7 @@ pub(crate) fn next_choices_of_first(
     Ok(next_choices)
 }
 
-/// For each of the first `k` students, the ranks of the choices that rejected it, by the first `k` segments.
+/// For each of the first `k` students, the ranks of the choices that rejected them, by the first `k` segments.
 fn rejected_ranks(
     alloc: Global,
     papers: &Papers,

@@ -161,7 +161,7 @@ impl Segments {
     }
 
     /// Where the first `k` students of the papers stand after the log of their segments: each one's
-    /// next choice, the first that has not rejected it, whatever the log says. The only error is a
+    /// next choice, the first that has not rejected them, whatever the log says. The only error is a
     /// refused growth.
     ///
     /// The cost is a pass over one student's row in the papers for each entry of that log, with a look-up by number

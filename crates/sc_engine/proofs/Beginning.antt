@@ -20,7 +20,7 @@ use Rattle.sc_engine.proofs.Tables as tables
 use Rattle.sc_engine.proofs.Rolls.{roll-fits_still}
 use Rattle.sc_engine.proofs.Proposals.{has-none, not-there, stays, standing-without, standing-others, counted-within}
 
--- the student goes to a rank of its choices, with nothing else changed
+-- the student goes to a rank of their choices, with nothing else changed
 pub record Begun (m : Market) (r r' : RoundView) (i at rank : ℕ) : Type 0 where
   pub fits : Fits m r
   pub student : position (nat_eq i) (students_of m) ≡ Some at
@@ -152,7 +152,7 @@ enters {m} {r} {r'} {r''} {i} begun ends = record {
   counted = omega (arith, counted-begun begun, ends.counted);
 }
 
--- the round with the student at a rank of its choices, after room is made for it
+-- the round with the student at a rank of their choices, after room is made for it
 abbrev pub moved : RoundView → List (Option ℕ) → ℕ → ℕ → RoundView
 moved r room at rank = record r { ranks = set room at (Some rank) }
 

@@ -45,7 +45,7 @@ pub stays : (a : Bool) → (a && not false) ≡ a
 stays true = refl
 stays false = refl
 
--- a proposal as the code makes it: the student in hand stands at s, and its key is offered to the roll
+-- a proposal as the code makes it: the student in hand stands at s, and their key is offered to the roll
 pub record Proposed (m : Market) (r : RoundView) (proposer s at : ℕ) (rolls : List RollView) (out : Option Key) : Type 0 where
   pub fits : FitsBut m r (only proposer)
   pub stands : next_of m r.ranks proposer ≡ Some s

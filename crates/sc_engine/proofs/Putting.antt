@@ -1,4 +1,4 @@
--- One student who comes back to where it stood.
+-- One student who comes back to where they stood.
 use Rattle.std.proofs.Common.{◌≡◌, refl, ap, subst, ◌∙◌, ℕ, ◌+◌, ◌<◌, nat_eq, false, not, ◌&&◌, length, Some, None, Option, position, slice_get, is_some, arith}
 use Rattle.sc_papers.specs.Market.{Market, choices_of, schools_of, seats_of}
 use Rattle.sc_papers.specs.Matching.{Matching, has, held}
@@ -9,7 +9,7 @@ use Rattle.sc_engine.proofs.Rolls.{roll-length}
 use Rattle.sc_engine.proofs.Proposals.{Proposed, stays, fits-held, fits-ended, counted-held}
 use Rattle.sc_engine.proofs.Beginning.{Begun, rank-begun, next-others, entered-begun, fits-begun}
 
--- the student stands at the choice of its rank
+-- the student stands at the choice of their rank
 pub next-begun : {m : Market} {r r' : RoundView} {i at rank : ℕ} → Begun m r r' i at rank → (choice : Option ℕ) → slice_get (choices_of m i) rank ≡ choice → next_of m r'.ranks i ≡ choice
 next-begun {m} {r} {r'} {i} {at} {rank} begun choice here = next-by m r'.ranks i rank (rank-begun begun) ∙ here
 
@@ -37,7 +37,7 @@ roll-open m r s at fits school room =
       how_many-agree m (λ j. has next s j && not false) (has next s) (λ j. stays (has next s j)),
     )
 
--- a student who is put on the roll of its school, where nobody is put out
+-- a student who is put on the roll of their school, where nobody is put out
 pub put-on_roll : {m : Market} {r r' : RoundView} {i at rank : ℕ} → Begun m r r' i at rank → (r'' : RoundView) (choice : Option ℕ) (s school : ℕ) → slice_get (choices_of m i) rank ≡ choice → choice ≡ Some s → Proposed m r' i s school r''.rolls None → r''.ranks ≡ r'.ranks → r''.log ≡ r'.log → r''.proposals ≡ r'.proposals → StandsToo m r r'' i choice
 put-on_roll {m} {r} {r'} {i} begun r'' choice s school here is done same_ranks same_log same_proposals = record {
   fits = record {

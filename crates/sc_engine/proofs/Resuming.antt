@@ -24,7 +24,7 @@ use Rattle.sc_engine.proofs.Beginning.{is_some-none}
 use Rattle.sc_engine.proofs.Proposals.{has-none}
 use Rattle.sc_engine.proofs.Settling.{among_first, first-apart, first-more}
 
--- the first k of those who stand have entered, and nobody else, and each stands at its choice
+-- the first k of those who stand have entered, and nobody else, and each stands at theirs
 pub record PutFirst (m : Market) (next_choices : List Standing) (r : RoundView) (spent : Bool) (k : ℕ) : Type 0 where
   pub fits : Fits m r
   pub entered : (i : ℕ) → has_entered m r.ranks i ≡ stands (take k next_choices) i
@@ -98,7 +98,7 @@ module _ {m : Market} {earlier : List Rejection} {next_choices : List Standing} 
       go (Some s) is = next-listed m earlier choice.student s (sym is)
 
   module _ {r : RoundView} {spent : Bool} {k : ℕ} (put : PutFirst m next_choices r spent k) where
-    -- who has entered stands at its next choice after the earlier log
+    -- who has entered stands at their next choice after the earlier log
     pub next-put : (i : ℕ) → stands (take k next_choices) i ≡ true → next_of m r.ranks i ≡ next_choice m earlier i
     next-put i there =
         let (at, choice, low, here, is) = stands-rank next_choices k i there in

@@ -16,7 +16,7 @@ use Rattle.sc_papers.proofs.Rejections.{has-true, has-some}
 use Rattle.sc_seats.specs.Roll.{RollView}
 use Rattle.sc_engine.specs.RoundView.{RollFits}
 
--- who is on the roll stands at the school and is not away, and the key is its own
+-- who is on the roll stands at the school and is not away, and the key is their own
 pub record OnRoll (m : Market) (next : Matching) (away : ℕ → Bool) (s : ℕ) (key : Key) : Type 0 where
   pub stands : next key.student ≡ Some s
   pub present : away key.student ≡ false

@@ -178,7 +178,7 @@ puts-out m earlier r proposer s at rolls out done midway =
           ahead-restricted m (has_entered m r.ranks) s j out.student (next-entered m r.ranks j s stood) out_entered ∙ gone.last j stood apart;
     }
 
--- after a student is put out, the chain goes on with it
+-- after a student is put out, the chain goes on with them
 pub midway-put_out : (m : Market) (r r' : RoundView) (proposer s at : ℕ) (out : Key) (rank_at rank : ℕ) → Proposed m r proposer s at r'.rolls (Some out) → Rejected m r r' out.student s rank_at rank → (earlier : List Rejection) → Midway m earlier r proposer → Midway m earlier r' out.student
 midway-put_out m r r' proposer s at out rank_at rank done moved earlier midway =
     let i : ℕ = out.student in

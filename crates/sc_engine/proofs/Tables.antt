@@ -61,7 +61,7 @@ entered-among m ranks i rank is = go (position (nat_eq i) (students_of m)) refl 
     go None at none = absurd (none-some rank none)
     go (Some k) at there = position-among (students_of m) i k at
 
--- a student with a next choice stands at a rank of its choices
+-- a student with a next choice stands at a rank of their choices
 pub record StandsAt (m : Market) (ranks : List (Option ℕ)) (i s : ℕ) : Type 0 where
   pub rank : ℕ
   pub entered : rank_of m ranks i ≡ Some rank

@@ -14,8 +14,8 @@ use Rattle.sc_papers.specs.declared.key.Key.{Key}
 use Rattle.sc_papers.specs.declared.rejection.Rejection.{Rejection}
 use Rattle.sc_seats.specs.Roll.{RollView}
 
--- what a round holds: for each student, by position, the rank in its choices at which it stands, or
--- none where it hasn't entered, as nobody has who comes after the last of these; each school's roll, by
+-- what a round holds: for each student, by position, the rank in their choices at which they stand, or
+-- none where they haven't entered, as nobody has who comes after the last of these; each school's roll, by
 -- position; the log; the count of proposals
 pub record RoundView : Type 0 where
   pub ranks : List (Option ℕ)
@@ -23,7 +23,7 @@ pub record RoundView : Type 0 where
   pub log : List Rejection
   pub proposals : ℕ
 
--- the rank in its choices at which a student stands, if the student has entered
+-- the rank in their choices at which a student stands, if the student has entered
 unfoldable pub rank_of : Market → List (Option ℕ) → ℕ → Option ℕ
 rank_of m ranks i = option_map_or (λ at. slice_index_or ranks at None) (position (nat_eq i) (students_of m)) None
 

@@ -8,7 +8,7 @@ use sc_papers::LONGEST_LIST;
 use std::alloc::{AllocError, Global};
 use std::marker::Model;
 
-/// By position of the student in the order of entry: the rank in the choices at which the student stands, if it has
+/// By position of the student in the order of entry: the rank in the choices at which the student stands, if they have
 /// entered.
 ///
 /// Once they have been cleared, the positions at which somebody comes to stand are noted, and the next clearing looks at
@@ -135,7 +135,7 @@ impl RankTable {
         Ok(())
     }
 
-    /// The student at the position moves on to the next rank of its choices.
+    /// The student at the position moves on to the next rank of their choices.
     pub(crate) fn move_on(&mut self, at: usize)
         requires { (rank : ℕ) → slice_index_or self.old at None ≡ Some rank → rank < LONGEST_LIST }
         ensures { (rank : ℕ) → slice_index_or self.old at None ≡ Some rank

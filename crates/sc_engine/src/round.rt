@@ -24,7 +24,7 @@ use std::alloc::{AllocError, Global};
 #[derive(Drop)]
 pub struct Round<R: Roll> {
     alloc: Global,
-    // By position of the student: the rank in the choices at which the student stands, if it has
+    // By position of the student: the rank in the choices at which the student stands, if they have
     // entered. Nobody has who comes after the last of these positions, and so in order of entry the next
     // to enter stands right after it.
     ranks: RankTable,
@@ -47,7 +47,7 @@ impl<R: Roll> Round<R> {
     /// entered, in whatever order they did.
     ///
     /// A refused growth leaves the round spent, and a spent round answers the error to every student.
-    /// No memory is taken for a proposal but by the log and the rolls, nor for a student but where it
+    /// No memory is taken for a proposal but by the log and the rolls, nor for a student but where they
     /// came to the papers after the round began.
     pub fn enter_one(&mut self, papers: &Papers, student: StudentNo) -> Result<(), AllocError>
         // Of a round that is not spent: it fits the papers, and the student is in them and has not
@@ -120,7 +120,7 @@ impl<R: Roll> Round<R> {
         entered
     }
 
-    /// The first of the student's choices that has not rejected it, or `None` where there is none or
+    /// The first of the student's choices that has not rejected them, or `None` where there is none or
     /// the student has not entered. In constant time. Of a spent round nothing is said.
     pub fn next_choice(&self, papers: &Papers, student: StudentNo) -> Option<SchoolNo>
         requires { is_spent self.now ≡ false → Fits papers.now (view_of R.keys R.seats self.now) }

@@ -46,7 +46,7 @@ impl<R: Roll> Round<R> {
         Ok(())
     }
 
-    /// The student at the position proposes to its next choice, if it has one: the position
+    /// The student at the position proposes to their next choice, if they have one: the position
     /// of whoever is put out, if anybody.
     fn propose(&mut self, papers: &Papers, proposer: usize) -> Result<Option<usize>, AllocError>
         requires within { proposer < length papers.now.students }

@@ -64,7 +64,7 @@ impl<R: Roll> Round<R> {
     ghost use Rattle.sc_engine.specs.Fresh.{CanResume, IsFresh, IsResumed};
     ghost use Rattle.sc_engine.specs.Round.{view_of, is_spent};
 
-    /// Puts the student at its next choice, and on the roll of that school, which has room. That is no
+    /// Puts the student at their next choice, and on the roll of that school, which has room. That is no
     /// proposal: it was made before.
     fn put(
         &mut self,

@@ -145,7 +145,7 @@ impl Papers {
     }
 
     /// Puts a student who may enter, whose choices' schools stand at the first of these positions, last in the order of
-    /// entry, with the one draw that it ever makes. Both growths come first, so a refused one leaves the papers as they
+    /// entry, with the one draw that they ever make. Both growths come first, so a refused one leaves the papers as they
     /// were.
     fn put_last(
         &mut self,
