@@ -50,10 +50,3 @@ pub next-found : (m : Market) (log : List Rejection) (i : ℕ) (ranks : RankSet)
 unfolding next_choice
 next-found m log i ranks choices next theirs agree found =
     found (is_rejected log i) (λ rank s here. agree rank s (ap (λ list. slice_get list rank) (sym theirs) ∙ here)) ∙ ap (find (λ s. not (is_rejected log i s))) theirs
-
--- one more who stands at their next choice
-pub stands-more : (m : Market) (log : List Rejection) (students : List ℕ) (i : ℕ) (next : Option ℕ) → next ≡ next_choice m log i
-    → next_choices_after m log students ++ record { student = i; next = next } ∷ [] ≡ next_choices_after m log (students ++ i ∷ [])
-stands-more m log students i next is =
-    ap (λ choice. next_choices_after m log students ++ record { student = i; next = choice } ∷ []) is
-    ∙ sym (map_push (λ (j : ℕ). let s : Standing = record { student = j; next = next_choice m log j } in s) students i)

@@ -1,5 +1,6 @@
 mod Joining
 mod Bits
+mod Counting
 pub mod Marking
 mod Finding
 mod Passing

@@ -1,5 +1,5 @@
 -- One more entry of a log, put into a table of ranks.
-use Rattle.std.proofs.Common.{◌≡◌, inl, inr, refl, ap, sym, ◌∙◌, ℕ, ◌<◌, ◌≤◌, ◌==◌, nat_eq, nat_lt, Bool, true, false, ◌&&◌, ◌||◌, List, [], ◌∷◌, ◌++◌, length, get_or, set, Some, None, slice_get, position, arith, length-set}
+use Rattle.std.proofs.Common.{◌≡◌, inl, inr, refl, ap, sym, ◌∙◌, ℕ, ◌<◌, ◌==◌, nat_eq, nat_lt, Bool, true, false, ◌&&◌, ◌||◌, List, [], ◌∷◌, ◌++◌, length, get_or, set, Some, None, slice_get, position, arith, length-set}
 use Rattle.std.specs.List.{position_or_len}
 use Rattle.std.proofs.lemmas.Bool.{cases_eq, cases_lt, cond-true, lt-ltb, eqb-true, eq-eqb, ne_eqb, false≢true, false_from_ne_true, and_parts}
 use Rattle.std.proofs.lemmas.List.{get_or-set_same, get_or-set_other}
@@ -85,12 +85,6 @@ school-here m i s rank found =
 -- a set has room for the rank of a choice
 pub rank-low : (m : Market) (i s rank : ℕ) → WithinLimits m → position (λ t. t == s) (choices_of m i) ≡ Some rank → rank < 32
 rank-low m i s rank limits found = omega (arith, (position-Some (λ t. t == s) (choices_of m i) rank 0 found).0, choices-short m limits i)
-
--- an entry of a student past the table
-pub table-past : (m : Market) (log : List Rejection) (e : Rejection) (table : List RankSet) (position_of : ℕ) → WellFormed m → position (nat_eq e.student) (students_of m) ≡ Some position_of → length table ≤ position_of → AreTabled m (students_of m) log table → AreTabled m (students_of m) (log ++ e ∷ []) table
-table-past m log e table position_of well found past =
-    table-kept m (students_of m) log e table (λ at rank low at_student at_school.
-    absurd (omega (arith, past, low, one-place (students_of m) at position_of e.student well.students_differ at_student (student-here m e.student position_of found))))
 
 -- of the choices of the entry's student, the one at the entry's rank is the entry's school
 rank-of-entry : (m : Market) (e : Rejection) (i s rank rank_of : ℕ) → WellFormed m → e.student ≡ i → slice_get (choices_of m i) rank ≡ Some s → slice_get (choices_of m i) rank_of ≡ Some e.school → (rank == rank_of) ≡ is_of e i s

@@ -1,11 +1,7 @@
 -- Chains that give way to renewed ones.
-use Rattle.std.proofs.Common.{◌≡◌, refl, ap, subst, ◌∙◌, ℕ, zero, suc, ◌+◌, ◌<◌, List, [], ◌∷◌, ◌++◌, length, map, drop, get_or, set, Some, Contains, slice_get, length-set, arith}
-use Rattle.std.proofs.lemmas.List.{at_drop_more}
+use Rattle.std.proofs.Common.{◌≡◌, refl, ap, subst, ◌∙◌, ℕ, zero, suc, ◌<◌, List, [], ◌∷◌, ◌++◌, length, map, set, Some, Contains, slice_get, length-set, arith}
 use Rattle.sc_papers.proofs.Counting.{contains-head, contains-tail}
 use Rattle.sc_checkpoint.specs.Chains.{replaced}
-
-drop-next : (xs : List ℕ) (k d : ℕ) → k < length xs → drop k xs ≡ get_or xs k d ∷ drop (k + 1) xs
-drop-next xs k d low = at_drop_more (λ ys. ys) xs k d low
 
 map-set : {X Y : Type 0} (f : X → Y) (xs : List X) (k : ℕ) (x : X) → map f (set xs k x) ≡ set (map f xs) k (f x)
 map-set f [] k x = refl

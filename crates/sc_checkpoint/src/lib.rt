@@ -2,7 +2,6 @@
 //! settling can go on from any position of the order.
 #![tactic(auto)]
 
-mod at_positions;
 mod next_choices;
 mod rank_set;
 mod segments;

@@ -1,100 +1,178 @@
-//! The next choices of the first students of the papers after any log.
+//! The next choices of some students of the papers, by their own segments.
 
-ghost use Rattle.std.specs.Prelude.{◌≡◌, ◌<◌, ◌≤◌, ◌∷◌, [], length, take, IfOk};
+ghost use Rattle.std.specs.Prelude.{◌≡◌, ℕ, ◌<◌, ◌∷◌, [], None, Some, true, length, map, slice_get, IfOk, IfSome};
+ghost use Rattle.std.specs.List.Sorted.{IsStrictlyIncreasing};
 ghost use Rattle.sc_papers.specs.Market.{choices_of, student_at, students_of};
 ghost use Rattle.sc_papers.specs.Restriction.{joined};
-ghost use Rattle.sc_checkpoint.specs.Chains.{logs_in};
-ghost use Rattle.sc_checkpoint.specs.Ranks.{AreTabled, IsFirstOutside, MarksEntries};
+ghost use Rattle.sc_checkpoint.specs.Chains.{logs_at};
 ghost use Rattle.sc_checkpoint.specs.NextChoices.{next_choices_after};
+ghost use Rattle.sc_checkpoint.specs.Positions.{CountUp, LieBelow};
+ghost use Rattle.sc_checkpoint.specs.Ranks.{AreTabled, IsFirstOutside, MarksEntries};
 
 use crate::rank_set::RankSet;
 use crate::segments::Segments;
-use crate::standing::Standing;
-use sc_papers::{LONGEST_LIST, Papers, Rejection, SchoolNo, StudentNo};
+use crate::standing::{Standing, Standings};
+use sc_papers::{Hints, LONGEST_LIST, MOST_STUDENTS, Papers, Rejection, SchoolNo, StudentNo};
 use std::alloc::{AllocError, Global};
 
-/// Where the first `k` students of the papers stand after the log of the first `k` segments. The only error is
-/// a refused growth.
-///
-/// One pass over the log marks, for each student, which of their choices rejected them, and one over the
-/// students finds the first that did not. An entry costs a pass over its student's row in the papers, and a
-/// look-up by number where that student's segment is another one.
-pub(crate) fn next_choices_of_first(
-    alloc: Global,
-    papers: &Papers,
-    segments: &Segments,
-    k: usize,
-) -> Result<Vec<Standing>, AllocError>
-    requires within { k ≤ length segments.now }
-    requires students { k ≤ length (students_of papers.now) }
-    ensures { IfOk result (λ next_choices. next_choices.items
-        ≡ next_choices_after papers.now (joined (take k (logs_in segments.now))) (take k (students_of papers.now))) }
+/// How many hints there is room for, for each student: so few of them take the place of others.
+const ROOM: usize = 4;
+
+/// Whether the student stands at the position with this turn among the positions.
+fn is_at(papers: &Papers, positions: &[usize], student: StudentNo, turn: usize) -> bool
+    ensures { result ≡ true → slice_get (map (student_at papers.now) positions.now) turn ≡ Some student }
 {
-    let rejected = rejected_ranks(alloc, papers, segments, k)?;
-    let mut next_choices = Vec::with_capacity(alloc, k)?;
-    for position in 0..k {
-        let Some(student) = papers.student_at(position) else {
-            unreachable!()
-        };
-        let next = first_outside(papers, position, rejected[position]);
-        next_choices.push_reserved(Standing { student, next });
-    }
-    Ok(next_choices)
+    let Some(position) = positions.get(turn) else {
+        return false;
+    };
+    papers.student_at(*position) == Some(student)
 }
 
-/// For each of the first `k` students, the ranks of the choices that rejected them, by the first `k` segments.
-fn rejected_ranks(
-    alloc: Global,
+/// The turn, among the positions, of that at which the student stands, or `None` where they stand at none. One who
+/// stands at the guessed turn is not looked up by number.
+fn turn_near(
     papers: &Papers,
-    segments: &Segments,
-    k: usize,
-) -> Result<Vec<RankSet>, AllocError>
-    requires { k ≤ length segments.now }
-    ensures count { IfOk result (λ table. length table.items ≡ k) }
-    ensures tabled { IfOk result (λ table. AreTabled papers.now (students_of papers.now)
-        (joined (take k (logs_in segments.now))) table.items) }
+    positions: &[usize],
+    student: StudentNo,
+    guess: usize,
+) -> Option<usize>
+    requires rising { IsStrictlyIncreasing positions.now }
+    requires within { LieBelow (length (students_of papers.now)) positions.now }
+    ensures turn { IfSome result (λ turn. slice_get (map (student_at papers.now) positions.now) turn ≡ Some student) }
+    ensures none { result ≡ None → (turn : ℕ)
+        → slice_get (map (student_at papers.now) positions.now) turn ≡ Some student → ⊥ }
 {
-    let mut table = vec![in alloc; RankSet::new(); k]?;
-    for position in 0..k {
-        // Most rejections of a segment are those of its own student.
-        mark_all(papers, &mut table, position, segments.segment(position));
+    if is_at(papers, positions, student, guess) {
+        return Some(guess);
     }
-    Ok(table)
+    // This call tells that the papers are well-formed: no number stands twice.
+    prove!(papers.students_len() <= MOST_STUDENTS);
+    let Some(position) = papers.student_position(student) else {
+        return None;
+    };
+    match positions.binary_search(&position) {
+        Ok(turn) => Some(turn),
+        Err(_) => None,
+    }
 }
 
-/// Puts the entry's school among the ranks of the entry's student, where the student is in the table
-/// and lists the school. A student who stands at the guess is not looked up by number.
-fn mark(papers: &Papers, table: &mut [RankSet], guess: usize, entry: Rejection)
-    ensures { MarksEntries papers.now (students_of papers.now) (entry ∷ []) table.old table.new }
+/// Puts the entry's school among the ranks of the entry's student, where the student stands at one of the
+/// positions and lists the school. A student who stands at the guessed turn among them is not looked up by number.
+fn mark_at(
+    papers: &Papers,
+    positions: &[usize],
+    table: &mut Vec<RankSet>,
+    guess: usize,
+    entry: Rejection,
+)
+    requires rising { IsStrictlyIncreasing positions.now }
+    requires within { LieBelow (length (students_of papers.now)) positions.now }
+    requires one_each { length table.old.items ≡ length positions.now }
+    ensures tabled { MarksEntries papers.now (map (student_at papers.now) positions.now)
+        (entry ∷ []) table.old.items table.new.items }
+    ensures same_length { length table.new.items ≡ length table.old.items }
 {
-    let Some(position) = papers.student_position_near(entry.student, guess) else {
+    let Some(turn) = turn_near(papers, positions, entry.student, guess) else {
         return;
     };
     // This call tells that the papers are well-formed and within their limits: no number and no choice stands
     // twice, and a set has room for each rank.
-    prove!(position < papers.students_len());
-    let Some(rank) = papers.choice_rank_at(position, entry.school) else {
+    prove!(papers.students_len() <= MOST_STUDENTS);
+    let Some(rank) = papers.choice_rank_at(positions[turn], entry.school) else {
         return;
     };
-    if position < table.len() {
-        table[position] = table[position].with(rank);
+    table[turn] = table[turn].with(rank);
+}
+
+/// A student, and the turn among some positions of that at which they stand.
+#[derive(Clone, Copy)]
+struct Owner {
+    student: StudentNo,
+    turn: usize,
+}
+
+impl Owner {
+    /// The turn at which a student may be: most rejections of a segment are those of its own student.
+    fn guess(&self, hints: &Hints, student: StudentNo) -> usize {
+        if student == self.student {
+            self.turn
+        } else {
+            hints.guess(student)
+        }
     }
 }
 
-/// Puts each entry's school among the ranks of the entry's student. The students who stand at the guess are
-/// not looked up by number.
-fn mark_all(papers: &Papers, table: &mut Vec<RankSet>, guess: usize, entries: &[Rejection])
-    ensures tabled { MarksEntries papers.now (students_of papers.now) entries.now table.old.items table.new.items }
+/// Puts each entry's school among the ranks of the entry's student, where the student stands at one of the
+/// positions. The segment's owner and whoever the hints find are not looked up by number.
+fn mark_all_at(
+    papers: &Papers,
+    positions: &[usize],
+    table: &mut Vec<RankSet>,
+    hints: &Hints,
+    owner: Owner,
+    entries: &[Rejection],
+)
+    requires rising { IsStrictlyIncreasing positions.now }
+    requires within { LieBelow (length (students_of papers.now)) positions.now }
+    requires one_each { length table.old.items ≡ length positions.now }
+    ensures tabled { MarksEntries papers.now (map (student_at papers.now) positions.now) entries.now table.old.items
+        table.new.items }
     ensures same_length { length table.new.items ≡ length table.old.items }
 {
     for entry in entries {
-        mark(papers, table, guess, *entry);
+        let guess = owner.guess(hints, entry.student);
+        mark_at(papers, positions, table, guess, *entry);
     }
+}
+
+/// Hints by which the students of the segments at some positions are found: each one's turn among the positions.
+fn hints_of(alloc: Global, segments: &Segments, positions: &[usize]) -> Result<Hints, AllocError>
+    requires held { LieBelow (length segments.now) positions.now }
+{
+    let mut hints = Hints::with_room(alloc, positions.len().saturating_mul(ROOM))?;
+    for (turn, position) in positions.iter().enumerate() {
+        hints.note(segments.student(*position), turn);
+    }
+    Ok(hints)
+}
+
+/// For each student at the positions, the ranks of the choices that rejected them, by the segments at the
+/// positions.
+fn rejected_ranks_at(
+    alloc: Global,
+    papers: &Papers,
+    segments: &Segments,
+    positions: &[usize],
+) -> Result<Vec<RankSet>, AllocError>
+    requires rising { IsStrictlyIncreasing positions.now }
+    requires within { LieBelow (length (students_of papers.now)) positions.now }
+    requires held { LieBelow (length segments.now) positions.now }
+    ensures count { IfOk result (λ table. length table.items ≡ length positions.now) }
+    ensures tabled { IfOk result (λ table. AreTabled papers.now (map (student_at papers.now) positions.now)
+        (joined (logs_at positions.now segments.now)) table.items) }
+{
+    let mut table = vec![in alloc; RankSet::new(); positions.len()]?;
+    let hints = hints_of(alloc, segments, positions)?;
+    for (turn, position) in positions.iter().enumerate() {
+        let owner = Owner {
+            student: segments.student(*position),
+            turn,
+        };
+        mark_all_at(
+            papers,
+            positions,
+            &mut table,
+            &hints,
+            owner,
+            segments.segment(*position),
+        );
+    }
+    Ok(table)
 }
 
 /// The first choice, of the student at a position of the papers, whose rank is not in the set. It costs a look at
 /// the set, and at one choice in the student's row.
-pub(crate) fn first_outside(papers: &Papers, position: usize, ranks: RankSet) -> Option<SchoolNo>
+fn first_outside(papers: &Papers, position: usize, ranks: RankSet) -> Option<SchoolNo>
     requires { position < length papers.now.students }
     ensures { IsFirstOutside (choices_of papers.now (student_at papers.now position)) ranks result }
 {
@@ -106,4 +184,44 @@ pub(crate) fn first_outside(papers: &Papers, position: usize, ranks: RankSet) ->
         }
     }
     None
+}
+
+/// The first positions, as many as are asked for. The only error is a refused growth.
+pub(crate) fn first_positions(alloc: Global, count: usize) -> Result<Vec<usize>, AllocError>
+    ensures count { IfOk result (λ positions. length positions.items ≡ count) }
+    ensures each { IfOk result (λ positions. CountUp positions.items) }
+{
+    let mut positions = Vec::with_capacity(alloc, count)?;
+    for position in 0..count {
+        positions.push_reserved(position);
+    }
+    Ok(positions)
+}
+
+/// Where the students at the positions stand after the log of their own segments. The only error is a refused
+/// growth.
+pub(crate) fn next_choices_at_positions(
+    alloc: Global,
+    papers: &Papers,
+    segments: &Segments,
+    positions: &[usize],
+) -> Result<Standings, AllocError>
+    requires rising { IsStrictlyIncreasing positions.now }
+    requires within { LieBelow (length (students_of papers.now)) positions.now }
+    requires held { LieBelow (length segments.now) positions.now }
+    ensures { IfOk result (λ stands. stands.choices.items ≡ next_choices_after papers.now
+        (joined (logs_at positions.now segments.now)) (map (student_at papers.now) positions.now)) }
+{
+    let rejected = rejected_ranks_at(alloc, papers, segments, positions)?;
+    let mut choices = Vec::with_capacity(alloc, positions.len())?;
+    let mut ranks = Vec::with_capacity(alloc, positions.len())?;
+    for (turn, position) in positions.iter().enumerate() {
+        let Some(student) = papers.student_at(*position) else {
+            unreachable!()
+        };
+        let next = first_outside(papers, *position, rejected[turn]);
+        choices.push_reserved(Standing { student, next });
+        ranks.push(rejected[turn].first_outside())?;
+    }
+    Ok(Standings { choices, ranks })
 }

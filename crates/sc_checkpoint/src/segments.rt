@@ -1,5 +1,4 @@
-use crate::at_positions::next_choices_at_positions;
-use crate::next_choices::next_choices_of_first;
+use crate::next_choices::{first_positions, next_choices_at_positions};
 use crate::span::{Span, Spans, push_span, replace_spans};
 use crate::standing::{Standing, Standings};
 use sc_papers::{Papers, Rejection, StudentNo};
@@ -164,16 +163,16 @@ impl Segments {
     /// next choice, the first that has not rejected them, whatever the log says. The only error is a
     /// refused growth.
     ///
-    /// The cost is a pass over one student's row in the papers for each entry of that log, with a look-up by number
-    /// where the entry is not of the segment's own student, and a look at one row for each of the `k` students.
-    /// Memory is taken for the `k` alone.
+    /// The cost is that of `next_choices_of` for the first `k` positions.
     pub fn next_choices_at(&self, papers: &Papers, k: usize) -> Result<Vec<Standing>, AllocError>
         requires within { k ≤ length self.now }
         requires students { take k (students_in self.now) ≡ take k (students_of papers.now) }
         ensures { IfOk result (λ next_choices. next_choices.items
             ≡ next_choices_after papers.now (joined (take k (logs_in self.now))) (take k (students_of papers.now))) }
     {
-        next_choices_of_first(self.alloc, papers, self, k)
+        let positions = first_positions(self.alloc, k)?;
+        let stands = self.next_choices_of(papers, positions.as_slice())?;
+        Ok(stands.choices)
     }
 
     /// Where the students at some positions of the papers stand after the log of the segments there alone. The

@@ -4,7 +4,7 @@ use Rattle.sc_papers.specs.Restriction.{joined}
 use Rattle.sc_checkpoint.specs.Chains.{logs_at}
 use Rattle.sc_checkpoint.specs.Ranks.{AreTabled}
 use Rattle.sc_checkpoint.proofs.Passing.{picked-next}
-use Rattle.sc_checkpoint.proofs.at_positions.rejected_ranks_at.Goals as goal
+use Rattle.sc_checkpoint.proofs.next_choices.rejected_ranks_at.Goals as goal
 
 pub loop-turn-preserved : goal.loop-turn-preserved
 loop-turn-preserved c =

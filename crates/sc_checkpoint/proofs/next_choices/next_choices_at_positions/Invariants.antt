@@ -3,7 +3,7 @@ use Rattle.sc_papers.specs.Market.{student_at}
 use Rattle.sc_papers.specs.Restriction.{joined}
 use Rattle.sc_checkpoint.specs.Chains.{logs_at}
 use Rattle.sc_checkpoint.specs.NextChoices.{next_choices_after}
-use Rattle.sc_checkpoint.proofs.at_positions.next_choices_at_positions.Given as goal
+use Rattle.sc_checkpoint.proofs.next_choices.next_choices_at_positions.Given as goal
 
 abbrev pub invariant-loop-turn : goal.invariant-loop-turn
 invariant-loop-turn l =

@@ -7,7 +7,7 @@ use Rattle.sc_papers.proofs.Hands.{hand-is}
 use Rattle.sc_checkpoint.specs.Chains.{logs_at}
 use Rattle.sc_checkpoint.proofs.Finding.{next-found, standings-more}
 use Rattle.sc_checkpoint.proofs.Passing.{picked-here}
-use Rattle.sc_checkpoint.proofs.at_positions.next_choices_at_positions.Goals as goal
+use Rattle.sc_checkpoint.proofs.next_choices.next_choices_at_positions.Goals as goal
 
 pub loop-turn-preserved : goal.loop-turn-preserved
 loop-turn-preserved c =

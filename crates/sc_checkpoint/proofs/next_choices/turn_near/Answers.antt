@@ -4,7 +4,7 @@ use Rattle.sc_papers.proofs.Choices.{one-place}
 use Rattle.sc_checkpoint.proofs.Marking.{student-here, unknown-nowhere}
 use Rattle.sc_checkpoint.proofs.Passing.{picked-here, picked-student}
 use Rattle.sc_checkpoint.proofs.Rising.{search-finds, search-lacks}
-use Rattle.sc_checkpoint.proofs.at_positions.turn_near.Goals as goal
+use Rattle.sc_checkpoint.proofs.next_choices.turn_near.Goals as goal
 
 pub returns-in_default-clause-none : goal.returns-in_default-clause-none
 returns-in_default-clause-none c = λ none at here.

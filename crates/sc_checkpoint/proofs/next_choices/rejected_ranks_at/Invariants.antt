@@ -3,7 +3,7 @@ use Rattle.sc_papers.specs.Market.{student_at}
 use Rattle.sc_papers.specs.Restriction.{joined}
 use Rattle.sc_checkpoint.specs.Chains.{logs_at}
 use Rattle.sc_checkpoint.specs.Ranks.{AreTabled}
-use Rattle.sc_checkpoint.proofs.at_positions.rejected_ranks_at.Given as goal
+use Rattle.sc_checkpoint.proofs.next_choices.rejected_ranks_at.Given as goal
 
 abbrev pub invariant-loop-turn : goal.invariant-loop-turn
 invariant-loop-turn l =

@@ -1,7 +1,7 @@
 use Rattle.std.proofs.Common.{◌≡◌, length, map, take}
 use Rattle.sc_papers.specs.Market.{student_at}
 use Rattle.sc_checkpoint.specs.Ranks.{MarksEntries}
-use Rattle.sc_checkpoint.proofs.at_positions.mark_all_at.Given as goal
+use Rattle.sc_checkpoint.proofs.next_choices.mark_all_at.Given as goal
 
 abbrev pub invariant-loop-entry : goal.invariant-loop-entry
 invariant-loop-entry l =

@@ -4,7 +4,7 @@ use Rattle.sc_papers.specs.Market.{choices_of, student_at}
 use Rattle.sc_papers.proofs.Hands.{hand-is}
 use Rattle.sc_checkpoint.proofs.Marking.{rank-low, table-unknown, table-unlisted, table-marked}
 use Rattle.sc_checkpoint.proofs.Passing.{picked-once, picked-student}
-use Rattle.sc_checkpoint.proofs.at_positions.mark_at.Goals as goal
+use Rattle.sc_checkpoint.proofs.next_choices.mark_at.Goals as goal
 
 pub returns-in_default-clause-tabled : goal.returns-in_default-clause-tabled
 returns-in_default-clause-tabled c = λ log before.
