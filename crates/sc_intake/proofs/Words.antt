@@ -83,6 +83,26 @@ unfolding number_of read_number is_number
 number_of-some [] n number = absurd (cc number)
 number_of-some (c ∷ cs) n number = omega arith
 
+-- a number that is read in a text from a place on: the word there writes it, and the others come after a space
+pub record ReadsNumber (text : List ℕ) (start n digits : ℕ) : Type 0 where
+  pub cut : words_after [] (drop start text) ≡ word_of (first_word (drop start text)) ++ words_after [] (drop (start + (digits + 1)) text)
+  pub some : 0 < length (first_word (drop start text))
+  pub number : number_of (first_word (drop start text)) ≡ Ok n
+  pub at : start + (digits + 1) ≡ start + (length (first_word (drop start text)) + 1)
+  pub short : digits ≤ length text - start
+
+pub reads-number : (text : List ℕ) (start n digits : ℕ) → first_number (slice_range text start (length text)) ≡ Ok (n, digits) → ReadsNumber text start n digits
+reads-number text start n digits read =
+    let word = first_number-ok (drop start text) n digits (rw (slice_range-rest text start) at read) in
+    let at : start + (digits + 1) ≡ start + (length (first_word (drop start text)) + 1) = rw word.1 refl in
+    record {
+      cut = words-next text start (start + (digits + 1)) at;
+      some = number_of-some (first_word (drop start text)) n word.0;
+      number = word.0;
+      at = at;
+      short = omega (arith, word.1, first_word-short (drop start text), length-drop start text);
+    }
+
 -- the numbers, where the next word is one
 pub numbers-more : (ns : List ℕ) (w : List ℕ) (ws : List (List ℕ)) (n : ℕ) → number_of w ≡ Ok n
     → numbers_after ns (w ∷ ws) ≡ numbers_after (ns ++ n ∷ []) ws

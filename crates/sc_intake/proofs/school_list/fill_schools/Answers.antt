@@ -1,10 +1,9 @@
 use Rattle.std.proofs.Common.{◌≡◌, ◌==◌, ◌+◌, ◌++◌, ◌∷◌, true, false, [], drop, length, get_or, slice_range, arith, rules, refl, Ok, Err}
-use Rattle.std.proofs.lemmas.List.{length-drop}
 use Rattle.sc_papers.specs.declared.school_no.TheConstants.SchoolNo.{GREATEST as greatest_school}
 use Rattle.sc_intake.specs.Field.{first_number, first_word, is_within}
 use Rattle.sc_intake.proofs.Listing.{SoFar-bad, SoFar-end, SoFar-other, SoFar-school, SoFar-space}
 use Rattle.sc_intake.proofs.Spaces.{spaces-next, spaces-space}
-use Rattle.sc_intake.proofs.Words.{first_number-err, first_number-ok, first_word-short, first_word-some, number_of-some, slice_range-rest, words-next, words-space}
+use Rattle.sc_intake.proofs.Words.{ReadsNumber, first_number-err, first_word-some, reads-number, slice_range-rest, words-next, words-space}
 use Rattle.sc_intake.proofs.school_list.fill_schools.Goals as goal
 use Rattle.sc_intake.proofs.school_list.fill_schools.Goals.{in-Some, in-None}
 
@@ -13,18 +12,14 @@ overflow_add-start c =
     let text = c.args.text.now in
     let start = c.loop-start.start in
     let read : first_number (slice_range text start (length text)) ≡ Ok (c.in-Ok.number, c.in-Ok.digits) = search rules in
-    let word = (first_number-ok (drop start text) _ _ (rw (slice_range-rest text start) at read)).1 in
-    let within = c.loop-start-test.true in
-    omega (arith, first_word-short (drop start text), length-drop start text)
+    omega (arith, (reads-number text start _ _ read).short, c.loop-start-test.true)
 
 pub overflow_add-start-in-Ok : goal.overflow_add-start-in-Ok
 overflow_add-start-in-Ok c =
     let text = c.args.text.now in
     let start = c.loop-start.start in
     let read : first_number (slice_range text start (length text)) ≡ Ok (c.in-Ok.number, c.in-Ok.digits) = search rules in
-    let word = (first_number-ok (drop start text) _ _ (rw (slice_range-rest text start) at read)).1 in
-    let within = c.loop-start-test.true in
-    omega (arith, first_word-short (drop start text), length-drop start text)
+    omega (arith, (reads-number text start _ _ read).short, c.loop-start-test.true)
 
 pub loop-start-preserved-in-Ok : goal.loop-start-preserved-in-Ok
 loop-start-preserved-in-Ok c =
@@ -33,11 +28,8 @@ loop-start-preserved-in-Ok c =
     let n = c.in-Ok.number in
     let digits = c.in-Ok.digits in
     let read : first_number (slice_range text start (length text)) ≡ Ok (n, digits) = search rules in
-    let word = first_number-ok (drop start text) n digits (rw (slice_range-rest text start) at read) in
-    let some = number_of-some (first_word (drop start text)) n word.0 in
+    let word : ReadsNumber text start n digits = reads-number text start n digits read in
     let next = start + (digits + 1) in
-    let at : next ≡ start + (length (first_word (drop start text)) + 1) = rw word.1 refl in
-    let cut = words-next text start next at in
     let within = c.loop-start-test.true in
     let room = c.loop-start.invariant.1 (omega arith) in
     elim c.match-new.branch [
@@ -46,14 +38,14 @@ loop-start-preserved-in-Ok c =
           let pushed = w.push_reserved.ensures in
           let items : w.push_reserved.new.self.items ≡ c.loop-start.schools.items ++ n ∷ [] = search rules in
           rw (w.schools-is, w.in_range-is) (
-            SoFar-school text start next _ _ _ (first_word (drop start text)) n c.loop-start.invariant.0 cut some word.0 school items,
-            λ on. omega (arith, spaces-next text start next at on, pushed.len, pushed.capacity, room),
+            SoFar-school text start next _ _ _ (first_word (drop start text)) n c.loop-start.invariant.0 word.cut word.some word.number school items,
+            λ on. omega (arith, spaces-next text start next word.at on, pushed.len, pushed.capacity, room),
           )
       | in-None w ↦
           let out : is_within 1 greatest_school n ≡ false = search rules in
           rw (w.schools-is, w.in_range-is) (
-            SoFar-other text start next _ _ (first_word (drop start text)) n c.loop-start.invariant.0 cut some word.0 out,
-            λ on. omega (arith, spaces-next text start next at on, room),
+            SoFar-other text start next _ _ (first_word (drop start text)) n c.loop-start.invariant.0 word.cut word.some word.number out,
+            λ on. omega (arith, spaces-next text start next word.at on, room),
           )
     ]
 

@@ -1,9 +1,9 @@
-use Rattle.std.proofs.Common.{◌≡◌, ℕ, List, ◌<◌, ap, sym, ◌∙◌, ◌+◌, ◌++◌, ◌∷◌, true, [], drop, length, take, slice_range, arith, rules, refl, Ok}
-use Rattle.std.proofs.lemmas.List.{length-drop, take_more_set}
+use Rattle.std.proofs.Common.{◌≡◌, ℕ, List, ◌<◌, ap, sym, ◌∙◌, ◌+◌, ◌++◌, ◌∷◌, true, [], drop, length, take, slice_range, arith, rules, Ok}
+use Rattle.std.proofs.lemmas.List.{take_more_set}
 use Rattle.sc_papers.specs.declared.school_no.TheConstants.SchoolNo.{GREATEST as greatest_school}
 use Rattle.sc_intake.specs.Field.{first_number, first_word, is_within}
 use Rattle.sc_intake.proofs.Listing.{SoFar-school, SoFar-whole}
-use Rattle.sc_intake.proofs.Words.{first_number-ok, first_word-short, number_of-some, slice_range-rest, words-next}
+use Rattle.sc_intake.proofs.Words.{ReadsNumber, reads-number}
 use Rattle.sc_intake.proofs.school_list.tidy_list.Goals as goal
 
 pub overflow_add-start : goal.overflow_add-start
@@ -11,18 +11,14 @@ overflow_add-start c =
     let text = c.args.text.now in
     let start = c.loop-start.start in
     let read : first_number (slice_range text start (length text)) ≡ Ok (c.in-Ok.number, c.in-Ok.digits) = search rules in
-    let word = (first_number-ok (drop start text) _ _ (rw (slice_range-rest text start) at read)).1 in
-    let within = c.loop-start-test.true in
-    omega (arith, first_word-short (drop start text), length-drop start text)
+    omega (arith, (reads-number text start _ _ read).short, c.loop-start-test.true)
 
 pub overflow_add-start-in-loop-start : goal.overflow_add-start-in-loop-start
 overflow_add-start-in-loop-start c =
     let text = c.args.text.now in
     let start = c.loop-start.start in
     let read : first_number (slice_range text start (length text)) ≡ Ok (c.in-Ok.number, c.in-Ok.digits) = search rules in
-    let word = (first_number-ok (drop start text) _ _ (rw (slice_range-rest text start) at read)).1 in
-    let within = c.loop-start-test.true in
-    omega (arith, first_word-short (drop start text), length-drop start text)
+    omega (arith, (reads-number text start _ _ read).short, c.loop-start-test.true)
 
 pub loop-start-preserved : goal.loop-start-preserved
 loop-start-preserved c =
@@ -31,17 +27,14 @@ loop-start-preserved c =
     let n = c.in-Ok.number in
     let digits = c.in-Ok.digits in
     let read : first_number (slice_range text start (length text)) ≡ Ok (n, digits) = search rules in
-    let word = first_number-ok (drop start text) n digits (rw (slice_range-rest text start) at read) in
-    let some = number_of-some (first_word (drop start text)) n word.0 in
+    let word : ReadsNumber text start n digits = reads-number text start n digits read in
     let next = start + (digits + 1) in
-    let at : next ≡ start + (length (first_word (drop start text)) + 1) = rw word.1 refl in
-    let cut = words-next text start next at in
     let school : is_within 1 greatest_school n ≡ true = search rules in
     let full = c.if-count-eq-LONGEST_LIST.false in
     let room : c.loop-start.count < length c.loop-start.schools = omega arith in
     let same : c.in-Some-new.school ≡ n = search rules in
     let more = take_more_set c.loop-start.schools c.loop-start.count c.in-Some-new.school room ∙ ap (λ (s : ℕ). take c.loop-start.count c.loop-start.schools ++ s ∷ []) same in (
-      SoFar-school text start next (take c.loop-start.count c.loop-start.schools) _ true (first_word (drop start text)) n c.loop-start.invariant.0 cut some word.0 school more,
+      SoFar-school text start next (take c.loop-start.count c.loop-start.schools) _ true (first_word (drop start text)) n c.loop-start.invariant.0 word.cut word.some word.number school more,
       omega arith,
     )
 
