@@ -1,41 +1,35 @@
 -- An amendment that was checked and made is taken back by what `exchange` answers.
-use Rattle.std.proofs.Common.{◌≡◌, ℕ, List, Option, Some, None, Ok, refl, sym, ap, ◌∙◌}
+use Rattle.std.proofs.Common.{◌≡◌, ℕ, List, Option, None, sym, ap, ◌∙◌}
 use Rattle.sc_papers.specs.Market.{Market, choices_of, continuing_of, siblings_of, zone_of}
 use Rattle.sc_papers.specs.TakingBack.{TakesBack}
-use Rattle.sc_papers.specs.Verdict.{after, unless_refused, verdict}
+use Rattle.sc_papers.specs.Verdict.{after, verdict}
 use Rattle.sc_papers.specs.WellFormed.{WellFormed, WithinLimits}
 use Rattle.sc_papers.specs.declared.amendment.Amendment.{Amendment}
 use Rattle.sc_papers.specs.declared.amendment.Amendment.TheVariants.{Enter, Withdraw, Rerank, Add, Close, Correct}
-use Rattle.sc_papers.specs.declared.amendment.Refusal.{Refusal}
 use Rattle.sc_papers.proofs.TakingBack.{takes-back-add, takes-back-close, takes-back-correct, takes-back-enter, takes-back-rerank}
 
-not-refused : (found : Option Refusal) → Ok tt ≡ unless_refused found → found ≡ None
-not-refused None passed = refl
-not-refused (Some r) passed = cc
-
-module _ (before now : Market) (a : Amendment) (passed : Ok tt ≡ unless_refused (verdict before a)) where
-  -- the check passed what the amendment is
-  passed-for : (b : Amendment) → a ≡ b → verdict before b ≡ None
-  passed-for b is = ap (verdict before) (sym is) ∙ not-refused (verdict before a) passed
+module _ (before now : Market) (a : Amendment) (allowed : verdict before a ≡ None) where
+  allowed-for : (b : Amendment) → a ≡ b → verdict before b ≡ None
+  allowed-for b is = ap (verdict before) (sym is) ∙ allowed
 
   pub exchanged-enter : (i zone : ℕ) (siblings choices : List ℕ) (continuing : Option ℕ) → a ≡ Enter i zone siblings choices continuing
       → now ≡ after before (Enter i zone siblings choices continuing) → TakesBack before now (Withdraw i)
   exchanged-enter i zone siblings choices continuing is made =
-      rw made (takes-back-enter before i zone siblings choices continuing (passed-for (Enter i zone siblings choices continuing) is))
+      rw made (takes-back-enter before i zone siblings choices continuing (allowed-for (Enter i zone siblings choices continuing) is))
 
   pub exchanged-add : (s count : ℕ) → a ≡ Add s count → now ≡ after before (Add s count) → TakesBack before now (Close s count)
-  exchanged-add s count is made = rw made (takes-back-add before s count (passed-for (Add s count) is))
+  exchanged-add s count is made = rw made (takes-back-add before s count (allowed-for (Add s count) is))
 
   pub exchanged-close : (s count : ℕ) → WithinLimits before → a ≡ Close s count → now ≡ after before (Close s count) → TakesBack before now (Add s count)
-  exchanged-close s count within is made = rw made (takes-back-close before s count within (passed-for (Close s count) is))
+  exchanged-close s count within is made = rw made (takes-back-close before s count within (allowed-for (Close s count) is))
 
   pub exchanged-rerank : (i : ℕ) (choices old : List ℕ) → WellFormed before → WithinLimits before → a ≡ Rerank i choices → now ≡ after before (Rerank i choices)
       → old ≡ choices_of before i → TakesBack before now (Rerank i old)
   exchanged-rerank i choices old well within is made was =
-      rw (made, was) (takes-back-rerank before i choices well within (passed-for (Rerank i choices) is))
+      rw (made, was) (takes-back-rerank before i choices well within (allowed-for (Rerank i choices) is))
 
   pub exchanged-correct : (i zone : ℕ) (siblings : List ℕ) (continuing : Option ℕ) (old : ℕ × List ℕ × Option ℕ) → WellFormed before → WithinLimits before
       → a ≡ Correct i zone siblings continuing → now ≡ after before (Correct i zone siblings continuing)
       → old ≡ (zone_of before i, siblings_of before i, continuing_of before i) → TakesBack before now (Correct i old.0 old.1 old.2)
   exchanged-correct i zone siblings continuing old well within is made was =
-      rw (made, was) (takes-back-correct before i zone siblings continuing well within (passed-for (Correct i zone siblings continuing) is))
+      rw (made, was) (takes-back-correct before i zone siblings continuing well within (allowed-for (Correct i zone siblings continuing) is))

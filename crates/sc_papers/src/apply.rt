@@ -1,13 +1,13 @@
 //! Amendments taking effect.
 
-ghost use Rattle.std.specs.Prelude.{◌≡◌, None, Some, false, OnOk, OnErr, IfErr};
+ghost use Rattle.std.specs.Prelude.{◌≡◌, None, Some, false, true, OnOk, OnErr, IfErr};
 ghost use Rattle.sc_papers.specs.TakingBack.{is_entry};
 ghost use Rattle.sc_papers.specs.Verdict.{after, IsRefusal, verdict};
 
 use crate::amendment::{Amendment, Refusal};
-use crate::check::check_withdraw;
 use crate::papers::Papers;
 use crate::records::Student;
+use std::alloc::AllocError;
 
 impl Papers {
     /// Makes the amendment, or answers the first refusal that applies, as `check` does, or else want
@@ -40,8 +40,24 @@ impl Papers {
                 };
                 self.admit(student, record)
             }
+            other => {
+                self.check(&other)?;
+                self.apply_allowed(other)?;
+                Ok(())
+            }
+        }
+    }
+
+    /// Makes an amendment that nothing is said against. The only error is want of memory, which only an `Enter` takes: then the papers
+    /// are as before, and the amendment is given up. The cost is that of `apply` without its `check`.
+    pub fn apply_allowed(&mut self, amendment: Amendment) -> Result<(), AllocError>
+        requires { verdict self.old amendment ≡ None }
+        ensures accepted { OnOk result (self.new ≡ after self.old amendment) }
+        ensures memory { OnErr result (is_entry amendment ≡ true) }
+        ensures unchanged { OnErr result (self.new ≡ self.old) }
+    {
+        match amendment {
             Amendment::Withdraw { student } => {
-                check_withdraw(self, student)?;
                 self.withdraw(student);
                 Ok(())
             }

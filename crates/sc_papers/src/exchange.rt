@@ -1,37 +1,34 @@
 //! Amendments taking effect so that they can be taken back.
 
-ghost use Rattle.std.specs.Prelude.{◌≡◌, false, None, Some, OnOk, OnErr, IfErr, IfOk};
+ghost use Rattle.std.specs.Prelude.{◌≡◌, false, true, None, OnOk, OnErr, IfOk};
 ghost use Rattle.sc_papers.specs.Market.{Market};
 ghost use Rattle.sc_papers.specs.TakingBack.{TakesBack, is_entry, is_withdrawal};
-ghost use Rattle.sc_papers.specs.Verdict.{after, verdict, IsRefusal};
+ghost use Rattle.sc_papers.specs.Verdict.{after, verdict};
 
-use crate::amendment::{Amendment, Refusal};
+use crate::amendment::Amendment;
 use crate::limits::MOST_STUDENTS;
 use crate::papers::Papers;
 use crate::records::Student;
+use std::alloc::AllocError;
 
 impl Papers {
-    /// Makes an amendment that is no `Withdraw`, as `apply` does, and answers the one that takes it back: the
+    /// Makes an amendment that nothing is said against and that is no `Withdraw`, and answers the one that takes it back: the
     /// student who entered withdraws, the lists, the zone and the school to continue at that were replaced come
-    /// back, and as many seats as were added are closed, or the other way round. Or it answers the first refusal
-    /// that applies, as `check` does, or else want of memory: then the papers are as before, and the amendment is
-    /// given up.
+    /// back, and as many seats as were added are closed, or the other way round. The only error is want of memory, which only
+    /// an `Enter` takes: then the papers are as before, and the amendment is given up.
     ///
-    /// The cost is that of `apply`. The old lists are moved and not copied, so only `Enter` takes memory.
-    pub fn exchange(&mut self, amendment: Amendment) -> Result<Amendment, Refusal>
-        requires { is_withdrawal amendment ≡ false }
-        ensures allowed { OnOk result (verdict self.old amendment ≡ None) }
+    /// It takes a few look-ups, and for a student who enters one draw of the lottery. The old lists are moved and not copied.
+    pub fn exchange(&mut self, amendment: Amendment) -> Result<Amendment, AllocError>
+        requires no_withdrawal { is_withdrawal amendment ≡ false }
+        requires allowed { verdict self.old amendment ≡ None }
         ensures accepted { OnOk result (self.new ≡ after self.old amendment) }
         ensures back { IfOk result (λ back. TakesBack self.old self.new back) }
-        ensures refused { IfErr result (IsRefusal (verdict self.old amendment)) }
-        ensures memory { IfErr result (λ refusal. is_entry amendment ≡ false
-            → verdict self.old amendment ≡ Some refusal) }
+        ensures memory { OnErr result (is_entry amendment ≡ true) }
         ensures unchanged { OnErr result (self.new ≡ self.old) }
     {
         // This call tells that the papers are well-formed and within their limits, and so are the lists that
         // are replaced.
         prove!(self.students_len() <= MOST_STUDENTS);
-        self.check(&amendment)?;
         match amendment {
             Amendment::Enter {
                 student,
@@ -82,7 +79,7 @@ impl Papers {
     }
 
     /// Takes an amendment back by what `exchange` answered to it: the papers are again what they were before.
-    /// It takes no memory and cannot fail. The cost is that of `apply`, without its tests.
+    /// It takes no memory and cannot fail. The cost is that of `exchange`.
     pub fn take_back(&mut self, back: Amendment)
         requires { (before : Market) × TakesBack before self.old back }
         ensures { (before : Market) → TakesBack before self.old back → self.new ≡ before }

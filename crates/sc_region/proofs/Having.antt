@@ -1,9 +1,9 @@
 -- The region is found among students of whom it is known that they have all of it.
-use Rattle.std.proofs.Common.{◌≡◌, ◌↔◌, ◌==◌, inl, inr, ◌<◌, ap, refl, subst, sym, zero-add, ◌∙◌, ℕ, List, [], ◌∷◌, length, map, Bool, true, Some, None, Contains, Global, Vec, filter, slice_get, arith}
+use Rattle.std.proofs.Common.{◌≡◌, ◌↔◌, ◌==◌, inl, inr, ◌<◌, ◌+◌, ap, refl, subst, sym, zero-add, ◌∙◌, ℕ, List, [], ◌∷◌, length, map, Bool, true, Some, None, Contains, Global, Vec, filter, slice_get, arith}
 use Rattle.std.proofs.lemmas.Bool.{eqb-true, eq-eqb}
 use Rattle.std.proofs.lemmas.Map.Entries.{length-keys_of}
 use Rattle.std.proofs.lemmas.Option.{slice_get_within}
-use Rattle.sc_papers.specs.Market.{Market, is_school, is_student, schools_of, student_at, students_of, choices_of}
+use Rattle.sc_papers.specs.Market.{Market, is_school, is_student, schools_of, student_at, students_of}
 use Rattle.sc_papers.specs.Verdict.{verdict}
 use Rattle.sc_papers.specs.WellFormed.{WellFormed}
 use Rattle.sc_papers.specs.declared.amendment.Amendment.{Amendment}
@@ -13,7 +13,7 @@ use Rattle.sc_papers.proofs.Hands.{hand-is, hand-student}
 use Rattle.sc_papers.proofs.Positions.{among-student, student-among}
 use Rattle.sc_papers.proofs.Students.{lister-among}
 use Rattle.sc_region.specs.Groups.{first_choice, group_of, is_member, joined_students, place_of, places_in, positions_in, start_of, students_at, widened}
-use Rattle.sc_region.specs.Districts.{AreDistricts, DistrictsView, firsts_at, lists_in}
+use Rattle.sc_region.specs.Districts.{AreDistricts, AreWidened, DistrictsView, firsts_at, lists_in}
 use Rattle.sc_region.specs.Region.{InRegion}
 use Rattle.sc_region.specs.Telling.{AreOfRegion, HeldTogether, TellRegion}
 use Rattle.std.specs.List.Sorted.{IsStrictlyIncreasing}
@@ -46,14 +46,6 @@ map-among f (x ∷ xs) y among = elim (contains-cons (f x) (map f xs) y among) [
   | inr later ↦ let (z, there, is) = map-among f xs y later in (z, contains-tail x xs z there, is)
 ]
 
--- where no list leaves its group, a student of the region has their first choice in the widened group to begin with
-pub region-near : (m : Market) (a : Amendment) → WellFormed m → verdict m a ≡ None → (groups : List ℕ) → AreWhole m groups
-    → ((i s : ℕ) → Contains (choices_of m i) s → group_of m groups s ≡ group_of m groups (first_choice m i))
-    → (i : ℕ) → InRegion m a i → is_student m i ≡ true → is_member m (widened m a groups) (group_of m (widened m a groups) (start_of m a)) i ≡ true
-unfolding is_member
-region-near m a well allowed groups whole closed i within known =
-    eq-eqb _ _ (in-member m a well allowed groups whole (λ j. Unit {0}) (λ j s of listed. closed j s listed) (λ j inside. tt) i within known)
-
 -- students of the papers who have all of the region that are students of the papers
 module _ (m : Market) (a : Amendment) (well : WellFormed m) (allowed : verdict m a ≡ None) (students : List ℕ)
     (known : (i : ℕ) → Contains students i → is_student m i ≡ true) (enough : (i : ℕ) → InRegion m a i → is_student m i ≡ true → Contains students i) where
@@ -70,20 +62,24 @@ module _ (m : Market) (a : Amendment) (well : WellFormed m) (allowed : verdict m
       (λ j inside. inside) i within i_known)
 
 -- whoever stands at some positions is in the papers
-at-known : (m : Market) (positions : List ℕ) → ((p : ℕ) → Contains positions p → p < length (students_of m)) → (i : ℕ) → Contains (students_at m positions) i → is_student m i ≡ true
+pub at-known : (m : Market) (positions : List ℕ) → ((p : ℕ) → Contains positions p → p < length (students_of m)) → (i : ℕ) → Contains (students_at m positions) i → is_student m i ≡ true
 at-known m positions within i among =
     let (p, there, is) = map-among (student_at m) positions i among in
     subst (λ j. is_student m j ≡ true) is (hand-student m p (omega (arith, within p there, length-keys_of m.students)))
+
+-- positions that have all of some students have each of them
+pub listed-student : (m : Market) (positions : List ℕ) (Of : ℕ → Type 0) → ((p : ℕ) → p < length (students_of m) → Of (student_at m p) → Contains positions p)
+    → (i : ℕ) → Contains (students_of m) i → Of i → Contains (students_at m positions) i
+listed-student m positions Of all i there its =
+    let (p, here) = place-of (students_of m) i there in
+    let own : student_at m p ≡ i = hand-is m p i here in
+    subst (Contains (students_at m positions)) own (map-kept (student_at m) positions p (all p (slice_get_within (students_of m) p i here) (subst Of (sym own) its)))
 
 -- the lists of students who have all of the region tell it
 module _ (m : Market) (a : Amendment) (well : WellFormed m) (allowed : verdict m a ≡ None) (positions : List ℕ)
     (within : (p : ℕ) → Contains positions p → p < length (students_of m)) (enough : (p : ℕ) → p < length (students_of m) → InRegion m a (student_at m p) → Contains positions p) where
   at-enough : (i : ℕ) → InRegion m a i → is_student m i ≡ true → Contains (students_at m positions) i
-  at-enough i inside known =
-      let (p, there) = place-of (students_of m) i (student-among m i known) in
-      let own : student_at m p ≡ i = hand-is m p i there in
-      subst (Contains (students_at m positions)) own
-      (map-kept (student_at m) positions p (enough p (slice_get_within (students_of m) p i there) (subst (InRegion m a) (sym own) inside)))
+  at-enough i inside known = listed-student m positions (InRegion m a) enough i (student-among m i known) inside
 
   pub all-tell : TellRegion m a (widened m a (joined_students m (students_at m positions)))
   all-tell i known = (
@@ -142,14 +138,12 @@ module _ (m : Market) (a : Amendment) (groups : List ℕ) (tell : TellRegion m a
   })
 
 -- no list leaves its district, so the region lies in the widened one to begin with
-pub district-near : (m : Market) (a : Amendment) → WellFormed m → verdict m a ≡ None → (d : DistrictsView) → AreDistricts m d
-    → (groups : List ℕ) → groups ≡ widened m a d.groups → (group : ℕ) → group ≡ group_of m groups (start_of m a)
-    → (i : ℕ) → InRegion m a i → is_student m i ≡ true → group_of m groups (first_choice m i) ≡ group
-unfolding is_member
-district-near m a well allowed d districts groups are group its i inside known =
-    let near : group_of m (widened m a d.groups) (first_choice m i) ≡ group_of m (widened m a d.groups) (start_of m a) =
-    eqb-true _ _ (region-near m a well allowed d.groups districts.one_each districts.closed i inside known) in
-    ap (λ g. group_of m g (first_choice m i)) are ∙ near ∙ sym (its ∙ ap (λ g. group_of m g (start_of m a)) are)
+district-near : (m : Market) (a : Amendment) → WellFormed m → verdict m a ≡ None → (d : DistrictsView) → AreWidened m a d → (group : ℕ) → group ≡ group_of m d.groups (start_of m a)
+    → (i : ℕ) → InRegion m a i → is_student m i ≡ true → group_of m d.groups (first_choice m i) ≡ group
+district-near m a well allowed d before group its i inside known =
+    subst (λ gs. group_of m gs (first_choice m i) ≡ group_of m gs (start_of m a)) before.joined
+    (in-member m a well allowed d.groups before.districts.one_each (λ j. Unit {0}) (λ j s of listed. before.districts.closed j s listed) (λ j within. tt) i inside known)
+    ∙ sym its
 
 -- the positions below a count
 range-has : (count p : ℕ) → p < count → Contains (range_with_len 0 count) p
@@ -178,17 +172,19 @@ place-listed m d districts groups one_each lists are group place among =
     omega (arith, (place-among groups group place among).0, one_each, districts.firsts_each, ap length are, length-map lists names)
 
 -- the widened districts tell the region, where the lists of a few hold the one to begin with together
-pub held-tell : (m : Market) (a : Amendment) → WellFormed m → verdict m a ≡ None → (d : DistrictsView) → AreDistricts m d
-    → (groups : List ℕ) → groups ≡ widened m a d.groups → length groups ≡ length (schools_of m) → (place : ℕ) → place ≡ place_of m (start_of m a)
-    → HeldTogether m (places_in groups (slice_index groups place)) place → TellRegion m a groups
+pub held-tell : (m : Market) (a : Amendment) → WellFormed m → verdict m a ≡ None → (d : DistrictsView) → AreWidened m a d
+    → (place : ℕ) → place ≡ place_of m (start_of m a) → HeldTogether m (places_in d.groups (slice_index d.groups place)) place → TellRegion m a d.groups
 unfolding is_member
-held-tell m a well allowed d districts groups are one_each place its held i known = (to, from)
+held-tell m a well allowed d before place its held i known = (to, from)
   where
     first : ℕ
     first = first_choice m i
 
+    groups : List ℕ
+    groups = d.groups
+
     low : place_of m first < length groups
-    low = omega (arith, (place-within m first (first-known m well i known)).0, one_each)
+    low = omega (arith, (place-within m first (first-known m well i known)).0, before.districts.one_each)
 
     to : is_member m groups (group_of m groups (start_of m a)) i ≡ true → InRegion m a i
     to passes =
@@ -198,20 +194,39 @@ held-tell m a well allowed d districts groups are one_each place its held i know
         ∙ ap (slice_index (joined_students m (students_at m held.few))) its)
 
     from : InRegion m a i → is_member m groups (group_of m groups (start_of m a)) i ≡ true
-    from inside = eq-eqb _ _ (district-near m a well allowed d districts groups are (group_of m groups (start_of m a)) refl i inside known)
+    from inside = eq-eqb _ _ (district-near m a well allowed d before (group_of m groups (start_of m a)) refl i inside known)
 
--- the students who are listed in the widened district have all of the region
-pub district-enough : (m : Market) (a : Amendment) → WellFormed m → verdict m a ≡ None → (d : DistrictsView) → AreDistricts m d
-    → (groups : List ℕ) → groups ≡ widened m a d.groups → length groups ≡ length (schools_of m) → (place : ℕ) → place ≡ place_of m (start_of m a)
-    → (places : List ℕ) → places ≡ places_in groups (slice_index groups place) → (firsts : List (List ℕ)) → firsts ≡ d.firsts → (positions : List ℕ)
-    → ((other p : ℕ) → Contains places other → p < length (students_of m) → Contains (firsts_at firsts other) (student_at m p) → Contains positions p)
-    → (p : ℕ) → p < length (students_of m) → InRegion m a (student_at m p) → Contains positions p
-district-enough m a well allowed d districts groups are one_each place its places all_places firsts same positions listed p low inside =
+-- the students who are listed in a district are all who have their first choice there
+pub district-listed : (m : Market) → WellFormed m → (d : DistrictsView) → AreDistricts m d → (group : ℕ) (schools : List ℕ) → schools ≡ places_in d.groups group
+    → (firsts : List (List ℕ)) → firsts ≡ d.firsts → (positions : List ℕ)
+    → ((other p : ℕ) → Contains schools other → p < length (students_of m) → Contains (firsts_at firsts other) (student_at m p) → Contains positions p)
+    → (p : ℕ) → p < length (students_of m) → group_of m d.groups (first_choice m (student_at m p)) ≡ group → Contains positions p
+district-listed m well d districts group schools all_schools firsts same positions listed p low here =
     let known = hand-student m p (omega (arith, low, length-keys_of m.students)) in
     let first = first_choice m (student_at m p) in
     let within = (place-within m first (first-known m well (student_at m p) known)).0 in
     listed (place_of m first) p
-    (subst (λ xs. Contains xs (place_of m first)) (sym all_places)
-    (place-kept groups (slice_index groups place) (place_of m first) (omega (arith, within, one_each))
-    (district-near m a well allowed d districts groups are (slice_index groups place) (ap (slice_index groups) its) (student_at m p) inside known)))
+    (subst (λ xs. Contains xs (place_of m first)) (sym all_schools) (place-kept d.groups group (place_of m first) (omega (arith, within, districts.one_each)) here))
     low (subst (λ fs. Contains (firsts_at fs (place_of m first)) (student_at m p)) (sym same) (districts.listed (student_at m p) (student-among m (student_at m p) known)))
+
+-- so they have all of the region
+pub district-enough : (m : Market) (a : Amendment) → WellFormed m → verdict m a ≡ None → (d : DistrictsView) → AreWidened m a d → (group : ℕ) → group ≡ group_of m d.groups (start_of m a)
+    → (positions : List ℕ) → ((p : ℕ) → p < length (students_of m) → group_of m d.groups (first_choice m (student_at m p)) ≡ group → Contains positions p)
+    → (p : ℕ) → p < length (students_of m) → InRegion m a (student_at m p) → Contains positions p
+district-enough m a well allowed d before group its positions listed p low inside =
+    let known = hand-student m p (omega (arith, low, length-keys_of m.students)) in
+    listed p low (district-near m a well allowed d before group its (student_at m p) inside known)
+
+-- positions in a range
+range-rising : (count : ℕ) → IsStrictlyIncreasing (range_with_len 0 count)
+range-rising count k low =
+    let long = length-range_with_len 0 count in
+    let next : k + 1 < count = omega (arith, low, long) in
+    omega (arith, get_or-range_with_len 0 count k 0 (omega (arith, next)), get_or-range_with_len 0 count (k + 1) 0 next)
+
+-- groups that tell the region tell it of all students
+pub all-told : (m : Market) (a : Amendment) (groups : List ℕ) → TellRegion m a groups → (start : ℕ) → start ≡ place_of m (start_of m a)
+    → AreOfRegion m a (positions_in m groups (slice_index groups start) (range_with_len 0 (length (students_of m))))
+all-told m a groups tell start its =
+    region-told m a groups tell (range_with_len 0 (length (students_of m))) (range-rising (length (students_of m)))
+    (λ p among. range-low (length (students_of m)) p among) (λ p low inside. range-has (length (students_of m)) p low) start its

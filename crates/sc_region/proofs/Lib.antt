@@ -12,3 +12,4 @@ mod MarkedPositions
 pub mod Listed
 pub mod Firsts
 pub mod Following
+pub mod Regrouping

@@ -78,11 +78,11 @@ member-in m a well allowed groups before = partial-in m a well allowed (widened 
 -- groups that hold together what some students list before the amendment
 module _ (m : Market) (a : Amendment) (well : WellFormed m) (allowed : verdict m a ≡ None) (groups : List ℕ) (whole : AreWhole m groups)
     (Of : ℕ → Type 0) (closed : (i s : ℕ) → Of i → Contains (choices_of m i) s → group_of m groups s ≡ group_of m groups (first_choice m i)) where
-  widened-coarser : Coarser m groups (widened m a groups)
+  pub widened-coarser : Coarser m groups (widened m a groups)
   unfolding widened
   widened-coarser = list-coarser m (start_of m a) (first_known m a well allowed) groups (new_choices a) whole
 
-  new-together : (s : ℕ) → Contains (new_choices a) s → group_of m (widened m a groups) s ≡ group_of m (widened m a groups) (start_of m a)
+  pub new-together : (s : ℕ) → Contains (new_choices a) s → group_of m (widened m a groups) s ≡ group_of m (widened m a groups) (start_of m a)
   unfolding widened
   new-together s among =
       list-together m (start_of m a) (first_known m a well allowed) groups (new_choices a) whole (new-known m a allowed) s among

@@ -1,5 +1,5 @@
 -- Marks by position.
-use Rattle.std.specs.Prelude.{◌↔◌, ◌<◌, ℕ, Bool, false, List, [], ◌∷◌, Contains, IsTrue, map, nat_eq, slice_index_or, if◌then◌else◌}
+use Rattle.std.specs.Prelude.{◌<◌, ℕ, Bool, List, [], ◌∷◌, Contains, map, nat_eq, if◌then◌else◌}
 use Rattle.std.specs.List.{list_any, range_with_len}
 use Rattle.std.specs.List.Sorted.{IsStrictlyIncreasing}
 
@@ -8,11 +8,6 @@ abbrev pub marked : {X : Type 0} → List Bool → List X → List X
 marked marks [] = []
 marked [] (x ∷ xs) = []
 marked (mark ∷ marks) (x ∷ xs) = if mark then x ∷ marked marks xs else marked marks xs
-
--- the positions that are marked, rising
-pub record ArePositions (marks : List Bool) (positions : List ℕ) : Type 0 where
-  pub rising : IsStrictlyIncreasing positions
-  pub marked : (position : ℕ) → (Contains positions position ↔ IsTrue (slice_index_or marks position false))
 
 -- a mark for each of so many, where these positions are marked
 abbrev pub marks_at : ℕ → List ℕ → List Bool

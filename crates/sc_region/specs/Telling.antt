@@ -1,5 +1,5 @@
 -- Groups of schools that tell the region of an amendment.
-use Rattle.std.specs.Prelude.{◌≡◌, ◌<◌, ◌↔◌, ℕ, List, Some, true, length, slice_get, slice_index, Contains}
+use Rattle.std.specs.Prelude.{◌≡◌, ◌<◌, ◌↔◌, ℕ, Bool, List, Some, true, false, length, slice_get, slice_index, slice_index_or, Contains, IsTrue}
 use Rattle.std.specs.List.Sorted.{IsStrictlyIncreasing}
 use Rattle.sc_papers.specs.Market.{Market, is_student, students_of}
 use Rattle.sc_papers.specs.declared.amendment.Amendment.{Amendment}
@@ -10,6 +10,12 @@ use Rattle.sc_region.specs.Region.{InRegion}
 -- begin with
 abbrev pub TellRegion : Market → Amendment → List ℕ → Type 0
 TellRegion m a groups = (i : ℕ) → is_student m i ≡ true → (is_member m groups (group_of m groups (start_of m a)) i ≡ true ↔ InRegion m a i)
+
+-- groups that the lists of some students join, who stand at these positions
+pub record AreOfSome (m : Market) (groups : List ℕ) : Type 0 where
+  pub some : List ℕ
+  pub within : (p : ℕ) → Contains some p → p < length (students_of m)
+  pub joined : groups ≡ joined_students m (students_at m some)
 
 -- the lists of some students, who stand at these positions, join the schools at some places with that at another
 pub record HeldTogether (m : Market) (places : List ℕ) (place : ℕ) : Type 0 where
@@ -22,3 +28,8 @@ pub record AreOfRegion (m : Market) (a : Amendment) (positions : List ℕ) : Typ
   pub rising : IsStrictlyIncreasing positions
   pub within : (p : ℕ) → Contains positions p → p < length m.students
   pub exact : (p i : ℕ) → slice_get (students_of m) p ≡ Some i → (Contains positions p ↔ InRegion m a i)
+
+-- marks of the students of the papers, in order of entry: those of the region are marked
+pub record MarkRegion (m : Market) (a : Amendment) (marks : List Bool) : Type 0 where
+  pub one_each : length marks ≡ length m.students
+  pub region : (position i : ℕ) → slice_get (students_of m) position ≡ Some i → (IsTrue (slice_index_or marks position false) ↔ InRegion m a i)

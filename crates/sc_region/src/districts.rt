@@ -10,10 +10,13 @@ use crate::candidates::{
     count_at, few_hold_together, groups_with, listed_at, places_in, positions_in,
 };
 use crate::first::First;
-use crate::grouping::{first_place_at, groups_of, joins_nothing, place_of};
+use crate::grouping::{first_place_at, groups_of, place_of, regroup};
 use crate::marks::RegionMarks;
-use crate::reach::{first_choice, new_choices, region_marks, start_of, widen};
-use sc_papers::{Amendment, MOST_STUDENTS, Papers, Refusal, SchoolNo, StudentNo};
+use crate::members::positions_of;
+use crate::reach::{
+    are_one, first_choice, groups_of_few, new_choices, region_groups, start_of, widen,
+};
+use sc_papers::{Amendment, MOST_STUDENTS, Papers, StudentNo};
 use std::alloc::{AllocError, Global};
 use std::marker::Model;
 
@@ -25,7 +28,7 @@ const WIDE: usize = 8;
 /// of each district, at their first choices. From it the region of an amendment is found in its district alone.
 ///
 /// The districts are those of some papers, and are kept in step with them. They may come to be wider than they
-/// need be: lists that have gone leave joined what they joined.
+/// need be: lists that have gone leave joined what they joined, until the region of an amendment is looked for there.
 #[derive(Drop)]
 pub struct Districts {
     // By the school's position, the number of its district.
@@ -163,13 +166,12 @@ fn let_come(
 }
 
 impl Districts {
-    ghost use Rattle.std.specs.Prelude.{◌≡◌, ◌↔◌, ◌<◌, ℕ, None, Some, false, true, length, slice_get, slice_index, slice_index_or, Contains, IsTrue, IfErr, IfOk, OnOk};
-    ghost use Rattle.sc_papers.specs.Market.{is_school, schools_of, students_of};
-    ghost use Rattle.sc_papers.specs.Verdict.{after, verdict, IsRefusal};
-    ghost use Rattle.sc_region.specs.Districts.{AreDistricts};
-    ghost use Rattle.sc_region.specs.Groups.{place_of, places_in, start_of, widened};
-    ghost use Rattle.sc_region.specs.Region.{InRegion};
-    ghost use Rattle.sc_region.specs.Telling.{AreOfRegion};
+    ghost use Rattle.std.specs.Prelude.{◌≡◌, ◌<◌, None, length, slice_index, IfOk};
+    ghost use Rattle.sc_papers.specs.Market.{schools_of};
+    ghost use Rattle.sc_papers.specs.Verdict.{after, verdict};
+    ghost use Rattle.sc_region.specs.Districts.{AreDistricts, AreWidened};
+    ghost use Rattle.sc_region.specs.Groups.{place_of, places_in, start_of};
+    ghost use Rattle.sc_region.specs.Telling.{AreOfRegion, MarkRegion};
 
     /// The districts of the papers. The only error is want of memory.
     ///
@@ -185,119 +187,165 @@ impl Districts {
         Ok(Districts { groups, firsts })
     }
 
-    /// The number of each school's district, with those joined that the new choices join.
-    fn widened(
-        &self,
-        alloc: Global,
-        papers: &Papers,
-        amendment: &Amendment,
-    ) -> Result<Vec<usize>, AllocError>
-        requires districts { AreDistricts papers.now self.now }
+    /// Makes one district of those that the new choices join.
+    fn widen(&mut self, papers: &Papers, amendment: &Amendment)
+        requires districts { AreDistricts papers.now self.old }
         requires allowed { verdict papers.now amendment.now ≡ None }
-        ensures joined { IfOk result (λ groups. groups.items ≡ widened papers.now amendment.now self.now.groups) }
-        ensures one_each { IfOk result (λ groups. length groups.items ≡ length (schools_of papers.now)) }
+        ensures { AreWidened papers.now amendment.now self.new }
     {
-        let mut groups = Vec::from_slice(alloc, self.groups.as_slice())?;
-        widen(papers, amendment, &mut groups);
-        Ok(groups)
-    }
-
-    /// The positions of the region's students, rising. Given are the number of each school's district, the place of
-    /// the school to begin with, and those of the schools of its district.
-    fn region_positions(
-        &self,
-        alloc: Global,
-        papers: &Papers,
-        amendment: &Amendment,
-        groups: &[usize],
-        place: usize,
-        places: &[usize],
-    ) -> Result<Vec<usize>, AllocError>
-        requires districts { AreDistricts papers.now self.now }
-        requires allowed { verdict papers.now amendment.now ≡ None }
-        requires groups { groups.now ≡ widened papers.now amendment.now self.now.groups }
-        requires one_each { length groups.now ≡ length (schools_of papers.now) }
-        requires place { place ≡ place_of papers.now (start_of papers.now amendment.now) }
-        requires within { place < length (schools_of papers.now) }
-        requires places { places.now ≡ places_in groups.now (slice_index groups.now place) }
-        ensures { IfOk result (λ positions. AreOfRegion papers.now amendment.now positions.items) }
-    {
-        let candidates = listed_at(alloc, papers, &self.firsts, places)?;
-        let all = candidates.as_slice();
         // This call tells that the papers are well-formed.
         prove!(papers.students_len() <= MOST_STUDENTS);
-        if few_hold_together(alloc, papers, places, place, all)? {
-            let positions = positions_in(alloc, papers, groups, groups[place], all)?;
+        widen(papers, amendment, &mut self.groups);
+    }
+
+    /// The positions of the region's students, rising, found among all students, by passes that ask nobody's position by number. Given is the
+    /// position of the school to begin with. Where the lists of a few do not join all schools, those of all make the groups of the
+    /// districts anew.
+    fn positions_among_all(
+        &mut self,
+        alloc: Global,
+        papers: &Papers,
+        amendment: &Amendment,
+        start: usize,
+    ) -> Result<Vec<usize>, AllocError>
+        requires widened { AreWidened papers.now amendment.now self.old }
+        requires allowed { verdict papers.now amendment.now ≡ None }
+        requires start { start ≡ place_of papers.now (start_of papers.now amendment.now) }
+        requires within { start < length (schools_of papers.now) }
+        ensures region { IfOk result (λ positions. AreOfRegion papers.now amendment.now positions.items) }
+        ensures widened { AreWidened papers.now amendment.now self.new }
+    {
+        // This call tells that the papers are well-formed.
+        prove!(papers.students_len() <= MOST_STUDENTS);
+        let few = groups_of_few(alloc, papers)?;
+        if are_one(few.as_slice()) {
+            let positions = positions_of(alloc, papers, few.as_slice(), few[start])?;
             return Ok(positions);
         }
-        let exact = groups_with(alloc, papers, amendment, all)?;
-        let positions = positions_in(alloc, papers, exact.as_slice(), exact[place], all)?;
+        self.groups = region_groups(alloc, papers, amendment)?;
+        let positions = positions_of(alloc, papers, self.groups.as_slice(), self.groups[start])?;
         Ok(positions)
     }
 
-    /// What `region` gives, by the number of each school's district, with those joined that the new choices join.
-    fn region_by(
-        &self,
+    /// The positions of the region's students, rising, found among those who are listed in the district of the school to begin with.
+    /// Given are that school's position and those of the schools of its district. Where the lists of a few do not hold
+    /// the district together, those of all who are listed in it make its groups anew.
+    fn positions_among_listed(
+        &mut self,
         alloc: Global,
         papers: &Papers,
         amendment: &Amendment,
-        start: SchoolNo,
-        groups: &[usize],
-    ) -> Result<RegionMarks, Refusal>
-        requires districts { AreDistricts papers.now self.now }
+        start: usize,
+        schools: &[usize],
+    ) -> Result<Vec<usize>, AllocError>
+        requires widened { AreWidened papers.now amendment.now self.old }
         requires allowed { verdict papers.now amendment.now ≡ None }
-        requires start { start ≡ start_of papers.now amendment.now }
-        requires known { is_school papers.now start ≡ true }
-        requires groups { groups.now ≡ widened papers.now amendment.now self.now.groups }
-        requires one_each { length groups.now ≡ length (schools_of papers.now) }
-        ensures one_each { IfOk result (λ marks. length marks ≡ length papers.now.students) }
-        ensures region { IfOk result (λ marks. (position i : ℕ) → slice_get (students_of papers.now) position ≡ Some i → (IsTrue (slice_index_or marks position false) ↔ InRegion papers.now amendment.now i)) }
-        ensures refused { IfErr result (IsRefusal (verdict papers.now amendment.now)) }
+        requires start { start ≡ place_of papers.now (start_of papers.now amendment.now) }
+        requires within { start < length (schools_of papers.now) }
+        requires schools { schools.now ≡ places_in self.old.groups (slice_index self.old.groups start) }
+        ensures region { IfOk result (λ positions. AreOfRegion papers.now amendment.now positions.items) }
+        ensures widened { AreWidened papers.now amendment.now self.new }
     {
-        let place = place_of(papers, start);
-        let district = places_in(alloc, groups, groups[place])?;
-        let places = district.as_slice();
-        if count_at(&self.firsts, places) > papers.students_len() / WIDE {
-            return region_marks(alloc, papers, amendment);
+        let group = self.groups[start];
+        let candidates = listed_at(alloc, papers, &self.firsts, schools)?;
+        let listed = candidates.as_slice();
+        // This call tells that the papers are well-formed.
+        prove!(papers.students_len() <= MOST_STUDENTS);
+        if few_hold_together(alloc, papers, schools, start, listed)? {
+            let positions = positions_in(alloc, papers, self.groups.as_slice(), group, listed)?;
+            return Ok(positions);
         }
-        let positions = self.region_positions(alloc, papers, amendment, groups, place, places)?;
-        Ok(RegionMarks::at(papers.students_len(), positions))
+        let exact = groups_with(alloc, papers, amendment, listed)?;
+        let positions = positions_in(alloc, papers, exact.as_slice(), exact[start], listed)?;
+        regroup(&mut self.groups, group, exact.as_slice());
+        Ok(positions)
     }
 
-    /// What `region_marks` gives, and its errors, found in the district of the amendment alone: that of the
-    /// amended school or of the amended student's choices.
+    /// The positions of the region's students, rising, by districts that the new choices have widened.
+    fn region_positions(
+        &mut self,
+        alloc: Global,
+        papers: &Papers,
+        amendment: &Amendment,
+    ) -> Result<Vec<usize>, AllocError>
+        requires widened { AreWidened papers.now amendment.now self.old }
+        requires allowed { verdict papers.now amendment.now ≡ None }
+        ensures region { IfOk result (λ positions. AreOfRegion papers.now amendment.now positions.items) }
+        ensures widened { AreWidened papers.now amendment.now self.new }
+    {
+        let start = place_of(papers, start_of(papers, amendment));
+        let district = places_in(alloc, self.groups.as_slice(), self.groups[start])?;
+        let schools = district.as_slice();
+        if count_at(&self.firsts, schools) > papers.students_len() / WIDE {
+            self.positions_among_all(alloc, papers, amendment, start)
+        } else {
+            self.positions_among_listed(alloc, papers, amendment, start, schools)
+        }
+    }
+
+    /// Brings the students who are listed at their first choices in step with an amendment, before it is made, where the new
+    /// choices have widened the districts.
+    fn list_anew(self, papers: &Papers, amendment: &Amendment) -> Result<Self, AllocError>
+        requires widened { AreWidened papers.now amendment.now self }
+        requires allowed { verdict papers.now amendment.now ≡ None }
+        ensures { IfOk result (AreDistricts (after papers.now amendment.now)) }
+    {
+        // This call tells that the papers are well-formed.
+        prove!(papers.students_len() <= MOST_STUDENTS);
+        let mut districts = self;
+        let_leave(&mut districts.firsts, papers, amendment);
+        let_come(&mut districts.firsts, papers, amendment)?;
+        Ok(districts)
+    }
+
+    /// The region of an amendment that is not refused, as `region` tells it, with a mark for each student in order of entry, found in the district of
+    /// the amendment alone: that of the amended school or of the amended student's choices. One who enters has no mark. The
+    /// districts stay those of the papers, whatever the answer, but those that the new choices join become one, and where no lists hold
+    /// the schools of the amendment's district together any more, it comes apart. The only error is want of memory.
     ///
     /// The cost is a look at each of the district's students, with a look-up by number for each who no longer
     /// stands where they stood when they came to be listed, and a sort; two passes over the schools, for each of
     /// which memory is taken, as for each student of the district; and one over the choices of a few of these
     /// students, four for each school of the district. Where those few do not hold the district together, the
-    /// choices of all of them are passed over. Then, and where the new choices join districts, there are a few
-    /// passes more over the schools, and at most two for each new choice. Where the district has a good part of all
-    /// students, the cost is that of `region_marks`.
+    /// choices of all of them are passed over. Then there are a few passes more over the schools, and where the new choices join
+    /// districts, one for each that is joined. Where the district has a good part of all students, these passes are over all students.
     pub fn region(
-        &self,
+        &mut self,
         alloc: Global,
         papers: &Papers,
         amendment: &Amendment,
-    ) -> Result<RegionMarks, Refusal>
-        requires { AreDistricts papers.now self.now }
-        ensures allowed { OnOk result (verdict papers.now amendment.now ≡ None) }
-        ensures one_each { IfOk result (λ marks. length marks ≡ length papers.now.students) }
-        ensures region { IfOk result (λ marks. (position i : ℕ) → slice_get (students_of papers.now) position ≡ Some i → (IsTrue (slice_index_or marks position false) ↔ InRegion papers.now amendment.now i)) }
-        ensures refused { IfErr result (IsRefusal (verdict papers.now amendment.now)) }
+    ) -> Result<RegionMarks, AllocError>
+        requires districts { AreDistricts papers.now self.old }
+        requires allowed { verdict papers.now amendment.now ≡ None }
+        ensures region { IfOk result (MarkRegion papers.now amendment.now) }
+        ensures widened { AreWidened papers.now amendment.now self.new }
     {
-        papers.check(amendment)?;
-        let start = start_of(papers, amendment);
-        let own = self.groups.as_slice();
-        if joins_nothing(papers, own, start, new_choices(amendment)) {
-            return self.region_by(alloc, papers, amendment, start, own);
-        }
-        let groups = self.widened(alloc, papers, amendment)?;
-        self.region_by(alloc, papers, amendment, start, groups.as_slice())
+        self.widen(papers, amendment);
+        let positions = self.region_positions(alloc, papers, amendment)?;
+        Ok(RegionMarks::at(papers.students_len(), positions))
+    }
+
+    /// The region of an amendment that is not refused, as `region` gives it, and the districts in step with it, as `amend` brings them.
+    /// The only error is want of memory, with which the districts are given up. The cost is that of both.
+    pub fn amend_with_region(
+        self,
+        alloc: Global,
+        papers: &Papers,
+        amendment: &Amendment,
+    ) -> Result<(Self, RegionMarks), AllocError>
+        requires districts { AreDistricts papers.now self }
+        requires allowed { verdict papers.now amendment.now ≡ None }
+        ensures districts { IfOk result (λ (districts, region). AreDistricts (after papers.now amendment.now) districts) }
+        ensures region { IfOk result (λ (districts, region). MarkRegion papers.now amendment.now region) }
+    {
+        let mut widened = self;
+        let region = widened.region(alloc, papers, amendment)?;
+        let districts = widened.list_anew(papers, amendment)?;
+        Ok((districts, region))
     }
 
     /// The districts in step with an amendment of their papers that is not refused, before it is made: those of the
-    /// papers after it. Districts that the new choices join become one, and stay so. The only error is want of
+    /// papers after it. Districts that the new choices join become one. The only error is want of
     /// memory, with which the districts are given up.
     ///
     /// The cost is a look at each of the new choices, one at each student who has the first choice of one who
@@ -307,12 +355,8 @@ impl Districts {
         requires allowed { verdict papers.now amendment.now ≡ None }
         ensures { IfOk result (AreDistricts (after papers.now amendment.now)) }
     {
-        // This call tells that the papers are well-formed.
-        prove!(papers.students_len() <= MOST_STUDENTS);
-        let mut districts = self;
-        widen(papers, amendment, &mut districts.groups);
-        let_leave(&mut districts.firsts, papers, amendment);
-        let_come(&mut districts.firsts, papers, amendment)?;
-        Ok(districts)
+        let mut widened = self;
+        widened.widen(papers, amendment);
+        widened.list_anew(papers, amendment)
     }
 }

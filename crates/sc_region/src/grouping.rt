@@ -1,6 +1,6 @@
 //! The groups of schools that students' lists join.
 
-ghost use Rattle.std.specs.Prelude.{◌≡◌, ◌<◌, ℕ, true, length, map, Contains, IfOk};
+ghost use Rattle.std.specs.Prelude.{◌≡◌, ◌<◌, ◌==◌, ℕ, true, length, map, slice_index, Contains, IfOk, if◌then◌else◌};
 ghost use Rattle.sc_papers.specs.Market.{choices_of, is_school, schools_of, student_at, students_of};
 ghost use Rattle.sc_papers.specs.WellFormed.{WellFormed};
 ghost use Rattle.sc_region.specs.Groups.{first_choice, joined, joined_choices, joined_list, joined_students, moved, place_of, students_at};
@@ -77,25 +77,17 @@ pub(crate) fn join_list(
     }
 }
 
-/// Whether each school of a list is in the group of one school, so that it joins nothing.
-pub(crate) fn joins_nothing(
-    papers: &Papers,
-    groups: &[usize],
-    first: SchoolNo,
-    list: &[SchoolNo],
-) -> bool
-    requires one_each { length groups.now ≡ length (schools_of papers.now) }
-    requires first { is_school papers.now first ≡ true }
-    requires known { (s : ℕ) → Contains list.now s → is_school papers.now s ≡ true }
-    ensures { result ≡ true → joined_list papers.now first groups.now list.now ≡ groups.now }
+/// Gives the schools of a group the numbers that they have among other groups.
+pub(crate) fn regroup(groups: &mut Vec<usize>, group: usize, others: &[usize])
+    requires { length others.now ≡ length groups.old.items }
+    ensures numbers { (p : ℕ) → p < length groups.old.items → slice_index groups.new.items p ≡ (if slice_index groups.old.items p == group then slice_index others.now p else slice_index groups.old.items p) }
+    ensures one_each { length groups.new.items ≡ length groups.old.items }
 {
-    let group = groups[place_of(papers, first)];
-    for school in list {
-        if groups[place_of(papers, *school)] != group {
-            return false;
+    for place in 0..groups.len() {
+        if groups[place] == group {
+            groups[place] = others[place];
         }
     }
-    true
 }
 
 /// The position of the first choice of the student at a position, without a look-up by number.

@@ -13,5 +13,5 @@ mod school_groups;
 
 pub use districts::Districts;
 pub use marks::RegionMarks;
-pub use reach::{region, region_marks};
+pub use reach::region;
 pub use region_list::RegionList;

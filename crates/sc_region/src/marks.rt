@@ -1,9 +1,5 @@
 //! The students of a region, by position.
 
-ghost use Rattle.std.specs.Prelude.{IfOk};
-ghost use Rattle.sc_region.specs.Marks.{ArePositions};
-
-use std::alloc::{AllocError, Global};
 use std::marker::Model;
 
 /// Which students of the papers are in a region: a mark for each of them, in order of entry. What is kept is
@@ -27,33 +23,9 @@ impl Model for RegionMarks {
     ghost invariant = { λ r. AreRisingBelow r.count r.positions.items };
 }
 
-/// The positions that are marked, rising.
-fn positions_of(alloc: Global, marks: &[bool]) -> Result<Vec<usize>, AllocError>
-    ensures { IfOk result (λ positions. ArePositions marks.now positions.items) }
-{
-    let mut positions = Vec::new(alloc);
-    for (position, mark) in marks.iter().enumerate() {
-        if *mark {
-            positions.push(position)?;
-        }
-    }
-    Ok(positions)
-}
-
 impl RegionMarks {
-    ghost use Rattle.std.specs.Prelude.{◌≡◌, ◌↔◌, ◌<◌, ℕ, false, length, slice_index_or, Contains, IsTrue, IfOk};
+    ghost use Rattle.std.specs.Prelude.{◌≡◌, ◌↔◌, ◌<◌, ℕ, false, length, slice_index_or, Contains, IsTrue};
     ghost use Rattle.std.specs.List.Sorted.{IsStrictlyIncreasing};
-
-    /// These marks. One pass over them; memory is taken for the positions that are marked.
-    pub(crate) fn of(alloc: Global, marks: Vec<bool>) -> Result<Self, AllocError>
-        ensures { IfOk result (λ region. region ≡ marks.items) }
-    {
-        let positions = positions_of(alloc, marks.as_slice())?;
-        Ok(RegionMarks {
-            count: marks.len(),
-            positions,
-        })
-    }
 
     /// A mark for each of so many students, where these rising positions are marked. It takes no memory.
     pub(crate) fn at(count: usize, positions: Vec<usize>) -> Self

@@ -1,8 +1,9 @@
 //! The students whose lists a group of schools has.
 
-ghost use Rattle.std.specs.Prelude.{◌≡◌, ◌<◌, length, map, IfOk};
+ghost use Rattle.std.specs.Prelude.{◌≡◌, ◌<◌, length, IfOk};
+ghost use Rattle.std.specs.List.{range_with_len};
 ghost use Rattle.sc_papers.specs.Market.{schools_of, student_at, students_of};
-ghost use Rattle.sc_region.specs.Groups.{is_member, members_of};
+ghost use Rattle.sc_region.specs.Groups.{is_member, members_of, positions_in};
 
 use crate::grouping::first_place_at;
 use sc_papers::{Papers, StudentNo};
@@ -40,19 +41,21 @@ pub(crate) fn members_of(
     Ok(members)
 }
 
-/// A mark for each student of the papers, in order of entry: whether their first choice is in a group.
-pub(crate) fn marks_of(
+/// The positions of the students of the papers whose first choice is in a group, rising.
+pub(crate) fn positions_of(
     alloc: Global,
     papers: &Papers,
     groups: &[usize],
     group: usize,
-) -> Result<Vec<bool>, AllocError>
+) -> Result<Vec<usize>, AllocError>
     requires { length groups.now ≡ length (schools_of papers.now) }
-    ensures { IfOk result (λ marks. marks.items ≡ map (is_member papers.now groups.now group) (students_of papers.now)) }
+    ensures { IfOk result (λ positions. positions.items ≡ positions_in papers.now groups.now group (range_with_len 0 (length (students_of papers.now)))) }
 {
-    let mut marks = Vec::with_capacity(alloc, papers.students_len())?;
+    let mut positions = Vec::new(alloc);
     for position in 0..papers.students_len() {
-        marks.push(is_member(papers, groups, group, position))?;
+        if is_member(papers, groups, group, position) {
+            positions.push(position)?;
+        }
     }
-    Ok(marks)
+    Ok(positions)
 }

@@ -1,17 +1,16 @@
 //! How far an amendment reaches.
 
-ghost use Rattle.std.specs.Prelude.{◌≡◌, ◌↔◌, ◌<◌, ℕ, None, Some, true, false, length, slice_get, slice_index, slice_index_or, Contains, IsTrue, OnOk, IfOk, IfErr};
+ghost use Rattle.std.specs.Prelude.{◌≡◌, ◌↔◌, ◌<◌, ℕ, None, true, length, slice_index, Contains, OnOk, IfOk, IfErr};
 ghost use Rattle.std.specs.List.Sorted.{IsStrictlyIncreasing};
 ghost use Rattle.sc_papers.specs.Market.{is_school, is_student, schools_of, students_of};
 ghost use Rattle.sc_papers.specs.Verdict.{verdict, IsRefusal};
 ghost use Rattle.sc_region.specs.Groups.{first_choice, new_choices, region_groups, region_members, start_of, widened};
 ghost use Rattle.sc_region.specs.Region.{InRegion};
-ghost use Rattle.sc_region.specs.Telling.{TellRegion};
+ghost use Rattle.sc_region.specs.Telling.{AreOfSome};
 
 use crate::candidates::LISTS_FOR_SCHOOL;
 use crate::grouping::{first_choice_at, groups_among, groups_of, join_list, place_of};
-use crate::marks::RegionMarks;
-use crate::members::{marks_of, members_of};
+use crate::members::members_of;
 use crate::region_list::RegionList;
 use sc_papers::{Amendment, MOST_STUDENTS, Papers, Refusal, SchoolNo, StudentNo};
 use std::alloc::{AllocError, Global};
@@ -65,7 +64,7 @@ pub(crate) fn widen(papers: &Papers, amendment: &Amendment, groups: &mut Vec<usi
 }
 
 /// The groups that all lists join, those before the amendment and those after it.
-fn region_groups(
+pub(crate) fn region_groups(
     alloc: Global,
     papers: &Papers,
     amendment: &Amendment,
@@ -140,7 +139,7 @@ fn spread_positions(alloc: Global, papers: &Papers) -> Result<Vec<usize>, AllocE
 }
 
 /// Whether all schools are in one group, that of the first.
-fn are_one(groups: &[usize]) -> bool
+pub(crate) fn are_one(groups: &[usize]) -> bool
     ensures { result ≡ true → (place : ℕ) → place < length groups.now → slice_index groups.now place ≡ slice_index groups.now 0 }
 {
     for place in 0..groups.len() {
@@ -151,68 +150,12 @@ fn are_one(groups: &[usize]) -> bool
     true
 }
 
-/// Groups of schools that tell the region: the lists of a few students where these join all schools, as those of one city
-/// do, and else the lists of all.
-fn telling_groups(
-    alloc: Global,
-    papers: &Papers,
-    amendment: &Amendment,
-) -> Result<Vec<usize>, AllocError>
-    requires { verdict papers.now amendment.now ≡ None }
+/// The groups that the lists of a few students join, who lie evenly among all: all schools, where they are those of one city.
+pub(crate) fn groups_of_few(alloc: Global, papers: &Papers) -> Result<Vec<usize>, AllocError>
     ensures one_each { IfOk result (λ groups. length groups.items ≡ length (schools_of papers.now)) }
-    ensures region { IfOk result (λ groups. TellRegion papers.now amendment.now groups.items) }
+    ensures few { IfOk result (λ groups. AreOfSome papers.now groups.items) }
 {
-    // This call tells that the papers are well-formed.
-    prove!(papers.students_len() <= MOST_STUDENTS);
     let few = spread_positions(alloc, papers)?;
-    let groups = groups_among(alloc, papers, few.as_slice())?.into_numbers();
-    if are_one(groups.as_slice()) {
-        return Ok(groups);
-    }
-    let all = region_groups(alloc, papers, amendment)?;
-    Ok(all)
-}
-
-/// A mark for each student of the papers: whether the lists lead from the amendment to them.
-fn marks_of_region(
-    alloc: Global,
-    papers: &Papers,
-    amendment: &Amendment,
-) -> Result<Vec<bool>, AllocError>
-    requires { verdict papers.now amendment.now ≡ None }
-    ensures one_each { IfOk result (λ marks. length marks.items ≡ length (students_of papers.now)) }
-    ensures region { IfOk result (λ marks. (position i : ℕ) → slice_get (students_of papers.now) position ≡ Some i → (IsTrue (slice_index_or marks.items position false) ↔ InRegion papers.now amendment.now i)) }
-{
-    let groups = telling_groups(alloc, papers, amendment)?;
-    let group = groups[place_of(papers, start_of(papers, amendment))];
-    let marks = marks_of(alloc, papers, groups.as_slice(), group)?;
-    Ok(marks)
-}
-
-/// What `region` gives, as a mark for each student of the papers in order of entry: so whoever goes through
-/// them all asks nobody's number. One who enters has no mark.
-///
-/// Answers the first refusal of the amendment that applies, as `Papers::check` does, or else want of
-/// memory. The papers are not changed.
-///
-/// The cost is a look at each student, and one pass over the choices of a few, four for each school: by their
-/// positions, with steps to the root of each one's group. Where those few leave the schools apart, it is a pass over
-/// all choices, and one over the schools for each group that the new choices join. Memory is taken for each school
-/// and each student, and once more for each of the region.
-pub fn region_marks(
-    alloc: Global,
-    papers: &Papers,
-    amendment: &Amendment,
-) -> Result<RegionMarks, Refusal>
-    ensures allowed { OnOk result (verdict papers.now amendment.now ≡ None) }
-    ensures one_each { IfOk result (λ marks. length marks ≡ length papers.now.students) }
-    ensures region { IfOk result (λ marks. (position i : ℕ) → slice_get (students_of papers.now) position ≡ Some i → (IsTrue (slice_index_or marks position false) ↔ InRegion papers.now amendment.now i)) }
-    ensures refused { IfErr result (IsRefusal (verdict papers.now amendment.now)) }
-{
-    papers.check(amendment)?;
-    let marks = marks_of_region(alloc, papers, amendment)?;
-    // This call tells that the papers are well-formed.
-    prove!(papers.students_len() <= MOST_STUDENTS);
-    let region = RegionMarks::of(alloc, marks)?;
-    Ok(region)
+    let groups = groups_among(alloc, papers, few.as_slice())?;
+    Ok(groups.into_numbers())
 }

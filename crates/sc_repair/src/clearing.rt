@@ -2,7 +2,7 @@ ghost use Rattle.std.specs.Prelude.{◌≡◌};
 
 use crate::open_refused::OpenRefused;
 use crate::settlement::Settlement;
-use sc_papers::{Assignment, Papers, Refusal, Rejection, SchoolNo, Stamp, Stamped, StudentNo};
+use sc_papers::{Amendment, Assignment, Papers, Refusal, Rejection, SchoolNo, Stamp, Stamped, StudentNo};
 use sc_stamps::{Stamps, marking_of};
 use std::alloc::{AllocError, Global};
 use std::marker::Model;
@@ -28,9 +28,10 @@ impl Model for Clearing {
 }
 
 impl Clearing {
-    ghost use Rattle.std.specs.Prelude.{◌≡◌, None, length, min, take, IfOk, IfErr, OnErr, OnOk};
+    ghost use Rattle.std.specs.Prelude.{◌≡◌, ◌<◌, None, length, min, take, IfOk, IfErr, OnErr, OnOk};
     ghost use Rattle.sc_papers.specs.Matching.{IsStudentOptimal};
-    ghost use Rattle.sc_papers.specs.Verdict.{unless_refused, IsRefusal};
+    ghost use Rattle.sc_papers.specs.Verdict.{unless_refused, verdict, IsRefusal};
+    ghost use Rattle.sc_papers.specs.declared.stamp.TheConstants.Stamp.{GREATEST};
     ghost use Rattle.sc_stamps.specs.Record.{record_of};
     ghost use Rattle.sc_stamps.specs.Stamps.{no_stamps, stamp_of, IsInStep};
     ghost use Rattle.sc_stamps.specs.Verdict.{stamped_after, stamped_verdict, GivesStamp};
@@ -220,7 +221,28 @@ impl Clearing {
         ensures unchanged { OnErr result (self.new ≡ self.old) }
     {
         self.check(&stamped)?;
-        let amendment = stamped.amendment;
+        self.amend_allowed(stamped.amendment)?;
+        Ok(())
+    }
+
+    /// Makes an amendment that nothing is said against, gives its record the next stamp, and settles its region anew from its rewind point on.
+    /// The only error is want of memory, after which the papers, the stamps, the standing assignment, the log and the
+    /// count of proposals are as before; the amendment is given up. Whatever the answer, the standing assignment is the student-optimal
+    /// stable matching of the papers as they then stand.
+    ///
+    /// It is what `amend` does for a caller who has asked `check`, and costs what `amend` costs without it.
+    pub fn amend_allowed(&mut self, amendment: Amendment) -> Result<(), AllocError>
+        requires allowed { verdict self.old.standing.papers amendment ≡ None }
+        requires room { self.old.stamps.accepted < GREATEST }
+        ensures optimal { IsOptimal self.new.standing }
+        ensures certified { IsCertified self.new.standing }
+        ensures stays { OnOk result (take (rewind_point self.old.standing.papers amendment) self.new.standing.segments ≡ take (rewind_point self.old.standing.papers amendment) self.old.standing.segments) }
+        ensures others { OnOk result (KeepsOthers self.old.standing amendment self.new.standing) }
+        ensures proposals { OnOk result (CountsRegion self.old.standing.papers amendment self.new.standing) }
+        ensures accepted { OnOk result (stamped_papers self.new ≡ stamped_after (stamped_papers self.old) amendment) }
+        ensures stamped { OnOk result (GivesStamp (stamped_papers self.old) amendment (stamped_papers self.new)) }
+        ensures unchanged { OnErr result (self.new ≡ self.old) }
+    {
         let marking = marking_of(self.settlement.papers(), &amendment);
         self.stamps.begin(marking)?;
         match self.settlement.amend(amendment) {
@@ -228,9 +250,9 @@ impl Clearing {
                 self.stamps.finish(marking);
                 Ok(())
             }
-            Err(refusal) => {
+            Err(refused) => {
                 self.stamps.give_up(marking);
-                Err(refusal)
+                Err(refused)
             }
         }
     }

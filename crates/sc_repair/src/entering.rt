@@ -9,28 +9,14 @@ ghost use Rattle.sc_papers.specs.WellFormed.{WellFormed};
 ghost use Rattle.sc_checkpoint.specs.Chains.{logs_in, students_in, with_chain};
 ghost use Rattle.sc_engine.specs.Round.{is_spent, view_of};
 ghost use Rattle.sc_engine.specs.RoundView.{next_of, Fits};
-ghost use Rattle.sc_repair.specs.Newcomer.{is_moved, newcomer, HasEntered, IsNextToEnter, StandsAfter};
+ghost use Rattle.sc_repair.specs.Newcomer.{is_moved, HasEntered, IsNextToEnter, StandsAfter};
 
 use crate::places::Places;
 use sc_checkpoint::Segments;
 use sc_engine::Round;
-use sc_papers::{Amendment, Papers, StudentNo};
+use sc_papers::{Papers, StudentNo};
 use sc_seats::Roll;
 use std::alloc::{AllocError, Global};
-
-/// The student whom the amendment enters, if it enters one.
-pub(crate) fn newcomer(amendment: &Amendment) -> Option<StudentNo>
-    ensures { result ≡ newcomer amendment.now }
-{
-    match amendment {
-        Amendment::Enter { student, .. } => Some(*student),
-        Amendment::Withdraw { .. }
-        | Amendment::Rerank { .. }
-        | Amendment::Add { .. }
-        | Amendment::Close { .. }
-        | Amendment::Correct { .. } => None,
-    }
-}
 
 /// A round in which the students of the segments, the first of the papers, stand where these leave them. The
 /// cost is a look at each entry of the segments and an offer for each student.

@@ -1,42 +1,40 @@
 //! Papers and stamps whose students stand in an order of their own, and the turns in which they entered.
 
-ghost use Rattle.std.specs.Prelude.{◌≡◌, ◌<◌, ◌⊎◌, None, Some, length, IfErr, IfSome, OnErr, OnOk};
+ghost use Rattle.std.specs.Prelude.{◌≡◌, ◌<◌, None, Some, length, IfSome, OnErr, OnOk};
 ghost use Rattle.sc_papers.specs.EntryOrder.{with_swapped_students};
-ghost use Rattle.sc_papers.specs.Verdict.{after, verdict, IsRefusal};
-ghost use Rattle.sc_papers.specs.declared.amendment.Refusal.TheVariants.{OutOfMemory};
+ghost use Rattle.sc_papers.specs.Verdict.{after, verdict};
 ghost use Rattle.sc_papers.specs.declared.stamp.TheConstants.Stamp.{GREATEST};
 ghost use Rattle.sc_stamps.specs.Stamps.{stamps_after, with_swapped_stamps};
 ghost use Rattle.sc_repair.specs.Turns.{last_papers, last_stamps, last_turns, leaver, papers_in_turn, stamps_in_turn, swapped, AreInTurn};
 
 use crate::turns::Turns;
-use sc_papers::{Amendment, Papers, Refusal};
+use sc_papers::{Amendment, Papers};
 use sc_stamps::{Marking, Stamps, marking_of};
+use std::alloc::AllocError;
 
-/// Makes an amendment of papers and of their stamps, or answers the first refusal of the papers, or in its place want
-/// of memory, after which both are as before.
+/// Makes an amendment of papers that nothing is said against, and of their stamps. The only error is want of memory, after which both are as before.
 pub(crate) fn make(
     papers: &mut Papers,
     stamps: &mut Stamps,
     amendment: Amendment,
-) -> Result<(), Refusal>
+) -> Result<(), AllocError>
+    requires allowed { verdict papers.old amendment ≡ None }
     requires room { stamps.old.accepted < GREATEST }
-    ensures allowed { OnOk result (verdict papers.old amendment ≡ None) }
     ensures papers { OnOk result (papers.new ≡ after papers.old amendment) }
     ensures stamps { OnOk result (stamps.new ≡ stamps_after papers.old amendment stamps.old) }
-    ensures refused { IfErr result (λ refusal. (refusal ≡ OutOfMemory) ⊎ (verdict papers.old amendment ≡ Some refusal)) }
     ensures papers_stay { OnErr result (papers.new ≡ papers.old) }
     ensures stamps_stay { OnErr result (stamps.new ≡ stamps.old) }
 {
     let marking = marking_of(papers, &amendment);
     stamps.begin(marking)?;
-    match papers.apply(amendment) {
+    match papers.apply_allowed(amendment) {
         Ok(()) => {
             stamps.finish(marking);
             Ok(())
         }
-        Err(refusal) => {
+        Err(refused) => {
             stamps.give_up(marking);
-            Err(refusal)
+            Err(refused)
         }
     }
 }

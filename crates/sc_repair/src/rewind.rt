@@ -1,12 +1,12 @@
 //! From where on an amendment may change anything.
 
-ghost use Rattle.std.specs.Prelude.{◌≡◌, ◌≤◌, ◌<◌, ◌↔◌, ℕ, List, None, Some, true, false, length, slice_get, slice_index, slice_index_or, take, Contains, IfErr, IfOk, IsTrue, OnOk};
+ghost use Rattle.std.specs.Prelude.{◌≡◌, ◌≤◌, ◌<◌, ℕ, List, None, Some, true, false, length, slice_index, slice_index_or, take, Contains, IfErr, IfOk, IsTrue, OnOk};
 ghost use Rattle.std.specs.List.Sorted.{IsStrictlyIncreasing};
 ghost use Rattle.sc_papers.specs.Market.{students_of};
 ghost use Rattle.sc_papers.specs.Restriction.{cut, IsSegmented};
 ghost use Rattle.sc_papers.specs.Verdict.{after, verdict};
 ghost use Rattle.sc_papers.specs.declared.rejection.Rejection.{Rejection};
-ghost use Rattle.sc_region.specs.Region.{InRegion};
+ghost use Rattle.sc_region.specs.Telling.{MarkRegion};
 ghost use Rattle.sc_repair.specs.Rewinding.{first_to_list, lists, position_of, rewind_point};
 
 use sc_papers::{Amendment, Papers, Refusal, SchoolNo, StudentNo};
@@ -102,14 +102,12 @@ pub fn rewind_point(papers: &Papers, amendment: &Amendment) -> Result<usize, Ref
     Ok(first_changed(papers, amendment))
 }
 
-/// What `rewind_point` answers of an amendment that is not refused and whose region is marked.
+/// What `rewind_point` answers of an amendment whose region is marked.
 ///
 /// It takes no memory. It takes constant time, and for an `Add` or a `Close` a look at the choices of the region's students up
 /// to that position.
 pub(crate) fn point_in(papers: &Papers, region: &RegionMarks, amendment: &Amendment) -> usize
-    requires allowed { verdict papers.now amendment.now ≡ None }
-    requires one_each { length region.now ≡ length papers.now.students }
-    requires region { (position i : ℕ) → slice_get (students_of papers.now) position ≡ Some i → (IsTrue (slice_index_or region.now position false) ↔ InRegion papers.now amendment.now i) }
+    requires { MarkRegion papers.now amendment.now region.now }
     ensures { result ≡ rewind_point papers.now amendment.now }
 {
     match amendment {

@@ -6,7 +6,7 @@ use crate::open_refused::OpenRefused;
 use crate::turns::Turns;
 use sc_papers::{Amendment, Papers, Refusal, Stamp, Stamped};
 use sc_stamps::{Stamps, marking_of};
-use std::alloc::Global;
+use std::alloc::{AllocError, Global};
 use std::marker::Model;
 
 /// Papers that are amended and not settled, and the stamps of their records: for those who make many
@@ -32,12 +32,11 @@ impl Model for Unsettled {
 }
 
 impl Unsettled {
-    ghost use Rattle.std.specs.Prelude.{◌≡◌, ◌<◌, ◌⊎◌, None, Some, IfErr, IfOk, OnErr, OnOk};
+    ghost use Rattle.std.specs.Prelude.{◌≡◌, ◌<◌, None, IfErr, IfOk, OnErr, OnOk};
     ghost use Rattle.sc_papers.specs.Matching.{IsStudentOptimal};
     ghost use Rattle.sc_papers.specs.Reordering.{IsReordering};
     ghost use Rattle.sc_papers.specs.Verdict.{unless_refused, verdict, IsRefusal};
     ghost use Rattle.sc_papers.specs.WellFormed.{WellFormed};
-    ghost use Rattle.sc_papers.specs.declared.amendment.Refusal.TheVariants.{OutOfMemory};
     ghost use Rattle.sc_papers.specs.declared.stamp.TheConstants.Stamp.{GREATEST};
     ghost use Rattle.sc_stamps.specs.Record.{record_of};
     ghost use Rattle.sc_stamps.specs.Stamps.{stamp_of, IsInStep};
@@ -117,7 +116,7 @@ impl Unsettled {
     /// `check` does, or else want of memory. After a refusal the papers and the stamps are as before; the
     /// amendment is given up. An accepted amendment carried the stamp that its record had.
     ///
-    /// The cost is that of two checks and a few look-ups, with one draw of the lottery for a student who enters; nobody
+    /// The cost is that of `check` and a few look-ups, with one draw of the lottery for a student who enters; nobody
     /// moves up where one withdraws. Only an entry takes memory.
     pub fn amend(&mut self, stamped: Stamped) -> Result<(), Refusal>
         ensures allowed { OnOk result (stamped_verdict self.old stamped ≡ None) }
@@ -127,7 +126,8 @@ impl Unsettled {
         ensures unchanged { OnErr result (self.new ≡ self.old) }
     {
         self.check(&stamped)?;
-        self.make_in_turn(stamped.amendment)
+        self.amend_allowed(stamped.amendment)?;
+        Ok(())
     }
 
     /// Makes an amendment that has no stamp of its own, so that it is never stale, and gives its record the next
@@ -143,7 +143,8 @@ impl Unsettled {
         ensures unchanged { OnErr result (self.new ≡ self.old) }
     {
         self.check_rules(&amendment)?;
-        self.make_in_turn(amendment)
+        self.amend_allowed(amendment)?;
+        Ok(())
     }
 
     /// The first refusal of the papers. It takes no memory.
@@ -153,12 +154,12 @@ impl Unsettled {
         self.papers.check(amendment)
     }
 
-    /// Does what `apply` does, but that want of memory may be answered in the place of the refusal of the papers.
-    fn make_in_turn(&mut self, amendment: Amendment) -> Result<(), Refusal>
+    /// Makes an amendment that nothing is said against, and gives its record the next stamp. The only error is want of memory, after which
+    /// the papers and the stamps are as before; the amendment is given up. The cost is that of `amend` without its `check`.
+    pub fn amend_allowed(&mut self, amendment: Amendment) -> Result<(), AllocError>
+        requires allowed { verdict self.old.papers amendment ≡ None }
         requires room { self.old.stamps.accepted < GREATEST }
-        ensures allowed { OnOk result (verdict self.old.papers amendment ≡ None) }
         ensures accepted { OnOk result (self.new ≡ stamped_after self.old amendment) }
-        ensures refused { IfErr result (λ refusal. (refusal ≡ OutOfMemory) ⊎ (verdict self.old.papers amendment ≡ Some refusal)) }
         ensures unchanged { OnErr result (self.new ≡ self.old) }
     {
         let marking = marking_of(&self.papers, &amendment);
@@ -174,9 +175,9 @@ impl Unsettled {
                 self.turns.finish(marking);
                 Ok(())
             }
-            Err(refusal) => {
+            Err(refused) => {
                 self.turns.give_up(marking);
-                Err(refusal)
+                Err(refused)
             }
         }
     }

@@ -42,13 +42,15 @@ fn market(rt: &impl Abort, alloc: Global) -> Papers {
 fn expect_positions(
     rt: &impl Abort,
     alloc: Global,
-    districts: &Districts,
+    districts: &mut Districts,
     papers: &Papers,
     amendment: &Amendment,
     want: &[usize],
 ) -> Result<(), Refusal>
-    requires { AreDistricts papers.now districts.now }
+    requires { AreDistricts papers.now districts.old }
+    ensures { AreDistricts papers.now districts.new }
 {
+    papers.check(amendment)?;
     let region = districts.region(alloc, papers, amendment)?;
     assert!(rt; region.positions() == want);
     for position in 0..papers.students_len() {
@@ -77,17 +79,17 @@ fn expect_regions(rt: &impl Abort, alloc: Global, papers: &mut Papers) -> Result
         student: student(rt, 1),
     };
     let mut districts = Districts::of(alloc, papers)?;
-    expect_positions(rt, alloc, &districts, papers, &withdrawal, &[0, 1])?;
+    expect_positions(rt, alloc, &mut districts, papers, &withdrawal, &[0, 1])?;
     // The new choices join two districts.
     let joining = rerank(rt, alloc, 3, &[10])?;
-    expect_positions(rt, alloc, &districts, papers, &joining, &[0, 1, 2])?;
+    expect_positions(rt, alloc, &mut districts, papers, &joining, &[0, 1, 2])?;
     districts = follow(districts, papers, joining)?;
-    expect_positions(rt, alloc, &districts, papers, &withdrawal, &[0, 1, 2])?;
-    // They stay joined once nobody's list does it, and the region is exact all the same.
+    expect_positions(rt, alloc, &mut districts, papers, &withdrawal, &[0, 1, 2])?;
+    // They stay joined until a region is looked for in them, and it is exact all the same.
     let parting = rerank(rt, alloc, 3, &[40])?;
-    expect_positions(rt, alloc, &districts, papers, &parting, &[0, 1, 2])?;
+    expect_positions(rt, alloc, &mut districts, papers, &parting, &[0, 1, 2])?;
     districts = follow(districts, papers, parting)?;
-    expect_positions(rt, alloc, &districts, papers, &withdrawal, &[0, 1])?;
+    expect_positions(rt, alloc, &mut districts, papers, &withdrawal, &[0, 1])?;
     Ok(())
 }
 
@@ -112,11 +114,11 @@ fn expect_moves(rt: &impl Abort, alloc: Global, papers: &mut Papers) -> Result<(
         student: student(rt, 3),
     };
     // Whoever stood behind the first student has moved up.
-    expect_positions(rt, alloc, &districts, papers, &last, &[1])?;
+    expect_positions(rt, alloc, &mut districts, papers, &last, &[1])?;
     let newcomer = entry(rt, alloc, 4, &[40, 10])?;
-    expect_positions(rt, alloc, &districts, papers, &newcomer, &[0, 1])?;
+    expect_positions(rt, alloc, &mut districts, papers, &newcomer, &[0, 1])?;
     districts = follow(districts, papers, newcomer)?;
-    expect_positions(rt, alloc, &districts, papers, &last, &[0, 1, 23])?;
+    expect_positions(rt, alloc, &mut districts, papers, &last, &[0, 1, 23])?;
     Ok(())
 }
 

@@ -33,9 +33,10 @@ fn is_withdrawal(amendment: &Amendment) -> bool
 fn there_and_back(rt: &impl Abort, alloc: Global, papers: &mut Papers, record: &str) {
     let amendment = amendment_of(rt, alloc, record);
     assert!(rt; !is_withdrawal(&amendment));
-    let back = papers
-        .exchange(amendment)
+    papers
+        .check(&amendment)
         .expect(rt, "an amendment that is allowed");
+    let back = papers.exchange(amendment).expect(rt, "memory");
     papers.take_back(back);
     expect_market_b(rt, papers);
 }

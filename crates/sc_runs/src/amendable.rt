@@ -1,13 +1,14 @@
 //! What the records of a script amend: papers that are settled once, at the end, or after each amendment.
 
-ghost use Rattle.std.specs.Prelude.{◌≡◌, None, IfErr, IfOk, OnErr, OnOk};
-ghost use Rattle.sc_papers.specs.Verdict.{unless_refused, IsRefusal};
+ghost use Rattle.std.specs.Prelude.{◌≡◌, ◌<◌, None, IfOk, OnErr, OnOk};
+ghost use Rattle.sc_papers.specs.Verdict.{unless_refused, verdict};
+ghost use Rattle.sc_papers.specs.declared.stamp.TheConstants.Stamp.{GREATEST};
 ghost use Rattle.sc_papers.specs.WellFormed.{WellFormed};
 ghost use Rattle.sc_stamps.specs.Verdict.{stamped_after, stamped_verdict, unamended, StampedPapers};
 ghost use Rattle.sc_repair.specs.Stamped.{stamped_papers};
 ghost use Rattle.sc_repair.specs.Standing.{IsCertified};
 
-use sc_papers::{Papers, Refusal, Stamp, Stamped};
+use sc_papers::{Amendment, Papers, Refusal, Stamp, Stamped};
 use sc_repair::{Clearing, Unsettled};
 use std::alloc::{AllocError, Global};
 
@@ -38,11 +39,12 @@ pub trait Amendable {
     fn check(&self, stamped: &Stamped) -> Result<(), Refusal>
         ensures { result ≡ unless_refused (stamped_verdict (stands self.now) stamped.now) };
 
-    /// Makes the amendment, or answers why not. After a refusal the papers and the stamps are as before.
-    fn amend(&mut self, stamped: Stamped) -> Result<(), Refusal>
-        ensures allowed { OnOk result (stamped_verdict (stands self.old) stamped ≡ None) }
-        ensures accepted { OnOk result (stands self.new ≡ stamped_after (stands self.old) stamped.amendment) }
-        ensures refused { IfErr result (IsRefusal (stamped_verdict (stands self.old) stamped)) }
+    /// Makes an amendment that nothing is said against. The only error is want of memory, after which the papers and the stamps are as
+    /// before.
+    fn amend_allowed(&mut self, amendment: Amendment) -> Result<(), AllocError>
+        requires allowed { verdict (stands self.old).papers amendment ≡ None }
+        requires room { (stands self.old).stamps.accepted < GREATEST }
+        ensures accepted { OnOk result (stands self.new ≡ stamped_after (stands self.old) amendment) }
         ensures unchanged { OnErr result (stands self.new ≡ stands self.old) };
 
     /// The papers settled, with their stamps. The only error is want of memory.
@@ -69,8 +71,8 @@ impl Amendable for Clearing {
         self.check(stamped)
     }
 
-    fn amend(&mut self, stamped: Stamped) -> Result<(), Refusal> {
-        self.amend(stamped)
+    fn amend_allowed(&mut self, amendment: Amendment) -> Result<(), AllocError> {
+        self.amend_allowed(amendment)
     }
 
     fn settle(self, _alloc: Global) -> Result<Clearing, AllocError> {
@@ -98,8 +100,8 @@ impl Amendable for Unsettled {
         self.check(stamped)
     }
 
-    fn amend(&mut self, stamped: Stamped) -> Result<(), Refusal> {
-        self.amend(stamped)
+    fn amend_allowed(&mut self, amendment: Amendment) -> Result<(), AllocError> {
+        self.amend_allowed(amendment)
     }
 
     fn settle(self, alloc: Global) -> Result<Clearing, AllocError> {

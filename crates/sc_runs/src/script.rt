@@ -116,7 +116,7 @@ impl<A: Amendable> Session<A> {
             Ok(line) => line,
             Err(_) => return Err(RunFault::OutOfMemory),
         };
-        match self.amended.amend(stamped) {
+        match self.amended.amend_allowed(stamped.amendment) {
             Ok(()) => write_accepted(alloc, self.records, line.as_slice(), out, journal),
             Err(_) => Err(RunFault::OutOfMemory),
         }

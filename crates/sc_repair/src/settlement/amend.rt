@@ -1,41 +1,24 @@
 //! Amendments taking effect on the standing assignment.
 
-ghost use Rattle.std.specs.Prelude.{◌≡◌, None, take, IfErr, OnErr, OnOk};
-ghost use Rattle.sc_papers.specs.Matching.{IsStudentOptimal};
-ghost use Rattle.sc_papers.specs.TakingBack.{is_withdrawal};
-ghost use Rattle.sc_papers.specs.Verdict.{after, verdict, IsRefusal};
+ghost use Rattle.std.specs.Prelude.{◌≡◌, None, take, OnErr, OnOk};
+ghost use Rattle.sc_papers.specs.Verdict.{after, verdict};
 ghost use Rattle.sc_repair.specs.Rewinding.{rewind_point};
-ghost use Rattle.sc_repair.specs.Standing.{matching_of, papers_after, CountsRegion, IsCertified, KeepsOthers};
+ghost use Rattle.sc_repair.specs.Standing.{CountsRegion, IsCertified, KeepsOthers};
 
 use super::Settlement;
-use crate::entering::newcomer;
-use sc_papers::{Amendment, Refusal};
-
-/// Whether a student withdraws by the amendment.
-fn is_withdrawal(amendment: &Amendment) -> bool
-    ensures { result ≡ is_withdrawal amendment.now }
-{
-    match amendment {
-        Amendment::Withdraw { .. } => true,
-        Amendment::Enter { .. }
-        | Amendment::Rerank { .. }
-        | Amendment::Add { .. }
-        | Amendment::Close { .. }
-        | Amendment::Correct { .. } => false,
-    }
-}
+use sc_papers::Amendment;
+use std::alloc::AllocError;
 
 impl Settlement {
-    /// Makes the amendment and settles its region anew from its rewind point on, or answers the first
-    /// refusal that applies, as `Papers::check` does, or else want of memory. After a refusal the
-    /// papers, the standing assignment, the log and the count of proposals are as before; the
+    /// Makes an amendment that nothing is said against, and settles its region anew from its rewind point on. The only error is want of
+    /// memory, after which the papers, the standing assignment, the log and the count of proposals are as before; the
     /// amendment is given up. Whatever the answer, the standing assignment is the student-optimal
     /// stable matching of the papers as they then stand.
     ///
     /// Whoever is not in the region (`sc_region::region`) keeps their place and their segment, and the
     /// segments of the students before the rewind point stay.
     ///
-    /// An `Enter` costs its `check` and an offer for each proposal of the newcomer's chain, however many students
+    /// An `Enter` costs an offer for each proposal of the newcomer's chain, however many students
     /// there are, but for a table that grows now and then. It changes what stands in place, and takes that
     /// back where a growth is refused. The first `Enter` after a withdrawal, after another amendment whose region is not
     /// everybody, or after a refused growth also costs an offer for each student and a look at each entry of the log, by
@@ -46,27 +29,22 @@ impl Settlement {
     /// withdrawal also moves up whoever stands behind the student in the order of entry. Nothing of those outside the
     /// region is copied or passed over. The region's new segments are made whole beside the old ones before they take their
     /// place, and papers that have changed by then go back where a growth is refused, so nothing is left half done.
-    /// A refused amendment costs its `check` alone.
-    pub(crate) fn amend(&mut self, amendment: Amendment) -> Result<(), Refusal>
-        ensures optimal { IsStudentOptimal (papers_after self.old.papers amendment result) (matching_of self.new) }
+    pub(crate) fn amend(&mut self, amendment: Amendment) -> Result<(), AllocError>
+        requires { verdict self.old.papers amendment ≡ None }
         ensures certified { IsCertified self.new }
         ensures stays { OnOk result (take (rewind_point self.old.papers amendment) self.new.segments ≡ take (rewind_point self.old.papers amendment) self.old.segments) }
         ensures others { OnOk result (KeepsOthers self.old amendment self.new) }
         ensures proposals { OnOk result (CountsRegion self.old.papers amendment self.new) }
-        ensures allowed { OnOk result (verdict self.old.papers amendment ≡ None) }
         ensures accepted { OnOk result (self.new.papers ≡ after self.old.papers amendment) }
-        ensures refused { IfErr result (IsRefusal (verdict self.old.papers amendment)) }
         ensures unchanged { OnErr result (self.new ≡ self.old) }
     {
-        if let Some(student) = newcomer(&amendment) {
-            self.admit(amendment, student)?;
-            return Ok(());
+        match amendment {
+            Amendment::Enter { student, .. } => self.admit(amendment, student),
+            Amendment::Withdraw { student } => self.withdraw(student),
+            Amendment::Rerank { .. }
+            | Amendment::Add { .. }
+            | Amendment::Close { .. }
+            | Amendment::Correct { .. } => self.change(amendment),
         }
-        if is_withdrawal(&amendment) {
-            self.withdraw(amendment)?;
-            return Ok(());
-        }
-        self.change(amendment)?;
-        Ok(())
     }
 }

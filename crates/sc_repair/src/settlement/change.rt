@@ -1,38 +1,41 @@
 //! Amendments that change who stands in the papers, or a school there, in place.
 
-ghost use Rattle.std.specs.Prelude.{◌≡◌, None, false, take, IfErr, OnErr, OnOk};
+ghost use Rattle.std.specs.Prelude.{◌≡◌, None, false, take, OnErr, OnOk};
 ghost use Rattle.sc_papers.specs.TakingBack.{is_withdrawal};
-ghost use Rattle.sc_papers.specs.Verdict.{after, verdict, IsRefusal};
+ghost use Rattle.sc_papers.specs.Verdict.{after, verdict};
 ghost use Rattle.sc_repair.specs.Newcomer.{newcomer};
 ghost use Rattle.sc_repair.specs.Rewinding.{rewind_point};
 ghost use Rattle.sc_repair.specs.Standing.{CountsRegion, IsCertified, KeepsOthers};
 
 use super::Settlement;
-use crate::districts::{exchange, give_up, reach};
+use crate::districts::region_of;
 use crate::kept_round::{kept, lend};
 use crate::resettling::resettle;
 use crate::rewind::point_in;
-use sc_papers::{Amendment, Refusal};
+use sc_papers::Amendment;
+use std::alloc::AllocError;
 
 impl Settlement {
     /// Makes an amendment by which nobody enters or withdraws, in place, and settles its region anew from its
-    /// rewind point on. A refused amendment changes nothing. Where a growth is refused after the papers have
+    /// rewind point on. The only error is want of memory, which changes nothing: where a growth is refused after the papers have
     /// changed, the amendment is taken back.
-    pub(super) fn change(&mut self, amendment: Amendment) -> Result<(), Refusal>
+    pub(super) fn change(&mut self, amendment: Amendment) -> Result<(), AllocError>
+        requires allowed { verdict self.old.papers amendment ≡ None }
         requires no_entry { newcomer amendment ≡ None }
         requires no_withdrawal { is_withdrawal amendment ≡ false }
-        ensures allowed { OnOk result (verdict self.old.papers amendment ≡ None) }
         ensures accepted { OnOk result (self.new.papers ≡ after self.old.papers amendment) }
         ensures certified { IsCertified self.new }
         ensures stays { OnOk result (take (rewind_point self.old.papers amendment) self.new.segments ≡ take (rewind_point self.old.papers amendment) self.old.segments) }
         ensures others { OnOk result (KeepsOthers self.old amendment self.new) }
         ensures proposals { OnOk result (CountsRegion self.old.papers amendment self.new) }
-        ensures refused { IfErr result (IsRefusal (verdict self.old.papers amendment)) }
         ensures unchanged { OnErr result (self.new ≡ self.old) }
     {
-        let region = reach(self.alloc, &mut self.districts, &self.papers, &amendment)?;
+        let region = region_of(self.alloc, &mut self.districts, &self.papers, &amendment)?;
         let point = point_in(&self.papers, &region, &amendment);
-        let back = exchange(&mut self.papers, &mut self.districts, amendment)?;
+        // Only an entry takes memory.
+        let Ok(back) = self.papers.exchange(amendment) else {
+            unreachable!()
+        };
         let end = self.papers.students_len();
         lend(&mut self.round, &mut self.spare);
         let settled = resettle(
@@ -52,10 +55,10 @@ impl Settlement {
                 self.round = kept(&mut self.spare, &self.papers, &region, &self.segments);
                 Ok(())
             }
-            Err(_) => {
+            Err(refused) => {
                 self.papers.take_back(back);
-                give_up(&mut self.districts);
-                Err(Refusal::OutOfMemory)
+                self.districts = None;
+                Err(refused)
             }
         }
     }

@@ -1,5 +1,6 @@
 use Rattle.std.proofs.Common.{◌≡◌, ℕ, List, true, Contains, ap, sym, subst, subst₂, ◌∙◌, IfSome, take}
 use Rattle.sc_papers.specs.Market.{Market, students_of}
+use Rattle.sc_papers.specs.Verdict.{verdict}
 use Rattle.sc_checkpoint.specs.Chains.{logs_in, students_in, Chain}
 use Rattle.sc_engine.specs.Round.{view_of}
 use Rattle.sc_engine.specs.RoundView.{without_log}
@@ -24,88 +25,88 @@ resettle-settled-requires c =
     let test = is_among (marked_in c.in_ok-region.region c.self.inside.segments) in
     let tells : TellsRegion m c.args.amendment test =
     subst (λ is. TellsRegion m c.args.amendment (is_among (marked c.in_ok-region.region is))) (sym c.self.invariant.theirs)
-    (marks-tell m c.args.amendment c.in_ok-region.region c.self.invariant.certified.well_formed c.in_ok-region.ensures.allowed c.requires.no_entry c.in_ok-region.ensures.region) in
+    (marks-tell m c.args.amendment c.in_ok-region.region c.self.invariant.certified.well_formed (ap (λ (s : Standing). verdict s.papers c.args.amendment) c.self.view_is ∙ c.requires.allowed) c.requires.no_entry c.in_ok-region.ensures.region.region) in
     record {
-      changed = in-place-changed m c.exchange.new.papers c.args.amendment c.point_in-point.result c.students_len-end.result c.self.invariant.certified.well_formed c.in_ok-region.ensures.allowed c.requires.no_entry
-          c.requires.no_withdrawal c.in_ok-back.ensures.accepted c.point_in-point.ensures c.students_len-end.ensures.count c.self.inside.places c.self.inside.segments test (record {
+      changed = in-place-changed m c.exchange.new.self c.args.amendment c.point_in-point.result c.students_len-end.result c.self.invariant.certified.well_formed (ap (λ (s : Standing). verdict s.papers c.args.amendment) c.self.view_is ∙ c.requires.allowed) c.requires.no_entry
+          c.requires.no_withdrawal c.in-Ok.ensures.accepted c.point_in-point.ensures c.students_len-end.ensures.count c.self.inside.places c.self.inside.segments test (record {
             well_formed = c.self.invariant.certified.well_formed;
             theirs = c.self.invariant.theirs;
             segmented = c.self.invariant.certified.segmented;
             optimal = c.self.invariant.certified.optimal;
           }) tells;
-      one_each = marks-count m c.in_ok-region.region c.self.inside.segments c.in_ok-region.ensures.one_each c.self.invariant.theirs;
+      one_each = marks-count m c.in_ok-region.region c.self.inside.segments c.in_ok-region.ensures.region.one_each c.self.invariant.theirs;
     }
 
 pub kept-requires-clause-stands : goal.kept-requires-clause-stands
 kept-requires-clause-stands c =
     let new = c.resettle-settled.new.segments in
     let theirs : students_in new ≡ students_in c.self.inside.segments =
-    c.in-Ok.ensures.theirs
-    ∙ ap students_of (whole-cut-of c.exchange.new.papers c.students_len-end.result c.students_len-end.ensures.count ∙ c.in_ok-back.ensures.accepted)
+    c.in-Ok-settled.ensures.theirs
+    ∙ ap students_of (whole-cut-of c.exchange.new.self c.students_len-end.result c.students_len-end.ensures.count ∙ c.in-Ok.ensures.accepted)
     ∙ students-stay c.self.inside.papers c.args.amendment c.requires.no_entry c.requires.no_withdrawal
     ∙ sym c.self.invariant.theirs in
-    subst (λ (is : List ℕ). IfSome c.resettle-settled.new.spare (λ round. ((i : ℕ) → Contains (students_in new) i → is_among (marked c.in_ok-region.region is) i ≡ true) → StandsAfter c.exchange.new.papers new (without_log (view_of (λ roll. roll.keys) (λ roll. roll.seats) round))))
-    (sym theirs) c.in-Ok.ensures.stands
+    subst (λ (is : List ℕ). IfSome c.resettle-settled.new.spare (λ round. ((i : ℕ) → Contains (students_in new) i → is_among (marked c.in_ok-region.region is) i ≡ true) → StandsAfter c.exchange.new.self new (without_log (view_of (λ roll. roll.keys) (λ roll. roll.seats) round))))
+    (sym theirs) c.in-Ok-settled.ensures.stands
 
-pub invariant_of-self-in-Ok : goal.invariant_of-self-in-Ok
-invariant_of-self-in-Ok c = record {
-  certified = subst (λ n. IsCertified (standing_of n c.resettle-settled.new.places c.resettle-settled.new.segments c.in-Ok.proposals)) (whole-cut-of c.exchange.new.papers c.students_len-end.result c.students_len-end.ensures.count) c.in-Ok.ensures.certified;
-  theirs = c.in-Ok.ensures.theirs ∙ ap students_of (whole-cut-of c.exchange.new.papers c.students_len-end.result c.students_len-end.ensures.count);
-  round = kept-round (λ roll. roll.keys) (λ roll. roll.seats) c.exchange.new.papers c.resettle-settled.new.segments c.kept.result c.kept.ensures.ready c.kept.ensures.stands;
-  districts = c.in_ok-back.ensures.districts;
+pub invariant_of-self-in-Ok-settled : goal.invariant_of-self-in-Ok-settled
+invariant_of-self-in-Ok-settled c = record {
+  certified = subst (λ n. IsCertified (standing_of n c.resettle-settled.new.places c.resettle-settled.new.segments c.in-Ok-settled.proposals)) (whole-cut-of c.exchange.new.self c.students_len-end.result c.students_len-end.ensures.count) c.in-Ok-settled.ensures.certified;
+  theirs = c.in-Ok-settled.ensures.theirs ∙ ap students_of (whole-cut-of c.exchange.new.self c.students_len-end.result c.students_len-end.ensures.count);
+  round = kept-round (λ roll. roll.keys) (λ roll. roll.seats) c.exchange.new.self c.resettle-settled.new.segments c.kept.result c.kept.ensures.ready c.kept.ensures.stands;
+  districts = subst (λ m. IfSome c.region_of.new.districts (AreDistricts m)) (sym c.in-Ok.ensures.accepted) c.in_ok-region.ensures.in_step;
 }
 
 pub invariant_of-self-in-Err : goal.invariant_of-self-in-Err
 invariant_of-self-in-Err c =
-    let papers = c.take_back.ensures c.self.inside.papers c.in_ok-back.ensures.back in
+    let papers = c.take_back.ensures c.self.inside.papers c.in-Ok.ensures.back in
     record {
       certified = still-certified c.self.inside.papers c.take_back.new.self c.self.inside.segments c.resettle-settled.new.segments c.self.inside.places c.resettle-settled.new.places c.self.inside.proposals
           papers c.in-Err.ensures.places_unchanged c.in-Err.ensures.segments_unchanged c.self.invariant.certified;
       theirs = ap students_in c.in-Err.ensures.segments_unchanged ∙ c.self.invariant.theirs ∙ ap students_of (sym papers);
       round = subst₂ (λ m chains. IfSome c.lend.new.round (IsKept m chains)) (sym papers) (sym c.in-Err.ensures.segments_unchanged) (lent-round (IsKept c.self.inside.papers c.self.inside.segments) c.self.inside.round c.lend.new.round c.lend.ensures c.self.invariant.round);
-      districts = subst (λ o. IfSome o (AreDistricts c.take_back.new.self)) (sym c.give_up.ensures) tt;
+      districts = tt;
     }
 
 pub returns-clause-certified : goal.returns-clause-certified
 returns-clause-certified c =
     still-certified c.self.inside.papers c.take_back.new.self c.self.inside.segments c.resettle-settled.new.segments c.self.inside.places c.resettle-settled.new.places c.self.inside.proposals
-    (c.take_back.ensures c.self.inside.papers c.in_ok-back.ensures.back) c.in-Err.ensures.places_unchanged c.in-Err.ensures.segments_unchanged c.self.invariant.certified
+    (c.take_back.ensures c.self.inside.papers c.in-Ok.ensures.back) c.in-Err.ensures.places_unchanged c.in-Err.ensures.segments_unchanged c.self.invariant.certified
 
-pub returns-in-Ok-clause-certified : goal.returns-in-Ok-clause-certified
-returns-in-Ok-clause-certified c =
-    subst (λ n. IsCertified (standing_of n c.resettle-settled.new.places c.resettle-settled.new.segments c.in-Ok.proposals)) (whole-cut-of c.exchange.new.papers c.students_len-end.result c.students_len-end.ensures.count) c.in-Ok.ensures.certified
+pub returns-in-Ok-settled-clause-certified : goal.returns-in-Ok-settled-clause-certified
+returns-in-Ok-settled-clause-certified c =
+    subst (λ n. IsCertified (standing_of n c.resettle-settled.new.places c.resettle-settled.new.segments c.in-Ok-settled.proposals)) (whole-cut-of c.exchange.new.self c.students_len-end.result c.students_len-end.ensures.count) c.in-Ok-settled.ensures.certified
 
-pub returns-in-Ok-clause-stays : goal.returns-in-Ok-clause-stays
-returns-in-Ok-clause-stays c =
+pub returns-in-Ok-settled-clause-stays : goal.returns-in-Ok-settled-clause-stays
+returns-in-Ok-settled-clause-stays c =
     subst (λ (s : Standing). take (rewind_point s.papers c.args.amendment) (logs_in c.resettle-settled.new.segments) ≡ take (rewind_point s.papers c.args.amendment) s.segments) c.self.view_is
-    (subst (λ k. take k (logs_in c.resettle-settled.new.segments) ≡ take k (logs_in c.self.inside.segments)) c.point_in-point.ensures c.in-Ok.ensures.stays)
+    (subst (λ k. take k (logs_in c.resettle-settled.new.segments) ≡ take k (logs_in c.self.inside.segments)) c.point_in-point.ensures c.in-Ok-settled.ensures.stays)
 
-pub returns-in-Ok-clause-others : goal.returns-in-Ok-clause-others
-returns-in-Ok-clause-others c =
+pub returns-in-Ok-settled-clause-others : goal.returns-in-Ok-settled-clause-others
+returns-in-Ok-settled-clause-others c =
     let m = c.self.inside.papers in
     let test = is_among (marked_in c.in_ok-region.region c.self.inside.segments) in
     let tells : TellsRegion m c.args.amendment test =
     subst (λ is. TellsRegion m c.args.amendment (is_among (marked c.in_ok-region.region is))) (sym c.self.invariant.theirs)
-    (marks-tell m c.args.amendment c.in_ok-region.region c.self.invariant.certified.well_formed c.in_ok-region.ensures.allowed c.requires.no_entry c.in_ok-region.ensures.region) in
+    (marks-tell m c.args.amendment c.in_ok-region.region c.self.invariant.certified.well_formed (ap (λ (s : Standing). verdict s.papers c.args.amendment) c.self.view_is ∙ c.requires.allowed) c.requires.no_entry c.in_ok-region.ensures.region.region) in
     let old : Standing = record { papers = m; places = c.self.inside.places; segments = logs_in c.self.inside.segments; proposals = c.self.inside.proposals } in
-    let new : Standing = record { papers = c.exchange.new.papers; places = c.resettle-settled.new.places; segments = logs_in c.resettle-settled.new.segments; proposals = c.in-Ok.proposals } in
+    let new : Standing = record { papers = c.exchange.new.self; places = c.resettle-settled.new.places; segments = logs_in c.resettle-settled.new.segments; proposals = c.in-Ok-settled.proposals } in
     subst (λ (s : Standing). KeepsOthers s c.args.amendment new) c.self.view_is
-    (keeps-others old new c.args.amendment (marked_in c.in_ok-region.region c.self.inside.segments) tells c.in_ok-back.ensures.accepted c.in-Ok.ensures.others)
+    (keeps-others old new c.args.amendment (marked_in c.in_ok-region.region c.self.inside.segments) tells c.in-Ok.ensures.accepted c.in-Ok-settled.ensures.others)
 
-pub returns-in-Ok-clause-proposals : goal.returns-in-Ok-clause-proposals
-returns-in-Ok-clause-proposals c =
+pub returns-in-Ok-settled-clause-proposals : goal.returns-in-Ok-settled-clause-proposals
+returns-in-Ok-settled-clause-proposals c =
     let m = c.self.inside.papers in
     let test = is_among (marked_in c.in_ok-region.region c.self.inside.segments) in
     let tells : TellsRegion m c.args.amendment test =
     subst (λ is. TellsRegion m c.args.amendment (is_among (marked c.in_ok-region.region is))) (sym c.self.invariant.theirs)
-    (marks-tell m c.args.amendment c.in_ok-region.region c.self.invariant.certified.well_formed c.in_ok-region.ensures.allowed c.requires.no_entry c.in_ok-region.ensures.region) in
-    let new : Standing = record { papers = c.exchange.new.papers; places = c.resettle-settled.new.places; segments = logs_in c.resettle-settled.new.segments; proposals = c.in-Ok.proposals } in
+    (marks-tell m c.args.amendment c.in_ok-region.region c.self.invariant.certified.well_formed (ap (λ (s : Standing). verdict s.papers c.args.amendment) c.self.view_is ∙ c.requires.allowed) c.requires.no_entry c.in_ok-region.ensures.region.region) in
+    let new : Standing = record { papers = c.exchange.new.self; places = c.resettle-settled.new.places; segments = logs_in c.resettle-settled.new.segments; proposals = c.in-Ok-settled.proposals } in
     subst (λ (s : Standing). CountsRegion s.papers c.args.amendment new) c.self.view_is
     (counts-region m c.args.amendment (marked_in c.in_ok-region.region c.self.inside.segments) new tells
     (subst (λ k. CountsInside test k new) c.point_in-point.ensures
-    (subst (λ n. CountsInside test c.point_in-point.result (standing_of n c.resettle-settled.new.places c.resettle-settled.new.segments c.in-Ok.proposals)) (whole-cut-of c.exchange.new.papers c.students_len-end.result c.students_len-end.ensures.count) c.in-Ok.ensures.proposals)))
+    (subst (λ n. CountsInside test c.point_in-point.result (standing_of n c.resettle-settled.new.places c.resettle-settled.new.segments c.in-Ok-settled.proposals)) (whole-cut-of c.exchange.new.self c.students_len-end.result c.students_len-end.ensures.count) c.in-Ok-settled.ensures.proposals)))
 
 pub returns-clause-unchanged : goal.returns-clause-unchanged
 returns-clause-unchanged c =
     let standing : Market → List (ℕ × ℕ) → List Chain → Standing = λ m places chains. record { papers = m; places = places; segments = logs_in chains; proposals = c.self.inside.proposals } in
-    (λ t. standing (c.take_back.ensures c.self.inside.papers c.in_ok-back.ensures.back t) (c.in-Err.ensures.places_unchanged t) (c.in-Err.ensures.segments_unchanged t)) ∙ c.self.view_is
+    (λ t. standing (c.take_back.ensures c.self.inside.papers c.in-Ok.ensures.back t) (c.in-Err.ensures.places_unchanged t) (c.in-Err.ensures.segments_unchanged t)) ∙ c.self.view_is

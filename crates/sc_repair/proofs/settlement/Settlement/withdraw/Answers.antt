@@ -1,7 +1,8 @@
-use Rattle.std.proofs.Common.{◌≡◌, ◌-◌, ℕ, List, ap, sym, subst, subst₂, ◌∙◌, IfSome}
+use Rattle.std.proofs.Common.{◌≡◌, ◌-◌, ℕ, List, None, ap, refl, sym, subst, subst₂, ◌∙◌, IfSome}
 use Rattle.sc_papers.specs.Market.{Market, students_of}
 use Rattle.sc_papers.specs.Restriction.{cut}
-use Rattle.sc_papers.specs.Verdict.{after}
+use Rattle.sc_papers.specs.Verdict.{after, verdict}
+use Rattle.sc_papers.specs.declared.amendment.Amendment.TheVariants.{Withdraw}
 use Rattle.sc_checkpoint.specs.Chains.{logs_in, students_in, Chain}
 use Rattle.sc_region.specs.Marks.{marked}
 use Rattle.sc_repair.specs.Changed.{standing_of}
@@ -18,110 +19,110 @@ use Rattle.sc_repair.proofs.settlement.Settlement.withdraw.Goals as goal
 
 pub move_student-requires-clause-from : goal.move_student-requires-clause-from
 move_student-requires-clause-from c =
-    leaver-from c.self.inside.papers c.self.inside.papers c.args.amendment c.leaver-student.result c.in_ok-point.point (c.students_len-last.result - 1) c.self.invariant.certified.well_formed c.in_ok-point.ensures.allowed c.leaver-student.ensures c.in_ok-point.ensures.point (ap (λ n. n - 1) c.students_len-last.ensures.count)
+    leaver-from c.self.inside.papers c.self.inside.papers (Withdraw c.args.student) c.args.student c.point_in-point.result (c.students_len-last.result - 1) c.self.invariant.certified.well_formed (ap (λ (s : Standing). verdict s.papers (Withdraw c.args.student)) c.self.view_is ∙ c.requires) refl c.point_in-point.ensures (ap (λ n. n - 1) c.students_len-last.ensures.count)
 
 pub resettle-settled-requires : goal.resettle-settled-requires
 resettle-settled-requires c =
     let m = c.self.inside.papers in
     let test = is_among (marked_in c.in_ok-region.region c.self.inside.segments) in
-    let tells : TellsRegion m c.args.amendment test =
-    subst (λ is. TellsRegion m c.args.amendment (is_among (marked c.in_ok-region.region is))) (sym c.self.invariant.theirs)
-    (marks-tell m c.args.amendment c.in_ok-region.region c.self.invariant.certified.well_formed c.in_ok-point.ensures.allowed (withdrawn-none c.args.amendment c.requires) c.in_ok-region.ensures.region) in
+    let tells : TellsRegion m (Withdraw c.args.student) test =
+    subst (λ is. TellsRegion m (Withdraw c.args.student) (is_among (marked c.in_ok-region.region is))) (sym c.self.invariant.theirs)
+    (marks-tell m (Withdraw c.args.student) c.in_ok-region.region c.self.invariant.certified.well_formed (ap (λ (s : Standing). verdict s.papers (Withdraw c.args.student)) c.self.view_is ∙ c.requires) refl c.in_ok-region.ensures.region.region) in
     record {
-      changed = leaver-changed c.self.inside.papers c.move_student.new.self c.args.amendment c.leaver-student.result c.in_ok-point.point (c.students_len-last.result - 1) c.self.invariant.certified.well_formed c.in_ok-point.ensures.allowed c.leaver-student.ensures c.in_ok-point.ensures.point (ap (λ n. n - 1) c.students_len-last.ensures.count)
+      changed = leaver-changed c.self.inside.papers c.move_student.new.self (Withdraw c.args.student) c.args.student c.point_in-point.result (c.students_len-last.result - 1) c.self.invariant.certified.well_formed (ap (λ (s : Standing). verdict s.papers (Withdraw c.args.student)) c.self.view_is ∙ c.requires) refl c.point_in-point.ensures (ap (λ n. n - 1) c.students_len-last.ensures.count)
           c.move_student.ensures c.self.inside.places c.self.inside.segments test (record {
             well_formed = c.self.invariant.certified.well_formed;
             theirs = c.self.invariant.theirs;
             segmented = c.self.invariant.certified.segmented;
             optimal = c.self.invariant.certified.optimal;
           }) tells;
-      one_each = marks-count m c.in_ok-region.region c.self.inside.segments c.in_ok-region.ensures.one_each c.self.invariant.theirs;
+      one_each = marks-count m c.in_ok-region.region c.self.inside.segments c.in_ok-region.ensures.region.one_each c.self.invariant.theirs;
     }
 
 pub invariant_of-self-in-Ok : goal.invariant_of-self-in-Ok
 invariant_of-self-in-Ok c =
-    let papers : c.withdraw.new.self ≡ after c.self.inside.papers c.args.amendment =
-    c.withdraw.ensures ∙ leaver-gone c.self.inside.papers c.move_student.new.self c.args.amendment c.leaver-student.result c.in_ok-point.point (c.students_len-last.result - 1) c.self.invariant.certified.well_formed c.in_ok-point.ensures.allowed c.leaver-student.ensures c.in_ok-point.ensures.point (ap (λ n. n - 1) c.students_len-last.ensures.count) c.move_student.ensures in
+    let papers : c.withdraw.new.self ≡ after c.self.inside.papers (Withdraw c.args.student) =
+    c.withdraw.ensures ∙ leaver-gone c.self.inside.papers c.move_student.new.self (Withdraw c.args.student) c.args.student c.point_in-point.result (c.students_len-last.result - 1) c.self.invariant.certified.well_formed (ap (λ (s : Standing). verdict s.papers (Withdraw c.args.student)) c.self.view_is ∙ c.requires) refl c.point_in-point.ensures (ap (λ n. n - 1) c.students_len-last.ensures.count) c.move_student.ensures in
     let same : cut c.move_student.new.self (c.students_len-last.result - 1) ≡ c.withdraw.new.self =
-    leaver-others c.self.inside.papers c.move_student.new.self c.args.amendment c.leaver-student.result c.in_ok-point.point (c.students_len-last.result - 1) c.self.invariant.certified.well_formed c.in_ok-point.ensures.allowed c.leaver-student.ensures c.in_ok-point.ensures.point (ap (λ n. n - 1) c.students_len-last.ensures.count) c.move_student.ensures ∙ sym papers in
+    leaver-others c.self.inside.papers c.move_student.new.self (Withdraw c.args.student) c.args.student c.point_in-point.result (c.students_len-last.result - 1) c.self.invariant.certified.well_formed (ap (λ (s : Standing). verdict s.papers (Withdraw c.args.student)) c.self.view_is ∙ c.requires) refl c.point_in-point.ensures (ap (λ n. n - 1) c.students_len-last.ensures.count) c.move_student.ensures ∙ sym papers in
     record {
       certified = subst (λ n. IsCertified (standing_of n c.resettle-settled.new.places c.resettle-settled.new.segments c.in-Ok.proposals)) same c.in-Ok.ensures.certified;
       theirs = c.in-Ok.ensures.theirs ∙ ap students_of same;
       round = tt;
-      districts = subst (λ m. IfSome c.follow.new.districts (AreDistricts m)) (sym papers) c.follow.ensures;
+      districts = subst (λ m. IfSome c.region_of.new.districts (AreDistricts m)) (sym papers) c.in_ok-region.ensures.in_step;
     }
 
 pub returns-in-Ok-clause-accepted : goal.returns-in-Ok-clause-accepted
 returns-in-Ok-clause-accepted c =
-    let papers : c.withdraw.new.self ≡ after c.self.inside.papers c.args.amendment =
-    c.withdraw.ensures ∙ leaver-gone c.self.inside.papers c.move_student.new.self c.args.amendment c.leaver-student.result c.in_ok-point.point (c.students_len-last.result - 1) c.self.invariant.certified.well_formed c.in_ok-point.ensures.allowed c.leaver-student.ensures c.in_ok-point.ensures.point (ap (λ n. n - 1) c.students_len-last.ensures.count) c.move_student.ensures in
-    papers ∙ ap (λ (s : Standing). after s.papers c.args.amendment) c.self.view_is
+    let papers : c.withdraw.new.self ≡ after c.self.inside.papers (Withdraw c.args.student) =
+    c.withdraw.ensures ∙ leaver-gone c.self.inside.papers c.move_student.new.self (Withdraw c.args.student) c.args.student c.point_in-point.result (c.students_len-last.result - 1) c.self.invariant.certified.well_formed (ap (λ (s : Standing). verdict s.papers (Withdraw c.args.student)) c.self.view_is ∙ c.requires) refl c.point_in-point.ensures (ap (λ n. n - 1) c.students_len-last.ensures.count) c.move_student.ensures in
+    papers ∙ ap (λ (s : Standing). after s.papers (Withdraw c.args.student)) c.self.view_is
 
 pub returns-in-Ok-clause-certified : goal.returns-in-Ok-clause-certified
 returns-in-Ok-clause-certified c =
-    let papers : c.withdraw.new.self ≡ after c.self.inside.papers c.args.amendment =
-    c.withdraw.ensures ∙ leaver-gone c.self.inside.papers c.move_student.new.self c.args.amendment c.leaver-student.result c.in_ok-point.point (c.students_len-last.result - 1) c.self.invariant.certified.well_formed c.in_ok-point.ensures.allowed c.leaver-student.ensures c.in_ok-point.ensures.point (ap (λ n. n - 1) c.students_len-last.ensures.count) c.move_student.ensures in
+    let papers : c.withdraw.new.self ≡ after c.self.inside.papers (Withdraw c.args.student) =
+    c.withdraw.ensures ∙ leaver-gone c.self.inside.papers c.move_student.new.self (Withdraw c.args.student) c.args.student c.point_in-point.result (c.students_len-last.result - 1) c.self.invariant.certified.well_formed (ap (λ (s : Standing). verdict s.papers (Withdraw c.args.student)) c.self.view_is ∙ c.requires) refl c.point_in-point.ensures (ap (λ n. n - 1) c.students_len-last.ensures.count) c.move_student.ensures in
     let same : cut c.move_student.new.self (c.students_len-last.result - 1) ≡ c.withdraw.new.self =
-    leaver-others c.self.inside.papers c.move_student.new.self c.args.amendment c.leaver-student.result c.in_ok-point.point (c.students_len-last.result - 1) c.self.invariant.certified.well_formed c.in_ok-point.ensures.allowed c.leaver-student.ensures c.in_ok-point.ensures.point (ap (λ n. n - 1) c.students_len-last.ensures.count) c.move_student.ensures ∙ sym papers in
+    leaver-others c.self.inside.papers c.move_student.new.self (Withdraw c.args.student) c.args.student c.point_in-point.result (c.students_len-last.result - 1) c.self.invariant.certified.well_formed (ap (λ (s : Standing). verdict s.papers (Withdraw c.args.student)) c.self.view_is ∙ c.requires) refl c.point_in-point.ensures (ap (λ n. n - 1) c.students_len-last.ensures.count) c.move_student.ensures ∙ sym papers in
     subst (λ n. IsCertified (standing_of n c.resettle-settled.new.places c.resettle-settled.new.segments c.in-Ok.proposals)) same c.in-Ok.ensures.certified
 
 pub returns-in-Ok-clause-others : goal.returns-in-Ok-clause-others
 returns-in-Ok-clause-others c =
     let m = c.self.inside.papers in
     let test = is_among (marked_in c.in_ok-region.region c.self.inside.segments) in
-    let tells : TellsRegion m c.args.amendment test =
-    subst (λ is. TellsRegion m c.args.amendment (is_among (marked c.in_ok-region.region is))) (sym c.self.invariant.theirs)
-    (marks-tell m c.args.amendment c.in_ok-region.region c.self.invariant.certified.well_formed c.in_ok-point.ensures.allowed (withdrawn-none c.args.amendment c.requires) c.in_ok-region.ensures.region) in
-    let papers : c.withdraw.new.self ≡ after c.self.inside.papers c.args.amendment =
-    c.withdraw.ensures ∙ leaver-gone c.self.inside.papers c.move_student.new.self c.args.amendment c.leaver-student.result c.in_ok-point.point (c.students_len-last.result - 1) c.self.invariant.certified.well_formed c.in_ok-point.ensures.allowed c.leaver-student.ensures c.in_ok-point.ensures.point (ap (λ n. n - 1) c.students_len-last.ensures.count) c.move_student.ensures in
+    let tells : TellsRegion m (Withdraw c.args.student) test =
+    subst (λ is. TellsRegion m (Withdraw c.args.student) (is_among (marked c.in_ok-region.region is))) (sym c.self.invariant.theirs)
+    (marks-tell m (Withdraw c.args.student) c.in_ok-region.region c.self.invariant.certified.well_formed (ap (λ (s : Standing). verdict s.papers (Withdraw c.args.student)) c.self.view_is ∙ c.requires) refl c.in_ok-region.ensures.region.region) in
+    let papers : c.withdraw.new.self ≡ after c.self.inside.papers (Withdraw c.args.student) =
+    c.withdraw.ensures ∙ leaver-gone c.self.inside.papers c.move_student.new.self (Withdraw c.args.student) c.args.student c.point_in-point.result (c.students_len-last.result - 1) c.self.invariant.certified.well_formed (ap (λ (s : Standing). verdict s.papers (Withdraw c.args.student)) c.self.view_is ∙ c.requires) refl c.point_in-point.ensures (ap (λ n. n - 1) c.students_len-last.ensures.count) c.move_student.ensures in
     let old : Standing = record { papers = m; places = c.self.inside.places; segments = logs_in c.self.inside.segments; proposals = c.self.inside.proposals } in
     let new : Standing = record { papers = c.withdraw.new.self; places = c.resettle-settled.new.places; segments = logs_in c.resettle-settled.new.segments; proposals = c.in-Ok.proposals } in
-    subst (λ (s : Standing). KeepsOthers s c.args.amendment new) c.self.view_is
-    (keeps-others old new c.args.amendment (marked_in c.in_ok-region.region c.self.inside.segments) tells papers c.in-Ok.ensures.others)
+    subst (λ (s : Standing). KeepsOthers s (Withdraw c.args.student) new) c.self.view_is
+    (keeps-others old new (Withdraw c.args.student) (marked_in c.in_ok-region.region c.self.inside.segments) tells papers c.in-Ok.ensures.others)
 
 pub returns-in-Ok-clause-proposals : goal.returns-in-Ok-clause-proposals
 returns-in-Ok-clause-proposals c =
     let m = c.self.inside.papers in
     let test = is_among (marked_in c.in_ok-region.region c.self.inside.segments) in
-    let tells : TellsRegion m c.args.amendment test =
-    subst (λ is. TellsRegion m c.args.amendment (is_among (marked c.in_ok-region.region is))) (sym c.self.invariant.theirs)
-    (marks-tell m c.args.amendment c.in_ok-region.region c.self.invariant.certified.well_formed c.in_ok-point.ensures.allowed (withdrawn-none c.args.amendment c.requires) c.in_ok-region.ensures.region) in
-    let papers : c.withdraw.new.self ≡ after c.self.inside.papers c.args.amendment =
-    c.withdraw.ensures ∙ leaver-gone c.self.inside.papers c.move_student.new.self c.args.amendment c.leaver-student.result c.in_ok-point.point (c.students_len-last.result - 1) c.self.invariant.certified.well_formed c.in_ok-point.ensures.allowed c.leaver-student.ensures c.in_ok-point.ensures.point (ap (λ n. n - 1) c.students_len-last.ensures.count) c.move_student.ensures in
+    let tells : TellsRegion m (Withdraw c.args.student) test =
+    subst (λ is. TellsRegion m (Withdraw c.args.student) (is_among (marked c.in_ok-region.region is))) (sym c.self.invariant.theirs)
+    (marks-tell m (Withdraw c.args.student) c.in_ok-region.region c.self.invariant.certified.well_formed (ap (λ (s : Standing). verdict s.papers (Withdraw c.args.student)) c.self.view_is ∙ c.requires) refl c.in_ok-region.ensures.region.region) in
+    let papers : c.withdraw.new.self ≡ after c.self.inside.papers (Withdraw c.args.student) =
+    c.withdraw.ensures ∙ leaver-gone c.self.inside.papers c.move_student.new.self (Withdraw c.args.student) c.args.student c.point_in-point.result (c.students_len-last.result - 1) c.self.invariant.certified.well_formed (ap (λ (s : Standing). verdict s.papers (Withdraw c.args.student)) c.self.view_is ∙ c.requires) refl c.point_in-point.ensures (ap (λ n. n - 1) c.students_len-last.ensures.count) c.move_student.ensures in
     let same : cut c.move_student.new.self (c.students_len-last.result - 1) ≡ c.withdraw.new.self =
-    leaver-others c.self.inside.papers c.move_student.new.self c.args.amendment c.leaver-student.result c.in_ok-point.point (c.students_len-last.result - 1) c.self.invariant.certified.well_formed c.in_ok-point.ensures.allowed c.leaver-student.ensures c.in_ok-point.ensures.point (ap (λ n. n - 1) c.students_len-last.ensures.count) c.move_student.ensures ∙ sym papers in
+    leaver-others c.self.inside.papers c.move_student.new.self (Withdraw c.args.student) c.args.student c.point_in-point.result (c.students_len-last.result - 1) c.self.invariant.certified.well_formed (ap (λ (s : Standing). verdict s.papers (Withdraw c.args.student)) c.self.view_is ∙ c.requires) refl c.point_in-point.ensures (ap (λ n. n - 1) c.students_len-last.ensures.count) c.move_student.ensures ∙ sym papers in
     let new : Standing = record { papers = c.withdraw.new.self; places = c.resettle-settled.new.places; segments = logs_in c.resettle-settled.new.segments; proposals = c.in-Ok.proposals } in
-    subst (λ (s : Standing). CountsRegion s.papers c.args.amendment new) c.self.view_is
-    (counts-region m c.args.amendment (marked_in c.in_ok-region.region c.self.inside.segments) new tells
-    (subst (λ k. CountsInside test k new) c.in_ok-point.ensures.point
-    (subst (λ n. CountsInside test c.in_ok-point.point (standing_of n c.resettle-settled.new.places c.resettle-settled.new.segments c.in-Ok.proposals)) same c.in-Ok.ensures.proposals)))
+    subst (λ (s : Standing). CountsRegion s.papers (Withdraw c.args.student) new) c.self.view_is
+    (counts-region m (Withdraw c.args.student) (marked_in c.in_ok-region.region c.self.inside.segments) new tells
+    (subst (λ k. CountsInside test k new) c.point_in-point.ensures
+    (subst (λ n. CountsInside test c.point_in-point.result (standing_of n c.resettle-settled.new.places c.resettle-settled.new.segments c.in-Ok.proposals)) same c.in-Ok.ensures.proposals)))
 
 pub move_student-requires-in-Err-clause-to : goal.move_student-requires-in-Err-clause-to
 move_student-requires-in-Err-clause-to c =
-    leaver-within c.self.inside.papers c.move_student.new.self c.args.amendment c.leaver-student.result c.in_ok-point.point (c.students_len-last.result - 1) c.self.invariant.certified.well_formed c.in_ok-point.ensures.allowed c.leaver-student.ensures c.in_ok-point.ensures.point (ap (λ n. n - 1) c.students_len-last.ensures.count) c.move_student.ensures
+    leaver-within c.self.inside.papers c.move_student.new.self (Withdraw c.args.student) c.args.student c.point_in-point.result (c.students_len-last.result - 1) c.self.invariant.certified.well_formed (ap (λ (s : Standing). verdict s.papers (Withdraw c.args.student)) c.self.view_is ∙ c.requires) refl c.point_in-point.ensures (ap (λ n. n - 1) c.students_len-last.ensures.count) c.move_student.ensures
 
 pub invariant_of-self-in-Err : goal.invariant_of-self-in-Err
 invariant_of-self-in-Err c =
     let papers : c.move_student-in-Err.new.self ≡ c.self.inside.papers =
-    c.move_student-in-Err.ensures ∙ leaver-back c.self.inside.papers c.move_student.new.self c.args.amendment c.leaver-student.result c.in_ok-point.point (c.students_len-last.result - 1) c.self.invariant.certified.well_formed c.in_ok-point.ensures.allowed c.leaver-student.ensures c.in_ok-point.ensures.point (ap (λ n. n - 1) c.students_len-last.ensures.count) c.move_student.ensures in
+    c.move_student-in-Err.ensures ∙ leaver-back c.self.inside.papers c.move_student.new.self (Withdraw c.args.student) c.args.student c.point_in-point.result (c.students_len-last.result - 1) c.self.invariant.certified.well_formed (ap (λ (s : Standing). verdict s.papers (Withdraw c.args.student)) c.self.view_is ∙ c.requires) refl c.point_in-point.ensures (ap (λ n. n - 1) c.students_len-last.ensures.count) c.move_student.ensures in
     record {
       certified = still-certified c.self.inside.papers c.move_student-in-Err.new.self c.self.inside.segments c.resettle-settled.new.segments c.self.inside.places c.resettle-settled.new.places c.self.inside.proposals
           papers c.in-Err.ensures.places_unchanged c.in-Err.ensures.segments_unchanged c.self.invariant.certified;
       theirs = ap students_in c.in-Err.ensures.segments_unchanged ∙ c.self.invariant.theirs ∙ ap students_of (sym papers);
       round = subst₂ (λ m chains. IfSome c.lend.new.round (IsKept m chains)) (sym papers) (sym c.in-Err.ensures.segments_unchanged) (lent-round (IsKept c.self.inside.papers c.self.inside.segments) c.self.inside.round c.lend.new.round c.lend.ensures c.self.invariant.round);
-      districts = subst (λ o. IfSome o (AreDistricts c.move_student-in-Err.new.self)) (sym c.give_up.ensures) tt;
+      districts = tt;
     }
 
 pub returns-clause-certified : goal.returns-clause-certified
 returns-clause-certified c =
     let papers : c.move_student-in-Err.new.self ≡ c.self.inside.papers =
-    c.move_student-in-Err.ensures ∙ leaver-back c.self.inside.papers c.move_student.new.self c.args.amendment c.leaver-student.result c.in_ok-point.point (c.students_len-last.result - 1) c.self.invariant.certified.well_formed c.in_ok-point.ensures.allowed c.leaver-student.ensures c.in_ok-point.ensures.point (ap (λ n. n - 1) c.students_len-last.ensures.count) c.move_student.ensures in
+    c.move_student-in-Err.ensures ∙ leaver-back c.self.inside.papers c.move_student.new.self (Withdraw c.args.student) c.args.student c.point_in-point.result (c.students_len-last.result - 1) c.self.invariant.certified.well_formed (ap (λ (s : Standing). verdict s.papers (Withdraw c.args.student)) c.self.view_is ∙ c.requires) refl c.point_in-point.ensures (ap (λ n. n - 1) c.students_len-last.ensures.count) c.move_student.ensures in
     still-certified c.self.inside.papers c.move_student-in-Err.new.self c.self.inside.segments c.resettle-settled.new.segments c.self.inside.places c.resettle-settled.new.places c.self.inside.proposals
     papers c.in-Err.ensures.places_unchanged c.in-Err.ensures.segments_unchanged c.self.invariant.certified
 
 pub returns-clause-unchanged : goal.returns-clause-unchanged
 returns-clause-unchanged c =
     let papers : c.move_student-in-Err.new.self ≡ c.self.inside.papers =
-    c.move_student-in-Err.ensures ∙ leaver-back c.self.inside.papers c.move_student.new.self c.args.amendment c.leaver-student.result c.in_ok-point.point (c.students_len-last.result - 1) c.self.invariant.certified.well_formed c.in_ok-point.ensures.allowed c.leaver-student.ensures c.in_ok-point.ensures.point (ap (λ n. n - 1) c.students_len-last.ensures.count) c.move_student.ensures in
+    c.move_student-in-Err.ensures ∙ leaver-back c.self.inside.papers c.move_student.new.self (Withdraw c.args.student) c.args.student c.point_in-point.result (c.students_len-last.result - 1) c.self.invariant.certified.well_formed (ap (λ (s : Standing). verdict s.papers (Withdraw c.args.student)) c.self.view_is ∙ c.requires) refl c.point_in-point.ensures (ap (λ n. n - 1) c.students_len-last.ensures.count) c.move_student.ensures in
     let standing : Market → List (ℕ × ℕ) → List Chain → Standing = λ m places chains. record { papers = m; places = places; segments = logs_in chains; proposals = c.self.inside.proposals } in
     (λ t. standing (papers t) (c.in-Err.ensures.places_unchanged t) (c.in-Err.ensures.segments_unchanged t)) ∙ c.self.view_is

@@ -4,7 +4,7 @@ use Rattle.sc_stamps.specs.Verdict.{StampedPapers, stamped_after}
 use Rattle.sc_stamps.specs.declared.marking.Marking.{Marking}
 use Rattle.sc_repair.specs.Turns.{AreInTurn, AreTurns, TurnsOfEntry, begun_turns, finished_turns, leaver, stamped_in_turn}
 use Rattle.sc_repair.proofs.AmendedInTurn.{done-in_turn, done-kept, kept-along, ready-kept, ready-same, ready-verdict, turns-begun}
-use Rattle.sc_repair.proofs.unsettled.Unsettled.make_in_turn.Goals as goal
+use Rattle.sc_repair.proofs.unsettled.Unsettled.amend_allowed.Goals as goal
 
 -- what holds in any case holds after an error
 either-way : {A E P : Type 0} (r : Result A E) → P → OnErr r P
@@ -25,6 +25,12 @@ returns-in_err-begin-clause-unchanged c =
     ap (λ (t : TurnsOfEntry). stamped_in_turn t.positions c.put_last.new.papers c.put_last.new.stamps) c.in_err-begin.ensures.unchanged ∙ same ∙ c.self.view_is in
     either-way c.from_residual.result back
 
+pub make-requires-clause-allowed : goal.make-requires-clause-allowed
+make-requires-clause-allowed c =
+    let same = ready-verdict c.self.inside.turns c.self.inside.papers c.self.inside.stamps c.self.invariant c.args.amendment c.leaver.result c.put_last.new.turns c.put_last.new.papers c.put_last.new.stamps
+    (c.leaver.ensures ∙ ap leaver c.marking_of-marking.ensures) c.put_last.ensures.turns c.put_last.ensures.papers c.put_last.ensures.stamps in
+    sym same ∙ ap (λ (p : StampedPapers). verdict p.papers c.args.amendment) c.self.view_is ∙ c.requires.allowed
+
 pub finish-requires : goal.finish-requires
 finish-requires c =
     let ready = ready-kept c.self.inside.turns c.self.inside.papers c.self.inside.stamps c.self.invariant c.args.amendment c.leaver.result c.put_last.new.turns c.put_last.new.papers c.put_last.new.stamps
@@ -35,7 +41,8 @@ pub invariant_of-self-in-Ok : goal.invariant_of-self-in-Ok
 invariant_of-self-in-Ok c =
     done-kept c.self.inside.turns c.self.inside.papers c.self.inside.stamps c.self.invariant c.args.amendment c.leaver.result c.put_last.new.turns c.put_last.new.papers c.put_last.new.stamps
     (c.leaver.ensures ∙ ap leaver c.marking_of-marking.ensures) c.put_last.ensures.turns c.put_last.ensures.papers c.put_last.ensures.stamps
-    c.finish.new.self c.make.new.papers c.make.new.stamps c.in-Ok.ensures.allowed c.in-Ok.ensures.papers c.in-Ok.ensures.stamps
+    c.finish.new.self c.make.new.papers c.make.new.stamps (sym (ready-verdict c.self.inside.turns c.self.inside.papers c.self.inside.stamps c.self.invariant c.args.amendment c.leaver.result c.put_last.new.turns c.put_last.new.papers c.put_last.new.stamps
+    (c.leaver.ensures ∙ ap leaver c.marking_of-marking.ensures) c.put_last.ensures.turns c.put_last.ensures.papers c.put_last.ensures.stamps) ∙ ap (λ (p : StampedPapers). verdict p.papers c.args.amendment) c.self.view_is ∙ c.requires.allowed) c.in-Ok.ensures.papers c.in-Ok.ensures.stamps
     (c.finish.ensures ∙ ap (finished_turns c.marking_of-marking.result) c.in_ok-begin.ensures.begun
     ∙ ap (λ (k : Marking). finished_turns k (begun_turns k c.put_last.new.turns)) c.marking_of-marking.ensures)
 
@@ -46,29 +53,15 @@ invariant_of-self-in-Err c =
     kept-along c.put_last.new.turns c.give_up.new.self c.put_last.new.papers c.make.new.papers c.put_last.new.stamps c.make.new.stamps
     (c.give_up.ensures c.put_last.new.turns c.in_ok-begin.ensures.begun) c.in-Err.ensures.papers_stay c.in-Err.ensures.stamps_stay ready
 
-pub returns-in-Ok-clause-allowed : goal.returns-in-Ok-clause-allowed
-returns-in-Ok-clause-allowed c =
-    let same = ready-verdict c.self.inside.turns c.self.inside.papers c.self.inside.stamps c.self.invariant c.args.amendment c.leaver.result c.put_last.new.turns c.put_last.new.papers c.put_last.new.stamps
-    (c.leaver.ensures ∙ ap leaver c.marking_of-marking.ensures) c.put_last.ensures.turns c.put_last.ensures.papers c.put_last.ensures.stamps in
-    ap (λ (p : StampedPapers). verdict p.papers c.args.amendment) (sym c.self.view_is) ∙ same ∙ c.in-Ok.ensures.allowed
-
 pub returns-in-Ok-clause-accepted : goal.returns-in-Ok-clause-accepted
 returns-in-Ok-clause-accepted c =
     done-in_turn c.self.inside.turns c.self.inside.papers c.self.inside.stamps c.self.invariant c.args.amendment c.leaver.result c.put_last.new.turns c.put_last.new.papers c.put_last.new.stamps
     (c.leaver.ensures ∙ ap leaver c.marking_of-marking.ensures) c.put_last.ensures.turns c.put_last.ensures.papers c.put_last.ensures.stamps
-    c.finish.new.self c.make.new.papers c.make.new.stamps c.in-Ok.ensures.allowed c.in-Ok.ensures.papers c.in-Ok.ensures.stamps
+    c.finish.new.self c.make.new.papers c.make.new.stamps (sym (ready-verdict c.self.inside.turns c.self.inside.papers c.self.inside.stamps c.self.invariant c.args.amendment c.leaver.result c.put_last.new.turns c.put_last.new.papers c.put_last.new.stamps
+    (c.leaver.ensures ∙ ap leaver c.marking_of-marking.ensures) c.put_last.ensures.turns c.put_last.ensures.papers c.put_last.ensures.stamps) ∙ ap (λ (p : StampedPapers). verdict p.papers c.args.amendment) c.self.view_is ∙ c.requires.allowed) c.in-Ok.ensures.papers c.in-Ok.ensures.stamps
     (c.finish.ensures ∙ ap (finished_turns c.marking_of-marking.result) c.in_ok-begin.ensures.begun
     ∙ ap (λ (k : Marking). finished_turns k (begun_turns k c.put_last.new.turns)) c.marking_of-marking.ensures)
     ∙ ap (λ (p : StampedPapers). stamped_after p c.args.amendment) c.self.view_is
-
-pub returns-in-Err-clause-refused : goal.returns-in-Err-clause-refused
-returns-in-Err-clause-refused c =
-    let same = ready-verdict c.self.inside.turns c.self.inside.papers c.self.inside.stamps c.self.invariant c.args.amendment c.leaver.result c.put_last.new.turns c.put_last.new.papers c.put_last.new.stamps
-    (c.leaver.ensures ∙ ap leaver c.marking_of-marking.ensures) c.put_last.ensures.turns c.put_last.ensures.papers c.put_last.ensures.stamps in
-    elim c.in-Err.ensures.refused [
-      | inl memory ↦ inl memory
-      | inr told ↦ inr (ap (λ (p : StampedPapers). verdict p.papers c.args.amendment) (sym c.self.view_is) ∙ same ∙ told)
-    ]
 
 pub returns-in-Err-clause-unchanged : goal.returns-in-Err-clause-unchanged
 returns-in-Err-clause-unchanged c =

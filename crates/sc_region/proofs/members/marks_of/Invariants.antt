@@ -1,7 +1,0 @@
-use Rattle.std.proofs.Common.{◌≡◌, map, take}
-use Rattle.sc_papers.specs.Market.{students_of}
-use Rattle.sc_region.specs.Groups.{is_member}
-use Rattle.sc_region.proofs.members.marks_of.Given as goal
-
-abbrev pub invariant-loop-position : goal.invariant-loop-position
-invariant-loop-position l = l.marks.items ≡ map (is_member l.papers l.groups l.group) (take l.position (students_of l.papers))
