@@ -10,6 +10,7 @@ mod kept_round;
 pub mod laws;
 mod open_refused;
 mod pair_hints;
+mod part;
 mod places;
 mod placing;
 mod region_positions;

@@ -10,12 +10,12 @@ ghost use Rattle.sc_repair.specs.Locality.{is_among, marked_in};
 ghost use Rattle.sc_repair.specs.Placing.{students_of_movers, with_moved, with_new, AreMovers};
 ghost use Rattle.sc_repair.specs.Renewed.{marked_from, renewed_from};
 
+use crate::part::Part;
 use crate::places::Places;
 use crate::renewal::renew;
 use sc_checkpoint::{Segments, Spans};
 use sc_engine::Round;
 use sc_papers::{Papers, StudentNo};
-use sc_region::RegionMarks;
 use sc_seats::Roll;
 use std::alloc::{AllocError, Global};
 
@@ -101,26 +101,25 @@ fn push_if(
 /// who have a school and stand elsewhere at the end of a list. Where a growth is refused, some may have been given theirs.
 fn put_all<R: Roll>(
     round: &Round<R>,
-    papers: &Papers,
-    region: &RegionMarks,
+    part: Part<'_>,
     chains: &Segments,
     leaver: Option<usize>,
     places: &mut Places,
     movers: &mut Vec<Mover>,
 ) -> Result<(), AllocError>
     requires ready { is_spent round.now ≡ false }
-    requires fits { Fits papers.now (view_of R.keys R.seats round.now) }
-    requires one_each { length region.now ≡ length chains.now }
+    requires fits { Fits part.papers.now (view_of R.keys R.seats round.now) }
+    requires one_each { length part.region.now ≡ length chains.now }
     requires none { movers.old.items ≡ [] }
     ensures grown { (more : List (ℕ × ℕ)) × (places.new ≡ places.old ++ more) }
-    ensures given { OnOk result ((j : ℕ) → assigned places.new j ≡ with_new (marked_in region.now chains.now) (next_of papers.now (view_of R.keys R.seats round.now).ranks) (assigned places.old) j) }
-    ensures movers { OnOk result (AreMovers (marked_in region.now chains.now) (students_of_movers movers.new.items) (next_of papers.now (view_of R.keys R.seats round.now).ranks) (assigned places.new)) }
+    ensures given { OnOk result ((j : ℕ) → assigned places.new j ≡ with_new (marked_in part.entry.region.now chains.now) (next_of part.entry.papers.now (view_of R.keys R.seats round.now).ranks) (assigned places.old) j) }
+    ensures movers { OnOk result (AreMovers (marked_in part.entry.region.now chains.now) (students_of_movers movers.new.items) (next_of part.entry.papers.now (view_of R.keys R.seats round.now).ranks) (assigned places.new)) }
 {
-    let positions = region.positions();
+    let positions = part.region.positions();
     for position in positions {
         let student = chains.student(*position);
         let guess = guess_of(*position, leaver);
-        let elsewhere = put_one(round, papers, student, guess, places)?;
+        let elsewhere = put_one(round, part.papers, student, guess, places)?;
         push_if(elsewhere, movers, student, guess)?;
     }
     Ok(())
@@ -130,23 +129,22 @@ fn put_all<R: Roll>(
 fn place_new<R: Roll>(
     alloc: Global,
     round: &Round<R>,
-    papers: &Papers,
-    region: &RegionMarks,
+    part: Part<'_>,
     chains: &Segments,
     leaver: Option<usize>,
     places: &mut Places,
 ) -> Result<Vec<Mover>, AllocError>
     requires ready { is_spent round.now ≡ false }
-    requires fits { Fits papers.now (view_of R.keys R.seats round.now) }
-    requires one_each { length region.now ≡ length chains.now }
+    requires fits { Fits part.papers.now (view_of R.keys R.seats round.now) }
+    requires one_each { length part.region.now ≡ length chains.now }
     ensures grown { OnOk result ((more : List (ℕ × ℕ)) × (places.new ≡ places.old ++ more)) }
-    ensures given { OnOk result ((j : ℕ) → assigned places.new j ≡ with_new (marked_in region.now chains.now) (next_of papers.now (view_of R.keys R.seats round.now).ranks) (assigned places.old) j) }
-    ensures movers { IfOk result (λ movers. AreMovers (marked_in region.now chains.now) (students_of_movers movers.items) (next_of papers.now (view_of R.keys R.seats round.now).ranks) (assigned places.new)) }
+    ensures given { OnOk result ((j : ℕ) → assigned places.new j ≡ with_new (marked_in part.entry.region.now chains.now) (next_of part.entry.papers.now (view_of R.keys R.seats round.now).ranks) (assigned places.old) j) }
+    ensures movers { IfOk result (λ movers. AreMovers (marked_in part.entry.region.now chains.now) (students_of_movers movers.items) (next_of part.entry.papers.now (view_of R.keys R.seats round.now).ranks) (assigned places.new)) }
     ensures unchanged { OnErr result (places.new ≡ places.old) }
 {
     let before = places.len();
     let mut movers = Vec::new(alloc);
-    match put_all(round, papers, region, chains, leaver, places, &mut movers) {
+    match put_all(round, part, chains, leaver, places, &mut movers) {
         Ok(()) => Ok(movers),
         Err(refused) => {
             places.truncate(before);
@@ -178,34 +176,31 @@ fn move_all<R: Roll>(round: &Round<R>, papers: &Papers, movers: &[Mover], places
 pub(crate) fn place_inside<R: Roll>(
     alloc: Global,
     round: &Round<R>,
-    papers: &Papers,
-    region: &RegionMarks,
-    point: usize,
+    part: Part<'_>,
     gap: usize,
     renewed: &Spans,
     places: &mut Places,
     chains: &mut Segments,
 ) -> Result<(), AllocError>
     requires ready { is_spent round.now ≡ false }
-    requires fits { Fits papers.now (view_of R.keys R.seats round.now) }
+    requires fits { Fits part.papers.now (view_of R.keys R.seats round.now) }
     requires gap { gap ≤ 1 }
-    requires within { point + gap ≤ length chains.old }
-    requires one_each { length region.now ≡ length chains.old }
-    requires renewed { length renewed.now ≡ length (marked_from region.now (point + gap)) }
+    requires within { part.point + gap ≤ length chains.old }
+    requires one_each { length part.region.now ≡ length chains.old }
+    requires renewed { length renewed.now ≡ length (marked_from part.region.now (part.point + gap)) }
     requires log { AreWithin (view_of R.keys R.seats round.now).log renewed.now }
-    ensures given { OnOk result ((j : ℕ) → assigned places.new j ≡ either_by (is_among (marked_in region.now chains.old)) (next_of papers.now (view_of R.keys R.seats round.now).ranks) (assigned places.old) j) }
-    ensures renewed { OnOk result (chains.new ≡ renewed_from chains.old region.now point gap (chains_in (view_of R.keys R.seats round.now).log renewed.now)) }
-    ensures places_unchanged { OnErr result (places.new ≡ places.old) }
-    ensures chains_unchanged { OnErr result (chains.new ≡ chains.old) }
+    ensures given { OnOk result ((j : ℕ) → assigned places.new j ≡ either_by (is_among (marked_in part.entry.region.now chains.old)) (next_of part.entry.papers.now (view_of R.keys R.seats round.now).ranks) (assigned places.old) j) }
+    ensures renewed { OnOk result (chains.new ≡ renewed_from chains.old part.entry.region.now part.entry.point gap (chains_in (view_of R.keys R.seats round.now).log renewed.now)) }
+    ensures unchanged { OnErr result ((places.new ≡ places.old) × (chains.new ≡ chains.old)) }
 {
     let before = places.len();
-    let leaver = leaver_at(point, gap);
-    let movers = place_new(alloc, round, papers, region, chains, leaver, places)?;
-    if let Err(refused) = renew(chains, region, point, gap, renewed, round.log()) {
+    let leaver = leaver_at(part.point, gap);
+    let movers = place_new(alloc, round, part, chains, leaver, places)?;
+    if let Err(refused) = renew(chains, part.region, part.point, gap, renewed, round.log()) {
         places.truncate(before);
         return Err(refused);
     }
-    move_all(round, papers, movers.as_slice(), places);
+    move_all(round, part.papers, movers.as_slice(), places);
     if let Some(position) = leaver {
         places.leave(position);
     }

@@ -17,15 +17,15 @@ ghost use Rattle.sc_repair.specs.Course.{GoesOnInside};
 ghost use Rattle.sc_repair.specs.Locality.{chains_of, is_among, marked_in};
 ghost use Rattle.sc_repair.specs.Newcomer.{StandsAfter};
 ghost use Rattle.sc_repair.specs.Standing.{CountsInside, IsCertified};
-ghost use Rattle.sc_repair.specs.Renewed.{marked_from, renewed_from};
+ghost use Rattle.sc_repair.specs.Renewed.{marked_from, renewed_from, AreRenewed, CanBeRenewed, HaveTurns};
 
+use crate::part::Part;
 use crate::places::Places;
 use crate::placing::place_inside;
 use crate::region_positions::{positions_before, positions_from};
-use sc_checkpoint::{Segments, Spans, Standing};
+use sc_checkpoint::{Segments, Spans, Standings};
 use sc_engine::Round;
 use sc_papers::{Papers, StudentNo};
-use sc_region::RegionMarks;
 use sc_seats::Roll;
 use std::alloc::{AllocError, Global};
 
@@ -59,70 +59,64 @@ fn enter_turn<R: Roll>(
 /// a student leaves, these are one more than the students up to the end.
 fn take_turns<R: Roll>(
     round: &mut Round<R>,
-    papers: &Papers,
-    end: usize,
-    region: &RegionMarks,
-    point: usize,
+    part: Part<'_>,
     old: &Segments,
     renewed: &mut Spans,
 ) -> Result<(), AllocError>
-    requires point { point ≤ end }
-    requires end { end ≤ length papers.now.students }
-    requires nobody_new { end ≤ length old.now }
-    requires one_each { length region.now ≡ length old.now }
-    requires differ { IsDistinct nat_eq (students_in old.now) }
-    requires step { (position i : ℕ) → point ≤ position → position < end → slice_get (students_of papers.now) position ≡ Some i → slice_get (students_in old.now) (position + (length old.now - end)) ≡ Some i }
+    requires turns { HaveTurns part.papers.now part.region.now old.now part.point part.end }
     requires none { renewed.old ≡ [] }
-    requires on { GoesOnInside papers.now (is_among (marked_in region.now old.now)) old.now point (length old.now - end) (view_of R.keys R.seats round.old) (take point old.now) point }
+    requires on { GoesOnInside part.papers.now (is_among (marked_in part.region.now old.now)) old.now part.point (length old.now - part.end)
+        (view_of R.keys R.seats round.old) (take part.point old.now) part.point }
     requires ready { is_spent round.old ≡ false }
-    ensures on { OnOk result (GoesOnInside papers.now (is_among (marked_in region.now old.now)) old.now point (length old.now - end) (view_of R.keys R.seats round.new) (renewed_from old.now region.now point (length old.now - end) (chains_in (view_of R.keys R.seats round.new).log renewed.new)) end) }
-    ensures one_each { OnOk result (length renewed.new ≡ length (marked_from region.now (point + (length old.now - end)))) }
+    ensures on { OnOk result (AreRenewed part.entry.papers.now part.entry.region.now old.now part.entry.point part.entry.end (view_of R.keys R.seats round.new) renewed.new) }
+    ensures one_each { OnOk result (length renewed.new ≡ length (marked_from part.entry.region.now (part.entry.point + (length old.now - part.entry.end)))) }
     ensures within { OnOk result (AreWithin (view_of R.keys R.seats round.new).log renewed.new) }
     ensures ready { OnOk result (is_spent round.new ≡ false) }
 {
-    let gap = old.len() - end;
-    let turns = positions_from(region, point + gap);
+    let gap = old.len() - part.end;
+    let turns = positions_from(part.region, part.point + gap);
     for position in turns {
         // The row that tells who it is is read for their proposals next; the old segment is not.
-        let place = *position - gap;
-        let Some(student) = papers.student_at(place) else {
+        let own = *position - gap;
+        let Some(student) = part.papers.student_at(own) else {
             unreachable!()
         };
-        enter_turn(round, papers, renewed, student, place)?;
+        enter_turn(round, part.papers, renewed, student, own)?;
     }
     Ok(())
 }
 
-/// A round in which students stand at their next choices, as `Round::resume_near` makes it: in the memory of one that is done
-/// with, if there is one.
+/// A round in which the students at these positions stand at their next choices, as `Round::resume_near` makes it: in the memory of one that is
+/// done with, if there is one.
 fn resumed<R: Roll>(
     spare: Option<Round<R>>,
     alloc: Global,
-    papers: &Papers,
-    next_choices: &[Standing],
+    part: Part<'_>,
+    standings: &Standings,
     near: &[usize],
-    ranks: &[u8],
-    expected: usize,
 ) -> Result<Round<R>, AllocError>
-    requires { (earlier : List Rejection) × AreNextChoices papers.now earlier next_choices.now }
-    ensures fits { IfOk result (λ round. Fits papers.now (view_of R.keys R.seats round)) }
-    ensures entered { IfOk result (λ round. (i : ℕ) → has_entered papers.now (view_of R.keys R.seats round).ranks i ≡ stands next_choices.now i) }
-    ensures continues { IfOk result (λ round. (earlier : List Rejection) → AreNextChoices papers.now earlier next_choices.now → Continues papers.now earlier (view_of R.keys R.seats round)) }
+    requires { (earlier : List Rejection) × AreNextChoices part.papers.now earlier standings.now.choices.items }
+    ensures fits { IfOk result (λ round. Fits part.entry.papers.now (view_of R.keys R.seats round)) }
+    ensures entered { IfOk result (λ round. (i : ℕ) → has_entered part.entry.papers.now (view_of R.keys R.seats round).ranks i ≡ stands standings.now.choices.items i) }
+    ensures continues { IfOk result (λ round. (earlier : List Rejection) → AreNextChoices part.entry.papers.now earlier standings.now.choices.items → Continues part.entry.papers.now earlier (view_of R.keys R.seats round)) }
     ensures log { IfOk result (λ round. (view_of R.keys R.seats round).log ≡ []) }
     ensures proposals { IfOk result (λ round. (view_of R.keys R.seats round).proposals ≡ 0) }
     ensures ready { IfOk result (λ round. is_spent round ≡ false) }
 {
+    let expected = hints_for(part);
+    let choices = standings.choices.as_slice();
+    let ranks = standings.ranks.as_slice();
     match spare {
-        Some(round) => round.resume_in(papers, next_choices, near, ranks, expected),
-        None => Round::resume_near(alloc, papers, next_choices, near, ranks, expected),
+        Some(round) => round.resume_in(part.papers, choices, near, ranks, expected),
+        None => Round::resume_near(alloc, part.papers, choices, near, ranks, expected),
     }
 }
 
 /// For how many students a round takes room for hints: for several times as many as may stand in it, so that few hints
 /// take the place of others, and for no more than there are.
-fn hints_for(papers: &Papers, region: &RegionMarks) -> usize {
-    let several = region.positions().len().saturating_mul(4);
-    several.min(papers.students_len())
+fn hints_for(part: Part<'_>) -> usize {
+    let several = part.region.positions().len().saturating_mul(4);
+    several.min(part.papers.students_len())
 }
 
 /// A round in which the students of the region stand settled, of whom those before the point made no proposal:
@@ -130,50 +124,28 @@ fn hints_for(papers: &Papers, region: &RegionMarks) -> usize {
 fn settle_region<R: Roll>(
     spare: Option<Round<R>>,
     alloc: Global,
-    papers: &Papers,
-    end: usize,
-    region: &RegionMarks,
-    point: usize,
+    part: Part<'_>,
     old: &Segments,
     renewed: &mut Spans,
 ) -> Result<Round<R>, AllocError>
-    requires well_formed { WellFormed papers.now }
-    requires apart { AreApart papers.now (is_among (marked_in region.now old.now)) }
-    requires point { point ≤ end }
-    requires end { end ≤ length papers.now.students }
-    requires nobody_new { end ≤ length old.now }
-    requires one_each { length region.now ≡ length old.now }
-    requires differ { IsDistinct nat_eq (students_in old.now) }
-    requires step { (position i : ℕ) → point ≤ position → position < end → slice_get (students_of papers.now) position ≡ Some i → slice_get (students_in old.now) (position + (length old.now - end)) ≡ Some i }
-    requires others { chains_of (outside (is_among (marked_in region.now old.now))) (take point old.now) ++ chains_of (outside (is_among (marked_in region.now old.now))) (drop (point + (length old.now - end)) old.now) ≡ chains_of (outside (is_among (marked_in region.now old.now))) old.now }
-    requires theirs { students_in (take point old.now) ≡ take point (students_of papers.now) }
-    requires segmented { IsSegmented (cut papers.now point) (logs_in (take point old.now)) }
+    requires given { CanBeRenewed part.papers.now part.region.now old.now part.point part.end }
     requires none { renewed.old ≡ [] }
-    ensures on { IfOk result (λ round. GoesOnInside papers.now (is_among (marked_in region.now old.now)) old.now point (length old.now - end) (view_of R.keys R.seats round) (renewed_from old.now region.now point (length old.now - end) (chains_in (view_of R.keys R.seats round).log renewed.new)) end) }
-    ensures one_each { OnOk result (length renewed.new ≡ length (marked_from region.now (point + (length old.now - end)))) }
+    ensures on { IfOk result (λ round. AreRenewed part.entry.papers.now part.entry.region.now old.now part.entry.point part.entry.end (view_of R.keys R.seats round) renewed.new) }
+    ensures one_each { OnOk result (length renewed.new ≡ length (marked_from part.entry.region.now (part.entry.point + (length old.now - part.entry.end)))) }
     ensures within { IfOk result (λ round. AreWithin (view_of R.keys R.seats round).log renewed.new) }
     ensures ready { IfOk result (λ round. is_spent round ≡ false) }
 {
-    let positions = positions_before(region, point);
-    let expected = hints_for(papers, region);
-    let stands = old.next_choices_of(papers, positions)?;
-    let mut round = resumed(
-        spare,
-        alloc,
-        papers,
-        stands.choices.as_slice(),
-        positions,
-        stands.ranks.as_slice(),
-        expected,
-    )?;
-    take_turns(&mut round, papers, end, region, point, old, renewed)?;
+    let positions = positions_before(part.region, part.point);
+    let standings = old.next_choices_of(part.papers, positions)?;
+    let mut round = resumed(spare, alloc, part, &standings, positions)?;
+    take_turns(&mut round, part, old, renewed)?;
     Ok(round)
 }
 
-/// Settles anew the first students of papers, up to the end that is given, where these papers changed only in a region
-/// and from a point on, and nobody entered. The places and the segments are those of the papers before; marked are the
+/// Settles a part of papers anew, where these papers changed only in its region and from its point on, and nobody entered. The places and
+/// the segments are those of the papers before; marked are the
 /// region's, with a mark for each segment. The students of the region are settled from the point on, and all others
-/// keep their places and their segments. Whoever comes after the end is not settled. The answer is how many proposals
+/// keep their places and their segments. The answer is how many proposals
 /// that took. The only error is want of memory, which changes nothing. Where the region is everybody, everybody stands in
 /// the spare round afterwards, once it forgets its log.
 ///
@@ -185,41 +157,26 @@ fn settle_region<R: Roll>(
 pub(crate) fn resettle<R: Roll>(
     spare: &mut Option<Round<R>>,
     alloc: Global,
-    papers: &Papers,
-    end: usize,
-    region: &RegionMarks,
-    point: usize,
+    part: Part<'_>,
     places: &mut Places,
     segments: &mut Segments,
 ) -> Result<u64, AllocError>
-    requires changed { HaveChanged papers.now places.old segments.old (is_among (marked_in region.now segments.old)) point end }
-    requires one_each { length region.now ≡ length segments.old }
-    ensures certified { IfOk result (λ made. IsCertified (standing_of (cut papers.now end) places.new segments.new made)) }
-    ensures theirs { OnOk result (students_in segments.new ≡ students_of (cut papers.now end)) }
-    ensures stays { OnOk result (take point (logs_in segments.new) ≡ take point (logs_in segments.old)) }
-    ensures others { OnOk result ((i : ℕ) → is_among (marked_in region.now segments.old) i ≡ false → assigned places.new i ≡ assigned places.old i) }
-    ensures proposals { IfOk result (λ made. CountsInside (is_among (marked_in region.now segments.old)) point (standing_of (cut papers.now end) places.new segments.new made)) }
+    requires changed { HaveChanged part.papers.now places.old segments.old (is_among (marked_in part.region.now segments.old)) part.point part.end }
+    requires one_each { length part.region.now ≡ length segments.old }
+    ensures certified { IfOk result (λ made. IsCertified (standing_of (cut part.entry.papers.now part.entry.end) places.new segments.new made)) }
+    ensures theirs { OnOk result (students_in segments.new ≡ students_of (cut part.entry.papers.now part.entry.end)) }
+    ensures stays { OnOk result (take part.entry.point (logs_in segments.new) ≡ take part.entry.point (logs_in segments.old)) }
+    ensures others { OnOk result ((i : ℕ) → is_among (marked_in part.entry.region.now segments.old) i ≡ false → assigned places.new i ≡ assigned places.old i) }
+    ensures proposals { IfOk result (λ made. CountsInside (is_among (marked_in part.entry.region.now segments.old)) part.entry.point (standing_of (cut part.entry.papers.now part.entry.end) places.new segments.new made)) }
     ensures ready { OnOk result (IfSome spare.new (λ round. is_spent round ≡ false)) }
-    ensures stands { OnOk result (IfSome spare.new (λ round. ((i : ℕ) → Contains (students_in segments.new) i → is_among (marked_in region.now segments.old) i ≡ true) → StandsAfter papers.now segments.new (without_log (view_of R.keys R.seats round)))) }
-    ensures places_unchanged { OnErr result (places.new ≡ places.old) }
-    ensures segments_unchanged { OnErr result (segments.new ≡ segments.old) }
+    ensures stands { OnOk result (IfSome spare.new (λ round. ((i : ℕ) → Contains (students_in segments.new) i → is_among (marked_in part.entry.region.now segments.old) i ≡ true) → StandsAfter part.entry.papers.now segments.new (without_log (view_of R.keys R.seats round)))) }
+    ensures unchanged { OnErr result ((places.new ≡ places.old) × (segments.new ≡ segments.old)) }
 {
     // Where a student leaves, the segments of those behind stand one position further back.
-    let gap = segments.len() - end;
-    let mut renewed = Spans::with_room(alloc, positions_from(region, point).len())?;
-    let round = settle_region(
-        spare.take(),
-        alloc,
-        papers,
-        end,
-        region,
-        point,
-        segments,
-        &mut renewed,
-    )?;
-    place_inside(
-        alloc, &round, papers, region, point, gap, &renewed, places, segments,
-    )?;
+    let gap = segments.len() - part.end;
+    let mut renewed = Spans::with_room(alloc, positions_from(part.region, part.point).len())?;
+    let round = settle_region(spare.take(), alloc, part, segments, &mut renewed)?;
+    place_inside(alloc, &round, part, gap, &renewed, places, segments)?;
     let proposals = round.proposals();
     *spare = Some(round);
     Ok(proposals)

@@ -10,6 +10,7 @@ ghost use Rattle.sc_repair.specs.Standing.{CountsRegion, IsCertified, KeepsOther
 use super::Settlement;
 use crate::districts::region_of;
 use crate::kept_round::{kept, lend};
+use crate::part::Part;
 use crate::resettling::resettle;
 use crate::rewind::point_in;
 use sc_papers::Amendment;
@@ -38,13 +39,16 @@ impl Settlement {
         };
         let end = self.papers.students_len();
         lend(&mut self.round, &mut self.spare);
+        let part = Part {
+            papers: &self.papers,
+            region: &region,
+            point,
+            end,
+        };
         let settled = resettle(
             &mut self.spare,
             self.alloc,
-            &self.papers,
-            end,
-            &region,
-            point,
+            part,
             &mut self.places,
             &mut self.segments,
         );

@@ -9,6 +9,7 @@ ghost use Rattle.sc_repair.specs.Standing.{CountsRegion, IsCertified, KeepsOther
 use super::Settlement;
 use crate::districts::region_of;
 use crate::kept_round::lend;
+use crate::part::Part;
 use crate::resettling::resettle;
 use crate::rewind::point_in;
 use sc_papers::{Amendment, StudentNo};
@@ -35,13 +36,16 @@ impl Settlement {
         self.papers.move_student(point, last);
         lend(&mut self.round, &mut self.spare);
         // All but the last student are settled.
+        let part = Part {
+            papers: &self.papers,
+            region: &region,
+            point,
+            end: last,
+        };
         let settled = resettle(
             &mut self.spare,
             self.alloc,
-            &self.papers,
-            last,
-            &region,
-            point,
+            part,
             &mut self.places,
             &mut self.segments,
         );

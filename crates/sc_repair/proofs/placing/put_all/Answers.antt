@@ -9,11 +9,11 @@ use Rattle.sc_repair.proofs.Picked.{picked, picked-low, picked-mover, picked-mov
 use Rattle.sc_repair.proofs.placing.put_all.Goals as goal
 
 pub student-student-requires : goal.student-student-requires
-student-student-requires g c = picked-low c.args.region.now c.positions-positions.result.now c.args.chains.now c.loop-position.position-index c.positions-positions.ensures.marked c.requires.one_each c.loop-position-test.true
+student-student-requires g c = picked-low c.args.part.region.now c.positions-positions.result.now c.args.chains.now c.loop-position.position-index c.positions-positions.ensures.marked c.requires.one_each c.loop-position-test.true
 
 pub loop-position-preserved : goal.loop-position-preserved
 loop-position-preserved g c =
-    let next = next_of c.args.papers.now c.args.round.now.ranks in
+    let next = next_of c.args.part.papers.now c.args.round.now.ranks in
     let students = students_in c.args.chains.now in
     let positions = c.positions-positions.result.now in
     let index = c.loop-position.position-index in
@@ -35,10 +35,10 @@ loop-position-preserved g c =
 
 pub returns-clause-given : goal.returns-clause-given
 returns-clause-given g c =
-    picked-new c.args.region.now c.positions-positions.result.now (students_in c.args.chains.now) c.loop-position.position-index c.positions-positions.ensures.marked
-    (c.requires.one_each ∙ sym (length-map c.args.chains.now (λ (chain : Chain). chain.student))) (next_of c.args.papers.now c.args.round.now.ranks) (assigned c.args.places.now) (assigned c.loop-position.places) c.loop-position-test.false c.loop-position.invariant.1
+    picked-new c.args.part.region.now c.positions-positions.result.now (students_in c.args.chains.now) c.loop-position.position-index c.positions-positions.ensures.marked
+    (c.requires.one_each ∙ sym (length-map c.args.chains.now (λ (chain : Chain). chain.student))) (next_of c.args.part.papers.now c.args.round.now.ranks) (assigned c.args.places.now) (assigned c.loop-position.places) c.loop-position-test.false c.loop-position.invariant.1
 
 pub returns-clause-movers : goal.returns-clause-movers
 returns-clause-movers g c =
-    picked-movers c.args.region.now c.positions-positions.result.now (students_in c.args.chains.now) c.loop-position.position-index c.positions-positions.ensures.marked
-    (c.requires.one_each ∙ sym (length-map c.args.chains.now (λ (chain : Chain). chain.student))) (students_of_movers c.loop-position.movers.items) (next_of c.args.papers.now c.args.round.now.ranks) (assigned c.loop-position.places) c.loop-position-test.false c.loop-position.invariant.2
+    picked-movers c.args.part.region.now c.positions-positions.result.now (students_in c.args.chains.now) c.loop-position.position-index c.positions-positions.ensures.marked
+    (c.requires.one_each ∙ sym (length-map c.args.chains.now (λ (chain : Chain). chain.student))) (students_of_movers c.loop-position.movers.items) (next_of c.args.part.papers.now c.args.round.now.ranks) (assigned c.loop-position.places) c.loop-position-test.false c.loop-position.invariant.2

@@ -10,5 +10,5 @@ use Rattle.sc_repair.proofs.placing.put_all.Given as goal
 abbrev pub invariant-loop-position : goal.invariant-loop-position
 invariant-loop-position g l =
     ((more : List (ℕ × ℕ)) × (l.places ≡ l.initial.places ++ more))
-    × ((j : ℕ) → assigned l.places j ≡ with_new (picked (students_in l.chains) (take l.position-index l.positions)) (next_of l.papers (view_of g.R.Roll.keys g.R.Roll.seats l.round).ranks) (assigned l.initial.places) j)
-    × AreMovers (picked (students_in l.chains) (take l.position-index l.positions)) (students_of_movers l.movers.items) (next_of l.papers (view_of g.R.Roll.keys g.R.Roll.seats l.round).ranks) (assigned l.places)
+    × ((j : ℕ) → assigned l.places j ≡ with_new (picked (students_in l.chains) (take l.position-index l.positions)) (next_of l.part.papers.now (view_of g.R.Roll.keys g.R.Roll.seats l.round).ranks) (assigned l.initial.places) j)
+    × AreMovers (picked (students_in l.chains) (take l.position-index l.positions)) (students_of_movers l.movers.items) (next_of l.part.papers.now (view_of g.R.Roll.keys g.R.Roll.seats l.round).ranks) (assigned l.places)

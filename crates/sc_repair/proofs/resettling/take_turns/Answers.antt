@@ -15,65 +15,65 @@ use Rattle.sc_repair.proofs.resettling.take_turns.Goals as goal
 
 pub loop-position-init : goal.loop-position-init
 loop-position-init g c =
-    let m = c.args.papers.now in
+    let m = c.args.part.papers.now in
     let log = (view_of g.R.Roll.keys g.R.Roll.seats c.args.round.now).log in
     let old = c.args.old.now in
-    let marks = c.args.region.now in
-    let are = are-turns m old marks c.args.point c.args.end c.requires.point c.requires.end c.requires.nobody_new c.requires.one_each c.requires.differ c.requires.step in (
-      turns-begin m (is_among (marked_in marks old)) old marks c.args.point (length old - c.args.end) c.args.end are _ (chains_in log c.args.renewed.now) (ap (chains_in log) c.requires.none) c.requires.on,
+    let marks = c.args.part.region.now in
+    let are = are-turns m old marks c.args.part.point c.args.part.end c.requires.turns.in_order c.requires.turns.within c.requires.turns.nobody_new c.requires.turns.one_each c.requires.turns.differ c.requires.turns.step in (
+      turns-begin m (is_among (marked_in marks old)) old marks c.args.part.point (length old - c.args.part.end) c.args.part.end are _ (chains_in log c.args.renewed.now) (ap (chains_in log) c.requires.none) c.requires.on,
       c.requires.ready,
       subst (λ (spans : List Span). AreWithin log spans) (sym c.requires.none) (none-within log),
     )
 
 pub unreachable-requires : goal.unreachable-requires
 unreachable-requires g c =
-    let m = c.args.papers.now in
+    let m = c.args.part.papers.now in
     let old = c.args.old.now in
-    let marks = c.args.region.now in
+    let marks = c.args.part.region.now in
     let at = c.loop-position.position-index in
-    let are = are-turns m old marks c.args.point c.args.end c.requires.point c.requires.end c.requires.nobody_new c.requires.one_each c.requires.differ c.requires.step in
-    let turns_are : c.positions_from-turns.result.now ≡ marked_from marks (c.args.point + (length old - c.args.end)) =
-    c.positions_from-turns.ensures ∙ ap (λ n. marked_from marks (c.args.point + (n - c.args.end))) c.len.ensures in
-    let low : at < length (marked_from marks (c.args.point + (length old - c.args.end))) = omega (arith, ap (λ (ps : List ℕ). length ps) turns_are, c.loop-position-test.true) in
-    let there : slice_get (students_of m) (get_or (marked_from marks (c.args.point + (length old - c.args.end))) at 0 - (length old - c.args.end)) ≡ c.student_at.result =
-    (λ t. slice_get (students_of m) (get_or (sym turns_are t) at 0 - (sym c.len.ensures t - c.args.end))) ∙ sym c.student_at.ensures in
-    turn-missing m (is_among (marked_in marks old)) old marks c.args.point (length old - c.args.end) c.args.end are at low (there ∙ c.in_default.is)
+    let are = are-turns m old marks c.args.part.point c.args.part.end c.requires.turns.in_order c.requires.turns.within c.requires.turns.nobody_new c.requires.turns.one_each c.requires.turns.differ c.requires.turns.step in
+    let turns_are : c.positions_from-turns.result.now ≡ marked_from marks (c.args.part.point + (length old - c.args.part.end)) =
+    c.positions_from-turns.ensures ∙ ap (λ n. marked_from marks (c.args.part.point + (n - c.args.part.end))) c.len.ensures in
+    let low : at < length (marked_from marks (c.args.part.point + (length old - c.args.part.end))) = omega (arith, ap (λ (ps : List ℕ). length ps) turns_are, c.loop-position-test.true) in
+    let there : slice_get (students_of m) (get_or (marked_from marks (c.args.part.point + (length old - c.args.part.end))) at 0 - (length old - c.args.part.end)) ≡ c.student_at.result =
+    (λ t. slice_get (students_of m) (get_or (sym turns_are t) at 0 - (sym c.len.ensures t - c.args.part.end))) ∙ sym c.student_at.ensures in
+    turn-missing m (is_among (marked_in marks old)) old marks c.args.part.point (length old - c.args.part.end) c.args.part.end are at low (there ∙ c.in_default.is)
 
 pub enter_turn-requires-clause-fits : goal.enter_turn-requires-clause-fits
 enter_turn-requires-clause-fits g c = c.loop-position.invariant.0.on.fits
 
 pub enter_turn-requires-clause-student : goal.enter_turn-requires-clause-student
-enter_turn-requires-clause-student g c = among-student c.args.papers.now c.in-Some.student (contains-at (students_of c.args.papers.now) _ c.in-Some.student (sym c.student_at.ensures ∙ c.in-Some.is))
+enter_turn-requires-clause-student g c = among-student c.args.part.papers.now c.in-Some.student (contains-at (students_of c.args.part.papers.now) _ c.in-Some.student (sym c.student_at.ensures ∙ c.in-Some.is))
 
 pub enter_turn-requires-clause-absent : goal.enter_turn-requires-clause-absent
 enter_turn-requires-clause-absent g c =
-    let m = c.args.papers.now in
+    let m = c.args.part.papers.now in
     let old = c.args.old.now in
-    let marks = c.args.region.now in
+    let marks = c.args.part.region.now in
     let at = c.loop-position.position-index in
-    let are = are-turns m old marks c.args.point c.args.end c.requires.point c.requires.end c.requires.nobody_new c.requires.one_each c.requires.differ c.requires.step in
-    let turns_are : c.positions_from-turns.result.now ≡ marked_from marks (c.args.point + (length old - c.args.end)) =
-    c.positions_from-turns.ensures ∙ ap (λ n. marked_from marks (c.args.point + (n - c.args.end))) c.len.ensures in
-    let low : at < length (marked_from marks (c.args.point + (length old - c.args.end))) = omega (arith, ap (λ (ps : List ℕ). length ps) turns_are, c.loop-position-test.true) in
-    let there : slice_get (students_of m) (get_or (marked_from marks (c.args.point + (length old - c.args.end))) at 0 - (length old - c.args.end)) ≡ c.student_at.result =
-    (λ t. slice_get (students_of m) (get_or (sym turns_are t) at 0 - (sym c.len.ensures t - c.args.end))) ∙ sym c.student_at.ensures in
-    let own = turn-own m (is_among (marked_in marks old)) old marks c.args.point (length old - c.args.end) c.args.end are at c.in-Some.student low (there ∙ c.in-Some.is) in
-    turn-absent m (is_among (marked_in marks old)) old marks c.args.point (length old - c.args.end) c.args.end are at c.in-Some.student (chains_in (view_of g.R.Roll.keys g.R.Roll.seats c.loop-position.round).log c.loop-position.renewed) _ c.loop-position.invariant.0 low own
+    let are = are-turns m old marks c.args.part.point c.args.part.end c.requires.turns.in_order c.requires.turns.within c.requires.turns.nobody_new c.requires.turns.one_each c.requires.turns.differ c.requires.turns.step in
+    let turns_are : c.positions_from-turns.result.now ≡ marked_from marks (c.args.part.point + (length old - c.args.part.end)) =
+    c.positions_from-turns.ensures ∙ ap (λ n. marked_from marks (c.args.part.point + (n - c.args.part.end))) c.len.ensures in
+    let low : at < length (marked_from marks (c.args.part.point + (length old - c.args.part.end))) = omega (arith, ap (λ (ps : List ℕ). length ps) turns_are, c.loop-position-test.true) in
+    let there : slice_get (students_of m) (get_or (marked_from marks (c.args.part.point + (length old - c.args.part.end))) at 0 - (length old - c.args.part.end)) ≡ c.student_at.result =
+    (λ t. slice_get (students_of m) (get_or (sym turns_are t) at 0 - (sym c.len.ensures t - c.args.part.end))) ∙ sym c.student_at.ensures in
+    let own = turn-own m (is_among (marked_in marks old)) old marks c.args.part.point (length old - c.args.part.end) c.args.part.end are at c.in-Some.student low (there ∙ c.in-Some.is) in
+    turn-absent m (is_among (marked_in marks old)) old marks c.args.part.point (length old - c.args.part.end) c.args.part.end are at c.in-Some.student (chains_in (view_of g.R.Roll.keys g.R.Roll.seats c.loop-position.round).log c.loop-position.renewed) _ c.loop-position.invariant.0 low own
 
 pub loop-position-preserved : goal.loop-position-preserved
 loop-position-preserved g c =
-    let m = c.args.papers.now in
+    let m = c.args.part.papers.now in
     let old = c.args.old.now in
-    let marks = c.args.region.now in
+    let marks = c.args.part.region.now in
     let at = c.loop-position.position-index in
-    let are = are-turns m old marks c.args.point c.args.end c.requires.point c.requires.end c.requires.nobody_new c.requires.one_each c.requires.differ c.requires.step in
-    let turns_are : c.positions_from-turns.result.now ≡ marked_from marks (c.args.point + (length old - c.args.end)) =
-    c.positions_from-turns.ensures ∙ ap (λ n. marked_from marks (c.args.point + (n - c.args.end))) c.len.ensures in
-    let low : at < length (marked_from marks (c.args.point + (length old - c.args.end))) = omega (arith, ap (λ (ps : List ℕ). length ps) turns_are, c.loop-position-test.true) in
-    let there : slice_get (students_of m) (get_or (marked_from marks (c.args.point + (length old - c.args.end))) at 0 - (length old - c.args.end)) ≡ c.student_at.result =
-    (λ t. slice_get (students_of m) (get_or (sym turns_are t) at 0 - (sym c.len.ensures t - c.args.end))) ∙ sym c.student_at.ensures in
-    let own = turn-own m (is_among (marked_in marks old)) old marks c.args.point (length old - c.args.end) c.args.end are at c.in-Some.student low (there ∙ c.in-Some.is) in (
-      turn-next m (is_among (marked_in marks old)) old marks c.args.point (length old - c.args.end) c.args.end are at c.in-Some.student (chains_in (view_of g.R.Roll.keys g.R.Roll.seats c.loop-position.round).log c.loop-position.renewed) (chains_in (view_of g.R.Roll.keys g.R.Roll.seats c.enter_turn.new.round).log c.enter_turn.new.spans) _ _
+    let are = are-turns m old marks c.args.part.point c.args.part.end c.requires.turns.in_order c.requires.turns.within c.requires.turns.nobody_new c.requires.turns.one_each c.requires.turns.differ c.requires.turns.step in
+    let turns_are : c.positions_from-turns.result.now ≡ marked_from marks (c.args.part.point + (length old - c.args.part.end)) =
+    c.positions_from-turns.ensures ∙ ap (λ n. marked_from marks (c.args.part.point + (n - c.args.part.end))) c.len.ensures in
+    let low : at < length (marked_from marks (c.args.part.point + (length old - c.args.part.end))) = omega (arith, ap (λ (ps : List ℕ). length ps) turns_are, c.loop-position-test.true) in
+    let there : slice_get (students_of m) (get_or (marked_from marks (c.args.part.point + (length old - c.args.part.end))) at 0 - (length old - c.args.part.end)) ≡ c.student_at.result =
+    (λ t. slice_get (students_of m) (get_or (sym turns_are t) at 0 - (sym c.len.ensures t - c.args.part.end))) ∙ sym c.student_at.ensures in
+    let own = turn-own m (is_among (marked_in marks old)) old marks c.args.part.point (length old - c.args.part.end) c.args.part.end are at c.in-Some.student low (there ∙ c.in-Some.is) in (
+      turn-next m (is_among (marked_in marks old)) old marks c.args.part.point (length old - c.args.part.end) c.args.part.end are at c.in-Some.student (chains_in (view_of g.R.Roll.keys g.R.Roll.seats c.loop-position.round).log c.loop-position.renewed) (chains_in (view_of g.R.Roll.keys g.R.Roll.seats c.enter_turn.new.round).log c.enter_turn.new.spans) _ _
           c.loop-position.invariant.0 low own c.in_ok-enter_turn.ensures.enters c.in_ok-enter_turn.ensures.chain,
       c.in_ok-enter_turn.ensures.ready,
       c.in_ok-enter_turn.ensures.within,
@@ -81,19 +81,19 @@ loop-position-preserved g c =
 
 pub returns-clause-on : goal.returns-clause-on
 returns-clause-on g c =
-    let m = c.args.papers.now in
+    let m = c.args.part.papers.now in
     let old = c.args.old.now in
-    let marks = c.args.region.now in
-    let are = are-turns m old marks c.args.point c.args.end c.requires.point c.requires.end c.requires.nobody_new c.requires.one_each c.requires.differ c.requires.step in
-    let turns_are : c.positions_from-turns.result.now ≡ marked_from marks (c.args.point + (length old - c.args.end)) =
-    c.positions_from-turns.ensures ∙ ap (λ n. marked_from marks (c.args.point + (n - c.args.end))) c.len.ensures in
-    turns-end m (is_among (marked_in marks old)) old marks c.args.point (length old - c.args.end) c.args.end are c.loop-position.position-index (chains_in (view_of g.R.Roll.keys g.R.Roll.seats c.loop-position.round).log c.loop-position.renewed) _ c.loop-position.invariant.0
+    let marks = c.args.part.region.now in
+    let are = are-turns m old marks c.args.part.point c.args.part.end c.requires.turns.in_order c.requires.turns.within c.requires.turns.nobody_new c.requires.turns.one_each c.requires.turns.differ c.requires.turns.step in
+    let turns_are : c.positions_from-turns.result.now ≡ marked_from marks (c.args.part.point + (length old - c.args.part.end)) =
+    c.positions_from-turns.ensures ∙ ap (λ n. marked_from marks (c.args.part.point + (n - c.args.part.end))) c.len.ensures in
+    turns-end m (is_among (marked_in marks old)) old marks c.args.part.point (length old - c.args.part.end) c.args.part.end are c.loop-position.position-index (chains_in (view_of g.R.Roll.keys g.R.Roll.seats c.loop-position.round).log c.loop-position.renewed) _ c.loop-position.invariant.0
     (omega (arith, ap (λ (ps : List ℕ). length ps) turns_are, c.loop-position-test.false, c.loop-position.auto.position-index-end))
 
 pub returns-clause-one_each : goal.returns-clause-one_each
 returns-clause-one_each g c =
     let old = c.args.old.now in
-    let marks = c.args.region.now in
-    let turns_are : c.positions_from-turns.result.now ≡ marked_from marks (c.args.point + (length old - c.args.end)) =
-    c.positions_from-turns.ensures ∙ ap (λ n. marked_from marks (c.args.point + (n - c.args.end))) c.len.ensures in
+    let marks = c.args.part.region.now in
+    let turns_are : c.positions_from-turns.result.now ≡ marked_from marks (c.args.part.point + (length old - c.args.part.end)) =
+    c.positions_from-turns.ensures ∙ ap (λ n. marked_from marks (c.args.part.point + (n - c.args.part.end))) c.len.ensures in
     omega (arith, length-map c.loop-position.renewed (chain_in (view_of g.R.Roll.keys g.R.Roll.seats c.loop-position.round).log), c.loop-position.invariant.0.count, ap (λ (ps : List ℕ). length ps) turns_are, c.loop-position-test.false, c.loop-position.auto.position-index-end)

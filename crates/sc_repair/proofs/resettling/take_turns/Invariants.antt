@@ -8,6 +8,6 @@ use Rattle.sc_repair.proofs.resettling.take_turns.Given as goal
 
 abbrev pub invariant-loop-position : goal.invariant-loop-position
 invariant-loop-position g l =
-    HadTurns l.papers (is_among (marked_in l.region l.old)) l.old l.point (length l.old - l.end) l.end (marked_from l.region (l.point + (length l.old - l.end))) l.position-index (chains_in (view_of g.R.Roll.keys g.R.Roll.seats l.round).log l.renewed) (view_of g.R.Roll.keys g.R.Roll.seats l.round)
+    HadTurns l.part.papers.now (is_among (marked_in l.part.region.now l.old)) l.old l.part.point (length l.old - l.part.end) l.part.end (marked_from l.part.region.now (l.part.point + (length l.old - l.part.end))) l.position-index (chains_in (view_of g.R.Roll.keys g.R.Roll.seats l.round).log l.renewed) (view_of g.R.Roll.keys g.R.Roll.seats l.round)
     × (is_spent l.round ≡ false)
     × AreWithin (view_of g.R.Roll.keys g.R.Roll.seats l.round).log l.renewed

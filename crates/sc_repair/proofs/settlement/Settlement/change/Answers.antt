@@ -61,16 +61,16 @@ invariant_of-self-in-Err c =
     let papers = c.take_back.ensures c.self.inside.papers c.in-Ok.ensures.back in
     record {
       certified = still-certified c.self.inside.papers c.take_back.new.self c.self.inside.segments c.resettle-settled.new.segments c.self.inside.places c.resettle-settled.new.places c.self.inside.proposals
-          papers c.in-Err.ensures.places_unchanged c.in-Err.ensures.segments_unchanged c.self.invariant.certified;
-      theirs = ap students_in c.in-Err.ensures.segments_unchanged ∙ c.self.invariant.theirs ∙ ap students_of (sym papers);
-      round = subst₂ (λ m chains. IfSome c.lend.new.round (IsKept m chains)) (sym papers) (sym c.in-Err.ensures.segments_unchanged) (lent-round (IsKept c.self.inside.papers c.self.inside.segments) c.self.inside.round c.lend.new.round c.lend.ensures c.self.invariant.round);
+          papers c.in-Err.ensures.unchanged.0 c.in-Err.ensures.unchanged.1 c.self.invariant.certified;
+      theirs = ap students_in c.in-Err.ensures.unchanged.1 ∙ c.self.invariant.theirs ∙ ap students_of (sym papers);
+      round = subst₂ (λ m chains. IfSome c.lend.new.round (IsKept m chains)) (sym papers) (sym c.in-Err.ensures.unchanged.1) (lent-round (IsKept c.self.inside.papers c.self.inside.segments) c.self.inside.round c.lend.new.round c.lend.ensures c.self.invariant.round);
       districts = tt;
     }
 
 pub returns-clause-certified : goal.returns-clause-certified
 returns-clause-certified c =
     still-certified c.self.inside.papers c.take_back.new.self c.self.inside.segments c.resettle-settled.new.segments c.self.inside.places c.resettle-settled.new.places c.self.inside.proposals
-    (c.take_back.ensures c.self.inside.papers c.in-Ok.ensures.back) c.in-Err.ensures.places_unchanged c.in-Err.ensures.segments_unchanged c.self.invariant.certified
+    (c.take_back.ensures c.self.inside.papers c.in-Ok.ensures.back) c.in-Err.ensures.unchanged.0 c.in-Err.ensures.unchanged.1 c.self.invariant.certified
 
 pub returns-in-Ok-settled-clause-certified : goal.returns-in-Ok-settled-clause-certified
 returns-in-Ok-settled-clause-certified c =
@@ -109,4 +109,4 @@ returns-in-Ok-settled-clause-proposals c =
 pub returns-clause-unchanged : goal.returns-clause-unchanged
 returns-clause-unchanged c =
     let standing : Market → List (ℕ × ℕ) → List Chain → Standing = λ m places chains. record { papers = m; places = places; segments = logs_in chains; proposals = c.self.inside.proposals } in
-    (λ t. standing (c.take_back.ensures c.self.inside.papers c.in-Ok.ensures.back t) (c.in-Err.ensures.places_unchanged t) (c.in-Err.ensures.segments_unchanged t)) ∙ c.self.view_is
+    (λ t. standing (c.take_back.ensures c.self.inside.papers c.in-Ok.ensures.back t) (c.in-Err.ensures.unchanged.0 t) (c.in-Err.ensures.unchanged.1 t)) ∙ c.self.view_is

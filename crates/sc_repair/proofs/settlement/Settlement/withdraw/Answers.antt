@@ -107,9 +107,9 @@ invariant_of-self-in-Err c =
     c.move_student-in-Err.ensures ∙ leaver-back c.self.inside.papers c.move_student.new.self (Withdraw c.args.student) c.args.student c.point_in-point.result (c.students_len-last.result - 1) c.self.invariant.certified.well_formed (ap (λ (s : Standing). verdict s.papers (Withdraw c.args.student)) c.self.view_is ∙ c.requires) refl c.point_in-point.ensures (ap (λ n. n - 1) c.students_len-last.ensures.count) c.move_student.ensures in
     record {
       certified = still-certified c.self.inside.papers c.move_student-in-Err.new.self c.self.inside.segments c.resettle-settled.new.segments c.self.inside.places c.resettle-settled.new.places c.self.inside.proposals
-          papers c.in-Err.ensures.places_unchanged c.in-Err.ensures.segments_unchanged c.self.invariant.certified;
-      theirs = ap students_in c.in-Err.ensures.segments_unchanged ∙ c.self.invariant.theirs ∙ ap students_of (sym papers);
-      round = subst₂ (λ m chains. IfSome c.lend.new.round (IsKept m chains)) (sym papers) (sym c.in-Err.ensures.segments_unchanged) (lent-round (IsKept c.self.inside.papers c.self.inside.segments) c.self.inside.round c.lend.new.round c.lend.ensures c.self.invariant.round);
+          papers c.in-Err.ensures.unchanged.0 c.in-Err.ensures.unchanged.1 c.self.invariant.certified;
+      theirs = ap students_in c.in-Err.ensures.unchanged.1 ∙ c.self.invariant.theirs ∙ ap students_of (sym papers);
+      round = subst₂ (λ m chains. IfSome c.lend.new.round (IsKept m chains)) (sym papers) (sym c.in-Err.ensures.unchanged.1) (lent-round (IsKept c.self.inside.papers c.self.inside.segments) c.self.inside.round c.lend.new.round c.lend.ensures c.self.invariant.round);
       districts = tt;
     }
 
@@ -118,11 +118,11 @@ returns-clause-certified c =
     let papers : c.move_student-in-Err.new.self ≡ c.self.inside.papers =
     c.move_student-in-Err.ensures ∙ leaver-back c.self.inside.papers c.move_student.new.self (Withdraw c.args.student) c.args.student c.point_in-point.result (c.students_len-last.result - 1) c.self.invariant.certified.well_formed (ap (λ (s : Standing). verdict s.papers (Withdraw c.args.student)) c.self.view_is ∙ c.requires) refl c.point_in-point.ensures (ap (λ n. n - 1) c.students_len-last.ensures.count) c.move_student.ensures in
     still-certified c.self.inside.papers c.move_student-in-Err.new.self c.self.inside.segments c.resettle-settled.new.segments c.self.inside.places c.resettle-settled.new.places c.self.inside.proposals
-    papers c.in-Err.ensures.places_unchanged c.in-Err.ensures.segments_unchanged c.self.invariant.certified
+    papers c.in-Err.ensures.unchanged.0 c.in-Err.ensures.unchanged.1 c.self.invariant.certified
 
 pub returns-clause-unchanged : goal.returns-clause-unchanged
 returns-clause-unchanged c =
     let papers : c.move_student-in-Err.new.self ≡ c.self.inside.papers =
     c.move_student-in-Err.ensures ∙ leaver-back c.self.inside.papers c.move_student.new.self (Withdraw c.args.student) c.args.student c.point_in-point.result (c.students_len-last.result - 1) c.self.invariant.certified.well_formed (ap (λ (s : Standing). verdict s.papers (Withdraw c.args.student)) c.self.view_is ∙ c.requires) refl c.point_in-point.ensures (ap (λ n. n - 1) c.students_len-last.ensures.count) c.move_student.ensures in
     let standing : Market → List (ℕ × ℕ) → List Chain → Standing = λ m places chains. record { papers = m; places = places; segments = logs_in chains; proposals = c.self.inside.proposals } in
-    (λ t. standing (papers t) (c.in-Err.ensures.places_unchanged t) (c.in-Err.ensures.segments_unchanged t)) ∙ c.self.view_is
+    (λ t. standing (papers t) (c.in-Err.ensures.unchanged.0 t) (c.in-Err.ensures.unchanged.1 t)) ∙ c.self.view_is
