@@ -19,6 +19,7 @@ import tempfile
 ROOT = pathlib.Path(__file__).resolve().parent.parent
 UNPROVED = re.compile(r"^(?:fn|impl) (\S+): (?:not proved|no proof: expected)", re.M)
 OPEN = re.compile(r"^note: `(\S+)` of (\S+) must prove: (.*)$", re.M)
+UNTOLD = re.compile(r"^note: (\S+:\d+:\d+): it is not proved that .*\(`([^`]+)`\)", re.M)
 REFUSED = re.compile(r"^\S*proofs/\S+: error: `(\S+)`", re.M)
 
 
@@ -74,7 +75,7 @@ def try_edit(room, edit, crate):
         said = check(folder)
         functions = sorted(set(UNPROVED.findall(said)))
         answers = sorted(set(REFUSED.findall(said)))
-        first = sorted({name for name, _, _ in OPEN.findall(said)})
+        first = sorted({name for name, _, _ in OPEN.findall(said)} | {name for _, name in UNTOLD.findall(said)})
         print(f"{label}: unproved: {', '.join(functions) or 'NONE'}; open as it stands: {', '.join(first) or '-'}; answers that no longer fit: {', '.join(answers) or '-'}", flush=True)
         if not functions:
             print("\n".join(it for it in said.split("\n") if "error" in it)[:2000])
@@ -87,8 +88,9 @@ def try_edit(room, edit, crate):
                 moved.append((found, kept))
         if moved:
             said = check(folder)
-        found = OPEN.findall(said)
-        for name, _, goal in found:
+        found = {name: goal for name, _, goal in OPEN.findall(said)}
+        found |= {name: f"at {place}" for place, name in UNTOLD.findall(said) if name not in found}
+        for name, goal in found.items():
             print(f"{label}: open without answers: {name}: {goal[:300]}", flush=True)
         return bool(found)
     finally:
