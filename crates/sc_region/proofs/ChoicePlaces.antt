@@ -2,9 +2,9 @@
 use Rattle.std.proofs.Common.{◌≡◌, ℕ, ◌<◌, nat_eq, List, get_or, Option, Some, ap, sym, ◌∙◌, length, map, position, arith}
 use Rattle.std.proofs.lemmas.List.{get_or-map, length-map}
 use Rattle.sc_papers.specs.Market.{Market, schools_of}
-use Rattle.sc_region.specs.Groups.{place_of}
+use Rattle.sc_region.specs.Groups.{position_of}
 use Rattle.sc_papers.proofs.Positions.{position-at}
-use Rattle.sc_region.proofs.Joining.{place-is}
+use Rattle.sc_region.proofs.Joining.{position-is}
 
 -- these are the positions of the choices' schools
 abbrev pub Places : Market → List ℕ → List ℕ → Type 0
@@ -25,9 +25,9 @@ place-found m places choices same k p s low =
 
 -- and so the school's place
 pub place-told : (m : Market) (places choices : List ℕ) → Places m places choices
-    → (k p s : ℕ) → k < length places → get_or places k p ≡ place_of m (get_or choices k s)
+    → (k p s : ℕ) → k < length places → get_or places k p ≡ position_of m (get_or choices k s)
 place-told m places choices same k p s low =
-    sym (place-is (nat_eq (get_or choices k s)) (schools_of m) (get_or places k p) (place-found m places choices same k p s low))
+    sym (position-is (nat_eq (get_or choices k s)) (schools_of m) (get_or places k p) (place-found m places choices same k p s low))
 
 -- within the schools
 pub place-low : (m : Market) (places choices : List ℕ) → Places m places choices

@@ -20,7 +20,7 @@ use Rattle.sc_papers.proofs.Objections.{first_of-none, refuse_if-none}
 use Rattle.sc_papers.proofs.Positions.{among-student, student-among}
 use Rattle.sc_papers.proofs.Students.{lister-among}
 use Rattle.sc_region.specs.Districts.{AreDistricts, DistrictsView, comer, firsts_at, leaver, new_first}
-use Rattle.sc_region.specs.Groups.{first_choice, new_choices, place_of, start_of, widened}
+use Rattle.sc_region.specs.Groups.{first_choice, new_choices, position_of, start_of, widened}
 use Rattle.sc_region.proofs.Changes.{changed-found, changed-own, correct-known, enter-may, is-held, one-key, push-found, removed-found, rerank-known}
 use Rattle.sc_region.proofs.Choosing.{first-listed}
 use Rattle.sc_region.proofs.Joining.{list-whole}
@@ -145,7 +145,7 @@ comer-some m (Correct j zone siblings continuing) allowed i is = absurd (none-so
 pub districts-after : (m : Market) (a : Amendment) → WellFormed m → WellFormed (after m a) → verdict m a ≡ None → (d : DistrictsView) → AreDistricts m d → is_school m (start_of m a) ≡ true
     → (firsts : List (List ℕ)) → length firsts ≡ length d.firsts
     → ((p i : ℕ) → (leaver a ≡ Some i → ⊥) → Contains (firsts_at d.firsts p) i → Contains (firsts_at firsts p) i)
-    → ((i : ℕ) → comer a ≡ Some i → Contains (firsts_at firsts (place_of m (new_first a))) i)
+    → ((i : ℕ) → comer a ≡ Some i → Contains (firsts_at firsts (position_of m (new_first a))) i)
     → AreDistricts (after m a) (record { groups = widened m a d.groups; firsts = firsts })
 unfolding widened
 districts-after m a well after_well allowed d districts known firsts one_each others moved = record {
@@ -157,10 +157,10 @@ districts-after m a well after_well allowed d districts known firsts one_each ot
   firsts_each = one_each ∙ districts.firsts_each ∙ sym (ap length (schools-stay m a));
   listed = λ i among. elim (first-after m a well allowed i among) [
     | inl (stays, there, same) ↦
-        subst (λ s. Contains (firsts_at firsts (place_of (after m a) s)) i) (sym same)
-        (subst (λ xs. Contains (firsts_at firsts (position_or_len (nat_eq (first_choice m i)) xs)) i) (sym (schools-stay m a)) (others (place_of m (first_choice m i)) i stays (districts.listed i there)))
+        subst (λ s. Contains (firsts_at firsts (position_of (after m a) s)) i) (sym same)
+        (subst (λ xs. Contains (firsts_at firsts (position_or_len (nat_eq (first_choice m i)) xs)) i) (sym (schools-stay m a)) (others (position_of m (first_choice m i)) i stays (districts.listed i there)))
     | inr (own, is) ↦
-        subst (λ s. Contains (firsts_at firsts (place_of (after m a) s)) i) (sym is)
+        subst (λ s. Contains (firsts_at firsts (position_of (after m a) s)) i) (sym is)
         (subst (λ xs. Contains (firsts_at firsts (position_or_len (nat_eq (new_first a)) xs)) i) (sym (schools-stay m a)) (moved i own))
   ];
 }

@@ -12,7 +12,7 @@ use Rattle.sc_papers.proofs.Counting.{contains-cons, contains-head, contains-tai
 use Rattle.sc_papers.proofs.Hands.{hand-is, hand-student}
 use Rattle.sc_papers.proofs.Positions.{among-student, student-among}
 use Rattle.sc_papers.proofs.Students.{lister-among}
-use Rattle.sc_region.specs.Groups.{first_choice, group_of, is_member, joined_students, place_of, places_in, positions_in, start_of, students_at, widened}
+use Rattle.sc_region.specs.Groups.{first_choice, group_of, is_member, joined_students, position_of, schools_of_group, positions_in, start_of, students_at, widened}
 use Rattle.sc_region.specs.Districts.{AreDistricts, AreWidened, DistrictsView, firsts_at, lists_in}
 use Rattle.sc_region.specs.Region.{InRegion}
 use Rattle.sc_region.specs.Telling.{AreOfRegion, HeldTogether, TellRegion}
@@ -27,7 +27,7 @@ use Rattle.std.proofs.lemmas.List.{length-map}
 use Rattle.sc_region.specs.declared.first.First.{First}
 use Rattle.sc_region.proofs.Firsts.{names}
 use Rattle.sc_region.proofs.Filtering.{filter-among, filter-kept}
-use Rattle.sc_region.proofs.Joining.{AreWhole, first-known, joined-partial, joined-together, place-within}
+use Rattle.sc_region.proofs.Joining.{AreWhole, first-known, joined-partial, joined-together, position-within}
 use Rattle.sc_region.proofs.Reaching.{in-member, member-in, partial-in}
 
 -- what stands in a list stands, mapped, in the mapped one
@@ -104,7 +104,7 @@ module _ (m : Market) (a : Amendment) (well : WellFormed m) (allowed : verdict m
   )
     where
       first : (s : ℕ) → is_school m s ≡ true → group_of m (joined_students m (students_at m few)) s ≡ slice_index (joined_students m (students_at m few)) 0
-      first s s_known = together (place_of m s) (omega (arith, (place-within m s s_known).0, whole))
+      first s s_known = together (position_of m s) (omega (arith, (position-within m s s_known).0, whole))
 
 -- of rising positions that have all of the region, those that the groups tell are the region's
 module _ (m : Market) (a : Amendment) (groups : List ℕ) (tell : TellRegion m a groups) (positions : List ℕ) (rising : IsStrictlyIncreasing positions)
@@ -129,7 +129,7 @@ module _ (m : Market) (a : Amendment) (groups : List ℕ) (tell : TellRegion m a
           filter-kept told positions p (enough p (slice_get_within (students_of m) p i here) (subst (InRegion m a) (sym own) inside))
           (ap (λ j. is_member m groups (group_of m groups (start_of m a)) j) own ∙ (tell i known).1 inside)
 
-  pub region-told : (place : ℕ) → place ≡ place_of m (start_of m a) → AreOfRegion m a (positions_in m groups (slice_index groups place) positions)
+  pub region-told : (place : ℕ) → place ≡ position_of m (start_of m a) → AreOfRegion m a (positions_in m groups (slice_index groups place) positions)
   unfolding positions_in
   region-told place its = subst (λ q. AreOfRegion m a (positions_in m groups (slice_index groups q) positions)) (sym its) (record {
     rising = IsStrictlyIncreasing-filter told positions rising;
@@ -155,25 +155,25 @@ range-low : (count p : ℕ) → Contains (range_with_len 0 count) p → p < coun
 range-low count p (k, low, at) = let within : k < count = omega (arith, low, length-range_with_len 0 count) in omega (arith, within, at, get_or-range_with_len 0 count k p within)
 
 -- the places of a group
-pub place-among : (groups : List ℕ) (group place : ℕ) → Contains (places_in groups group) place → (place < length groups) × (slice_index groups place ≡ group)
-unfolding places_in
-place-among groups group place among =
+pub position-among : (groups : List ℕ) (group place : ℕ) → Contains (schools_of_group groups group) place → (place < length groups) × (slice_index groups place ≡ group)
+unfolding schools_of_group
+position-among groups group place among =
     let (there, passes) = filter-among (λ q. slice_index groups q == group) (range_with_len 0 (length groups)) place among in
     (range-low (length groups) place there, eqb-true _ _ passes)
 
-pub place-kept : (groups : List ℕ) (group place : ℕ) → place < length groups → slice_index groups place ≡ group → Contains (places_in groups group) place
-unfolding places_in
-place-kept groups group place low is = filter-kept (λ q. slice_index groups q == group) (range_with_len 0 (length groups)) place (range-has (length groups) place low) (eq-eqb _ _ is)
+pub position-kept : (groups : List ℕ) (group place : ℕ) → place < length groups → slice_index groups place ≡ group → Contains (schools_of_group groups group) place
+unfolding schools_of_group
+position-kept groups group place low is = filter-kept (λ q. slice_index groups q == group) (range_with_len 0 (length groups)) place (range-has (length groups) place low) (eq-eqb _ _ is)
 
 -- each has a list of students
-pub place-listed : (m : Market) (d : DistrictsView) → AreDistricts m d → (groups : List ℕ) → length groups ≡ length (schools_of m) → (lists : List (Vec First Global)) → lists_in lists ≡ d.firsts
-    → (group place : ℕ) → Contains (places_in groups group) place → place < length lists
-place-listed m d districts groups one_each lists are group place among =
-    omega (arith, (place-among groups group place among).0, one_each, districts.firsts_each, ap length are, length-map lists names)
+pub position-listed : (m : Market) (d : DistrictsView) → AreDistricts m d → (groups : List ℕ) → length groups ≡ length (schools_of m) → (lists : List (Vec First Global)) → lists_in lists ≡ d.firsts
+    → (group place : ℕ) → Contains (schools_of_group groups group) place → place < length lists
+position-listed m d districts groups one_each lists are group place among =
+    omega (arith, (position-among groups group place among).0, one_each, districts.firsts_each, ap length are, length-map lists names)
 
 -- the widened districts tell the region, where the lists of a few hold the one to begin with together
 pub held-tell : (m : Market) (a : Amendment) → WellFormed m → verdict m a ≡ None → (d : DistrictsView) → AreWidened m a d
-    → (place : ℕ) → place ≡ place_of m (start_of m a) → HeldTogether m (places_in d.groups (slice_index d.groups place)) place → TellRegion m a d.groups
+    → (place : ℕ) → place ≡ position_of m (start_of m a) → HeldTogether m (schools_of_group d.groups (slice_index d.groups place)) place → TellRegion m a d.groups
 unfolding is_member
 held-tell m a well allowed d before place its held i known = (to, from)
   where
@@ -183,31 +183,31 @@ held-tell m a well allowed d before place its held i known = (to, from)
     groups : List ℕ
     groups = d.groups
 
-    low : place_of m first < length groups
-    low = omega (arith, (place-within m first (first-known m well i known)).0, before.districts.one_each)
+    low : position_of m first < length groups
+    low = omega (arith, (position-within m first (first-known m well i known)).0, before.districts.one_each)
 
     to : is_member m groups (group_of m groups (start_of m a)) i ≡ true → InRegion m a i
     to passes =
-        let own : slice_index groups (place_of m first) ≡ slice_index groups place = eqb-true _ _ passes ∙ ap (slice_index groups) (sym its) in
+        let own : slice_index groups (position_of m first) ≡ slice_index groups place = eqb-true _ _ passes ∙ ap (slice_index groups) (sym its) in
         few-in m a well allowed held.few held.within i (student-among m i known)
-        (held.together (place_of m first) (place-kept groups (slice_index groups place) (place_of m first) low own)
+        (held.together (position_of m first) (position-kept groups (slice_index groups place) (position_of m first) low own)
         ∙ ap (slice_index (joined_students m (students_at m held.few))) its)
 
     from : InRegion m a i → is_member m groups (group_of m groups (start_of m a)) i ≡ true
     from inside = eq-eqb _ _ (district-near m a well allowed d before (group_of m groups (start_of m a)) refl i inside known)
 
 -- the students who are listed in a district are all who have their first choice there
-pub district-listed : (m : Market) → WellFormed m → (d : DistrictsView) → AreDistricts m d → (group : ℕ) (schools : List ℕ) → schools ≡ places_in d.groups group
+pub district-listed : (m : Market) → WellFormed m → (d : DistrictsView) → AreDistricts m d → (group : ℕ) (schools : List ℕ) → schools ≡ schools_of_group d.groups group
     → (firsts : List (List ℕ)) → firsts ≡ d.firsts → (positions : List ℕ)
     → ((other p : ℕ) → Contains schools other → p < length (students_of m) → Contains (firsts_at firsts other) (student_at m p) → Contains positions p)
     → (p : ℕ) → p < length (students_of m) → group_of m d.groups (first_choice m (student_at m p)) ≡ group → Contains positions p
 district-listed m well d districts group schools all_schools firsts same positions listed p low here =
     let known = hand-student m p (omega (arith, low, length-keys_of m.students)) in
     let first = first_choice m (student_at m p) in
-    let within = (place-within m first (first-known m well (student_at m p) known)).0 in
-    listed (place_of m first) p
-    (subst (λ xs. Contains xs (place_of m first)) (sym all_schools) (place-kept d.groups group (place_of m first) (omega (arith, within, districts.one_each)) here))
-    low (subst (λ fs. Contains (firsts_at fs (place_of m first)) (student_at m p)) (sym same) (districts.listed (student_at m p) (student-among m (student_at m p) known)))
+    let within = (position-within m first (first-known m well (student_at m p) known)).0 in
+    listed (position_of m first) p
+    (subst (λ xs. Contains xs (position_of m first)) (sym all_schools) (position-kept d.groups group (position_of m first) (omega (arith, within, districts.one_each)) here))
+    low (subst (λ fs. Contains (firsts_at fs (position_of m first)) (student_at m p)) (sym same) (districts.listed (student_at m p) (student-among m (student_at m p) known)))
 
 -- so they have all of the region
 pub district-enough : (m : Market) (a : Amendment) → WellFormed m → verdict m a ≡ None → (d : DistrictsView) → AreWidened m a d → (group : ℕ) → group ≡ group_of m d.groups (start_of m a)
@@ -225,7 +225,7 @@ range-rising count k low =
     omega (arith, get_or-range_with_len 0 count k 0 (omega (arith, next)), get_or-range_with_len 0 count (k + 1) 0 next)
 
 -- groups that tell the region tell it of all students
-pub all-told : (m : Market) (a : Amendment) (groups : List ℕ) → TellRegion m a groups → (start : ℕ) → start ≡ place_of m (start_of m a)
+pub all-told : (m : Market) (a : Amendment) (groups : List ℕ) → TellRegion m a groups → (start : ℕ) → start ≡ position_of m (start_of m a)
     → AreOfRegion m a (positions_in m groups (slice_index groups start) (range_with_len 0 (length (students_of m))))
 all-told m a groups tell start its =
     region-told m a groups tell (range_with_len 0 (length (students_of m))) (range-rising (length (students_of m)))

@@ -10,7 +10,7 @@ use Rattle.sc_papers.specs.WellFormed.{WellFormed}
 use Rattle.sc_papers.proofs.Counting.{contains-cons, contains-head, contains-tail}
 use Rattle.sc_papers.proofs.Students.{choice-known, lister-among}
 use Rattle.sc_papers.proofs.Positions.{among-student, position-at, school-position}
-use Rattle.sc_region.specs.Groups.{first_choice, group_of, joined, joined_choices, joined_list, joined_students, moved, place_of}
+use Rattle.sc_region.specs.Groups.{first_choice, group_of, joined, joined_choices, joined_list, joined_students, moved, position_of}
 use Rattle.sc_region.proofs.Choosing.{first-listed}
 use Rattle.std.proofs.lemmas.List.FromFn.{get_or-range_with_len, length-range_with_len}
 use Rattle.sc_papers.specs.declared.amendment.Amendment.{Amendment}
@@ -49,18 +49,18 @@ moved-joins : (x y : ℕ) → moved (min x y) (max x y) x ≡ moved (min x y) (m
 moved-joins x y = grind (arith, nat_tests)
 
 -- a position that a search finds
-pub place-is : (test : ℕ → Bool) (xs : List ℕ) (p : ℕ) → position test xs ≡ Some p → position_or_len test xs ≡ p
-place-is test xs p found = elim (cases_Bool (nat_lt (position_or_len test xs) (length xs))) [
+pub position-is : (test : ℕ → Bool) (xs : List ℕ) (p : ℕ) → position test xs ≡ Some p → position_or_len test xs ≡ p
+position-is test xs p found = elim (cases_Bool (nat_lt (position_or_len test xs) (length xs))) [
   | inl within ↦ let same : Some (position_or_len test xs) ≡ Some p = rw within at found in cc
   | inr past ↦ let none : None ≡ Some p = rw past at found in cc
 ]
 
 -- a school of the papers has a place among them
-pub place-within : (m : Market) (s : ℕ) → is_school m s ≡ true → (place_of m s < length (schools_of m)) × (get_or (schools_of m) (place_of m s) s ≡ s)
-place-within m s known =
+pub position-within : (m : Market) (s : ℕ) → is_school m s ≡ true → (position_of m s < length (schools_of m)) × (get_or (schools_of m) (position_of m s) s ≡ s)
+position-within m s known =
     let (at, found) = school-position m s known in
     let here = position-at (schools_of m) s at found in
-    rw (place-is (nat_eq s) (schools_of m) at found) here
+    rw (position-is (nat_eq s) (schools_of m) at found) here
 
 -- groups of all schools
 abbrev pub AreWhole : Market → List ℕ → Type 0
@@ -75,11 +75,11 @@ unfolding joined
 joined-whole m groups a b whole = length-map groups (moved (min (slice_index groups a) (slice_index groups b)) (max (slice_index groups a) (slice_index groups b))) ∙ whole
 
 joined-moves : (m : Market) (groups : List ℕ) (s t u : ℕ) → AreWhole m groups → is_school m u ≡ true
-    → group_of m (joined groups (place_of m s) (place_of m t)) u ≡ moved (min (group_of m groups s) (group_of m groups t)) (max (group_of m groups s) (group_of m groups t)) (group_of m groups u)
+    → group_of m (joined groups (position_of m s) (position_of m t)) u ≡ moved (min (group_of m groups s) (group_of m groups t)) (max (group_of m groups s) (group_of m groups t)) (group_of m groups u)
 unfolding joined
 joined-moves m groups s t u whole known =
-    let within = (place-within m u known).0 in
-    get_or-map (moved (min (group_of m groups s) (group_of m groups t)) (max (group_of m groups s) (group_of m groups t))) groups (place_of m u) 0 0 (omega (arith, within, whole))
+    let within = (position-within m u known).0 in
+    get_or-map (moved (min (group_of m groups s) (group_of m groups t)) (max (group_of m groups s) (group_of m groups t))) groups (position_of m u) 0 0 (omega (arith, within, whole))
 
 -- two schools are linked where a chain of lists leads from the one to the other: next to one another in
 -- it stand schools that one student lists
@@ -103,7 +103,7 @@ Coarser-trans m first second third one two = record { kept = λ s t s_known t_kn
 
 -- two schools joined
 module _ (m : Market) (groups : List ℕ) (f s : ℕ) (whole : AreWhole m groups) where
-  join-coarser : Coarser m groups (joined groups (place_of m f) (place_of m s))
+  join-coarser : Coarser m groups (joined groups (position_of m f) (position_of m s))
   join-coarser = record {
     kept = λ u v u_known v_known same.
         joined-moves m groups f s u whole u_known
@@ -112,14 +112,14 @@ module _ (m : Market) (groups : List ℕ) (f s : ℕ) (whole : AreWhole m groups
   }
 
   join-together : is_school m f ≡ true → is_school m s ≡ true
-      → group_of m (joined groups (place_of m f) (place_of m s)) s ≡ group_of m (joined groups (place_of m f) (place_of m s)) f
+      → group_of m (joined groups (position_of m f) (position_of m s)) s ≡ group_of m (joined groups (position_of m f) (position_of m s)) f
   join-together f_known s_known =
       joined-moves m groups f s s whole s_known ∙ sym (moved-joins (group_of m groups f) (group_of m groups s)) ∙ sym (joined-moves m groups f s f whole f_known)
 
 join-partial : (m : Market) (a : Amendment) (groups : List ℕ) (f s : ℕ) → is_school m f ≡ true → is_school m s ≡ true → Linked m a f s → IsPartial m a groups
-    → IsPartial m a (joined groups (place_of m f) (place_of m s))
+    → IsPartial m a (joined groups (position_of m f) (position_of m s))
 join-partial m a groups f s f_known s_known link before = record {
-  whole = joined-whole m groups (place_of m f) (place_of m s) before.whole;
+  whole = joined-whole m groups (position_of m f) (position_of m s) before.whole;
   sound = λ u v u_known v_known same.
       elim (moved-same (group_of m groups f) (group_of m groups s) (group_of m groups u) (group_of m groups v)
       (sym (joined-moves m groups f s u before.whole u_known) ∙ same ∙ joined-moves m groups f s v before.whole v_known)) [
@@ -136,23 +136,23 @@ module _ (m : Market) (f : ℕ) (f_known : is_school m f ≡ true) where
   pub list-whole : (groups list : List ℕ) → AreWhole m groups → AreWhole m (joined_list m f groups list)
   unfolding joined_list
   list-whole groups [] whole = whole
-  list-whole groups (s ∷ list) whole = list-whole (joined groups (place_of m f) (place_of m s)) list (joined-whole m groups (place_of m f) (place_of m s) whole)
+  list-whole groups (s ∷ list) whole = list-whole (joined groups (position_of m f) (position_of m s)) list (joined-whole m groups (position_of m f) (position_of m s) whole)
 
   pub list-coarser : (groups list : List ℕ) → AreWhole m groups → Coarser m groups (joined_list m f groups list)
   unfolding joined_list
   list-coarser groups [] whole = record { kept = λ s t s_known t_known same. same }
   list-coarser groups (s ∷ list) whole =
-      let next = joined groups (place_of m f) (place_of m s) in
+      let next = joined groups (position_of m f) (position_of m s) in
       Coarser-trans m groups next (joined_list m f next list) (join-coarser m groups f s whole)
-      (list-coarser next list (joined-whole m groups (place_of m f) (place_of m s) whole))
+      (list-coarser next list (joined-whole m groups (position_of m f) (position_of m s) whole))
 
   pub list-together : (groups list : List ℕ) → AreWhole m groups → ((s : ℕ) → Contains list s → is_school m s ≡ true)
       → (s : ℕ) → Contains list s → group_of m (joined_list m f groups list) s ≡ group_of m (joined_list m f groups list) f
   unfolding joined_list
   list-together groups [] whole known s (k, low, at) = absurd (omega (arith, low))
   list-together groups (x ∷ list) whole known s among =
-      let next = joined groups (place_of m f) (place_of m x) in
-      let next_whole = joined-whole m groups (place_of m f) (place_of m x) whole in
+      let next = joined groups (position_of m f) (position_of m x) in
+      let next_whole = joined-whole m groups (position_of m f) (position_of m x) whole in
       let x_known = known x (contains-head x list) in
       let first = (list-coarser next list next_whole).kept x f x_known f_known (join-together m groups f x whole f_known x_known) in
       elim (contains-cons x list s among) [
@@ -165,7 +165,7 @@ module _ (m : Market) (f : ℕ) (f_known : is_school m f ≡ true) where
   unfolding joined_list
   list-partial a groups [] known links before = before
   list-partial a groups (x ∷ list) known links before =
-      list-partial a (joined groups (place_of m f) (place_of m x)) list
+      list-partial a (joined groups (position_of m f) (position_of m x)) list
       (λ s among. known s (contains-tail x list s among)) (λ s among. links s (contains-tail x list s among))
       (join-partial m a groups f x f_known (known x (contains-head x list)) (links x (contains-head x list)) before)
 
@@ -228,11 +228,11 @@ module _ (m : Market) (well : WellFormed m) where
   start-partial a = record {
     whole = start-whole;
     sound = λ s t s_known t_known same.
-        let s_place = place-within m s s_known in
-        let t_place = place-within m t t_known in
-        let places : place_of m s ≡ place_of m t =
-        omega (arith, get_or-range_with_len 0 (length (schools_of m)) (place_of m s) 0 s_place.0, get_or-range_with_len 0 (length (schools_of m)) (place_of m t) 0 t_place.0, same) in
-        let one : s ≡ t = sym s_place.1 ∙ get_or_default (schools_of m) (place_of m s) s t s_place.0 ∙ ap (λ p. get_or (schools_of m) p t) places ∙ t_place.1 in
+        let s_place = position-within m s s_known in
+        let t_place = position-within m t t_known in
+        let places : position_of m s ≡ position_of m t =
+        omega (arith, get_or-range_with_len 0 (length (schools_of m)) (position_of m s) 0 s_place.0, get_or-range_with_len 0 (length (schools_of m)) (position_of m t) 0 t_place.0, same) in
+        let one : s ≡ t = sym s_place.1 ∙ get_or_default (schools_of m) (position_of m s) s t s_place.0 ∙ ap (λ p. get_or (schools_of m) p t) places ∙ t_place.1 in
         subst (Linked m a s) one (itself s);
   }
 

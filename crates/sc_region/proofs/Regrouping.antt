@@ -10,9 +10,9 @@ use Rattle.sc_papers.proofs.Counting.{contains-head, contains-tail}
 use Rattle.sc_papers.proofs.Positions.{among-student}
 use Rattle.sc_papers.proofs.Students.{choice-known, lister-among}
 use Rattle.sc_region.specs.Districts.{AreDistricts, AreWidened, DistrictsView}
-use Rattle.sc_region.specs.Groups.{first_choice, group_of, joined_list, joined_students, new_choices, place_of, region_groups, start_of, widened}
+use Rattle.sc_region.specs.Groups.{first_choice, group_of, joined_list, joined_students, new_choices, position_of, region_groups, start_of, widened}
 use Rattle.sc_region.proofs.Changes.{new-known, start-known}
-use Rattle.sc_region.proofs.Joining.{AreWhole, first-known, grouped-partial, grouped-together, joined-partial, joined-together, list-whole, place-within}
+use Rattle.sc_region.proofs.Joining.{AreWhole, first-known, grouped-partial, grouped-together, joined-partial, joined-together, list-whole, position-within}
 use Rattle.sc_region.proofs.Reaching.{new-together, widened-coarser}
 use Rattle.sc_region.proofs.Roots.{joined-nothing}
 
@@ -21,7 +21,7 @@ list-nothing : (m : Market) (f : ℕ) (groups list : List ℕ) → ((s : ℕ) �
 unfolding joined_list
 list-nothing m f groups [] together = refl
 list-nothing m f groups (s ∷ list) together =
-    ap (λ g. joined_list m f g list) (joined-nothing groups (place_of m f) (place_of m s) (sym (together s (contains-head s list))))
+    ap (λ g. joined_list m f g list) (joined-nothing groups (position_of m f) (position_of m s) (sym (together s (contains-head s list))))
     ∙ list-nothing m f groups list (λ t among. together t (contains-tail s list t among))
 
 -- districts in which the new choices are together
@@ -63,13 +63,13 @@ module _ (m : Market) (a : Amendment) (well : WellFormed m) (allowed : verdict m
       (numbers : (p : ℕ) → p < length d.groups → slice_index new p ≡ (if slice_index d.groups p == group then slice_index exact p else slice_index d.groups p)) where
     inside : (s : ℕ) → is_school m s ≡ true → group_of m d.groups s ≡ group → group_of m new s ≡ group_of m exact s
     inside s s_known here =
-        let low : place_of m s < length d.groups = omega (arith, (place-within m s s_known).0, before.districts.one_each) in
-        numbers (place_of m s) low ∙ cond-true (group_of m d.groups s == group) (group_of m exact s) (group_of m d.groups s) (eq-eqb _ _ here)
+        let low : position_of m s < length d.groups = omega (arith, (position-within m s s_known).0, before.districts.one_each) in
+        numbers (position_of m s) low ∙ cond-true (group_of m d.groups s == group) (group_of m exact s) (group_of m d.groups s) (eq-eqb _ _ here)
 
     outside : (s : ℕ) → is_school m s ≡ true → (group_of m d.groups s == group) ≡ false → group_of m new s ≡ group_of m d.groups s
     outside s s_known apart =
-        let low : place_of m s < length d.groups = omega (arith, (place-within m s s_known).0, before.districts.one_each) in
-        numbers (place_of m s) low ∙ cond-false (group_of m d.groups s == group) (group_of m exact s) (group_of m d.groups s) apart
+        let low : position_of m s < length d.groups = omega (arith, (position-within m s s_known).0, before.districts.one_each) in
+        numbers (position_of m s) low ∙ cond-false (group_of m d.groups s == group) (group_of m exact s) (group_of m d.groups s) apart
 
     exact-together : (i s : ℕ) → Contains students i → Contains (choices_of m i) s → group_of m exact s ≡ group_of m exact (first_choice m i)
     exact-together i s among listed =

@@ -5,7 +5,7 @@ use Rattle.sc_papers.specs.Market.{Market, choices_of, schools_of, students_of}
 use Rattle.sc_papers.specs.declared.amendment.Amendment.{Amendment}
 use Rattle.sc_papers.specs.declared.amendment.Amendment.TheVariants.{Enter, Withdraw, Rerank, Add, Close, Correct}
 use Rattle.sc_region.specs.declared.first.First.{First}
-use Rattle.sc_region.specs.Groups.{first_choice, group_of, new_choices, place_of, widened}
+use Rattle.sc_region.specs.Groups.{first_choice, group_of, new_choices, position_of, widened}
 
 -- a number for each school's district, and for each school a list of students, both by the school's
 -- position in the order of entry
@@ -31,7 +31,7 @@ pub record AreDistricts (m : Market) (d : DistrictsView) : Type 0 where
   pub one_each : length d.groups ≡ length (schools_of m)
   pub closed : (i s : ℕ) → Contains (choices_of m i) s → group_of m d.groups s ≡ group_of m d.groups (first_choice m i)
   pub firsts_each : length d.firsts ≡ length (schools_of m)
-  pub listed : (i : ℕ) → Contains (students_of m) i → Contains (firsts_at d.firsts (place_of m (first_choice m i))) i
+  pub listed : (i : ℕ) → Contains (students_of m) i → Contains (firsts_at d.firsts (position_of m (first_choice m i))) i
 
 -- districts in which the new choices of an amendment, if there are any, lie in one with the school to begin with: to join
 -- them joins nothing more

@@ -15,16 +15,16 @@ joined groups a b =
     map (moved (min (slice_index groups a) (slice_index groups b)) (max (slice_index groups a) (slice_index groups b))) groups
 
 -- a school's position in the order of entry
-abbrev pub place_of : Market → ℕ → ℕ
-place_of m s = position_or_len (nat_eq s) (schools_of m)
+abbrev pub position_of : Market → ℕ → ℕ
+position_of m s = position_or_len (nat_eq s) (schools_of m)
 
 -- the number of a school's group
 abbrev pub group_of : Market → List ℕ → ℕ → ℕ
-group_of m groups s = slice_index groups (place_of m s)
+group_of m groups s = slice_index groups (position_of m s)
 
 -- the groups with each school of a list joined to one school
 unfoldable pub joined_list : Market → ℕ → List ℕ → List ℕ → List ℕ
-joined_list m first groups list = fold (λ g s. joined g (place_of m first) (place_of m s)) groups list
+joined_list m first groups list = fold (λ g s. joined g (position_of m first) (position_of m s)) groups list
 
 -- a student's first choice
 abbrev pub first_choice : Market → ℕ → ℕ
@@ -67,8 +67,8 @@ entrants (Close s count) = []
 entrants (Correct i zone siblings continuing) = []
 
 -- the positions of the schools of a group, rising
-unfoldable pub places_in : List ℕ → ℕ → List ℕ
-places_in groups group = filter (λ place. slice_index groups place == group) (range_with_len 0 (length groups))
+unfoldable pub schools_of_group : List ℕ → ℕ → List ℕ
+schools_of_group groups group = filter (λ place. slice_index groups place == group) (range_with_len 0 (length groups))
 
 -- the groups with the new choices joined to the school to begin with
 unfoldable pub widened : Market → Amendment → List ℕ → List ℕ

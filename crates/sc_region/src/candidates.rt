@@ -5,7 +5,7 @@ ghost use Rattle.std.specs.List.Sorted.{IsStrictlyIncreasing};
 ghost use Rattle.sc_papers.specs.Market.{schools_of, student_at, students_of};
 ghost use Rattle.sc_papers.specs.Verdict.{verdict};
 ghost use Rattle.sc_region.specs.Districts.{firsts_at, lists_in, students_in};
-ghost use Rattle.sc_region.specs.Groups.{joined_students, places_in, positions_in, students_at, widened};
+ghost use Rattle.sc_region.specs.Groups.{joined_students, schools_of_group, positions_in, students_at, widened};
 ghost use Rattle.sc_region.specs.Telling.{HeldTogether};
 
 use crate::first::First;
@@ -21,12 +21,12 @@ use std::alloc::{AllocError, Global};
 pub(crate) const LISTS_FOR_SCHOOL: usize = 4;
 
 /// The positions of the schools of a group, rising. One pass over all schools, so that what follows passes over these alone.
-pub(crate) fn places_in(
+pub(crate) fn schools_of_group(
     alloc: Global,
     groups: &[usize],
     group: usize,
 ) -> Result<Vec<usize>, AllocError>
-    ensures { IfOk result (λ places. places.items ≡ places_in groups.now group) }
+    ensures { IfOk result (λ places. places.items ≡ schools_of_group groups.now group) }
 {
     let mut places = Vec::new(alloc);
     for place in 0..groups.len() {
@@ -46,7 +46,8 @@ fn push_positions(
     requires { (p : ℕ) → Contains positions.old.items p → p < length (students_of papers.now) }
     ensures within { OnOk result ((p : ℕ) → Contains positions.new.items p → p < length (students_of papers.now)) }
     ensures keeps { OnOk result ((p : ℕ) → Contains positions.old.items p → Contains positions.new.items p) }
-    ensures all { OnOk result ((p : ℕ) → p < length (students_of papers.now) → Contains (students_in firsts.now) (student_at papers.now p) → Contains positions.new.items p) }
+    ensures all { OnOk result ((p : ℕ) → p < length (students_of papers.now)
+        → Contains (students_in firsts.now) (student_at papers.now p) → Contains positions.new.items p) }
 {
     // This call tells that the papers are well-formed, so that each student has one position.
     prove!(papers.students_len() <= MOST_STUDENTS);
@@ -77,8 +78,12 @@ pub(crate) fn listed_at(
 ) -> Result<Vec<usize>, AllocError>
     requires { (place : ℕ) → Contains places.now place → place < length firsts.now.items }
     ensures rising { IfOk result (λ positions. IsStrictlyIncreasing positions.items) }
-    ensures within { IfOk result (λ positions. (p : ℕ) → Contains positions.items p → p < length (students_of papers.now)) }
-    ensures all { IfOk result (λ positions. (place p : ℕ) → Contains places.now place → p < length (students_of papers.now) → Contains (firsts_at (lists_in firsts.now.items) place) (student_at papers.now p) → Contains positions.items p) }
+    ensures within { IfOk result (λ positions. (p : ℕ) → Contains positions.items p
+        → p < length (students_of papers.now)) }
+    ensures all { IfOk result (λ positions. (place p : ℕ) → Contains places.now place
+        → p < length (students_of papers.now)
+        → Contains (firsts_at (lists_in firsts.now.items) place) (student_at papers.now p)
+        → Contains positions.items p) }
 {
     let mut positions = Vec::new(alloc);
     for place in places {
@@ -108,7 +113,8 @@ pub(crate) fn groups_with(
 ) -> Result<Vec<usize>, AllocError>
     requires allowed { verdict papers.now amendment.now ≡ None }
     requires within { (p : ℕ) → Contains joined.now p → p < length (students_of papers.now) }
-    ensures joined { IfOk result (λ groups. groups.items ≡ widened papers.now amendment.now (joined_students papers.now (students_at papers.now joined.now))) }
+    ensures joined { IfOk result (λ groups. groups.items
+        ≡ widened papers.now amendment.now (joined_students papers.now (students_at papers.now joined.now))) }
     ensures one_each { IfOk result (λ groups. length groups.items ≡ length (schools_of papers.now)) }
 {
     let mut groups = groups_among(alloc, papers, joined)?.into_numbers();
@@ -120,7 +126,8 @@ pub(crate) fn groups_with(
 fn hold_together(groups: &mut SchoolGroups, places: &[usize], place: usize) -> bool
     requires others { (other : ℕ) → Contains places.now other → other < length groups.old }
     requires within { place < length groups.old }
-    ensures { result ≡ true → (other : ℕ) → Contains places.now other → slice_index groups.old other ≡ slice_index groups.old place }
+    ensures { result ≡ true → (other : ℕ) → Contains places.now other
+        → slice_index groups.old other ≡ slice_index groups.old place }
 {
     let group = groups.group_at(place);
     for other in places {

@@ -4,13 +4,13 @@ ghost use Rattle.std.specs.Prelude.{◌≡◌, ◌<◌, ◌==◌, ℕ, None, Som
 ghost use Rattle.sc_papers.specs.Market.{schools_of, students_of};
 ghost use Rattle.sc_papers.specs.Verdict.{verdict};
 ghost use Rattle.sc_region.specs.Districts.{comer, firsts_at, leaver, lists_in, new_first, students_in};
-ghost use Rattle.sc_region.specs.Groups.{first_choice, place_of};
+ghost use Rattle.sc_region.specs.Groups.{first_choice, position_of};
 
 use crate::candidates::{
-    count_at, few_hold_together, groups_with, listed_at, places_in, positions_in,
+    count_at, few_hold_together, groups_with, listed_at, schools_of_group, positions_in,
 };
 use crate::first::First;
-use crate::grouping::{first_place_at, groups_of, place_of, regroup};
+use crate::grouping::{first_position_at, groups_of, position_of, regroup};
 use crate::marks::RegionMarks;
 use crate::members::positions_of;
 use crate::reach::{
@@ -60,7 +60,8 @@ fn empty_lists(alloc: Global, count: usize) -> Result<Vec<Vec<First>>, AllocErro
 fn put(firsts: &mut Vec<Vec<First>>, place: usize, first: First) -> Result<(), AllocError>
     requires { place < length firsts.old.items }
     ensures has { OnOk result (Contains (firsts_at (lists_in firsts.new.items) place) first.student) }
-    ensures keeps { OnOk result ((p i : ℕ) → Contains (firsts_at (lists_in firsts.old.items) p) i → Contains (firsts_at (lists_in firsts.new.items) p) i) }
+    ensures keeps { OnOk result ((p i : ℕ) → Contains (firsts_at (lists_in firsts.old.items) p) i
+        → Contains (firsts_at (lists_in firsts.new.items) p) i) }
     ensures one_each { OnOk result (length firsts.new.items ≡ length firsts.old.items) }
 {
     firsts[place].push(first)?;
@@ -70,7 +71,8 @@ fn put(firsts: &mut Vec<Vec<First>>, place: usize, first: First) -> Result<(), A
 /// For each school, the students whose first choice it is.
 fn firsts_of(alloc: Global, papers: &Papers) -> Result<Vec<Vec<First>>, AllocError>
     ensures one_each { IfOk result (λ firsts. length firsts.items ≡ length (schools_of papers.now)) }
-    ensures listed { IfOk result (λ firsts. (i : ℕ) → Contains (students_of papers.now) i → Contains (firsts_at (lists_in firsts.items) (place_of papers.now (first_choice papers.now i))) i) }
+    ensures listed { IfOk result (λ firsts. (i : ℕ) → Contains (students_of papers.now) i
+        → Contains (firsts_at (lists_in firsts.items) (position_of papers.now (first_choice papers.now i))) i) }
 {
     let mut firsts = empty_lists(alloc, papers.schools_len())?;
     for position in 0..papers.students_len() {
@@ -79,7 +81,7 @@ fn firsts_of(alloc: Global, papers: &Papers) -> Result<Vec<Vec<First>>, AllocErr
         };
         put(
             &mut firsts,
-            first_place_at(papers, position),
+            first_position_at(papers, position),
             First::new(student, position),
         )?;
     }
@@ -96,7 +98,8 @@ fn strike(list: &mut Vec<First>, student: StudentNo)
 /// Takes a student out of the list of the school at a position.
 fn take_out(firsts: &mut Vec<Vec<First>>, place: usize, student: StudentNo)
     requires { place < length firsts.old.items }
-    ensures others { (p i : ℕ) → (i ≡ student → ⊥) → Contains (firsts_at (lists_in firsts.old.items) p) i → Contains (firsts_at (lists_in firsts.new.items) p) i }
+    ensures others { (p i : ℕ) → (i ≡ student → ⊥) → Contains (firsts_at (lists_in firsts.old.items) p) i
+        → Contains (firsts_at (lists_in firsts.new.items) p) i }
     ensures one_each { length firsts.new.items ≡ length firsts.old.items }
 {
     strike(&mut firsts[place], student);
@@ -126,13 +129,14 @@ fn comer(amendment: &Amendment) -> Option<StudentNo>
 fn let_leave(firsts: &mut Vec<Vec<First>>, papers: &Papers, amendment: &Amendment)
     requires allowed { verdict papers.now amendment.now ≡ None }
     requires one_each { length firsts.old.items ≡ length (schools_of papers.now) }
-    ensures others { (p i : ℕ) → (leaver amendment.now ≡ Some i → ⊥) → Contains (firsts_at (lists_in firsts.old.items) p) i → Contains (firsts_at (lists_in firsts.new.items) p) i }
+    ensures others { (p i : ℕ) → (leaver amendment.now ≡ Some i → ⊥)
+        → Contains (firsts_at (lists_in firsts.old.items) p) i → Contains (firsts_at (lists_in firsts.new.items) p) i }
     ensures one_each { length firsts.new.items ≡ length firsts.old.items }
 {
     if let Some(student) = leaver(amendment) {
         take_out(
             firsts,
-            place_of(papers, first_choice(papers, student)),
+            position_of(papers, first_choice(papers, student)),
             student,
         );
     }
@@ -146,8 +150,10 @@ fn let_come(
 ) -> Result<(), AllocError>
     requires allowed { verdict papers.now amendment.now ≡ None }
     requires one_each { length firsts.old.items ≡ length (schools_of papers.now) }
-    ensures keeps { OnOk result ((p i : ℕ) → Contains (firsts_at (lists_in firsts.old.items) p) i → Contains (firsts_at (lists_in firsts.new.items) p) i) }
-    ensures moved { OnOk result ((i : ℕ) → comer amendment.now ≡ Some i → Contains (firsts_at (lists_in firsts.new.items) (place_of papers.now (new_first amendment.now))) i) }
+    ensures keeps { OnOk result ((p i : ℕ) → Contains (firsts_at (lists_in firsts.old.items) p) i
+        → Contains (firsts_at (lists_in firsts.new.items) p) i) }
+    ensures moved { OnOk result ((i : ℕ) → comer amendment.now ≡ Some i
+        → Contains (firsts_at (lists_in firsts.new.items) (position_of papers.now (new_first amendment.now))) i) }
     ensures one_each { OnOk result (length firsts.new.items ≡ length firsts.old.items) }
 {
     if let Some(student) = comer(amendment) {
@@ -158,7 +164,7 @@ fn let_come(
             .unwrap_or(papers.students_len());
         put(
             firsts,
-            place_of(papers, first),
+            position_of(papers, first),
             First::new(student, position),
         )?;
     }
@@ -170,7 +176,7 @@ impl Districts {
     ghost use Rattle.sc_papers.specs.Market.{schools_of};
     ghost use Rattle.sc_papers.specs.Verdict.{after, verdict};
     ghost use Rattle.sc_region.specs.Districts.{AreDistricts, AreWidened};
-    ghost use Rattle.sc_region.specs.Groups.{place_of, places_in, start_of};
+    ghost use Rattle.sc_region.specs.Groups.{position_of, schools_of_group, start_of};
     ghost use Rattle.sc_region.specs.Telling.{AreOfRegion, MarkRegion};
 
     /// The districts of the papers. The only error is want of memory.
@@ -210,7 +216,7 @@ impl Districts {
     ) -> Result<Vec<usize>, AllocError>
         requires widened { AreWidened papers.now amendment.now self.old }
         requires allowed { verdict papers.now amendment.now ≡ None }
-        requires start { start ≡ place_of papers.now (start_of papers.now amendment.now) }
+        requires start { start ≡ position_of papers.now (start_of papers.now amendment.now) }
         requires within { start < length (schools_of papers.now) }
         ensures region { IfOk result (λ positions. AreOfRegion papers.now amendment.now positions.items) }
         ensures widened { AreWidened papers.now amendment.now self.new }
@@ -240,9 +246,9 @@ impl Districts {
     ) -> Result<Vec<usize>, AllocError>
         requires widened { AreWidened papers.now amendment.now self.old }
         requires allowed { verdict papers.now amendment.now ≡ None }
-        requires start { start ≡ place_of papers.now (start_of papers.now amendment.now) }
+        requires start { start ≡ position_of papers.now (start_of papers.now amendment.now) }
         requires within { start < length (schools_of papers.now) }
-        requires schools { schools.now ≡ places_in self.old.groups (slice_index self.old.groups start) }
+        requires schools { schools.now ≡ schools_of_group self.old.groups (slice_index self.old.groups start) }
         ensures region { IfOk result (λ positions. AreOfRegion papers.now amendment.now positions.items) }
         ensures widened { AreWidened papers.now amendment.now self.new }
     {
@@ -273,8 +279,8 @@ impl Districts {
         ensures region { IfOk result (λ positions. AreOfRegion papers.now amendment.now positions.items) }
         ensures widened { AreWidened papers.now amendment.now self.new }
     {
-        let start = place_of(papers, start_of(papers, amendment));
-        let district = places_in(alloc, self.groups.as_slice(), self.groups[start])?;
+        let start = position_of(papers, start_of(papers, amendment));
+        let district = schools_of_group(alloc, self.groups.as_slice(), self.groups[start])?;
         let schools = district.as_slice();
         if count_at(&self.firsts, schools) > papers.students_len() / WIDE {
             self.positions_among_all(alloc, papers, amendment, start)
@@ -335,7 +341,8 @@ impl Districts {
     ) -> Result<(Self, RegionMarks), AllocError>
         requires districts { AreDistricts papers.now self }
         requires allowed { verdict papers.now amendment.now ≡ None }
-        ensures districts { IfOk result (λ (districts, region). AreDistricts (after papers.now amendment.now) districts) }
+        ensures districts { IfOk result
+            (λ (districts, region). AreDistricts (after papers.now amendment.now) districts) }
         ensures region { IfOk result (λ (districts, region). MarkRegion papers.now amendment.now region) }
     {
         let mut widened = self;

@@ -3,16 +3,16 @@
 ghost use Rattle.std.specs.Prelude.{◌≡◌, ◌<◌, ◌==◌, ℕ, true, length, map, slice_index, Contains, IfOk, if◌then◌else◌};
 ghost use Rattle.sc_papers.specs.Market.{choices_of, is_school, schools_of, student_at, students_of};
 ghost use Rattle.sc_papers.specs.WellFormed.{WellFormed};
-ghost use Rattle.sc_region.specs.Groups.{first_choice, joined, joined_choices, joined_list, joined_students, moved, place_of, students_at};
+ghost use Rattle.sc_region.specs.Groups.{first_choice, joined, joined_choices, joined_list, joined_students, moved, position_of, students_at};
 
 use crate::school_groups::SchoolGroups;
 use sc_papers::{Papers, SchoolNo};
 use std::alloc::{AllocError, Global};
 
 /// The position of a school of the papers.
-pub(crate) fn place_of(papers: &Papers, school: SchoolNo) -> usize
+pub(crate) fn position_of(papers: &Papers, school: SchoolNo) -> usize
     requires { is_school papers.now school ≡ true }
-    ensures place { result ≡ place_of papers.now school }
+    ensures position { result ≡ position_of papers.now school }
     ensures within { result < length (schools_of papers.now) }
 {
     let Some(position) = papers.school_position(school) else {
@@ -71,16 +71,19 @@ pub(crate) fn join_list(
     ensures joined { groups.new.items ≡ joined_list papers.now first groups.old.items list.now }
     ensures one_each { length groups.new.items ≡ length (schools_of papers.now) }
 {
-    let place = place_of(papers, first);
+    let place = position_of(papers, first);
     for school in list {
-        join(groups, place, place_of(papers, *school));
+        join(groups, place, position_of(papers, *school));
     }
 }
 
 /// Gives the schools of a group the numbers that they have among other groups.
 pub(crate) fn regroup(groups: &mut Vec<usize>, group: usize, others: &[usize])
     requires { length others.now ≡ length groups.old.items }
-    ensures numbers { (p : ℕ) → p < length groups.old.items → slice_index groups.new.items p ≡ (if slice_index groups.old.items p == group then slice_index others.now p else slice_index groups.old.items p) }
+    ensures numbers { (p : ℕ) → p < length groups.old.items
+        → slice_index groups.new.items p
+        ≡ (if slice_index groups.old.items p == group then slice_index others.now p
+        else slice_index groups.old.items p) }
     ensures one_each { length groups.new.items ≡ length groups.old.items }
 {
     for place in 0..groups.len() {
@@ -91,9 +94,9 @@ pub(crate) fn regroup(groups: &mut Vec<usize>, group: usize, others: &[usize])
 }
 
 /// The position of the first choice of the student at a position, without a look-up by number.
-pub(crate) fn first_place_at(papers: &Papers, position: usize) -> usize
+pub(crate) fn first_position_at(papers: &Papers, position: usize) -> usize
     requires { position < length (students_of papers.now) }
-    ensures place { result ≡ place_of papers.now (first_choice papers.now (student_at papers.now position)) }
+    ensures position { result ≡ position_of papers.now (first_choice papers.now (student_at papers.now position)) }
     ensures within { result < length (schools_of papers.now) }
 {
     // This call tells that the papers are well-formed, so that there are choices.
@@ -108,7 +111,7 @@ fn join_choices(papers: &Papers, groups: &mut SchoolGroups, position: usize)
     ensures joined { groups.new ≡ joined_choices papers.now groups.old (student_at papers.now position) }
     ensures one_each { length groups.new ≡ length (schools_of papers.now) }
 {
-    let first = first_place_at(papers, position);
+    let first = first_position_at(papers, position);
     for place in papers.choice_positions_at(position) {
         groups.join(first, usize::from(*place));
     }
@@ -133,7 +136,8 @@ pub(crate) fn groups_among(
     positions: &[usize],
 ) -> Result<SchoolGroups, AllocError>
     requires { (p : ℕ) → Contains positions.now p → p < length (students_of papers.now) }
-    ensures joined { IfOk result (λ groups. groups ≡ joined_students papers.now (students_at papers.now positions.now)) }
+    ensures joined { IfOk result (λ groups. groups
+        ≡ joined_students papers.now (students_at papers.now positions.now)) }
     ensures one_each { IfOk result (λ groups. length groups ≡ length (schools_of papers.now)) }
 {
     let mut groups = SchoolGroups::new(alloc, papers.schools_len())?;

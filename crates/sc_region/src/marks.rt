@@ -32,7 +32,8 @@ impl RegionMarks {
         requires rising { IsStrictlyIncreasing positions.items }
         requires within { (position : ℕ) → Contains positions.items position → position < count }
         ensures count { length result ≡ count }
-        ensures marked { (position : ℕ) → (Contains positions.items position ↔ IsTrue (slice_index_or result position false)) }
+        ensures marked { (position : ℕ)
+            → (Contains positions.items position ↔ IsTrue (slice_index_or result position false)) }
     {
         RegionMarks { count, positions }
     }
@@ -41,7 +42,8 @@ impl RegionMarks {
     /// looks at nobody else. In constant time.
     pub fn positions(&self) -> &[usize]
         ensures rising { IsStrictlyIncreasing result.now }
-        ensures marked { (position : ℕ) → (Contains result.now position ↔ IsTrue (slice_index_or self.now position false)) }
+        ensures marked { (position : ℕ)
+            → (Contains result.now position ↔ IsTrue (slice_index_or self.now position false)) }
     {
         self.positions.as_slice()
     }

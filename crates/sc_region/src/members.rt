@@ -5,7 +5,7 @@ ghost use Rattle.std.specs.List.{range_with_len};
 ghost use Rattle.sc_papers.specs.Market.{schools_of, student_at, students_of};
 ghost use Rattle.sc_region.specs.Groups.{is_member, members_of, positions_in};
 
-use crate::grouping::first_place_at;
+use crate::grouping::first_position_at;
 use sc_papers::{Papers, StudentNo};
 use std::alloc::{AllocError, Global};
 
@@ -16,7 +16,7 @@ pub(crate) fn is_member(papers: &Papers, groups: &[usize], group: usize, positio
     requires within { position < length (students_of papers.now) }
     ensures { result ≡ is_member papers.now groups.now group (student_at papers.now position) }
 {
-    groups[first_place_at(papers, position)] == group
+    groups[first_position_at(papers, position)] == group
 }
 
 /// The students of the papers whose first choice is in a group, in order of entry.
@@ -49,7 +49,8 @@ pub(crate) fn positions_of(
     group: usize,
 ) -> Result<Vec<usize>, AllocError>
     requires { length groups.now ≡ length (schools_of papers.now) }
-    ensures { IfOk result (λ positions. positions.items ≡ positions_in papers.now groups.now group (range_with_len 0 (length (students_of papers.now)))) }
+    ensures { IfOk result (λ positions. positions.items
+        ≡ positions_in papers.now groups.now group (range_with_len 0 (length (students_of papers.now)))) }
 {
     let mut positions = Vec::new(alloc);
     for position in 0..papers.students_len() {

@@ -9,7 +9,7 @@ ghost use Rattle.sc_region.specs.Region.{InRegion};
 ghost use Rattle.sc_region.specs.Telling.{AreOfSome};
 
 use crate::candidates::LISTS_FOR_SCHOOL;
-use crate::grouping::{first_choice_at, groups_among, groups_of, join_list, place_of};
+use crate::grouping::{first_choice_at, groups_among, groups_of, join_list, position_of};
 use crate::members::members_of;
 use crate::region_list::RegionList;
 use sc_papers::{Amendment, MOST_STUDENTS, Papers, Refusal, SchoolNo, StudentNo};
@@ -88,7 +88,7 @@ fn region_members(
     ensures { IfOk result (λ members. members.items ≡ region_members papers.now amendment.now) }
 {
     let groups = region_groups(alloc, papers, amendment)?;
-    let group = groups[place_of(papers, start_of(papers, amendment))];
+    let group = groups[position_of(papers, start_of(papers, amendment))];
     let mut members = members_of(alloc, papers, groups.as_slice(), group)?;
     if let Amendment::Enter { student, .. } = amendment {
         members.push(*student)?;
@@ -140,7 +140,8 @@ fn spread_positions(alloc: Global, papers: &Papers) -> Result<Vec<usize>, AllocE
 
 /// Whether all schools are in one group, that of the first.
 pub(crate) fn are_one(groups: &[usize]) -> bool
-    ensures { result ≡ true → (place : ℕ) → place < length groups.now → slice_index groups.now place ≡ slice_index groups.now 0 }
+    ensures { result ≡ true → (place : ℕ) → place < length groups.now
+        → slice_index groups.now place ≡ slice_index groups.now 0 }
 {
     for place in 0..groups.len() {
         if groups[place] != groups[0] {

@@ -100,7 +100,8 @@ impl Stamps {
     /// the papers first, as `Papers::check` answers it, then `Stale` with the record's stamp, then `Spent`. It
     /// takes no memory.
     pub fn check(&self, papers: &Papers, stamped: &Stamped) -> Result<(), Refusal>
-        ensures { result ≡ unless_refused (stamped_verdict (record { papers = papers.now; stamps = self.now }) stamped.now) }
+        ensures { result ≡ unless_refused
+            (stamped_verdict (record { papers = papers.now; stamps = self.now }) stamped.now) }
     {
         papers.check(&stamped.amendment)?;
         let stamp = self.of(papers, record_of(&stamped.amendment));

@@ -2,7 +2,7 @@ use Rattle.std.proofs.Common.{◌≡◌, ◌<◌, ℕ, List, ap, sym, subst, ◌
 use Rattle.std.proofs.lemmas.List.{get_or_read}
 use Rattle.std.proofs.lemmas.Option.{same_Some}
 use Rattle.sc_region.specs.Districts.{comer, firsts_at, lists_in, new_first}
-use Rattle.sc_region.specs.Groups.{new_choices, place_of}
+use Rattle.sc_region.specs.Groups.{new_choices, position_of}
 use Rattle.sc_region.proofs.Following.{comer-some}
 use Rattle.sc_region.proofs.districts.let_come.Goals as goal
 
@@ -18,5 +18,5 @@ returns-in_ok-put-clause-moved c i own =
     let listed : c.new.result.student ≡ i = c.new.ensures ∙ one in
     let first : c.index-new_choices-0.result ≡ new_first a =
     first-read c.new_choices.result.now (new_choices a) c.index-new_choices-0.result (comer-some m a c.requires.allowed i own) c.index-new_choices-0.is c.new_choices.ensures in
-    subst (λ q. Contains (firsts_at (lists_in c.put.new.firsts.items) q) i) (c.place_of.ensures.place ∙ ap (place_of m) first)
-    (subst (Contains (firsts_at (lists_in c.put.new.firsts.items) c.place_of.result)) listed c.in_ok-put.ensures.has)
+    subst (λ q. Contains (firsts_at (lists_in c.put.new.firsts.items) q) i) (c.position_of.ensures.position ∙ ap (position_of m) first)
+    (subst (Contains (firsts_at (lists_in c.put.new.firsts.items) c.position_of.result)) listed c.in_ok-put.ensures.has)

@@ -1,7 +1,7 @@
 use Rattle.std.proofs.Common.{◌≡◌, ◌<◌, ap, refl, sym, ◌∙◌, length, get_or, take_all, arith}
 use Rattle.std.proofs.lemmas.List.Sums.{fold_more}
 use Rattle.sc_papers.specs.Market.{choices_of, student_at}
-use Rattle.sc_region.specs.Groups.{first_choice, joined, joined_list, place_of}
+use Rattle.sc_region.specs.Groups.{first_choice, joined, joined_list, position_of}
 use Rattle.sc_region.proofs.ChoicePlaces.{place-low, place-told, places-count}
 use Rattle.sc_region.proofs.grouping.join_choices.Goals as goal
 
@@ -30,10 +30,10 @@ loop-place-preserved c =
     let places = c.choice_positions_at-place-items.result.now in
     let at = c.loop-place.place-index in
     let told = c.choice_positions_at-place-items.ensures in
-    let place : c.from.result ≡ place_of m (get_or choices at 0) = c.from.ensures ∙ place-told m places choices told at 0 0 c.loop-place-test.true in
+    let place : c.from.result ≡ position_of m (get_or choices at 0) = c.from.ensures ∙ place-told m places choices told at 0 0 c.loop-place-test.true in
     let low : at < length choices = omega (arith, c.loop-place-test.true, places-count m places choices told) in (
-      c.join.ensures.joined ∙ (λ t. joined (c.loop-place.invariant.0 t) (c.first_place_at-first.ensures.place t) (place t))
-          ∙ sym (fold_more (λ g s. joined g (place_of m (first_choice m i)) (place_of m s)) c.args.groups.now choices at 0 low),
+      c.join.ensures.joined ∙ (λ t. joined (c.loop-place.invariant.0 t) (c.first_position_at-first.ensures.position t) (place t))
+          ∙ sym (fold_more (λ g s. joined g (position_of m (first_choice m i)) (position_of m s)) c.args.groups.now choices at 0 low),
       c.join.ensures.one_each ∙ c.loop-place.invariant.1,
     )
 

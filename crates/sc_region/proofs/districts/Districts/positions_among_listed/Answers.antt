@@ -4,21 +4,21 @@ use Rattle.std.specs.Prelude.{slice_index, if◌then◌else◌}
 use Rattle.std.proofs.lemmas.List.{get_or_read}
 use Rattle.sc_papers.specs.Market.{students_of, student_at}
 use Rattle.sc_region.specs.Districts.{lists_in, AreWidened, DistrictsView}
-use Rattle.sc_region.specs.Groups.{first_choice, group_of, places_in, positions_in, start_of, students_at}
+use Rattle.sc_region.specs.Groups.{first_choice, group_of, schools_of_group, positions_in, start_of, students_at}
 use Rattle.sc_region.specs.Region.{InRegion}
 use Rattle.sc_region.specs.Telling.{AreOfRegion, HeldTogether, TellRegion}
-use Rattle.sc_region.proofs.Having.{all-tell, at-known, district-enough, district-listed, held-tell, listed-student, place-among, place-listed, region-told}
+use Rattle.sc_region.proofs.Having.{all-tell, at-known, district-enough, district-listed, held-tell, listed-student, position-among, position-listed, region-told}
 use Rattle.sc_region.proofs.Regrouping.{regrouped-widened}
 use Rattle.sc_region.proofs.districts.Districts.positions_among_listed.Goals as goal
 
 pub listed_at-requires : goal.listed_at-requires
 listed_at-requires c other among =
-    place-listed c.args.papers.now c.args.self.now c.requires.widened.districts c.args.self.now.groups c.requires.widened.districts.one_each c.self.inside.firsts.items
+    position-listed c.args.papers.now c.args.self.now c.requires.widened.districts c.args.self.now.groups c.requires.widened.districts.one_each c.self.inside.firsts.items
     (ap (λ (v : _). v.firsts) c.self.view_is) (slice_index c.args.self.now.groups c.args.start) other (subst (λ xs. Contains xs other) c.requires.schools among)
 
 pub few_hold_together-requires-clause-places : goal.few_hold_together-requires-clause-places
 few_hold_together-requires-clause-places c other among =
-    omega (arith, (place-among c.args.self.now.groups (slice_index c.args.self.now.groups c.args.start) other (subst (λ xs. Contains xs other) c.requires.schools among)).0, c.requires.widened.districts.one_each)
+    omega (arith, (position-among c.args.self.now.groups (slice_index c.args.self.now.groups c.args.start) other (subst (λ xs. Contains xs other) c.requires.schools among)).0, c.requires.widened.districts.one_each)
 
 pub few_hold_together-requires-clause-within : goal.few_hold_together-requires-clause-within
 few_hold_together-requires-clause-within c p among = c.in_ok-candidates.ensures.within p (subst (λ xs. Contains xs p) c.as_slice-listed.ensures.value among)
@@ -43,7 +43,7 @@ returns-then-branch-clause-region c =
     let numbers = inner.groups in
     let chosen = c.as_slice-listed.result.now in
     let low : start < length numbers = omega (arith, c.requires.within, before.districts.one_each) in
-    let schools : c.args.schools.now ≡ places_in numbers (slice_index numbers start) = c.requires.schools ∙ ap (λ (v : DistrictsView). places_in v.groups (slice_index v.groups start)) (sym c.self.view_is) in
+    let schools : c.args.schools.now ≡ schools_of_group numbers (slice_index numbers start) = c.requires.schools ∙ ap (λ (v : DistrictsView). schools_of_group v.groups (slice_index v.groups start)) (sym c.self.view_is) in
     let all : (p : ℕ) → p < length (students_of m) → group_of m numbers (first_choice m (student_at m p)) ≡ slice_index numbers start → Contains chosen p =
     district-listed m well inner before.districts (slice_index numbers start) c.args.schools.now schools (lists_in c.self.inside.firsts.items) refl chosen
     (λ other r among r_low listed. subst (λ xs. Contains xs r) (sym c.as_slice-listed.ensures.value) (c.in_ok-candidates.ensures.all other r among r_low listed)) in
@@ -69,7 +69,7 @@ returns-clause-region c =
     let numbers = inner.groups in
     let exact = c.in_ok-exact.exact.items in
     let chosen = c.as_slice-listed.result.now in
-    let schools : c.args.schools.now ≡ places_in numbers (slice_index numbers start) = c.requires.schools ∙ ap (λ (v : DistrictsView). places_in v.groups (slice_index v.groups start)) (sym c.self.view_is) in
+    let schools : c.args.schools.now ≡ schools_of_group numbers (slice_index numbers start) = c.requires.schools ∙ ap (λ (v : DistrictsView). schools_of_group v.groups (slice_index v.groups start)) (sym c.self.view_is) in
     let all : (p : ℕ) → p < length (students_of m) → group_of m numbers (first_choice m (student_at m p)) ≡ slice_index numbers start → Contains chosen p =
     district-listed m well inner before.districts (slice_index numbers start) c.args.schools.now schools (lists_in c.self.inside.firsts.items) refl chosen
     (λ other r among r_low listed. subst (λ xs. Contains xs r) (sym c.as_slice-listed.ensures.value) (c.in_ok-candidates.ensures.all other r among r_low listed)) in
@@ -97,7 +97,7 @@ returns-clause-widened c =
     let numbers = inner.groups in
     let chosen = c.as_slice-listed.result.now in
     let group = slice_index numbers start in
-    let schools : c.args.schools.now ≡ places_in numbers (slice_index numbers start) = c.requires.schools ∙ ap (λ (v : DistrictsView). places_in v.groups (slice_index v.groups start)) (sym c.self.view_is) in
+    let schools : c.args.schools.now ≡ schools_of_group numbers (slice_index numbers start) = c.requires.schools ∙ ap (λ (v : DistrictsView). schools_of_group v.groups (slice_index v.groups start)) (sym c.self.view_is) in
     let all : (p : ℕ) → p < length (students_of m) → group_of m numbers (first_choice m (student_at m p)) ≡ group → Contains chosen p =
     district-listed m well inner before.districts group c.args.schools.now schools (lists_in c.self.inside.firsts.items) refl chosen
     (λ other r among r_low listed. subst (λ xs. Contains xs r) (sym c.as_slice-listed.ensures.value) (c.in_ok-candidates.ensures.all other r among r_low listed)) in

@@ -4,10 +4,10 @@ use Rattle.std.specs.Prelude.{slice_index}
 use Rattle.std.proofs.lemmas.Bool.{eq-eqb, ne_eqb}
 use Rattle.std.proofs.lemmas.List.FromFn.{get_or-range_with_len, length-range_with_len}
 use Rattle.std.proofs.lemmas.Option.{slice_get-get_or}
-use Rattle.sc_region.specs.Groups.{places_in}
+use Rattle.sc_region.specs.Groups.{schools_of_group}
 use Rattle.sc_region.proofs.Filtering.{filter-drops, filter-keeps, filter-whole}
-use Rattle.sc_region.proofs.candidates.places_in.Goals as goal
-use Rattle.sc_region.proofs.candidates.places_in.Goals.{then-groups-place+in_ok-push, else-groups-place}
+use Rattle.sc_region.proofs.candidates.schools_of_group.Goals as goal
+use Rattle.sc_region.proofs.candidates.schools_of_group.Goals.{then-groups-place+in_ok-push, else-groups-place}
 
 pub loop-place-preserved : goal.loop-place-preserved
 loop-place-preserved c =
@@ -28,7 +28,7 @@ loop-place-preserved c =
     ]
 
 pub returns : goal.returns
-unfolding places_in
+unfolding schools_of_group
 returns c =
     let numbers = c.args.groups.now in
     c.loop-place.invariant

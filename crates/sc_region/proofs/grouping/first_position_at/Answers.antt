@@ -5,7 +5,7 @@ use Rattle.sc_papers.specs.Market.{Market, choices_of, schools_of, student_at, s
 use Rattle.sc_papers.specs.WellFormed.{WellFormed}
 use Rattle.sc_region.proofs.Choosing.{choices-some}
 use Rattle.sc_region.proofs.ChoicePlaces.{place-low, place-told, places-count, Places}
-use Rattle.sc_region.proofs.grouping.first_place_at.Goals as goal
+use Rattle.sc_region.proofs.grouping.first_position_at.Goals as goal
 
 -- the student at a position has a first choice
 some-place : (m : Market) (at : ℕ) (places : List ℕ) → at < length (students_of m) → WellFormed m → Places m places (choices_of m (student_at m at)) → 0 < length places
@@ -17,8 +17,8 @@ pub bounds-choice_positions_at-0 : goal.bounds-choice_positions_at-0
 bounds-choice_positions_at-0 c =
     some-place c.args.papers.now c.args.position c.choice_positions_at.result.now c.requires c.students_len.ensures.well_formed c.choice_positions_at.ensures
 
-pub returns-clause-place : goal.returns-clause-place
-returns-clause-place c =
+pub returns-clause-position : goal.returns-clause-position
+returns-clause-position c =
     let m = c.args.papers.now in
     let places = c.choice_positions_at.result.now in
     c.from.ensures
