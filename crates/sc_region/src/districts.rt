@@ -7,7 +7,7 @@ ghost use Rattle.sc_region.specs.Districts.{comer, firsts_at, leaver, lists_in, 
 ghost use Rattle.sc_region.specs.Groups.{first_choice, position_of};
 
 use crate::candidates::{
-    count_at, few_hold_together, groups_with, listed_at, schools_of_group, positions_in,
+    count_at, few_hold_together, groups_with, listed_at, positions_in, schools_of_group,
 };
 use crate::first::First;
 use crate::grouping::{first_position_at, groups_of, position_of, regroup};

@@ -93,13 +93,6 @@ standing-inside m test chains r k well apart theirs segmented entered continues 
           ∙ sym (and_left (test i) (is_some (next_choice (cut m k) (joined (logs_in chains)) i)) fails)
     ]
 
--- the next choices after the first chains, as the code finds them
-pub next-choices-kept : (m : Market) (test : ℕ → Bool) (old chains : List Chain) (k : ℕ) → k ≡ length chains → chains ≡ take (length chains) old
-    → next_choices_after m (log_of test (take k old)) (filter test (take k (students_of m))) ≡ next_choices_after m (log_of test chains) (filter test (take (length chains) (students_of m)))
-next-choices-kept m test old chains k count first =
-    ap (λ j. next_choices_after m (log_of test (take j old)) (filter test (take j (students_of m)))) count
-    ∙ ap (λ cs. next_choices_after m (log_of test cs) (filter test (take (length chains) (students_of m)))) (sym first)
-
 -- it begins
 pub inside-begins : (m : Market) (test : ℕ → Bool) (old chains : List Chain) (gap : ℕ) (r : RoundView) (k : ℕ) → AreApart m test
     → length chains ≡ k → chains ≡ take k old → students_in chains ≡ take k (students_of m) → IsSegmented (cut m k) (logs_in chains)

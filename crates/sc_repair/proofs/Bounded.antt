@@ -4,7 +4,6 @@ use Rattle.std.specs.Prelude.{◌&&◌, is_some}
 use Rattle.std.proofs.lemmas.Bool.{cases_Bool}
 use Rattle.sc_papers.specs.Log.{matching_of as gives, IsSettled}
 use Rattle.sc_papers.specs.Market.{Market, students_of}
-use Rattle.sc_papers.specs.Matching.{how_many}
 use Rattle.sc_papers.specs.Progress.{all_choices, placed}
 use Rattle.sc_papers.specs.Restriction.{entries_of, joined, restricted, AreApart}
 use Rattle.sc_papers.specs.Verdict.{after}

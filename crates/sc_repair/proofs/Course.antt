@@ -1,7 +1,7 @@
 -- A settling of the students who pass, from a point on: it begins, a student enters or stays, and all have had their turn.
-use Rattle.std.proofs.Common.{◌≡◌, inl, inr, refl, ap, sym, subst, ◌∙◌, ℕ, zero, suc, ◌+◌, ◌<◌, ◌==◌, Bool, true, false, not, ◌&&◌, ◌||◌, List, [], ◌∷◌, ◌++◌, cond, length, filter, take, drop, Some, slice_get, append_assoc, arith}
+use Rattle.std.proofs.Common.{◌≡◌, inl, inr, refl, ap, sym, subst, ◌∙◌, ℕ, zero, suc, ◌+◌, ◌==◌, Bool, true, false, not, ◌&&◌, ◌||◌, List, [], ◌∷◌, ◌++◌, cond, length, filter, take, drop, Some, slice_get, append_assoc, arith}
 use Rattle.std.proofs.lemmas.Bool.{cases_Bool, cond-true, cond-false, eqb-true, and_from, and_left, and_right, or_right, false≢true}
-use Rattle.std.proofs.lemmas.List.{drop-append-le, length-append, length-map, map-append, take-append-le, take_more}
+use Rattle.std.proofs.lemmas.List.{drop-append-le, length-append, map-append, take-append-le, take_more}
 use Rattle.std.proofs.lemmas.List.Filters.{length-filter_more}
 use Rattle.std.proofs.lemmas.Option.{slice_get_within, get_or_from_slice_get, none-some, same_Some, slice_get-map}
 use Rattle.std.specs.Option.{option_map}
@@ -195,21 +195,8 @@ outside-more m test old point gap r chains chain k i here fails step its on =
       counted = on.counted;
     }
 
--- a student enters, and its chain is put at the end
-pub inside-next : (m : Market) (test : ℕ → Bool) (old : List Chain) (point gap : ℕ) (r r' : RoundView) (chains new : List Chain) (k i : ℕ)
-    → slice_get (students_of m) k ≡ Some i → test i ≡ true → InStep test old (k + gap) i → GoesOnInside m test old point gap r chains k → Enters m r r' i
-    → (chain : List Rejection) × (r'.log ≡ r.log ++ chain) × (new ≡ with_chain chains i chain)
-    → GoesOnInside m test old point gap r' new (k + 1)
-inside-next m test old point gap r r' chains new k i here passes step on enters (chain, more, pushed) =
-    subst (λ cs. GoesOnInside m test old point gap r' cs (k + 1)) (sym pushed) (inside-more m test old point gap r r' chains chain k i here passes step on enters more)
-
 -- a student who passes and has not had its turn has not entered
 pub inside-absent : (m : Market) (test : ℕ → Bool) (old : List Chain) (point gap : ℕ) (r : RoundView) (chains : List Chain) (k i : ℕ)
     → slice_get (students_of m) k ≡ Some i → GoesOnInside m test old point gap r chains k → has_entered m r.ranks i ≡ false
 inside-absent m test old point gap r chains k i here on =
     on.entered i ∙ and_left (is_among (take k (students_of m)) i) (test i) (first-apart (students_of m) k i on.fits.well_formed.students_differ here)
-
--- there is an old chain of a student who fails
-pub old-within : (test : ℕ → Bool) (old : List Chain) (at i : ℕ) → test i ≡ false → InStep test old at i → at < length old
-old-within test old at i fails (inl here) = omega (arith, slice_get_within (students_in old) at i here, length-map old (λ (c : Chain). c.student))
-old-within test old at i fails (inr (none, passes)) = absurd (false≢true (sym fails ∙ passes))

@@ -182,12 +182,3 @@ changes-in-place m a test no_entry no_withdrawal well allowed tells =
 pub none-new : (m n : Market) (a : Amendment) (chains : List Chain) → newcomer a ≡ None → is_withdrawal a ≡ false → n ≡ after m a → students_in chains ≡ students_of m → length n.students ≡ length chains
 none-new m n a chains no_entry no_withdrawal is theirs =
     omega (arith, ap (λ (xs : List ℕ). length xs) (ap students_of is ∙ students-stay m a no_entry no_withdrawal ∙ sym theirs), length-students n, length-map chains (λ (c : Chain). c.student))
-
--- nobody enters by a withdrawal
-pub withdrawn-none : (a : Amendment) → is_withdrawal a ≡ true → newcomer a ≡ None
-withdrawn-none (Enter i zone siblings choices continuing) is = absurd (true≢false (sym is))
-withdrawn-none (Withdraw i) is = refl
-withdrawn-none (Rerank i choices) is = refl
-withdrawn-none (Add s count) is = refl
-withdrawn-none (Close s count) is = refl
-withdrawn-none (Correct i zone siblings continuing) is = refl

@@ -8,7 +8,7 @@ use Rattle.std.proofs.Math.Seq.{set-append_seam}
 use Rattle.std.proofs.lemmas.List.Edits.{length-swap}
 use Rattle.std.proofs.lemmas.List.Elements.{filter_map-append}
 use Rattle.std.proofs.lemmas.List.Sorted.{IsPermutation-cons, IsPermutation-middle, IsPermutation-refl, IsPermutation-sym, IsPermutation-to_front, IsPermutation-trans}
-use Rattle.std.proofs.lemmas.Option.{get_or_from_slice_get, none-some, same_Some, slice_get-get_or, slice_get_past, slice_get_within, slice_get-map}
+use Rattle.std.proofs.lemmas.Option.{get_or_from_slice_get, none-some, same_Some, slice_get-get_or, slice_get_past, slice_get_within}
 use Rattle.indexmap.proofs.ReorderLemmas.{exchange-twice, exchange-within, get_or-swap}
 use Rattle.sc_repair.specs.Turns.{exchanged, in_turn, unless_at}
 
@@ -19,9 +19,6 @@ at xs place = option_and_then (slice_get xs) place
 -- nobody's position is this one
 abbrev pub Avoids : List (Option ℕ) → ℕ → Type 0
 Avoids places p = (turn : ℕ) → slice_get places turn ≡ Some (Some p) → ⊥
-
-avoids-rest : (place : Option ℕ) (places : List (Option ℕ)) (p : ℕ) → Avoids (place ∷ places) p → Avoids places p
-avoids-rest place places p avoids turn here = avoids (suc turn) here
 
 -- where items are equal at each position that is used, so are the items in turn
 alike : {X : Type 0} (places : List (Option ℕ)) (xs ys : List X) → ((turn p : ℕ) → slice_get places turn ≡ Some (Some p) → slice_get ys p ≡ slice_get xs p) → in_turn places ys ≡ in_turn places xs
@@ -239,16 +236,6 @@ in_turn-permutes {X = X} places xs each = go (length xs) xs refl each
         IsPermutation-trans (zs ++ z ∷ []) (z ∷ zs) (A ++ z ∷ B) (IsPermutation-to_front zs z)
         (IsPermutation-trans (z ∷ zs) (z ∷ (A ++ B)) (A ++ z ∷ B) (IsPermutation-cons z zs (A ++ B) rest) (IsPermutation-sym (A ++ z ∷ B) (z ∷ (A ++ B)) (IsPermutation-middle A z B))) in
         subst (λ (l : List X). IsPermutation l (in_turn places l)) (sym whole) (subst (IsPermutation (zs ++ z ∷ [])) (sym (with-last places zs z turn one)) moved)
-
--- items changed one by one
-pub map-in_turn : {X Y : Type 0} (f : X → Y) (places : List (Option ℕ)) (xs : List X) → map f (in_turn places xs) ≡ in_turn places (map f xs)
-map-in_turn f [] xs = refl
-map-in_turn f (None ∷ places) xs = map-in_turn f places xs
-map-in_turn {X = X} {Y = Y} f (Some p ∷ places) xs = go (slice_get xs p) (map-in_turn f places xs) ∙ (λ t. cons_option (sym (slice_get-map f xs p) t) (in_turn places (map f xs)))
-  where
-    go : (found : Option X) → map f (in_turn places xs) ≡ in_turn places (map f xs) → map f (cons_option found (in_turn places xs)) ≡ cons_option (option_map f found) (in_turn places (map f xs))
-    go None rest = rest
-    go (Some x) rest = ap (λ ys. f x ∷ ys) rest
 
 -- of lists of one length as many come before a turn
 pub in_turn-length : {X Y : Type 0} (places : List (Option ℕ)) (xs : List X) (ys : List Y) → length xs ≡ length ys → length (in_turn places xs) ≡ length (in_turn places ys)

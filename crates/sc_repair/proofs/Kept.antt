@@ -1,20 +1,18 @@
 -- The segments that an amendment keeps, and what a clearing of settled segments is.
-use Rattle.std.proofs.Common.{◌≡◌, refl, ap, sym, subst, ◌∙◌, ℕ, ◌≤◌, List, [], length, map, take, None, is_some, arith}
+use Rattle.std.proofs.Common.{◌≡◌, refl, ap, sym, subst, ◌∙◌, ℕ, ◌≤◌, List, [], length, map, take, arith}
 use Rattle.std.proofs.lemmas.List.{take-map, length-map, length-take-le}
 use Rattle.sc_papers.specs.Assignment.{assigned}
 use Rattle.sc_papers.specs.Log.{matching_of, next_choice, IsSettled}
-use Rattle.sc_papers.specs.Market.{Market, choices_of, students_of}
+use Rattle.sc_papers.specs.Market.{Market, students_of}
 use Rattle.sc_papers.specs.Matching.{how_many, IsStudentOptimal}
-use Rattle.sc_papers.specs.Progress.{placed}
 use Rattle.sc_papers.specs.Restriction.{cut, joined, AlikeUpTo, IsSegmented}
 use Rattle.sc_papers.specs.WellFormed.{WellFormed}
 use Rattle.sc_papers.specs.declared.records.Student.{Student}
 use Rattle.sc_papers.specs.declared.rejection.Rejection.{Rejection}
 use Rattle.sc_papers.proofs.Cutting.{segments-settled}
 use Rattle.sc_papers.proofs.Optimality.{settled-optimal}
-use Rattle.sc_papers.proofs.Students.{how_many-none}
 use Rattle.sc_checkpoint.specs.Chains.{logs_in, students_in, Chain}
-use Rattle.sc_repair.specs.Standing.{Standing, CountsFrom, IsCertified, proposals_from_scratch}
+use Rattle.sc_repair.specs.Standing.{IsCertified}
 
 -- a standing whose segments are segmented, and whose places are their log's matching, is certified
 pub certified-of : (m : Market) (places : List (ℕ × ℕ)) (segments : List (List Rejection)) (proposals : ℕ) → WellFormed m → IsSegmented m segments
@@ -49,11 +47,6 @@ count-kept m k chains kept theirs low is =
 pub logs-kept : (k : ℕ) (chains kept : List Chain) → kept ≡ take k chains → logs_in kept ≡ take k (logs_in chains)
 logs-kept k chains kept is = ap logs_in is ∙ sym (take-map (λ (c : Chain). c.rejections) k chains)
 
--- of no students, none has a next choice
-nobody-next : (m : Market) (i : ℕ) → next_choice (cut m 0) [] i ≡ None
-unfolding next_choice choices_of cut
-nobody-next m i = refl
-
 -- no segments are those of no students
 nothing-settled : (m : Market) → IsSettled (cut (cut m 0) 0) (joined [])
 unfolding cut how_many
@@ -67,10 +60,3 @@ none-segmented m = record {
       let zero_is : 0 ≡ k = omega (arith, low) in
       subst (λ j. IsSettled (cut (cut m 0) j) (joined (take j []))) zero_is (nothing-settled m);
 }
-
--- a settling that keeps no segments is one from scratch
-pub from-scratch : (standing : Standing) → CountsFrom 0 standing → standing.proposals ≡ proposals_from_scratch standing
-from-scratch standing counts =
-    let none : placed standing.papers (matching_of (cut standing.papers 0) []) ≡ 0 =
-    how_many-none standing.papers (λ i. is_some (next_choice (cut standing.papers 0) [] i)) (λ i among. ap is_some (nobody-next standing.papers i)) in
-    omega (arith, counts, none)

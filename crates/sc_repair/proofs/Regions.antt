@@ -2,7 +2,7 @@
 use Rattle.std.proofs.Common.{◌≡◌, refl, ap, sym, ◌∙◌, ℕ, suc, ◌+◌, ◌-◌, ◌<◌, ◌≤◌, nat_eq, Bool, false, List, [], ◌∷◌, ◌++◌, drop, filter, get_or, length, map, take, Some, slice_get, arith}
 use Rattle.std.specs.List.{remove, IsDistinct}
 use Rattle.std.proofs.Math.ListN.{get_or-map}
-use Rattle.std.proofs.lemmas.List.{take-append-drop, take-map}
+use Rattle.std.proofs.lemmas.List.{take-map}
 use Rattle.std.proofs.lemmas.Option.{slice_get-get_or, slice_get-map}
 use Rattle.std.specs.Option.{option_map}
 use Rattle.sc_papers.specs.Market.{Market, student_at, students_of}
@@ -67,9 +67,6 @@ module _ (m : Market) (old : List Chain) (marks : List Bool) (point end : ℕ) (
       ∙ hand-there m p (omega (arith, before, low, within)))) in
       λ t. next_choices_after m (joined (logs t)) (students t)
 
--- where one leaves and where nobody does
+-- where one leaves
 pub without-one : (point gap : ℕ) (chains : List Chain) → 0 < gap → gap ≤ 1 → remove chains point ≡ without point gap chains
 without-one point gap chains some one = let is : suc point ≡ point + gap = omega (arith, some, one) in ap (λ k. take point chains ++ drop k chains) is
-
-pub without-none : (point gap : ℕ) (chains : List Chain) → gap ≤ 0 → chains ≡ without point gap chains
-without-none point gap chains none = let is : point ≡ point + gap = omega (arith, none) in sym (take-append-drop point chains) ∙ ap (λ k. take point chains ++ drop k chains) is

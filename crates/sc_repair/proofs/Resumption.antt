@@ -1,12 +1,12 @@
 -- A settling that goes on from a checkpoint: it begins, one more student enters, and all have entered.
-use Rattle.std.proofs.Common.{◌≡◌, refl, ap, sym, subst, ◌∙◌, ℕ, ◌+◌, ◌≤◌, ◌==◌, nat_eq, true, false, not, ◌&&◌, ◌||◌, List, [], ◌∷◌, ◌++◌, length, map, take, Option, Some, All, Contains, is_some, slice_get, append_assoc, append-nil, arith}
+use Rattle.std.proofs.Common.{◌≡◌, refl, ap, sym, subst, ◌∙◌, ℕ, ◌+◌, ◌≤◌, ◌==◌, nat_eq, true, false, not, ◌&&◌, ◌||◌, List, [], ◌∷◌, ◌++◌, length, map, take, Option, None, Some, All, Contains, is_some, slice_get, append_assoc, append-nil, arith}
 use Rattle.std.specs.List.{list_any, IsDistinct}
 use Rattle.std.proofs.lemmas.Cmp.{nat_eq_equiv}
 use Rattle.std.proofs.lemmas.Option.{slice_get_within, get_or_from_slice_get}
-use Rattle.std.proofs.lemmas.List.{take_more, take_all, take-append-le, take-map, length-map, length-append, length-take, map-append}
+use Rattle.std.proofs.lemmas.List.{take_more, take_all, take-append-le, take-map, length-map, length-take, map-append}
 use Rattle.std.proofs.lemmas.List.Elements.{All-contains_itself, All-map, All-take, All-weaker}
 use Rattle.sc_papers.specs.Log.{next_choice, IsSettled}
-use Rattle.sc_papers.specs.Market.{Market, is_student, students_of}
+use Rattle.sc_papers.specs.Market.{Market, choices_of, is_student, students_of}
 use Rattle.sc_papers.specs.Matching.{how_many, Matching}
 use Rattle.sc_papers.specs.Progress.{placed}
 use Rattle.sc_papers.specs.Restriction.{cut, joined, restricted, IsSegmented}
@@ -14,7 +14,7 @@ use Rattle.sc_papers.specs.WellFormed.{WellFormed}
 use Rattle.sc_papers.specs.declared.records.Student.{Student}
 use Rattle.sc_papers.specs.declared.rejection.Rejection.{Rejection}
 use Rattle.sc_papers.proofs.Cutting.{cut-all, cut-restricted, joined-push, segments-more, segments-settled}
-use Rattle.sc_papers.proofs.Students.{how_many-agree}
+use Rattle.sc_papers.proofs.Students.{how_many-agree, how_many-none}
 use Rattle.sc_papers.proofs.Subsets.{well-cut}
 use Rattle.sc_checkpoint.specs.Chains.{logs_in, students_in, with_chain, Chain}
 use Rattle.sc_checkpoint.specs.NextChoices.{next_choices_after, stands, AreNextChoices}
@@ -23,7 +23,7 @@ use Rattle.sc_engine.specs.RoundView.{RoundView, entered_papers, has_entered, ne
 use Rattle.sc_papers.proofs.Positions.{among-student}
 use Rattle.sc_engine.proofs.Proposals.{stays}
 use Rattle.sc_engine.proofs.Settling.{first-more}
-use Rattle.sc_repair.specs.Resumption.{placed_first, proposals_of_first, GoesOn}
+use Rattle.sc_repair.specs.Resumption.{placed_first, GoesOn}
 
 -- whether a number is among others, asked either way
 pub any-turned : (xs : List ℕ) (i : ℕ) → list_any (nat_eq i) xs ≡ list_any (λ j. j == i) xs
@@ -62,6 +62,11 @@ stand-after m k log well settled = record {
 
     first_differ : IsDistinct nat_eq (take k (students_of m))
     first_differ = subst (IsDistinct nat_eq) (sym (take-map (λ (e : ℕ × Student). e.0) k m.students)) (well-cut m k well).students_differ
+
+-- of no students, none has a next choice
+nobody-next : (m : Market) (i : ℕ) → next_choice (cut m 0) [] i ≡ None
+unfolding next_choice choices_of cut
+nobody-next m i = refl
 
 -- it begins: the first k students stand where they stood, and nothing is in the round's log
 pub goes-on-begins : (m : Market) (r : RoundView) (students : List ℕ) (kept : List (List Rejection)) (k : ℕ)
@@ -134,14 +139,15 @@ next-all m kept r students segments on i =
     ∙ ap (λ n. next_choice n (joined kept ++ r.log) i) (entered-cut m r.ranks (length m.students) on.fits.well_formed on.entered ∙ whole-cut m)
     ∙ ap (λ l. next_choice m l i) (sym on.log)
 
-pub proposals-all : (m : Market) (kept : List (List Rejection)) (r : RoundView) (students : List ℕ) (segments : List (List Rejection)) (given : Matching)
-    → GoesOn m kept r students segments (length m.students) → ((i : ℕ) → given i ≡ next_of m r.ranks i)
-    → r.proposals + proposals_of_first m (length kept) (joined kept) ≡ length (joined segments) + placed m given
+pub proposals-all : (m : Market) (r : RoundView) (students : List ℕ) (segments : List (List Rejection)) (given : Matching)
+    → GoesOn m [] r students segments (length m.students) → ((i : ℕ) → given i ≡ next_of m r.ranks i)
+    → r.proposals ≡ length (joined segments) + placed m given
 unfolding standing_but
-proposals-all m kept r students segments given on is =
+proposals-all m r students segments given on is =
     let same : how_many m (λ i. is_some (next_of m r.ranks i) && not false) ≡ placed m given =
     how_many-agree m (λ i. is_some (next_of m r.ranks i) && not false) (λ i. is_some (given i)) (λ i. stays (is_some (next_of m r.ranks i)) ∙ ap is_some (sym (is i))) in
-    omega (arith, on.counted, same, ap (λ (l : List Rejection). length l) on.log, length-append (joined kept) r.log)
+    let none : placed_first m 0 [] ≡ 0 = how_many-none m (λ i. is_some (next_choice (cut m 0) [] i)) (λ i among. ap is_some (nobody-next m i)) in
+    omega (arith, on.counted, same, none, ap (λ (l : List Rejection). length l) on.log)
 
 -- the segments that are kept
 pub stand-segments : (m : Market) (k : ℕ) (kept : List (List Rejection)) (next_choices : List Standing) → WellFormed m → length kept ≡ k → IsSegmented (cut m k) kept

@@ -1,4 +1,4 @@
--- A settling that goes on from a checkpoint.
+-- A settling in the course of which some segments are kept: none in an opening, all others' where somebody enters.
 use Rattle.std.specs.Prelude.{◌≡◌, ℕ, ◌+◌, nat_eq, List, ◌++◌, length, take}
 use Rattle.std.specs.List.{list_any}
 use Rattle.sc_papers.specs.Log.{matching_of}
@@ -11,10 +11,6 @@ use Rattle.sc_engine.specs.RoundView.{RoundView, has_entered, nobody, standing_b
 -- how many of the first k students a log places
 abbrev pub placed_first : Market → ℕ → List Rejection → ℕ
 placed_first m k log = placed m (matching_of (cut m k) log)
-
--- the proposals that settling the first k students makes: each came to a rejection or to a place
-abbrev pub proposals_of_first : Market → ℕ → List Rejection → ℕ
-proposals_of_first m k log = length log + placed_first m k log
 
 -- in the course of a settling that keeps some segments: the first k students, in order of entry, and they
 -- alone have entered, the segments are theirs, and every proposal ended in an entry of the round's log

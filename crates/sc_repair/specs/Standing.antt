@@ -15,7 +15,6 @@ use Rattle.sc_region.specs.Region.{InRegion}
 use Rattle.sc_weave.specs.Weaving.{part_of}
 use Rattle.sc_repair.specs.Course.{placed_of}
 use Rattle.sc_repair.specs.Locality.{TellsRegion}
-use Rattle.sc_repair.specs.Resumption.{proposals_of_first}
 use Rattle.sc_repair.specs.Rewinding.{rewind_point}
 
 -- the papers as they stand, who has which school, the rejections that led there in segments, one for
@@ -54,10 +53,6 @@ proposals_from_scratch standing = length (log_of standing) + placed standing.pap
 -- the log of the first k students
 abbrev pub log_of_first : Standing → ℕ → List Rejection
 log_of_first standing k = joined (take k standing.segments)
-
--- the last settling made the proposals of one from scratch, but for those of the first k students
-abbrev pub CountsFrom : ℕ → Standing → Type 0
-CountsFrom k standing = standing.proposals + proposals_of_first standing.papers k (log_of_first standing k) ≡ proposals_from_scratch standing
 
 -- the papers as they stand after an amendment was answered: a refused one changes nothing
 abbrev pub papers_after : Market → Amendment → Result (Unit {0}) Refusal → Market

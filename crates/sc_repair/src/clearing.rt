@@ -2,7 +2,9 @@ ghost use Rattle.std.specs.Prelude.{◌≡◌};
 
 use crate::open_refused::OpenRefused;
 use crate::settlement::Settlement;
-use sc_papers::{Amendment, Assignment, Papers, Refusal, Rejection, SchoolNo, Stamp, Stamped, StudentNo};
+use sc_papers::{
+    Amendment, Assignment, Papers, Refusal, Rejection, SchoolNo, Stamp, Stamped, StudentNo,
+};
 use sc_stamps::{Stamps, marking_of};
 use std::alloc::{AllocError, Global};
 use std::marker::Model;
@@ -52,7 +54,8 @@ impl Clearing {
         ensures stamps { IfOk result (λ clearing. clearing.stamps ≡ stamps) }
         ensures optimal { IfOk result (λ clearing. IsStudentOptimal papers (matching_of clearing.standing)) }
         ensures certified { IfOk result (λ clearing. IsCertified clearing.standing) }
-        ensures proposals { IfOk result (λ clearing. clearing.standing.proposals ≡ proposals_from_scratch clearing.standing) }
+        ensures proposals { IfOk result (λ clearing. clearing.standing.proposals
+            ≡ proposals_from_scratch clearing.standing) }
         ensures refused { IfErr result (λ refused. refused.papers ≡ papers) }
     {
         match Settlement::open(alloc, papers) {
@@ -72,7 +75,8 @@ impl Clearing {
         ensures stamps { IfOk result (λ clearing. clearing.stamps ≡ no_stamps papers) }
         ensures optimal { IfOk result (λ clearing. IsStudentOptimal papers (matching_of clearing.standing)) }
         ensures certified { IfOk result (λ clearing. IsCertified clearing.standing) }
-        ensures proposals { IfOk result (λ clearing. clearing.standing.proposals ≡ proposals_from_scratch clearing.standing) }
+        ensures proposals { IfOk result (λ clearing. clearing.standing.proposals
+            ≡ proposals_from_scratch clearing.standing) }
         ensures refused { IfErr result (λ refused. refused.papers ≡ papers) }
     {
         match Stamps::new(alloc, &papers) {
@@ -208,15 +212,21 @@ impl Clearing {
     /// A refused amendment costs its `check` alone. The stamps take a look-up, and those behind a student who
     /// withdraws move up.
     pub fn amend(&mut self, stamped: Stamped) -> Result<(), Refusal>
-        ensures optimal { IsStudentOptimal (papers_after self.old.standing.papers stamped.amendment result) (matching_of self.new.standing) }
+        ensures optimal { IsStudentOptimal (papers_after self.old.standing.papers stamped.amendment result)
+            (matching_of self.new.standing) }
         ensures certified { IsCertified self.new.standing }
-        ensures stays { OnOk result (take (rewind_point self.old.standing.papers stamped.amendment) self.new.standing.segments ≡ take (rewind_point self.old.standing.papers stamped.amendment) self.old.standing.segments) }
+        ensures stays { OnOk result
+            (take (rewind_point self.old.standing.papers stamped.amendment) self.new.standing.segments
+            ≡ take (rewind_point self.old.standing.papers stamped.amendment) self.old.standing.segments) }
         ensures others { OnOk result (KeepsOthers self.old.standing stamped.amendment self.new.standing) }
         ensures proposals { OnOk result (CountsRegion self.old.standing.papers stamped.amendment self.new.standing) }
         ensures allowed { OnOk result (stamped_verdict (stamped_papers self.old) stamped ≡ None) }
-        ensures accepted { OnOk result (stamped_papers self.new ≡ stamped_after (stamped_papers self.old) stamped.amendment) }
-        ensures stamped { OnOk result (GivesStamp (stamped_papers self.old) stamped.amendment (stamped_papers self.new)) }
-        ensures honoured { OnOk result (stamp_of self.old.standing.papers self.old.stamps (record_of stamped.amendment) ≡ stamped.stamp) }
+        ensures accepted { OnOk result (stamped_papers self.new
+            ≡ stamped_after (stamped_papers self.old) stamped.amendment) }
+        ensures stamped { OnOk result
+            (GivesStamp (stamped_papers self.old) stamped.amendment (stamped_papers self.new)) }
+        ensures honoured { OnOk result
+            (stamp_of self.old.standing.papers self.old.stamps (record_of stamped.amendment) ≡ stamped.stamp) }
         ensures refused { IfErr result (IsRefusal (stamped_verdict (stamped_papers self.old) stamped)) }
         ensures unchanged { OnErr result (self.new ≡ self.old) }
     {
@@ -236,7 +246,8 @@ impl Clearing {
         requires room { self.old.stamps.accepted < GREATEST }
         ensures optimal { IsOptimal self.new.standing }
         ensures certified { IsCertified self.new.standing }
-        ensures stays { OnOk result (take (rewind_point self.old.standing.papers amendment) self.new.standing.segments ≡ take (rewind_point self.old.standing.papers amendment) self.old.standing.segments) }
+        ensures stays { OnOk result (take (rewind_point self.old.standing.papers amendment) self.new.standing.segments
+            ≡ take (rewind_point self.old.standing.papers amendment) self.old.standing.segments) }
         ensures others { OnOk result (KeepsOthers self.old.standing amendment self.new.standing) }
         ensures proposals { OnOk result (CountsRegion self.old.standing.papers amendment self.new.standing) }
         ensures accepted { OnOk result (stamped_papers self.new ≡ stamped_after (stamped_papers self.old) amendment) }

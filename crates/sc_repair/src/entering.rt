@@ -48,8 +48,12 @@ fn note<R: Roll>(
     requires ready { is_spent round.now ≡ false }
     requires fits { Fits papers.now (view_of R.keys R.seats round.now) }
     requires unplaced { assigned places.old student ≡ None }
-    ensures given { OnOk result ((j : ℕ) → assigned places.new j ≡ (if nat_eq j student then next_of papers.now (view_of R.keys R.seats round.now).ranks student else assigned places.old j)) }
-    ensures pushed { OnOk result (segments.new ≡ with_chain segments.old student (view_of R.keys R.seats round.now).log) }
+    ensures given { OnOk result ((j : ℕ)
+        → assigned places.new j
+        ≡ (if nat_eq j student then next_of papers.now (view_of R.keys R.seats round.now).ranks student
+        else assigned places.old j)) }
+    ensures pushed { OnOk result (segments.new
+        ≡ with_chain segments.old student (view_of R.keys R.seats round.now).log) }
     ensures places_unchanged { OnErr result (places.new ≡ places.old) }
     ensures segments_unchanged { OnErr result (segments.new ≡ segments.old) }
 {
@@ -71,7 +75,9 @@ fn note<R: Roll>(
 fn move_on<R: Roll>(round: &Round<R>, papers: &Papers, places: &mut Places)
     requires ready { is_spent round.now ≡ false }
     requires fits { Fits papers.now (view_of R.keys R.seats round.now) }
-    ensures { (j : ℕ) → assigned places.new j ≡ (if is_moved (view_of R.keys R.seats round.now).log j && is_some (assigned places.old j) then next_of papers.now (view_of R.keys R.seats round.now).ranks j else assigned places.old j) }
+    ensures { (j : ℕ) → assigned places.new j
+        ≡ (if is_moved (view_of R.keys R.seats round.now).log j && is_some (assigned places.old j)
+        then next_of papers.now (view_of R.keys R.seats round.now).ranks j else assigned places.old j) }
 {
     for rejection in round.log() {
         let student = rejection.student;
@@ -94,7 +100,8 @@ fn enter<R: Roll>(
     requires next { IsNextToEnter papers.now segments.old places.old student }
     requires stands { StandsAfter papers.now segments.old (view_of R.keys R.seats round.old) }
     requires ready { is_spent round.old ≡ false }
-    ensures entered { IfOk result (HasEntered papers.now segments.old segments.new places.new (view_of R.keys R.seats round.new) student) }
+    ensures entered { IfOk result
+        (HasEntered papers.now segments.old segments.new places.new (view_of R.keys R.seats round.new) student) }
     ensures ready { OnOk result (is_spent round.new ≡ false) }
     ensures places_unchanged { OnErr result (places.new ≡ places.old) }
     ensures segments_unchanged { OnErr result (segments.new ≡ segments.old) }
@@ -123,8 +130,10 @@ pub(crate) fn enter_newcomer<R: Roll>(
     segments: &mut Segments,
 ) -> Result<u64, AllocError>
     requires next { IsNextToEnter papers.now segments.old places.old student }
-    requires stands { IfSome round.old (λ r. (is_spent r ≡ false) × StandsAfter papers.now segments.old (view_of R.keys R.seats r)) }
-    ensures entered { IfOk result (λ made. IsSomeAnd round.new (λ r. (is_spent r ≡ false) × HasEntered papers.now segments.old segments.new places.new (view_of R.keys R.seats r) student made)) }
+    requires stands { IfSome round.old (λ r. (is_spent r ≡ false)
+        × StandsAfter papers.now segments.old (view_of R.keys R.seats r)) }
+    ensures entered { IfOk result (λ made. IsSomeAnd round.new (λ r. (is_spent r ≡ false)
+        × HasEntered papers.now segments.old segments.new places.new (view_of R.keys R.seats r) student made)) }
     ensures no_round { OnErr result (round.new ≡ None) }
     ensures places_unchanged { OnErr result (places.new ≡ places.old) }
     ensures segments_unchanged { OnErr result (segments.new ≡ segments.old) }

@@ -32,7 +32,9 @@ pub(crate) fn kept<R: Roll>(
     segments: &Segments,
 ) -> Option<Round<R>>
     requires ready { IfSome spare.old (λ round. is_spent round ≡ false) }
-    requires stands { IfSome spare.old (λ round. ((i : ℕ) → Contains (students_in segments.now) i → is_among (marked_in region.now segments.now) i ≡ true) → StandsAfter papers.now segments.now (without_log (view_of R.keys R.seats round))) }
+    requires stands { IfSome spare.old (λ round. ((i : ℕ) → Contains (students_in segments.now) i
+        → is_among (marked_in region.now segments.now) i ≡ true)
+        → StandsAfter papers.now segments.now (without_log (view_of R.keys R.seats round))) }
     ensures ready { IfSome result (λ round. is_spent round ≡ false) }
     ensures stands { IfSome result (λ round. StandsAfter papers.now segments.now (view_of R.keys R.seats round)) }
 {

@@ -173,7 +173,9 @@ impl Places {
     /// In constant time. One who often stands at this position of the order of entry, and has the school by now, is
     /// mostly not looked up by number.
     pub(crate) fn move_near(&mut self, student: StudentNo, at: usize, school: Option<SchoolNo>)
-        ensures moved { (j : ℕ) → assigned self.new j ≡ (if nat_eq j student && is_some (assigned self.old j) then school else assigned self.old j) }
+        ensures moved { (j : ℕ)
+            → assigned self.new j
+            ≡ (if nat_eq j student && is_some (assigned self.old j) then school else assigned self.old j) }
     {
         let before = self.assignment.get_near(student, self.hints.guess(at));
         if before == school {

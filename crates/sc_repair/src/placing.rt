@@ -67,8 +67,12 @@ fn put_one<R: Roll>(
     requires ready { is_spent round.now ≡ false }
     requires fits { Fits papers.now (view_of R.keys R.seats round.now) }
     ensures grown { (more : List (ℕ × ℕ)) × (places.new ≡ places.old ++ more) }
-    ensures given { OnOk result ((j : ℕ) → assigned places.new j ≡ (if nat_eq j student && not (is_some (assigned places.old j)) then next_of papers.now (view_of R.keys R.seats round.now).ranks j else assigned places.old j)) }
-    ensures there { IfOk result (λ elsewhere. elsewhere ≡ false → assigned places.new student ≡ next_of papers.now (view_of R.keys R.seats round.now).ranks student) }
+    ensures given { OnOk result ((j : ℕ)
+        → assigned places.new j
+        ≡ (if nat_eq j student && not (is_some (assigned places.old j))
+        then next_of papers.now (view_of R.keys R.seats round.now).ranks j else assigned places.old j)) }
+    ensures there { IfOk result (λ elsewhere. elsewhere ≡ false
+        → assigned places.new student ≡ next_of papers.now (view_of R.keys R.seats round.now).ranks student) }
 {
     let next = round.next_choice_near(papers, student, guess.now);
     let had = places.get_near(student, guess.hinted);
@@ -89,7 +93,9 @@ fn push_if(
     student: StudentNo,
     guess: Guess,
 ) -> Result<(), AllocError>
-    ensures { OnOk result (students_of_movers movers.new.items ≡ (if moves then students_of_movers movers.old.items ++ student ∷ [] else students_of_movers movers.old.items)) }
+    ensures { OnOk result (students_of_movers movers.new.items
+        ≡ (if moves then students_of_movers movers.old.items ++ student ∷ []
+        else students_of_movers movers.old.items)) }
 {
     if moves {
         movers.push(Mover { student, guess })?;
@@ -112,8 +118,13 @@ fn put_all<R: Roll>(
     requires one_each { length part.region.now ≡ length chains.now }
     requires none { movers.old.items ≡ [] }
     ensures grown { (more : List (ℕ × ℕ)) × (places.new ≡ places.old ++ more) }
-    ensures given { OnOk result ((j : ℕ) → assigned places.new j ≡ with_new (marked_in part.entry.region.now chains.now) (next_of part.entry.papers.now (view_of R.keys R.seats round.now).ranks) (assigned places.old) j) }
-    ensures movers { OnOk result (AreMovers (marked_in part.entry.region.now chains.now) (students_of_movers movers.new.items) (next_of part.entry.papers.now (view_of R.keys R.seats round.now).ranks) (assigned places.new)) }
+    ensures given { OnOk result ((j : ℕ)
+        → assigned places.new j
+        ≡ with_new (marked_in part.entry.region.now chains.now)
+        (next_of part.entry.papers.now (view_of R.keys R.seats round.now).ranks) (assigned places.old) j) }
+    ensures movers { OnOk result
+        (AreMovers (marked_in part.entry.region.now chains.now) (students_of_movers movers.new.items)
+        (next_of part.entry.papers.now (view_of R.keys R.seats round.now).ranks) (assigned places.new)) }
 {
     let positions = part.region.positions();
     for position in positions {
@@ -138,8 +149,13 @@ fn place_new<R: Roll>(
     requires fits { Fits part.papers.now (view_of R.keys R.seats round.now) }
     requires one_each { length part.region.now ≡ length chains.now }
     ensures grown { OnOk result ((more : List (ℕ × ℕ)) × (places.new ≡ places.old ++ more)) }
-    ensures given { OnOk result ((j : ℕ) → assigned places.new j ≡ with_new (marked_in part.entry.region.now chains.now) (next_of part.entry.papers.now (view_of R.keys R.seats round.now).ranks) (assigned places.old) j) }
-    ensures movers { IfOk result (λ movers. AreMovers (marked_in part.entry.region.now chains.now) (students_of_movers movers.items) (next_of part.entry.papers.now (view_of R.keys R.seats round.now).ranks) (assigned places.new)) }
+    ensures given { OnOk result ((j : ℕ)
+        → assigned places.new j
+        ≡ with_new (marked_in part.entry.region.now chains.now)
+        (next_of part.entry.papers.now (view_of R.keys R.seats round.now).ranks) (assigned places.old) j) }
+    ensures movers { IfOk result
+        (λ movers. AreMovers (marked_in part.entry.region.now chains.now) (students_of_movers movers.items)
+        (next_of part.entry.papers.now (view_of R.keys R.seats round.now).ranks) (assigned places.new)) }
     ensures unchanged { OnErr result (places.new ≡ places.old) }
 {
     let before = places.len();
@@ -157,7 +173,9 @@ fn place_new<R: Roll>(
 fn move_all<R: Roll>(round: &Round<R>, papers: &Papers, movers: &[Mover], places: &mut Places)
     requires ready { is_spent round.now ≡ false }
     requires fits { Fits papers.now (view_of R.keys R.seats round.now) }
-    ensures { (j : ℕ) → assigned places.new j ≡ with_moved (students_of_movers movers.now) (next_of papers.now (view_of R.keys R.seats round.now).ranks) (assigned places.old) j }
+    ensures { (j : ℕ) → assigned places.new j
+        ≡ with_moved (students_of_movers movers.now) (next_of papers.now (view_of R.keys R.seats round.now).ranks)
+        (assigned places.old) j }
 {
     for mover in movers {
         let school = round.next_choice_near(papers, mover.student, mover.guess.now);
@@ -189,8 +207,13 @@ pub(crate) fn place_inside<R: Roll>(
     requires one_each { length part.region.now ≡ length chains.old }
     requires renewed { length renewed.now ≡ length (marked_from part.region.now (part.point + gap)) }
     requires log { AreWithin (view_of R.keys R.seats round.now).log renewed.now }
-    ensures given { OnOk result ((j : ℕ) → assigned places.new j ≡ either_by (is_among (marked_in part.entry.region.now chains.old)) (next_of part.entry.papers.now (view_of R.keys R.seats round.now).ranks) (assigned places.old) j) }
-    ensures renewed { OnOk result (chains.new ≡ renewed_from chains.old part.entry.region.now part.entry.point gap (chains_in (view_of R.keys R.seats round.now).log renewed.now)) }
+    ensures given { OnOk result ((j : ℕ)
+        → assigned places.new j
+        ≡ either_by (is_among (marked_in part.entry.region.now chains.old))
+        (next_of part.entry.papers.now (view_of R.keys R.seats round.now).ranks) (assigned places.old) j) }
+    ensures renewed { OnOk result (chains.new
+        ≡ renewed_from chains.old part.entry.region.now part.entry.point gap
+        (chains_in (view_of R.keys R.seats round.now).log renewed.now)) }
     ensures unchanged { OnErr result ((places.new ≡ places.old) × (chains.new ≡ chains.old)) }
 {
     let before = places.len();

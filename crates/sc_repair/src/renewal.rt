@@ -25,7 +25,8 @@ pub(crate) fn renew(
     requires marks { length region.now ≡ length segments.old }
     requires one_each { length renewed.now ≡ length (marked_from region.now (point + gap)) }
     requires log { AreWithin log.now renewed.now }
-    ensures renewed { OnOk result (segments.new ≡ renewed_from segments.old region.now point gap (chains_in log.now renewed.now)) }
+    ensures renewed { OnOk result (segments.new
+        ≡ renewed_from segments.old region.now point gap (chains_in log.now renewed.now)) }
     ensures unchanged { OnErr result (segments.new ≡ segments.old) }
 {
     // This call tells that the positions can be counted.

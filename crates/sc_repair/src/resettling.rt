@@ -10,6 +10,7 @@ ghost use Rattle.sc_checkpoint.specs.Chains.{logs_in, students_in, with_chain};
 ghost use Rattle.sc_checkpoint.specs.Spans.{chains_in, AreWithin};
 ghost use Rattle.sc_checkpoint.specs.NextChoices.{stands, AreNextChoices};
 ghost use Rattle.sc_papers.specs.declared.rejection.Rejection.{Rejection};
+ghost use Rattle.sc_engine.specs.Fresh.{CanResume, IsResumed};
 ghost use Rattle.sc_engine.specs.Round.{is_spent, view_of};
 ghost use Rattle.sc_engine.specs.RoundView.{has_entered, without_log, Continues, Enters, Fits};
 ghost use Rattle.sc_repair.specs.Changed.{standing_of, HaveChanged};
@@ -43,8 +44,12 @@ fn enter_turn<R: Roll>(
     requires absent { has_entered papers.now (view_of R.keys R.seats round.old).ranks student ≡ false }
     requires ready { is_spent round.old ≡ false }
     requires within { AreWithin (view_of R.keys R.seats round.old).log spans.old }
-    ensures enters { OnOk result (Enters papers.now (view_of R.keys R.seats round.old) (view_of R.keys R.seats round.new) student) }
-    ensures chain { OnOk result ((chain : List Rejection) × ((view_of R.keys R.seats round.new).log ≡ (view_of R.keys R.seats round.old).log ++ chain) × (chains_in (view_of R.keys R.seats round.new).log spans.new ≡ with_chain (chains_in (view_of R.keys R.seats round.old).log spans.old) student chain)) }
+    ensures enters { OnOk result
+        (Enters papers.now (view_of R.keys R.seats round.old) (view_of R.keys R.seats round.new) student) }
+    ensures chain { OnOk result ((chain : List Rejection)
+        × ((view_of R.keys R.seats round.new).log ≡ (view_of R.keys R.seats round.old).log ++ chain)
+        × (chains_in (view_of R.keys R.seats round.new).log spans.new
+        ≡ with_chain (chains_in (view_of R.keys R.seats round.old).log spans.old) student chain)) }
     ensures within { OnOk result (AreWithin (view_of R.keys R.seats round.new).log spans.new) }
     ensures ready { OnOk result (is_spent round.new ≡ false) }
 {
@@ -65,11 +70,15 @@ fn take_turns<R: Roll>(
 ) -> Result<(), AllocError>
     requires turns { HaveTurns part.papers.now part.region.now old.now part.point part.end }
     requires none { renewed.old ≡ [] }
-    requires on { GoesOnInside part.papers.now (is_among (marked_in part.region.now old.now)) old.now part.point (length old.now - part.end)
+    requires on { GoesOnInside part.papers.now (is_among (marked_in part.region.now old.now)) old.now part.point
+        (length old.now - part.end)
         (view_of R.keys R.seats round.old) (take part.point old.now) part.point }
     requires ready { is_spent round.old ≡ false }
-    ensures on { OnOk result (AreRenewed part.entry.papers.now part.entry.region.now old.now part.entry.point part.entry.end (view_of R.keys R.seats round.new) renewed.new) }
-    ensures one_each { OnOk result (length renewed.new ≡ length (marked_from part.entry.region.now (part.entry.point + (length old.now - part.entry.end)))) }
+    ensures on { OnOk result
+        (AreRenewed part.entry.papers.now part.entry.region.now old.now part.entry.point part.entry.end
+        (view_of R.keys R.seats round.new) renewed.new) }
+    ensures one_each { OnOk result (length renewed.new
+        ≡ length (marked_from part.entry.region.now (part.entry.point + (length old.now - part.entry.end)))) }
     ensures within { OnOk result (AreWithin (view_of R.keys R.seats round.new).log renewed.new) }
     ensures ready { OnOk result (is_spent round.new ≡ false) }
 {
@@ -95,13 +104,8 @@ fn resumed<R: Roll>(
     standings: &Standings,
     near: &[usize],
 ) -> Result<Round<R>, AllocError>
-    requires { (earlier : List Rejection) × AreNextChoices part.papers.now earlier standings.now.choices.items }
-    ensures fits { IfOk result (λ round. Fits part.entry.papers.now (view_of R.keys R.seats round)) }
-    ensures entered { IfOk result (λ round. (i : ℕ) → has_entered part.entry.papers.now (view_of R.keys R.seats round).ranks i ≡ stands standings.now.choices.items i) }
-    ensures continues { IfOk result (λ round. (earlier : List Rejection) → AreNextChoices part.entry.papers.now earlier standings.now.choices.items → Continues part.entry.papers.now earlier (view_of R.keys R.seats round)) }
-    ensures log { IfOk result (λ round. (view_of R.keys R.seats round).log ≡ []) }
-    ensures proposals { IfOk result (λ round. (view_of R.keys R.seats round).proposals ≡ 0) }
-    ensures ready { IfOk result (λ round. is_spent round ≡ false) }
+    requires { CanResume part.papers.now standings.now.choices.items }
+    ensures { IfOk result (IsResumed R.keys R.seats part.entry.papers.now standings.now.choices.items) }
 {
     let expected = hints_for(part);
     let choices = standings.choices.as_slice();
@@ -130,8 +134,11 @@ fn settle_region<R: Roll>(
 ) -> Result<Round<R>, AllocError>
     requires given { CanBeRenewed part.papers.now part.region.now old.now part.point part.end }
     requires none { renewed.old ≡ [] }
-    ensures on { IfOk result (λ round. AreRenewed part.entry.papers.now part.entry.region.now old.now part.entry.point part.entry.end (view_of R.keys R.seats round) renewed.new) }
-    ensures one_each { OnOk result (length renewed.new ≡ length (marked_from part.entry.region.now (part.entry.point + (length old.now - part.entry.end)))) }
+    ensures on { IfOk result
+        (λ round. AreRenewed part.entry.papers.now part.entry.region.now old.now part.entry.point part.entry.end
+        (view_of R.keys R.seats round) renewed.new) }
+    ensures one_each { OnOk result (length renewed.new
+        ≡ length (marked_from part.entry.region.now (part.entry.point + (length old.now - part.entry.end)))) }
     ensures within { IfOk result (λ round. AreWithin (view_of R.keys R.seats round).log renewed.new) }
     ensures ready { IfOk result (λ round. is_spent round ≡ false) }
 {
@@ -161,15 +168,23 @@ pub(crate) fn resettle<R: Roll>(
     places: &mut Places,
     segments: &mut Segments,
 ) -> Result<u64, AllocError>
-    requires changed { HaveChanged part.papers.now places.old segments.old (is_among (marked_in part.region.now segments.old)) part.point part.end }
+    requires changed { HaveChanged part.papers.now places.old segments.old
+        (is_among (marked_in part.region.now segments.old)) part.point part.end }
     requires one_each { length part.region.now ≡ length segments.old }
-    ensures certified { IfOk result (λ made. IsCertified (standing_of (cut part.entry.papers.now part.entry.end) places.new segments.new made)) }
+    ensures certified { IfOk result
+        (λ made. IsCertified (standing_of (cut part.entry.papers.now part.entry.end) places.new segments.new made)) }
     ensures theirs { OnOk result (students_in segments.new ≡ students_of (cut part.entry.papers.now part.entry.end)) }
-    ensures stays { OnOk result (take part.entry.point (logs_in segments.new) ≡ take part.entry.point (logs_in segments.old)) }
-    ensures others { OnOk result ((i : ℕ) → is_among (marked_in part.entry.region.now segments.old) i ≡ false → assigned places.new i ≡ assigned places.old i) }
-    ensures proposals { IfOk result (λ made. CountsInside (is_among (marked_in part.entry.region.now segments.old)) part.entry.point (standing_of (cut part.entry.papers.now part.entry.end) places.new segments.new made)) }
+    ensures stays { OnOk result (take part.entry.point (logs_in segments.new)
+        ≡ take part.entry.point (logs_in segments.old)) }
+    ensures others { OnOk result ((i : ℕ) → is_among (marked_in part.entry.region.now segments.old) i ≡ false
+        → assigned places.new i ≡ assigned places.old i) }
+    ensures proposals { IfOk result
+        (λ made. CountsInside (is_among (marked_in part.entry.region.now segments.old)) part.entry.point
+        (standing_of (cut part.entry.papers.now part.entry.end) places.new segments.new made)) }
     ensures ready { OnOk result (IfSome spare.new (λ round. is_spent round ≡ false)) }
-    ensures stands { OnOk result (IfSome spare.new (λ round. ((i : ℕ) → Contains (students_in segments.new) i → is_among (marked_in part.entry.region.now segments.old) i ≡ true) → StandsAfter part.entry.papers.now segments.new (without_log (view_of R.keys R.seats round)))) }
+    ensures stands { OnOk result (IfSome spare.new (λ round. ((i : ℕ) → Contains (students_in segments.new) i
+        → is_among (marked_in part.entry.region.now segments.old) i ≡ true)
+        → StandsAfter part.entry.papers.now segments.new (without_log (view_of R.keys R.seats round)))) }
     ensures unchanged { OnErr result ((places.new ≡ places.old) × (segments.new ≡ segments.old)) }
 {
     // Where a student leaves, the segments of those behind stand one position further back.

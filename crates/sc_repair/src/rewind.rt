@@ -38,7 +38,8 @@ fn first_to_list(papers: &Papers, school: SchoolNo) -> usize
 fn first_among(papers: &Papers, school: SchoolNo, positions: &[usize]) -> usize
     requires rising { IsStrictlyIncreasing positions.now }
     requires within { (p : ℕ) → Contains positions.now p → p < length papers.now.students }
-    requires all { (p : ℕ) → p < length papers.now.students → lists papers.now school (slice_index (students_of papers.now) p) ≡ true → Contains positions.now p }
+    requires all { (p : ℕ) → p < length papers.now.students
+        → lists papers.now school (slice_index (students_of papers.now) p) ≡ true → Contains positions.now p }
     ensures { result ≡ first_to_list papers.now school }
 {
     for position in positions {
@@ -53,7 +54,9 @@ fn first_among(papers: &Papers, school: SchoolNo, positions: &[usize]) -> usize
 /// where none does.
 fn first_marked(papers: &Papers, school: SchoolNo, region: &RegionMarks) -> usize
     requires one_each { length region.now ≡ length papers.now.students }
-    requires marked { (p : ℕ) → p < length papers.now.students → lists papers.now school (slice_index (students_of papers.now) p) ≡ true → IsTrue (slice_index_or region.now p false) }
+    requires marked { (p : ℕ) → p < length papers.now.students
+        → lists papers.now school (slice_index (students_of papers.now) p) ≡ true
+        → IsTrue (slice_index_or region.now p false) }
     ensures { result ≡ first_to_list papers.now school }
 {
     first_among(papers, school, region.positions())
@@ -96,7 +99,8 @@ pub fn rewind_point(papers: &Papers, amendment: &Amendment) -> Result<usize, Ref
     ensures within { IfOk result (λ k. k ≤ length papers.now.students) }
     ensures allowed { OnOk result (verdict papers.now amendment.now ≡ None) }
     ensures refused { IfErr result (λ refusal. verdict papers.now amendment.now ≡ Some refusal) }
-    ensures kept { IfOk result (λ k. (segments : List (List Rejection)) → IsSegmented papers.now segments → IsSegmented (cut (after papers.now amendment.now) k) (take k segments)) }
+    ensures kept { IfOk result (λ k. (segments : List (List Rejection)) → IsSegmented papers.now segments
+        → IsSegmented (cut (after papers.now amendment.now) k) (take k segments)) }
 {
     papers.check(amendment)?;
     Ok(first_changed(papers, amendment))

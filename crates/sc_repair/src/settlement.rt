@@ -12,7 +12,7 @@ mod withdraw;
 
 use crate::open_refused::OpenRefused;
 use crate::places::Places;
-use crate::settling::settle_on;
+use crate::settling::settle_all;
 use sc_checkpoint::Segments;
 use sc_engine::Round;
 use sc_papers::{Assignment, MOST_STUDENTS, Papers, Rejection, SchoolNo, StudentNo};
@@ -60,27 +60,22 @@ impl Settlement {
     ghost use Rattle.sc_papers.specs.Restriction.{cut, IsSegmented};
     ghost use Rattle.sc_papers.specs.WellFormed.{WellFormed};
     ghost use Rattle.sc_checkpoint.specs.Chains.{logs_in, students_in};
-    ghost use Rattle.sc_repair.specs.Standing.{Standing, CountsFrom, IsCertified, IsOptimal, log_of, matching_of, place_of, held_at, proposals_from_scratch};
+    ghost use Rattle.sc_repair.specs.Standing.{IsCertified, IsOptimal, log_of, matching_of, place_of, held_at, proposals_from_scratch};
 
-    /// The papers settled on from the segments of their first students. The only error is want of
-    /// memory, which gives the papers back unchanged.
-    fn settled(alloc: Global, papers: Papers, segments: Segments) -> Result<Self, OpenRefused>
-        requires well_formed { WellFormed papers }
-        requires theirs { students_in segments ≡ take (length segments) (students_of papers) }
-        requires segmented { IsSegmented (cut papers (length segments)) (logs_in segments) }
+    /// Settles the papers, as `Clearing::open` says.
+    pub(crate) fn open(alloc: Global, papers: Papers) -> Result<Self, OpenRefused>
         ensures papers { IfOk result (λ clearing. clearing.papers ≡ papers) }
+        ensures optimal { IfOk result (λ clearing. IsStudentOptimal papers (matching_of clearing)) }
         ensures certified { IfOk result IsCertified }
-        ensures stays { IfOk result (λ clearing. take (length segments) clearing.segments ≡ logs_in segments) }
-        ensures proposals { IfOk result (CountsFrom (length segments)) }
+        ensures proposals { IfOk result (λ clearing. clearing.proposals ≡ proposals_from_scratch clearing) }
         ensures refused { IfErr result (λ refused. refused.papers ≡ papers) }
     {
-        let mut segments = segments;
-        match settle_on::<HeapRoll>(alloc, &papers, &mut segments) {
+        match settle_all::<HeapRoll>(alloc, &papers) {
             Ok(placed) => Ok(Settlement {
                 alloc,
                 papers,
                 places: placed.places,
-                segments,
+                segments: placed.segments,
                 proposals: placed.proposals,
                 round: Some(placed.round),
                 spare: None,
@@ -90,24 +85,9 @@ impl Settlement {
         }
     }
 
-    /// Settles the papers: the standing assignment is their student-optimal stable matching, and the
-    /// log certifies it. The only error is want of memory, which gives the papers back unchanged.
-    ///
-    /// The cost is an offer for each proposal, and memory is taken in proportion to the students, the
-    /// schools and the rejections.
-    pub(crate) fn open(alloc: Global, papers: Papers) -> Result<Self, OpenRefused>
-        ensures papers { IfOk result (λ clearing. clearing.papers ≡ papers) }
-        ensures optimal { IfOk result (λ clearing. IsStudentOptimal papers (matching_of clearing)) }
-        ensures certified { IfOk result IsCertified }
-        ensures proposals { IfOk result (λ clearing. clearing.proposals ≡ proposals_from_scratch clearing) }
-        ensures refused { IfErr result (λ refused. refused.papers ≡ papers) }
-    {
-        Settlement::settled(alloc, papers, Segments::new(alloc))
-    }
+    // What these tell is said where a `Clearing` tells it.
 
-    /// The papers as they stand. Whichever settlement this is, the standing assignment is their
-    /// student-optimal stable matching and the log is settled for them, and this call tells its
-    /// callers so.
+    /// The papers as they stand, with what holds of every settlement.
     pub(crate) fn papers(&self) -> &Papers
         ensures papers { result.now ≡ self.now.papers }
         ensures optimal { IsOptimal self.now }
@@ -116,8 +96,7 @@ impl Settlement {
         &self.papers
     }
 
-    /// What the student has: `None` for one who is not in the papers, `Some(None)` for one who is
-    /// unplaced. In constant time.
+    /// What the student has.
     pub(crate) fn place_of(&self, student: StudentNo) -> Option<Option<SchoolNo>>
         ensures { result ≡ place_of self.now student }
     {
@@ -127,7 +106,7 @@ impl Settlement {
         Some(self.places.get(student))
     }
 
-    /// How many students have the school, or `None` for one that is not in the papers. In constant time.
+    /// How many students have the school.
     pub(crate) fn held(&self, school: SchoolNo) -> Option<u32>
         ensures { result ≡ held_at self.now school }
     {
@@ -147,33 +126,28 @@ impl Settlement {
         self.places.assignment()
     }
 
-    /// The standing assignment as a value of its own: each placed student with their school. The only
-    /// error is want of memory.
+    /// The standing assignment as a value of its own.
     pub(crate) fn assignment(&self) -> Result<Assignment, AllocError>
         ensures { IfOk result (λ assignment. assignment ≡ self.now.places) }
     {
         self.places.assignment().copy()
     }
 
-    /// How many rejections led to the standing assignment, or the greatest number where there were more. One
-    /// pass over the students.
+    /// How many rejections led to the standing assignment.
     pub(crate) fn log_len(&self) -> usize
         ensures { result ≡ min (length (log_of self.now)) usize.MAX }
     {
         self.segments.log_len()
     }
 
-    /// The rejections that led to the standing assignment, as a value of its own. They are settled for
-    /// the papers as they stand, so whoever doubts the assignment can check them. The only error is
-    /// want of memory; the cost is their number.
+    /// The rejections that led to the standing assignment.
     pub(crate) fn log(&self) -> Result<Vec<Rejection>, AllocError>
         ensures { IfOk result (λ log. log.items ≡ log_of self.now) }
     {
         self.segments.flat()
     }
 
-    /// How many proposals the last settling made: that of the last accepted amendment, or of the
-    /// opening.
+    /// How many proposals the last settling made.
     pub(crate) fn proposals_last(&self) -> u64
         ensures { result ≡ self.now.proposals }
     {

@@ -121,7 +121,8 @@ impl Unsettled {
     pub fn amend(&mut self, stamped: Stamped) -> Result<(), Refusal>
         ensures allowed { OnOk result (stamped_verdict self.old stamped ≡ None) }
         ensures accepted { OnOk result (self.new ≡ stamped_after self.old stamped.amendment) }
-        ensures honoured { OnOk result (stamp_of self.old.papers self.old.stamps (record_of stamped.amendment) ≡ stamped.stamp) }
+        ensures honoured { OnOk result (stamp_of self.old.papers self.old.stamps (record_of stamped.amendment)
+            ≡ stamped.stamp) }
         ensures refused { IfErr result (IsRefusal (stamped_verdict self.old stamped)) }
         ensures unchanged { OnErr result (self.new ≡ self.old) }
     {
@@ -191,7 +192,8 @@ impl Unsettled {
         ensures papers { IfOk result (λ clearing. stamped_papers clearing ≡ self) }
         ensures optimal { IfOk result (λ clearing. IsStudentOptimal self.papers (matching_of clearing.standing)) }
         ensures certified { IfOk result (λ clearing. IsCertified clearing.standing) }
-        ensures proposals { IfOk result (λ clearing. clearing.standing.proposals ≡ proposals_from_scratch clearing.standing) }
+        ensures proposals { IfOk result (λ clearing. clearing.standing.proposals
+            ≡ proposals_from_scratch clearing.standing) }
         ensures refused { IfErr result (λ refused. refused.papers ≡ self.papers) }
     {
         let Unsettled {

@@ -26,7 +26,8 @@ impl Settlement {
         requires no_withdrawal { is_withdrawal amendment ≡ false }
         ensures accepted { OnOk result (self.new.papers ≡ after self.old.papers amendment) }
         ensures certified { IsCertified self.new }
-        ensures stays { OnOk result (take (rewind_point self.old.papers amendment) self.new.segments ≡ take (rewind_point self.old.papers amendment) self.old.segments) }
+        ensures stays { OnOk result (take (rewind_point self.old.papers amendment) self.new.segments
+            ≡ take (rewind_point self.old.papers amendment) self.old.segments) }
         ensures others { OnOk result (KeepsOthers self.old amendment self.new) }
         ensures proposals { OnOk result (CountsRegion self.old.papers amendment self.new) }
         ensures unchanged { OnErr result (self.new ≡ self.old) }

@@ -24,7 +24,8 @@ impl Settlement {
         requires { verdict self.old.papers (Withdraw student) ≡ None }
         ensures accepted { OnOk result (self.new.papers ≡ after self.old.papers (Withdraw student)) }
         ensures certified { IsCertified self.new }
-        ensures stays { OnOk result (take (rewind_point self.old.papers (Withdraw student)) self.new.segments ≡ take (rewind_point self.old.papers (Withdraw student)) self.old.segments) }
+        ensures stays { OnOk result (take (rewind_point self.old.papers (Withdraw student)) self.new.segments
+            ≡ take (rewind_point self.old.papers (Withdraw student)) self.old.segments) }
         ensures others { OnOk result (KeepsOthers self.old (Withdraw student) self.new) }
         ensures proposals { OnOk result (CountsRegion self.old.papers (Withdraw student) self.new) }
         ensures unchanged { OnErr result (self.new ≡ self.old) }

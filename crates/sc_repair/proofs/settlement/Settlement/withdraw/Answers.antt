@@ -1,4 +1,4 @@
-use Rattle.std.proofs.Common.{◌≡◌, ◌-◌, ℕ, List, None, ap, refl, sym, subst, subst₂, ◌∙◌, IfSome}
+use Rattle.std.proofs.Common.{◌≡◌, ◌-◌, ℕ, List, ap, refl, sym, subst, subst₂, ◌∙◌, IfSome}
 use Rattle.sc_papers.specs.Market.{Market, students_of}
 use Rattle.sc_papers.specs.Restriction.{cut}
 use Rattle.sc_papers.specs.Verdict.{after, verdict}
@@ -12,7 +12,6 @@ use Rattle.sc_repair.specs.Representation.{IsKept}
 use Rattle.sc_repair.specs.Standing.{Standing, CountsInside, CountsRegion, IsCertified, KeepsOthers}
 use Rattle.sc_repair.proofs.Admitted.{still-certified}
 use Rattle.sc_repair.proofs.Changed.{leaver-back, leaver-changed, leaver-from, leaver-gone, leaver-others, leaver-within}
-use Rattle.sc_repair.proofs.InStep.{withdrawn-none}
 use Rattle.sc_repair.proofs.KeptRound.{lent-round}
 use Rattle.sc_repair.proofs.Regional.{counts-region, keeps-others, marks-count, marks-tell}
 use Rattle.sc_repair.proofs.settlement.Settlement.withdraw.Goals as goal

@@ -1,4 +1,4 @@
-use Rattle.std.proofs.Common.{◌≡◌, OnErr, Result, Ok, Err, inl, inr, ap, subst, sym, ◌∙◌}
+use Rattle.std.proofs.Common.{◌≡◌, OnErr, Result, Ok, Err, ap, subst, sym, ◌∙◌}
 use Rattle.sc_papers.specs.Verdict.{verdict}
 use Rattle.sc_stamps.specs.Verdict.{StampedPapers, stamped_after}
 use Rattle.sc_stamps.specs.declared.marking.Marking.{Marking}

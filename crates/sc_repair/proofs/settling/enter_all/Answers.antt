@@ -1,10 +1,23 @@
-use Rattle.std.proofs.Common.{sym, ◌∙◌, arith}
+use Rattle.std.proofs.Common.{List, [], refl, subst, sym, ◌∙◌, arith}
 use Rattle.sc_papers.specs.Market.{students_of}
 use Rattle.sc_papers.proofs.Choices.{contains-at}
 use Rattle.sc_papers.proofs.Positions.{among-student}
+use Rattle.sc_checkpoint.specs.Chains.{logs_in, students_in, Chain}
+use Rattle.sc_engine.specs.Round.{view_of}
 use Rattle.sc_engine.proofs.Settling.{first-apart}
-use Rattle.sc_repair.proofs.Resumption.{goes-on-next, goes-on-past}
-use Rattle.sc_repair.proofs.settling.enter_rest.Goals as goal
+use Rattle.sc_repair.specs.Resumption.{GoesOn}
+use Rattle.sc_repair.proofs.Kept.{none-segmented}
+use Rattle.sc_repair.proofs.Resumption.{goes-on-begins, goes-on-next, goes-on-past}
+use Rattle.sc_repair.proofs.settling.enter_all.Goals as goal
+
+pub loop-position-init : goal.loop-position-init
+loop-position-init g c =
+    let m = c.args.papers.now in
+    let fresh = c.requires.fresh in (
+      subst (λ (chains : List Chain). GoesOn m [] (view_of g.R.Roll.keys g.R.Roll.seats c.args.round.now) (students_in chains) (logs_in chains) 0) (sym c.requires.none)
+          (goes-on-begins m (view_of g.R.Roll.keys g.R.Roll.seats c.args.round.now) [] [] 0 refl refl (none-segmented m) fresh.fits fresh.nobody fresh.settled fresh.log fresh.proposals),
+      fresh.ready,
+    )
 
 pub enter_next-requires-clause-student : goal.enter_next-requires-clause-student
 enter_next-requires-clause-student g c = among-student c.args.papers.now c.in-Some.student (contains-at (students_of c.args.papers.now) c.loop-position.position c.in-Some.student (sym c.in-Some.ensures))
