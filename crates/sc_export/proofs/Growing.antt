@@ -52,13 +52,6 @@ none-more test xs k x before at fails =
 pub some-passes : {X : Type 0} (test : X → Bool) (xs : List X) (k : ℕ) (x : X) → slice_get xs k ≡ Some x → test x ≡ true → list_any test xs ≡ true
 some-passes test xs k x at passes = any_passes_from_place test xs k x at passes
 
--- the end of a student's row
-pub roster-row : (longer : Bool) (a b c further : List ℕ)
-    → join_with_byte 44 (a ∷ b ∷ c ∷ further_field longer further) ++ codes "\n"
-    ≡ join_with_byte 44 (a ∷ b ∷ c ∷ []) ++ (if longer then codes "," ++ further ++ codes "\n" else codes "\n")
-roster-row true a b c further = grind (arith, append_assoc)
-roster-row false a b c further = refl
-
 -- a position before the end has an element
 pub not-past : {X : Type 0} (xs : List X) (k : ℕ) → slice_get xs k ≡ None → k < length xs → ⊥
 not-past [] k none within = omega arith

@@ -43,12 +43,6 @@ entry-there (e ∷ es) (suc k) i at none = go (nat_eq i e.0) none (entry-there e
     go true some rest = cc some
     go false none rest = rest none
 
--- past the last key there is no entry
-pub entry-past : {X : Type 0} (es : List (ℕ × X)) (k : ℕ) → slice_get (keys_of es) k ≡ None → slice_get es k ≡ None
-entry-past [] k past = refl
-entry-past (e ∷ es) zero past = cc past
-entry-past (e ∷ es) (suc k) past = entry-past es k past
-
 -- what a look-up by the key at a position finds is the entry at the position
 pub entry-read : {X : Type 0} (es : List (ℕ × X)) (k i : ℕ) (found : Option X) → IsDistinct nat_eq (keys_of es) → slice_get (keys_of es) k ≡ Some i
     → found ≡ lookup (nat_eq i) es → (x : X) → found ≡ Some x → slice_get es k ≡ Some (i, x)

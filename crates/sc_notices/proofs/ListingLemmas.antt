@@ -1,8 +1,8 @@
 -- How many of the first students list each school.
-use Rattle.std.proofs.Common.{◌≡◌, refl, sym, ◌∙◌, ap, ℕ, ◌+◌, ◌<◌, ◌≤◌, ◌==◌, ◌||◌, nat_eq, false, cond, List, [], ◌∷◌, length, get_or, map, replicate, take, Option, Some, None, All, Contains, inl, inr, count_by, position, slice_get, arith}
+use Rattle.std.proofs.Common.{◌≡◌, refl, sym, ◌∙◌, ap, ℕ, ◌+◌, ◌<◌, ◌≤◌, ◌==◌, ◌||◌, nat_eq, false, cond, List, [], ◌∷◌, length, get_or, map, take, Option, Some, None, All, Contains, inl, inr, count_by, position, slice_get, arith}
 use Rattle.std.specs.List.{IsDistinct, list_any}
 use Rattle.std.proofs.lemmas.Bool.{cases_Bool, cond-true, cond-false, eqb-true, eq-eqb, false≢true, ne_eqb, or_left}
-use Rattle.std.proofs.lemmas.List.{get_or-map, get_or_default, get_or-replicate, length-map, length-replicate}
+use Rattle.std.proofs.lemmas.List.{get_or-map, get_or_default, length-map}
 use Rattle.std.proofs.lemmas.List.Elements.{All-from_recursion}
 use Rattle.std.proofs.lemmas.List.Folds.{list_any_none}
 use Rattle.std.proofs.lemmas.Map.Entries.{length-keys_of}
@@ -74,15 +74,6 @@ positions-count m s at found (p ∷ ps) (c ∷ cs) are differ =
           count-cons_fails (nat_eq at) p ps (ne_eqb at p apart) ∙ rest
           ∙ ap (λ b. cond (b || list_any (λ t. t == s) cs) 1 0) (sym other)
     ]
-
--- at first nobody is counted
-pub listings-none : (m : Market) (counts : List ℕ) → counts ≡ replicate (length m.schools) 0 → AreListings m [] counts
-listings-none m counts are = record {
-  one_each = ap length are ∙ length-replicate (length m.schools) 0 ∙ sym (length-keys_of m.schools);
-  counted = λ s at found.
-      ap (λ xs. get_or xs at 0) are
-      ∙ get_or-replicate (length m.schools) at 0 0 (omega (arith, (position-at (schools_of m) s at found).0, length-keys_of m.schools));
-}
 
 -- the counts of the first students, and one more
 pub listings-more : (m : Market) → WellFormed m → (k : ℕ) → k < length m.students → (old new positions : List ℕ) → Positions m positions (choices_of m (student_at m k))

@@ -149,7 +149,3 @@ ends-alike text len None c all gave end = tt
 ends-alike text len (Some bytes) None all gave end = absurd gave
 ends-alike text len (Some bytes) (Some left) all gave end =
     (gave ∙ ap (λ rest. take len text ++ rest) end ∙ append-nil (take len text) ∙ take_all len text all, ap Some end)
-
--- a reader that was met gave no more than came
-pub meets-few : (text : List ℕ) (most : ℕ) (b c : Option (List ℕ)) (met : Met) → Meets text b c met → met.came ≤ most → GivesAtMost most b c
-meets-few text most b c met (came, gave, count, alike, is) few = (came, gave, omega (arith, count, few))

@@ -23,21 +23,6 @@ Appends-more a b c text at count first second =
 pub Consumes-more : (a b c : Option (List ℕ)) (given came both : List ℕ) → Consumes a b given → Consumes b c came → both ≡ given ++ came → Consumes a c both
 Consumes-more a b c given came both first second e = subst (Consumes a c) (sym e) (Consumes-trans a b c given came first second)
 
--- a reader that gave as many bytes as asked for gave the first of its bytes
-pub GivesFirst-full : (limit : ℕ) (a b : Option (List ℕ)) (given : List ℕ) → Consumes a b given → length given ≡ limit → GivesFirst limit a b given
-GivesFirst-full limit None b given gave e = tt
-GivesFirst-full limit (Some bytes) None given gave e = absurd gave
-GivesFirst-full limit (Some bytes) (Some left) given gave e =
-    (sym (ap (take limit) gave ∙ take_at given left limit e), sym (ap (drop limit) gave ∙ drop_at given left limit e))
-
--- a reader that is at its end gave all its bytes, which are no more than the limit
-pub GivesFirst-all : (limit : ℕ) (a b : Option (List ℕ)) (given : List ℕ) → Consumes a b given → IsAtEnd b → length given ≤ limit → GivesFirst limit a b given
-GivesFirst-all limit None b given gave end within = tt
-GivesFirst-all limit (Some bytes) None given gave end within = absurd gave
-GivesFirst-all limit (Some bytes) (Some left) given gave end within =
-    let whole : bytes ≡ given = gave ∙ ap (λ rest. given ++ rest) end ∙ append-nil given in
-    (sym (ap (take limit) whole ∙ take_all limit given within), end ∙ sym (ap (drop limit) whole ∙ drop_all limit given within))
-
 -- a reader that gave some bytes, and then at most some more, gave at most both together
 pub GivesAtMost-more : (limit most : ℕ) (a b c : Option (List ℕ)) (given : List ℕ) → Consumes a b given → GivesAtMost most b c → length given + most ≤ limit → GivesAtMost limit a c
 GivesAtMost-more limit most a b c given gave (came, second, few) within =

@@ -24,10 +24,6 @@ assignment_lines a students = codes "student,school\n" ++ flat_map (assignment_l
 abbrev pub assignment_text : Market → Matching → List ℕ
 assignment_text m a = assignment_lines a (rising (students_of m))
 
--- the text is the assignment text of papers and a matching
-abbrev pub IsAssignmentText : Market → Matching → List ℕ → Type 0
-IsAssignmentText m a text = text ≡ assignment_text m a
-
 -- the report text: the assignment text, the cutoff text and the reason text
 unfoldable pub report_text : Market → Matching → List ℕ
 report_text m a = assignment_text m a ++ (cutoff_text m a ++ reason_text m a)

@@ -162,14 +162,6 @@ tallies-set m a students i at key t differ there is =
 pub at-within : (m : Market) (a : Matching) (i at : ℕ) (key : Key) → held_at m a i ≡ Some (at, key) → at < length (schools_of m)
 at-within m a i at key there = let here = held-inverse m a i at key there in (position-at (schools_of m) here.school at here.found).0
 
--- a tally counts no more than all
-pub held-few : (m : Market) (a : Matching) (students : List ℕ) (at : ℕ) (t : Tally) → at < length (schools_of m)
-    → t ≡ get_or (map (tally m a students) (schools_of m)) at t → t.held ≤ length students
-unfolding tally
-held-few m a students at t low is =
-    let held : t.held ≡ count_by (has a (get_or (schools_of m) at 0)) students = ap (λ u. u.held) (is ∙ get_or-map (tally m a students) (schools_of m) at 0 t low) in
-    omega (arith, held, count_by-le-length (has a (get_or (schools_of m) at 0)) students)
-
 -- nobody is counted at first
 pub tallies-none : (m : Market) (a : Matching) (xs : List ℕ) → replicate (length xs) no_tally ≡ map (tally m a []) xs
 tallies-none m a [] = refl
