@@ -44,6 +44,19 @@ pub(crate) fn push_own(text: &mut Vec<u8>, key: Key) -> Result<(), AllocError>
     text.extend_from_slice(b",")
 }
 
+/// What a line tells of a choice, but for what came of it.
+#[derive(Clone, Copy)]
+struct ChoiceRow {
+    /// Its rank in the student's list, from 0.
+    rank: usize,
+    choice: Proposal,
+    /// The student's own rank in the lottery.
+    own: u32,
+    cutoff: Cutoff,
+    /// The rank in the lottery of the cutoff's student, if there is one.
+    last: Option<u32>,
+}
+
 /// Adds what a line says of a choice of this rank, from 0, but for the school's cutoff: the student's own rank in the lottery
 /// is given.
 fn push_own_part(
@@ -73,27 +86,24 @@ fn push_cutoff_part(text: &mut Vec<u8>, cutoff: Cutoff, last: Option<u32>) -> Re
     }
 }
 
-/// Adds what a line says of a choice of this rank, from 0, and answers whether the student has it or one before it. Given are
-/// the ranks in the lottery of the student and of the cutoff's student, what the student has, and whether it is one before.
+/// Adds what a line says of a choice, and answers whether the student has it or one before it. Given are what the student
+/// has, and whether it is one before.
 fn push_choice(
     text: &mut Vec<u8>,
-    rank: usize,
-    choice: &Proposal,
-    own: u32,
-    cutoff: Cutoff,
-    last: Option<u32>,
+    row: &ChoiceRow,
     held: &Option<SchoolNo>,
     is_past: bool,
 ) -> Result<bool, AllocError>
-    requires { rank < LONGEST_LIST }
-    ensures past { IfOk result (λ past. past ≡ (is_past || is_given held.now choice.now.school)) }
-    ensures text { OnOk result (text.new.items ≡ text.old.items ++ choice_fields rank choice.now.school choice.now.key own cutoff last
-        (outcome_by (is_given held.now choice.now.school) is_past (reason_by cutoff choice.now.key))) }
+    requires { row.now.rank < LONGEST_LIST }
+    ensures past { IfOk result (λ past. past ≡ (is_past || is_given held.now row.now.choice.school)) }
+    ensures text { OnOk result (text.new.items ≡ text.old.items
+        ++ choice_fields row.now.rank row.now.choice.school row.now.choice.key row.now.own row.now.cutoff row.now.last
+        (outcome_by (is_given held.now row.now.choice.school) is_past (reason_by row.now.cutoff row.now.choice.key))) }
 {
-    let given = *held == Some(choice.school);
-    push_own_part(text, rank, choice, own)?;
-    push_cutoff_part(text, cutoff, last)?;
-    push_outcome(text, outcome_of(given, is_past, cutoff, choice.key))?;
+    let given = *held == Some(row.choice.school);
+    push_own_part(text, row.rank, &row.choice, row.own)?;
+    push_cutoff_part(text, row.cutoff, row.last)?;
+    push_outcome(text, outcome_of(given, is_past, row.cutoff, row.choice.key))?;
     Ok(is_past || given)
 }
 
@@ -140,17 +150,15 @@ fn push_choices(
     'ranks: while let Some(choice) = papers.proposal(entrant.position as usize, rank) {
         let cutoff = cutoff_of(rows, &choice);
         let last = lottery.cutoff_rank_at(choice.position);
-        text.extend_from_slice(number)?;
-        is_past = push_choice(
-            text,
+        let row = ChoiceRow {
             rank,
-            &choice,
+            choice,
             own,
             cutoff,
             last,
-            &entrant.held,
-            is_past,
-        )?;
+        };
+        text.extend_from_slice(number)?;
+        is_past = push_choice(text, &row, &entrant.held, is_past)?;
         rank += 1;
     }
     Ok(())
