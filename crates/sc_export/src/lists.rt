@@ -11,7 +11,8 @@ use std::alloc::AllocError;
 
 /// Adds a student's row: the number and the choices.
 fn push_choices(text: &mut Vec<u8>, entry: (StudentNo, &Student)) -> Result<(), AllocError>
-    ensures { OnOk result (text.new.items ≡ text.old.items ++ row_text (list_fields (entry.entry.0, entry.entry.1.now))) }
+    ensures { OnOk result (text.new.items ≡ text.old.items
+        ++ row_text (list_fields (entry.entry.0, entry.entry.1.now))) }
 {
     let (number, student) = entry;
     push_number(text, u64::from(number.get()))?;

@@ -32,7 +32,8 @@ fn is_longer(papers: &Papers) -> bool
 
 /// Adds a student's number, zone and siblings' schools, with a comma between each two.
 fn push_home(text: &mut Vec<u8>, number: StudentNo, student: &Student) -> Result<(), AllocError>
-    ensures fields { OnOk result (text.new.items ≡ text.old.items ++ join_with_byte 44 (decimal number ∷ decimal student.now.zone ∷ list_text student.now.siblings ∷ [])) }
+    ensures fields { OnOk result (text.new.items ≡ text.old.items
+        ++ join_with_byte 44 (decimal number ∷ decimal student.now.zone ∷ list_text student.now.siblings ∷ [])) }
     ensures in_range { OnOk result (IsStudentInRange (number, student.now)) }
 {
     push_number(text, u64::from(number.get()))?;
@@ -59,7 +60,8 @@ fn push_end(
     longer: bool,
     continuing: Option<SchoolNo>,
 ) -> Result<(), AllocError>
-    ensures { OnOk result (text.new.items ≡ text.old.items ++ (if longer then codes "," ++ continuing_text continuing ++ codes "\n" else codes "\n")) }
+    ensures { OnOk result (text.new.items ≡ text.old.items
+        ++ (if longer then codes "," ++ continuing_text continuing ++ codes "\n" else codes "\n")) }
 {
     if longer {
         push_continuing(text, continuing)?;
@@ -73,7 +75,8 @@ fn push_student(
     longer: bool,
     entry: (StudentNo, &Student),
 ) -> Result<(), AllocError>
-    ensures row { OnOk result (text.new.items ≡ text.old.items ++ row_text (roster_fields longer (entry.entry.0, entry.entry.1.now))) }
+    ensures row { OnOk result (text.new.items ≡ text.old.items
+        ++ row_text (roster_fields longer (entry.entry.0, entry.entry.1.now))) }
     ensures in_range { OnOk result (IsStudentInRange (entry.entry.0, entry.entry.1.now)) }
 {
     let (number, student) = entry;
@@ -95,7 +98,8 @@ fn push_header(text: &mut Vec<u8>, longer: bool) -> Result<(), AllocError>
 /// Adds the students' rows, in order of entry.
 fn push_students(text: &mut Vec<u8>, papers: &Papers, longer: bool) -> Result<(), AllocError>
     requires { WellFormed papers.now }
-    ensures rows { OnOk result (text.new.items ≡ text.old.items ++ flat_map row_text (map (roster_fields longer) papers.now.students)) }
+    ensures rows { OnOk result (text.new.items ≡ text.old.items
+        ++ flat_map row_text (map (roster_fields longer) papers.now.students)) }
     ensures in_range { OnOk result (All IsStudentInRange papers.now.students) }
 {
     for position in 0..papers.students_len() {

@@ -60,7 +60,8 @@ fn apply_line(
     text: &[u8],
 ) -> Result<(), JournalCause>
     requires next { number ≡ amended.old.stamps.accepted + 1 }
-    ensures { MatchResult result (λ done. IsTaken amended.old amended.new number text.now) (IsCauseOrMemory amended.old.papers number text.now) }
+    ensures { MatchResult result (λ done. IsTaken amended.old amended.new number text.now)
+        (IsCauseOrMemory amended.old.papers number text.now) }
 {
     let amendment = match numbered(alloc, number, text) {
         Ok(amendment) => amendment,
@@ -117,7 +118,8 @@ pub fn replay_papers(
     papers: Papers,
     bytes: &[u8],
 ) -> Result<(Unsettled, Tail), JournalFault>
-    ensures { MatchResult result (λ done. IsReplay (unamended papers) done.0 bytes.now done.1) (IsReplayFault (unamended papers) bytes.now) }
+    ensures { MatchResult result (λ done. IsReplay (unamended papers) done.0 bytes.now done.1)
+        (IsReplayFault (unamended papers) bytes.now) }
 {
     let mut amended = match Unsettled::new(alloc, papers) {
         Ok(amended) => amended,
@@ -131,7 +133,8 @@ pub fn replay_papers(
 /// Does what `replay_papers` does, and opens a clearing of the papers as they then stand, with their stamps.
 /// The cost is one settling more.
 pub fn replay(alloc: Global, papers: Papers, bytes: &[u8]) -> Result<(Clearing, Tail), JournalFault>
-    ensures replay { MatchResult result (λ done. IsReplay (unamended papers) (stamped_papers done.0) bytes.now done.1) (IsReplayFault (unamended papers) bytes.now) }
+    ensures replay { MatchResult result (λ done. IsReplay (unamended papers) (stamped_papers done.0) bytes.now done.1)
+        (IsReplayFault (unamended papers) bytes.now) }
     ensures certified { IfOk result (λ done. IsCertified done.0.standing) }
     ensures proposals { IfOk result (λ done. done.0.standing.proposals ≡ proposals_from_scratch done.0.standing) }
 {

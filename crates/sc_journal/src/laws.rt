@@ -15,21 +15,29 @@ use crate::line_no::LineNo;
 
 /// Two lines are spelled alike only where they are of the same number and the same amendment.
 pub fn spellings_differ()
-    ensures number { (n k : ℕ) (a b : Amendment) → IsInRange 1 LineNo.GREATEST n → IsInRange 1 LineNo.GREATEST k → IsInRanges a → IsInRanges b → line_text n a ≡ line_text k b → n ≡ k }
-    ensures amendment { (n k : ℕ) (a b : Amendment) → IsInRange 1 LineNo.GREATEST n → IsInRange 1 LineNo.GREATEST k → IsInRanges a → IsInRanges b → line_text n a ≡ line_text k b → a ≡ b }
+    ensures number { (n k : ℕ) (a b : Amendment) → IsInRange 1 LineNo.GREATEST n → IsInRange 1 LineNo.GREATEST k
+        → IsInRanges a → IsInRanges b → line_text n a ≡ line_text k b → n ≡ k }
+    ensures amendment { (n k : ℕ) (a b : Amendment) → IsInRange 1 LineNo.GREATEST n → IsInRange 1 LineNo.GREATEST k
+        → IsInRanges a → IsInRanges b → line_text n a ≡ line_text k b → a ≡ b }
 {}
 
 /// The journal of amendments that papers accept in turn is replayed to the papers after them, order
 /// of entry included, and to the stamps after them.
 pub fn journal_is_replayed()
-    ensures { (before : StampedPapers) (amendments : List Amendment) → All IsInRanges amendments → length amendments ≤ LineNo.GREATEST → AreAccepted before amendments → IsReplay before (after_all before amendments) (journal_text 1 amendments) Whole }
+    ensures { (before : StampedPapers) (amendments : List Amendment) → All IsInRanges amendments
+        → length amendments ≤ LineNo.GREATEST → AreAccepted before amendments
+        → IsReplay before (after_all before amendments) (journal_text 1 amendments) Whole }
 {}
 
 /// The same papers and the same bytes have one answer: the same papers, stamps and tail, or the same first
 /// fault, and never both a replay and a fault.
 pub fn replay_has_one_answer()
-    ensures papers { (before now other : StampedPapers) (bytes : List ℕ) (tail last : Tail) → IsReplay before now bytes tail → IsReplay before other bytes last → now ≡ other }
-    ensures tail { (before now other : StampedPapers) (bytes : List ℕ) (tail last : Tail) → IsReplay before now bytes tail → IsReplay before other bytes last → tail ≡ last }
-    ensures fault { (before : StampedPapers) (bytes : List ℕ) (fault other : JournalFault) → IsFirstFault before bytes fault → IsFirstFault before bytes other → fault ≡ other }
-    ensures either { (before now : StampedPapers) (bytes : List ℕ) (tail : Tail) (fault : JournalFault) → IsReplay before now bytes tail → IsFirstFault before bytes fault → ⊥ }
+    ensures papers { (before now other : StampedPapers) (bytes : List ℕ) (tail last : Tail)
+        → IsReplay before now bytes tail → IsReplay before other bytes last → now ≡ other }
+    ensures tail { (before now other : StampedPapers) (bytes : List ℕ) (tail last : Tail)
+        → IsReplay before now bytes tail → IsReplay before other bytes last → tail ≡ last }
+    ensures fault { (before : StampedPapers) (bytes : List ℕ) (fault other : JournalFault)
+        → IsFirstFault before bytes fault → IsFirstFault before bytes other → fault ≡ other }
+    ensures either { (before now : StampedPapers) (bytes : List ℕ) (tail : Tail) (fault : JournalFault)
+        → IsReplay before now bytes tail → IsFirstFault before bytes fault → ⊥ }
 {}

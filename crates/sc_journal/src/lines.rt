@@ -51,7 +51,8 @@ fn push_list_field(text: &mut Vec<u8>, schools: &SchoolList) -> Result<(), Alloc
 
 /// Adds a zone and the schools of siblings, each after a comma.
 fn push_home(text: &mut Vec<u8>, zone: Zone, siblings: &SchoolList) -> Result<(), AllocError>
-    ensures { OnOk result (text.new.items ≡ text.old.items ++ (codes "," ++ decimal zone ++ (codes "," ++ list_text siblings.now))) }
+    ensures { OnOk result (text.new.items ≡ text.old.items
+        ++ (codes "," ++ decimal zone ++ (codes "," ++ list_text siblings.now))) }
 {
     push_number_field(text, zone.get())?;
     push_list_field(text, siblings)
@@ -64,7 +65,8 @@ fn push_last_fields(
     schools: &SchoolList,
     continuing: Option<SchoolNo>,
 ) -> Result<(), AllocError>
-    ensures { OnOk result (text.new.items ≡ text.old.items ++ codes "," ++ join_with_byte 44 (list_text schools.now ∷ continuing_fields continuing)) }
+    ensures { OnOk result (text.new.items ≡ text.old.items ++ codes ","
+        ++ join_with_byte 44 (list_text schools.now ∷ continuing_fields continuing)) }
 {
     push_list_field(text, schools)?;
     match continuing {

@@ -70,7 +70,8 @@ fn push_school(
     requires admitted { length candidates.now.admitted ≡ length (schools_of papers.now) }
     requires waiting { length candidates.now.waiting ≡ length (schools_of papers.now) }
     // By whichever matching the candidates were found.
-    ensures { OnOk result ((a : Matching) → AreCandidates papers.now a (students_of papers.now) candidates.now.admitted candidates.now.waiting
+    ensures { OnOk result ((a : Matching)
+        → AreCandidates papers.now a (students_of papers.now) candidates.now.admitted candidates.now.waiting
         → text.new.items ≡ text.old.items ++ school_lists papers.now a school) }
 {
     let Some(position) = papers.school_position(school) else {
@@ -94,7 +95,8 @@ fn push_admissions(
     requires admitted { length candidates.now.admitted ≡ length (schools_of papers.now) }
     requires waiting { length candidates.now.waiting ≡ length (schools_of papers.now) }
     // By whichever matching the candidates were found.
-    ensures { OnOk result ((a : Matching) → AreCandidates papers.now a (students_of papers.now) candidates.now.admitted candidates.now.waiting
+    ensures { OnOk result ((a : Matching)
+        → AreCandidates papers.now a (students_of papers.now) candidates.now.admitted candidates.now.waiting
         → text.new.items ≡ text.old.items ++ admission_lines papers.now a schools.now) }
 {
     text.extend_from_slice(HEADER)?;
@@ -135,7 +137,8 @@ fn room_for_admissions(candidates: &Candidates) -> usize {
 /// that list, from 1, the student's number, class and draw, and the word. The only error is want of memory, which is
 /// taken for each line. The cost is one pass over the students' choices, and a sort of each list.
 pub fn admissions_text(alloc: Global, clearing: &Clearing) -> Result<Vec<u8>, AllocError>
-    ensures { IfOk result (λ text. text.items ≡ admissions_text clearing.now.standing.papers (matching_of clearing.now.standing)) }
+    ensures { IfOk result (λ text. text.items
+        ≡ admissions_text clearing.now.standing.papers (matching_of clearing.now.standing)) }
 {
     let papers = clearing.papers();
     let candidates = find_candidates(alloc, papers, clearing.places())?;
@@ -154,7 +157,8 @@ pub fn admissions_of(
     school: SchoolNo,
 ) -> Result<Option<Vec<u8>>, AllocError>
     ensures known { IfOk result (λ found. is_some found ≡ is_school clearing.now.standing.papers school) }
-    ensures text { IfOk result (λ found. IfSome found (λ text. text.items ≡ admissions_of clearing.now.standing.papers (matching_of clearing.now.standing) school)) }
+    ensures text { IfOk result (λ found. IfSome found
+        (λ text. text.items ≡ admissions_of clearing.now.standing.papers (matching_of clearing.now.standing) school)) }
 {
     let papers = clearing.papers();
     if papers.school_position(school).is_none() {

@@ -28,7 +28,8 @@ fn add_holder(
 ) -> Result<(), AllocError>
     requires within { student < length papers.now.students }
     requires one_each { length admitted.old ≡ length (schools_of papers.now) }
-    ensures { OnOk result (AddsKeys papers.now (student_at papers.now student) (is_given held) admitted.old admitted.new) }
+    ensures { OnOk result (AddsKeys papers.now (student_at papers.now student)
+        (is_given held) admitted.old admitted.new) }
 {
     let Some(school) = held else {
         return Ok(());
@@ -63,8 +64,8 @@ fn add_choices(
     requires well_formed { WellFormed papers.now }
     requires count { count ≤ length (choices_of papers.now (student_at papers.now student)) }
     requires one_each { length waiting.old ≡ length (schools_of papers.now) }
-    ensures { OnOk result (AddsKeys papers.now (student_at papers.now student)
-        (λ s. list_any (λ t. t == s) (take count (choices_of papers.now (student_at papers.now student)))) waiting.old waiting.new) }
+    ensures { OnOk result (AddsKeys papers.now (student_at papers.now student) (λ s. list_any (λ t. t == s)
+        (take count (choices_of papers.now (student_at papers.now student)))) waiting.old waiting.new) }
 {
     for rank in 0..count {
         let Some(choice) = papers.proposal(student, rank) else {
@@ -87,7 +88,8 @@ fn add_preferred(
     requires well_formed { WellFormed papers.now }
     requires one_each { length waiting.old ≡ length (schools_of papers.now) }
     ensures { OnOk result (AddsKeys papers.now (student_at papers.now student)
-        (λ s. list_any (λ t. t == s) (before_first (is_given held) (choices_of papers.now (student_at papers.now student)))) waiting.old waiting.new) }
+        (λ s. list_any (λ t. t == s) (before_first (is_given held)
+        (choices_of papers.now (student_at papers.now student)))) waiting.old waiting.new) }
 {
     let count = preferred_count(papers.choices_at(student), held);
     add_choices(waiting, papers, student, count)
@@ -105,8 +107,10 @@ fn add_student(
 ) -> Result<usize, AllocError>
     requires within { position < length papers.now.students }
     requires well_formed { WellFormed papers.now }
-    requires before { AreCandidates papers.now (assigned places.now) (take position (students_of papers.now)) candidates.old.admitted candidates.old.waiting }
-    ensures { OnOk result (AreCandidates papers.now (assigned places.now) (take (position + 1) (students_of papers.now)) candidates.new.admitted candidates.new.waiting) }
+    requires before { AreCandidates papers.now (assigned places.now)
+        (take position (students_of papers.now)) candidates.old.admitted candidates.old.waiting }
+    ensures { OnOk result (AreCandidates papers.now (assigned places.now)
+        (take (position + 1) (students_of papers.now)) candidates.new.admitted candidates.new.waiting) }
 {
     let Some(student) = papers.student_at(position) else {
         unreachable!()
@@ -125,7 +129,8 @@ pub(crate) fn find_candidates(
     papers: &Papers,
     places: &Assignment,
 ) -> Result<Candidates, AllocError>
-    ensures candidates { IfOk result (λ found. AreCandidates papers.now (assigned places.now) (students_of papers.now) found.admitted found.waiting) }
+    ensures candidates { IfOk result (λ found.
+        AreCandidates papers.now (assigned places.now) (students_of papers.now) found.admitted found.waiting) }
     ensures well_formed { OnOk result (WellFormed papers.now) }
 {
     let mut candidates = Candidates {

@@ -47,7 +47,8 @@ fn place_among(
 ) -> Option<Option<SchoolNo>>
     requires { numbers.now ≡ numbers_of places.now }
     // By whichever papers and matching the places are.
-    ensures { (m : Market) (a : Matching) → AreRising m places.now → All (Holds a) places.now → result ≡ place_in m a student }
+    ensures { (m : Market) (a : Matching) → AreRising m places.now → All (Holds a) places.now
+        → result ≡ place_in m a student }
 {
     match numbers.binary_search(&student) {
         Ok(index) => Some(places[index].held),
@@ -69,7 +70,8 @@ fn push_unknown(
     student: StudentNo,
     is_known: bool,
 ) -> Result<(), AllocError>
-    ensures { OnOk result (students.new.items ≡ (if is_known then students.old.items else students.old.items ++ student ∷ [])) }
+    ensures { OnOk result (students.new.items
+        ≡ (if is_known then students.old.items else students.old.items ++ student ∷ [])) }
 {
     if !is_known {
         students.push(student)?;
@@ -101,7 +103,8 @@ fn rising_of_either(
     numbers: &[StudentNo],
     papers: &Papers,
 ) -> Result<Vec<StudentNo>, AllocError>
-    ensures { IfOk result (λ students. (m : Market) → numbers.now ≡ rising (students_of m) → students.items ≡ rising (students_of_either m papers.now)) }
+    ensures { IfOk result (λ students. (m : Market) → numbers.now ≡ rising (students_of m)
+        → students.items ≡ rising (students_of_either m papers.now)) }
 {
     let mut students = Vec::from_slice(alloc, numbers)?;
     push_newcomers(&mut students, numbers, papers)?;
@@ -143,7 +146,8 @@ fn push_change(
     before: Option<Option<SchoolNo>>,
     after: Option<Option<SchoolNo>>,
 ) -> Result<(), AllocError>
-    ensures { OnOk result (text.new.items ≡ (if differ before after then text.old.items ++ change_line student before after else text.old.items)) }
+    ensures { OnOk result (text.new.items
+        ≡ (if differ before after then text.old.items ++ change_line student before after else text.old.items)) }
 {
     if before != after {
         push_line(text, student, before, after)?;
@@ -162,8 +166,10 @@ fn push_changes(
     requires { numbers.now ≡ numbers_of before.now }
     // By whichever papers and matching the places before are.
     ensures { OnOk result ((m : Market) (a : Matching) → AreRising m before.now → All (Holds a) before.now
-        → text.new.items ≡ text.old.items ++ flat_map (λ i. change_line i (place_in m a i) (place_in after.now.standing.papers (matching_of after.now.standing) i))
-        (filter (λ i. differ (place_in m a i) (place_in after.now.standing.papers (matching_of after.now.standing) i)) students.now)) }
+        → text.new.items ≡ text.old.items ++ flat_map (λ i. change_line i (place_in m a i)
+        (place_in after.now.standing.papers (matching_of after.now.standing) i))
+        (filter (λ i. differ (place_in m a i)
+        (place_in after.now.standing.papers (matching_of after.now.standing) i)) students.now)) }
 {
     for student in students {
         let was = place_among(numbers, before, *student);

@@ -111,7 +111,9 @@ fn push_choice(
 fn cutoff_of(rows: &[CutoffRow], choice: &Proposal) -> Cutoff
     requires { choice.now.position < length rows.now }
     // By whichever papers and matching the rows were made.
-    ensures { (m : Market) (a : Matching) → rows.now ≡ rows_in_order m a → position (nat_eq choice.now.school) (schools_of m) ≡ Some choice.now.position → result ≡ cutoff m a choice.now.school }
+    ensures { (m : Market) (a : Matching) → rows.now ≡ rows_in_order m a
+        → position (nat_eq choice.now.school) (schools_of m) ≡ Some choice.now.position
+        → result ≡ cutoff m a choice.now.school }
 {
     rows[choice.position].cutoff
 }
@@ -142,7 +144,8 @@ fn push_choices(
     requires within_limits { WithinLimits papers.now }
     requires lottery { IsLotteryOf papers.now rows.now lottery.now }
     // By whichever matching the rows were made.
-    ensures { OnOk result ((a : Matching) → rows.now ≡ rows_in_order papers.now a → Holds a entrant → text.new.items ≡ text.old.items ++ student_lines papers.now a entrant.student) }
+    ensures { OnOk result ((a : Matching) → rows.now ≡ rows_in_order papers.now a → Holds a entrant
+        → text.new.items ≡ text.old.items ++ student_lines papers.now a entrant.student) }
 {
     let own = lottery.rank_at(papers, rows, entrant.position as usize);
     let mut is_past = false;
@@ -177,7 +180,8 @@ fn push_explanations(
     requires lottery { IsLotteryOf papers.now rows.now lottery.now }
     requires stand { All (StandsAt papers.now) entrants.now }
     // By whichever matching the rows were made.
-    ensures { OnOk result ((a : Matching) → rows.now ≡ rows_in_order papers.now a → All (Holds a) entrants.now → text.new.items ≡ text.old.items ++ explanation_lines papers.now a (numbers_of entrants.now)) }
+    ensures { OnOk result ((a : Matching) → rows.now ≡ rows_in_order papers.now a → All (Holds a) entrants.now
+        → text.new.items ≡ text.old.items ++ explanation_lines papers.now a (numbers_of entrants.now)) }
 {
     // This call tells that the papers are well-formed and within their limits, and so are their lists.
     prove!(papers.students_len() <= MOST_STUDENTS);
@@ -209,7 +213,8 @@ fn room_for_explanations(papers: &Papers) -> usize {
 /// pass over the students for the cutoffs, sorts of the students' numbers and of their draws, a search among the draws for
 /// each student and each school, and one pass over the choices.
 pub fn explanation_text(alloc: Global, clearing: &Clearing) -> Result<Vec<u8>, AllocError>
-    ensures { IfOk result (λ text. text.items ≡ explanation_text clearing.now.standing.papers (matching_of clearing.now.standing)) }
+    ensures { IfOk result (λ text. text.items
+        ≡ explanation_text clearing.now.standing.papers (matching_of clearing.now.standing)) }
 {
     let papers = clearing.papers();
     let places = places_of(alloc, papers, clearing.places())?;
@@ -238,7 +243,8 @@ pub fn explanation_of(
     student: StudentNo,
 ) -> Result<Option<Vec<u8>>, AllocError>
     ensures known { IfOk result (λ found. is_some found ≡ is_student clearing.now.standing.papers student) }
-    ensures text { IfOk result (λ found. IfSome found (λ text. text.items ≡ explanation_of clearing.now.standing.papers (matching_of clearing.now.standing) student)) }
+    ensures text { IfOk result (λ found. IfSome found (λ text. text.items
+        ≡ explanation_of clearing.now.standing.papers (matching_of clearing.now.standing) student)) }
 {
     let papers = clearing.papers();
     let Some(position) = papers.student_position(student) else {

@@ -13,7 +13,8 @@ fn count_positions(counts: &mut [u32], positions: &[u16])
     requires within { All (λ at. at < length counts.old) positions.now }
     requires short { length positions.now ≤ LONGEST_LIST }
     requires few { (at : ℕ) → at < length counts.old → slice_index counts.old at ≤ MOST_STUDENTS }
-    ensures { (at : ℕ) → at < length counts.old → slice_index counts.new at ≡ slice_index counts.old at + count_by (nat_eq at) positions.now }
+    ensures { (at : ℕ) → at < length counts.old
+        → slice_index counts.new at ≡ slice_index counts.old at + count_by (nat_eq at) positions.now }
 {
     for position in positions {
         counts[usize::from(*position)] += 1;

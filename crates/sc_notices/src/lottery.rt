@@ -52,7 +52,8 @@ fn tickets(alloc: Global, papers: &Papers) -> Result<Vec<Key>, AllocError>
 
 /// How many tickets of all students, which are given best first, are ahead of one.
 fn place_among(tickets: &[Key], ticket: &Key) -> usize
-    ensures ahead { (m : Market) (i : ℕ) → WellFormed m → tickets.now ≡ in_order (map (ticket_of m) (students_of m)) → ticket.now ≡ ticket_of m i → result + 1 ≡ lottery_rank m i }
+    ensures ahead { (m : Market) (i : ℕ) → WellFormed m → tickets.now ≡ in_order (map (ticket_of m) (students_of m))
+        → ticket.now ≡ ticket_of m i → result + 1 ≡ lottery_rank m i }
     ensures within { result ≤ length tickets.now }
 {
     match tickets.binary_search(ticket) {
@@ -65,7 +66,8 @@ fn place_among(tickets: &[Key], ticket: &Key) -> usize
 fn searched_rank(tickets: &[Key], ticket: &Key) -> u32
     requires { length tickets.now ≤ MOST_STUDENTS }
     // By whichever papers the tickets were made.
-    ensures { (m : Market) (i : ℕ) → WellFormed m → tickets.now ≡ in_order (map (ticket_of m) (students_of m)) → ticket.now ≡ ticket_of m i → result ≡ lottery_rank m i }
+    ensures { (m : Market) (i : ℕ) → WellFormed m → tickets.now ≡ in_order (map (ticket_of m) (students_of m))
+        → ticket.now ≡ ticket_of m i → result ≡ lottery_rank m i }
 {
     place_among(tickets, ticket) as u32 + 1
 }
@@ -101,7 +103,8 @@ fn cutoff_ranks(
     requires { tickets.now ≡ in_order (map (ticket_of papers.now) (students_of papers.now)) }
     ensures count { IfOk result (λ ranks. length ranks.items ≡ length rows.now) }
     // By whichever matching the rows were made.
-    ensures ranks { IfOk result (λ ranks. (a : Matching) → rows.now ≡ rows_in_order papers.now a → ranks.items ≡ map (λ row. cutoff_rank papers.now row.cutoff) rows.now) }
+    ensures ranks { IfOk result (λ ranks. (a : Matching) → rows.now ≡ rows_in_order papers.now a
+        → ranks.items ≡ map (λ row. cutoff_rank papers.now row.cutoff) rows.now) }
 {
     let mut ranks = Vec::with_capacity(alloc, rows.len())?;
     for row in rows {

@@ -28,7 +28,8 @@ fn count_place(counts: &mut RankCounts, choices: &[SchoolNo], held: Option<Schoo
     requires short { length choices.now ≤ LONGEST_LIST }
     requires few_placed { (rank : ℕ) → rank < LONGEST_LIST → slice_index counts.old.by_rank rank < MOST_STUDENTS }
     requires few_unplaced { counts.old.unplaced < MOST_STUDENTS }
-    ensures by_rank { (rank : ℕ) → rank < LONGEST_LIST → slice_index counts.new.by_rank rank ≡ slice_index counts.old.by_rank rank + cond (option_eq nat_eq (rank_in choices.now held) (Some rank)) 1 0 }
+    ensures by_rank { (rank : ℕ) → rank < LONGEST_LIST → slice_index counts.new.by_rank rank
+        ≡ slice_index counts.old.by_rank rank + cond (option_eq nat_eq (rank_in choices.now held) (Some rank)) 1 0 }
     ensures unplaced { counts.new.unplaced ≡ counts.old.unplaced + cond (is_none held) 1 0 }
 {
     match held {
@@ -52,7 +53,8 @@ fn count_student(
 ) -> usize
     requires within { position < length papers.now.students }
     requires within_limits { WithinLimits papers.now }
-    requires before { AreRankCounts papers.now (assigned places.now) (take position (students_of papers.now)) counts.old }
+    requires before { AreRankCounts papers.now (assigned places.now)
+        (take position (students_of papers.now)) counts.old }
     ensures { AreRankCounts papers.now (assigned places.now) (take (position + 1) (students_of papers.now)) counts.new }
 {
     let Some(student) = papers.student_at(position) else {

@@ -59,7 +59,8 @@ fn push_ranks(text: &mut Vec<u8>, papers: &Papers, places: &Assignment) -> Resul
 
 /// Adds a school's line, given how many students list it.
 fn push_school(text: &mut Vec<u8>, row: &CutoffRow, listings: u32) -> Result<(), AllocError>
-    ensures { OnOk result (text.new.items ≡ text.old.items ++ row_line row.now.school row.now.seats row.now.held listings) }
+    ensures { OnOk result (text.new.items ≡ text.old.items
+        ++ row_line row.now.school row.now.seats row.now.held listings) }
 {
     let seats = row.seats.get();
     push_field(text, row.school.get())?;
@@ -71,7 +72,8 @@ fn push_school(text: &mut Vec<u8>, row: &CutoffRow, listings: u32) -> Result<(),
 
 /// Adds the header and the line of each school by rising number.
 fn push_schools(text: &mut Vec<u8>, alloc: Global, clearing: &Clearing) -> Result<(), AllocError>
-    ensures { OnOk result (text.new.items ≡ text.old.items ++ school_lines clearing.now.standing.papers (matching_of clearing.now.standing)) }
+    ensures { OnOk result (text.new.items ≡ text.old.items
+        ++ school_lines clearing.now.standing.papers (matching_of clearing.now.standing)) }
 {
     let papers = clearing.papers();
     let rows = cutoffs(alloc, clearing)?;
@@ -99,7 +101,8 @@ fn room_for_summary(papers: &Papers) -> usize {
 /// the seats are free, and how many students list it. The only error is want of memory, which is taken for each
 /// school. The cost is two passes over the students, one over their choices, and a sort of the schools' numbers.
 pub fn summary_text(alloc: Global, clearing: &Clearing) -> Result<Vec<u8>, AllocError>
-    ensures { IfOk result (λ text. text.items ≡ summary_text clearing.now.standing.papers (matching_of clearing.now.standing)) }
+    ensures { IfOk result (λ text. text.items
+        ≡ summary_text clearing.now.standing.papers (matching_of clearing.now.standing)) }
 {
     let papers = clearing.papers();
     let mut text = Vec::with_capacity(alloc, room_for_summary(papers))?;

@@ -1,6 +1,8 @@
 -- What writing a text whole and reading an input whole do to the bytes of a device, where those are known.
-use Rattle.std.specs.Prelude.{◌≡◌, ℕ, ◌≤◌, Bool, true, false, List, ◌++◌, Option, Result, length, take, drop, ⊤, None, Some, Ok, Err, MatchResult}
+use Rattle.std.specs.Prelude.{◌≡◌, ℕ, ◌≤◌, ◌||◌, Bool, true, false, List, ◌++◌, Option, Result, length, take, drop, ⊤, None, Some, Ok, Err, MatchResult}
 use Rattle.std.specs.Io.KnownBytes.{Appends, Consumes}
+use Rattle.sc_report.specs.Watched.{has_failed}
+use Rattle.sc_report.specs.declared.watched.Watched.{Watched}
 use Rattle.sc_report.specs.declared.whole.ReadFault.{ReadFault}
 use Rattle.sc_report.specs.declared.whole.ReadFault.TheVariants.{Device, OutOfMemory}
 
@@ -37,3 +39,7 @@ abbrev pub is_device_fault : {V : Type 0} → Result V ReadFault → Bool
 is_device_fault (Ok given) = false
 is_device_fault (Err Device) = true
 is_device_fault (Err OutOfMemory) = false
+
+-- a reader has failed after a call if it had before, or if the call tells so
+abbrev pub ReaderFailsAsTold : {V R : Type 0} → Watched R → Watched R → Result V ReadFault → Type 0
+ReaderFailsAsTold old new result = has_failed new ≡ (has_failed old || is_device_fault result)

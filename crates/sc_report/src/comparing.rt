@@ -1,9 +1,9 @@
 //! Comparing an input with a text, piece by piece.
-ghost use Rattle.std.specs.Prelude.{◌≡◌, ℕ, ◌+◌, ◌<◌, ◌≤◌, ◌||◌, List, Option, length, take, IfOk, OnErr};
+ghost use Rattle.std.specs.Prelude.{◌≡◌, ℕ, ◌+◌, ◌<◌, ◌≤◌, List, Option, length, take, IfOk, OnErr};
 ghost use Rattle.std.specs.Io.KnownBytes.{Consumes, IsAtEnd};
 ghost use Rattle.sc_report.specs.Comparing.{common, line_ends, ComparesWith, GoesOn, Meets};
-ghost use Rattle.sc_report.specs.Watched.{device_of, has_failed};
-ghost use Rattle.sc_report.specs.Whole.{GivesAtMost, is_device_fault};
+ghost use Rattle.sc_report.specs.Watched.{device_of};
+ghost use Rattle.sc_report.specs.Whole.{GivesAtMost, ReaderFailsAsTold};
 
 use crate::watched::Watched;
 use crate::whole::ReadFault;
@@ -51,7 +51,8 @@ fn line_after(text: &[u8], len: usize) -> u64
 /// The line in which an input ends too early that has only the first bytes of a text, and `None` where it has all.
 fn missing_line(text: &[u8], len: usize) -> Option<u64>
     requires { len ≤ length text.now }
-    ensures { (bytes left : Option (List ℕ)) → Consumes bytes left (take len text.now) → IsAtEnd left → ComparesWith text.now bytes left result }
+    ensures { (bytes left : Option (List ℕ)) → Consumes bytes left (take len text.now) → IsAtEnd left
+        → ComparesWith text.now bytes left result }
 {
     if len < text.len() {
         Some(line_after(text, len))
@@ -68,9 +69,11 @@ fn meet_piece<R: Read>(
 ) -> Result<Met, ReadFault>
     ensures met { IfOk result (Meets rest.now (R.remaining (device_of from.old)) (R.remaining (device_of from.new))) }
     ensures bound { IfOk result (λ met. met.came ≤ length piece.old) }
-    ensures end { IfOk result (λ met. met.came ≡ 0 → 0 < length piece.old → IsAtEnd (R.remaining (device_of from.new))) }
-    ensures lost { OnErr result (GivesAtMost (length piece.old) (R.remaining (device_of from.old)) (R.remaining (device_of from.new))) }
-    ensures failed { has_failed from.new ≡ (has_failed from.old || is_device_fault result) }
+    ensures end { IfOk result (λ met. met.came ≡ 0 → 0 < length piece.old
+        → IsAtEnd (R.remaining (device_of from.new))) }
+    ensures lost { OnErr result (GivesAtMost (length piece.old)
+        (R.remaining (device_of from.old)) (R.remaining (device_of from.new))) }
+    ensures failed { ReaderFailsAsTold from.old from.new result }
 {
     let came = from.read(piece)?;
     let alike = alike_len(rest, &piece[..came]);
@@ -95,11 +98,12 @@ fn meet_next<R: Read>(
 ) -> Result<Meeting, ReadFault>
     requires within { len ≤ length text.now }
     requires room { 0 < length piece.old }
-    ensures met { IfOk result (λ met. (bytes : Option (List ℕ)) → Consumes bytes (R.remaining (device_of from.old)) (take len text.now)
+    ensures met { IfOk result (λ met. (bytes : Option (List ℕ))
+        → Consumes bytes (R.remaining (device_of from.old)) (take len text.now)
         → GoesOn text.now len bytes (R.remaining (device_of from.new)) met) }
     ensures few { GivesAtMost (length piece.old) (R.remaining (device_of from.old)) (R.remaining (device_of from.new)) }
     ensures room { length piece.new ≡ length piece.old }
-    ensures failed { has_failed from.new ≡ (has_failed from.old || is_device_fault result) }
+    ensures failed { ReaderFailsAsTold from.old from.new result }
 {
     let met = meet_piece(from, piece, &text[len..])?;
     let alike = len + met.alike;
@@ -128,9 +132,11 @@ pub fn first_difference<R: Read>(
     from: &mut Watched<R>,
     text: &[u8],
 ) -> Result<Option<u64>, ReadFault>
-    ensures found { IfOk result (ComparesWith text.now (R.remaining (device_of from.old)) (R.remaining (device_of from.new))) }
-    ensures limit { GivesAtMost (length text.now + 61440) (R.remaining (device_of from.old)) (R.remaining (device_of from.new)) }
-    ensures failed { has_failed from.new ≡ (has_failed from.old || is_device_fault result) }
+    ensures found { IfOk result (ComparesWith text.now
+        (R.remaining (device_of from.old)) (R.remaining (device_of from.new))) }
+    ensures limit { GivesAtMost (length text.now + 61440)
+        (R.remaining (device_of from.old)) (R.remaining (device_of from.new)) }
+    ensures failed { ReaderFailsAsTold from.old from.new result }
 {
     // Room for a byte more than the text has is enough.
     let room = text.len().saturating_add(1).min(PIECE);

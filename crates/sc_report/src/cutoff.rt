@@ -53,7 +53,8 @@ pub fn rows_in_order(
     places: &[Option<SchoolNo>],
 ) -> Result<Vec<CutoffRow>, AllocError>
     requires { length places.now ≡ length papers.now.students }
-    ensures rows { IfOk result (λ rows. (a : Matching) → ArePlaces papers.now a places.now → rows.items ≡ rows_in_order papers.now a) }
+    ensures rows { IfOk result (λ rows. (a : Matching) → ArePlaces papers.now a places.now
+        → rows.items ≡ rows_in_order papers.now a) }
     ensures schools { IfOk result (λ rows. map (λ row. row.school) rows.items ≡ schools_of papers.now) }
     ensures well_formed { OnOk result (WellFormed papers.now) }
 {
@@ -78,7 +79,8 @@ pub fn rows_in_order(
 
 /// The rows of all schools by rising number, given those in order of entry.
 pub(crate) fn rising_rows(alloc: Global, rows: &[CutoffRow]) -> Result<Vec<CutoffRow>, AllocError>
-    ensures { IfOk result (λ rising. (m : Market) (a : Matching) → rows.now ≡ rows_in_order m a → rising.items ≡ cutoff_rows m a) }
+    ensures { IfOk result (λ rising. (m : Market) (a : Matching) → rows.now ≡ rows_in_order m a
+        → rising.items ≡ cutoff_rows m a) }
 {
     let mut rising = Vec::from_slice(alloc, rows)?;
     rising.as_mut_slice().sort_unstable_by_key(|row| row.school);
@@ -88,7 +90,8 @@ pub(crate) fn rising_rows(alloc: Global, rows: &[CutoffRow]) -> Result<Vec<Cutof
 /// The rows of all schools, by rising number. The only error is want of memory. The cost is one pass
 /// over the students and a sort of the schools' numbers.
 pub fn cutoffs(alloc: Global, clearing: &Clearing) -> Result<Vec<CutoffRow>, AllocError>
-    ensures { IfOk result (λ rows. rows.items ≡ cutoff_rows clearing.now.standing.papers (matching_of clearing.now.standing)) }
+    ensures { IfOk result (λ rows. rows.items
+        ≡ cutoff_rows clearing.now.standing.papers (matching_of clearing.now.standing)) }
 {
     let places = places_of(alloc, clearing.papers(), clearing.places())?;
     let rows = rows_in_order(alloc, clearing.papers(), places.as_slice())?;

@@ -74,7 +74,8 @@ pub(crate) fn room_for_cutoffs(papers: &Papers) -> usize {
 /// students have it, and the key of its cutoff, or `closed` or `free` and dashes. The only error is
 /// want of memory. The cost is that of `cutoffs`.
 pub fn cutoff_text(alloc: Global, clearing: &Clearing) -> Result<Vec<u8>, AllocError>
-    ensures { IfOk result (λ text. text.items ≡ cutoff_text clearing.now.standing.papers (matching_of clearing.now.standing)) }
+    ensures { IfOk result (λ text. text.items
+        ≡ cutoff_text clearing.now.standing.papers (matching_of clearing.now.standing)) }
 {
     let rows = cutoffs(alloc, clearing)?;
     let mut text = Vec::with_capacity(alloc, room_for_cutoffs(clearing.papers()))?;

@@ -131,7 +131,8 @@ impl Read for FailingReader<'_> {
         ensures gives { is_spent (gives_left self.old) ≡ false → IsOk result }
         ensures passes { IfOk result (λ count. gives_left self.new ≡ passes_after count (gives_left self.old)) }
         ensures piece { IfOk result (λ count. count ≤ max 1 (reader_piece self.old)) }
-        ensures after_fault { is_spent (gives_left self.old) ≡ true → gives_left self.new ≡ after_fault (reader_fails_once self.old) (gives_left self.old) }
+        ensures after_fault { is_spent (gives_left self.old) ≡ true
+            → gives_left self.new ≡ after_fault (reader_fails_once self.old) (gives_left self.old) }
         ensures same { reader_piece self.new ≡ reader_piece self.old }
         ensures once { reader_fails_once self.new ≡ reader_fails_once self.old }
     {
@@ -241,9 +242,12 @@ impl Write for FailingWriter {
         ensures bound { WritesAtMost result bytes.now }
         ensures bytes { WriteAppends (Some (bytes_taken self.old)) (Some (bytes_taken self.new)) result bytes.now }
         ensures fails { is_spent (takes_left self.old) ≡ true → ending_of self.old ≡ Ending.Fails → IsErr result }
-        ensures takes_none { is_spent (takes_left self.old) ≡ true → ending_of self.old ≡ Ending.TakesNone → result ≡ Ok 0 }
-        ensures fails_once { is_spent (takes_left self.old) ≡ true → is_once (ending_of self.old) ≡ true → IsErr result }
-        ensures after_fault { is_spent (takes_left self.old) ≡ true → takes_left self.new ≡ after_fault (is_once (ending_of self.old)) (takes_left self.old) }
+        ensures takes_none { is_spent (takes_left self.old) ≡ true → ending_of self.old ≡ Ending.TakesNone
+            → result ≡ Ok 0 }
+        ensures fails_once { is_spent (takes_left self.old) ≡ true → is_once (ending_of self.old) ≡ true
+            → IsErr result }
+        ensures after_fault { is_spent (takes_left self.old) ≡ true
+            → takes_left self.new ≡ after_fault (is_once (ending_of self.old)) (takes_left self.old) }
         ensures passes { IfOk result (λ count. takes_left self.new ≡ passes_after count (takes_left self.old)) }
         ensures piece { IfOk result (λ count. count ≤ max 1 (writer_piece self.old)) }
         ensures same { writer_piece self.new ≡ writer_piece self.old }
@@ -262,8 +266,10 @@ impl Write for FailingWriter {
         ensures fails { is_spent (takes_left self.old) ≡ true → ending_of self.old ≡ Ending.Fails → IsErr result }
         ensures takes { is_spent (takes_left self.old) ≡ false → IsOk result }
         ensures takes_none { ending_of self.old ≡ Ending.TakesNone → IsOk result }
-        ensures fails_once { is_spent (takes_left self.old) ≡ true → is_once (ending_of self.old) ≡ true → IsErr result }
-        ensures after_fault { is_spent (takes_left self.old) ≡ true → takes_left self.new ≡ after_fault (is_once (ending_of self.old)) (takes_left self.old) }
+        ensures fails_once { is_spent (takes_left self.old) ≡ true → is_once (ending_of self.old) ≡ true
+            → IsErr result }
+        ensures after_fault { is_spent (takes_left self.old) ≡ true
+            → takes_left self.new ≡ after_fault (is_once (ending_of self.old)) (takes_left self.old) }
         ensures same { writer_piece self.new ≡ writer_piece self.old }
         ensures ending { ending_of self.new ≡ ending_of self.old }
     {

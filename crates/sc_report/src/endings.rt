@@ -40,7 +40,8 @@ fn push_ending(text: &mut Vec<u8>, school: SchoolNo, reason: Reason) -> Result<(
 
 /// Adds the three endings of a school's lines, and tells where they stand.
 fn push_endings(text: &mut Vec<u8>, school: SchoolNo) -> Result<SchoolEndings, AllocError>
-    ensures text { OnOk result (text.new.items ≡ text.old.items ++ line_ending school reason.Seats ++ line_ending school reason.Class ++ line_ending school reason.Lottery) }
+    ensures text { OnOk result (text.new.items ≡ text.old.items ++ line_ending school reason.Seats
+        ++ line_ending school reason.Class ++ line_ending school reason.Lottery) }
     ensures school { IfOk result (λ endings. endings.school ≡ school) }
     ensures stand { IfOk result (HasEndings text.new.items) }
 {

@@ -18,24 +18,32 @@ ghost use Rattle.sc_report.specs.declared.reason.Reason.{Reason};
 /// students, up to their order, have the same texts, part by part and whole, for matchings that give
 /// every student the same, as student-optimal ones do.
 pub fn order_of_entry_decides_no_text()
-    ensures assignment { (m n : Market) (a b : Matching) → WellFormed m → IsReordering m n → ((i : ℕ) → a i ≡ b i) → assignment_text m a ≡ assignment_text n b }
-    ensures cutoffs { (m n : Market) (a b : Matching) → WellFormed m → IsReordering m n → ((i : ℕ) → a i ≡ b i) → cutoff_text m a ≡ cutoff_text n b }
-    ensures reasons { (m n : Market) (a b : Matching) → WellFormed m → IsReordering m n → ((i : ℕ) → a i ≡ b i) → reason_text m a ≡ reason_text n b }
-    ensures report { (m n : Market) (a b : Matching) → WellFormed m → IsReordering m n → ((i : ℕ) → a i ≡ b i) → report_text m a ≡ report_text n b }
-    ensures optimal { (m n : Market) (a b : Matching) → WellFormed m → IsReordering m n → IsStudentOptimal m a → IsStudentOptimal n b → report_text m a ≡ report_text n b }
+    ensures assignment { (m n : Market) (a b : Matching) → WellFormed m → IsReordering m n → ((i : ℕ) → a i ≡ b i)
+        → assignment_text m a ≡ assignment_text n b }
+    ensures cutoffs { (m n : Market) (a b : Matching) → WellFormed m → IsReordering m n → ((i : ℕ) → a i ≡ b i)
+        → cutoff_text m a ≡ cutoff_text n b }
+    ensures reasons { (m n : Market) (a b : Matching) → WellFormed m → IsReordering m n → ((i : ℕ) → a i ≡ b i)
+        → reason_text m a ≡ reason_text n b }
+    ensures report { (m n : Market) (a b : Matching) → WellFormed m → IsReordering m n → ((i : ℕ) → a i ≡ b i)
+        → report_text m a ≡ report_text n b }
+    ensures optimal { (m n : Market) (a b : Matching) → WellFormed m → IsReordering m n → IsStudentOptimal m a
+        → IsStudentOptimal n b → report_text m a ≡ report_text n b }
 {}
 
 /// A reason's row stands, once, for each student and school where the student prefers the school to what
 /// it has, and for no others.
 pub fn each_place_not_given_has_one_row()
-    ensures preferred { (m : Market) (a : Matching) → WellFormed m → IsMatching m a → (i s : ℕ) → Prefers m i s (a i) → rows_for m a i s ≡ 1 }
-    ensures others { (m : Market) (a : Matching) → WellFormed m → IsMatching m a → (i s : ℕ) → (Prefers m i s (a i) → ⊥) → rows_for m a i s ≡ 0 }
+    ensures preferred { (m : Market) (a : Matching) → WellFormed m → IsMatching m a → (i s : ℕ) → Prefers m i s (a i)
+        → rows_for m a i s ≡ 1 }
+    ensures others { (m : Market) (a : Matching) → WellFormed m → IsMatching m a → (i s : ℕ) → (Prefers m i s (a i) → ⊥)
+        → rows_for m a i s ≡ 0 }
 {}
 
 /// In a stable matching the reason of each choice that a student prefers to what it has is true of
 /// the school's cutoff and the student's key: no case is left over.
 pub fn reason_applies()
-    ensures { (m : Market) (a : Matching) → WellFormed m → IsStable m a → (i s : ℕ) → Prefers m i s (a i) → Applies (cutoff m a s) (key_of m i s) (reason m a i s) }
+    ensures { (m : Market) (a : Matching) → WellFormed m → IsStable m a → (i s : ℕ) → Prefers m i s (a i)
+        → Applies (cutoff m a s) (key_of m i s) (reason m a i s) }
 {}
 
 /// What a student has in a stable matching can be read from the cutoffs alone: the first of its choices
@@ -43,13 +51,17 @@ pub fn reason_applies()
 /// it prefers does not, for one reason.
 pub fn first_choice_that_admits()
     ensures first { (m : Market) (a : Matching) → WellFormed m → IsStable m a → (i : ℕ) → a i ≡ first_admitting m a i }
-    ensures has { (m : Market) (a : Matching) → WellFormed m → IsStable m a → (i s : ℕ) → a i ≡ Some s → is_admitted m a i s ≡ true }
-    ensures preferred { (m : Market) (a : Matching) → WellFormed m → IsStable m a → (i s : ℕ) → Prefers m i s (a i) → is_admitted m a i s ≡ false }
-    ensures one_reason { (m : Market) (a : Matching) → WellFormed m → IsStable m a → (i s : ℕ) → Prefers m i s (a i) → (r : Reason) → (Applies (cutoff m a s) (key_of m i s) r ↔ (r ≡ reason m a i s)) }
+    ensures has { (m : Market) (a : Matching) → WellFormed m → IsStable m a → (i s : ℕ) → a i ≡ Some s
+        → is_admitted m a i s ≡ true }
+    ensures preferred { (m : Market) (a : Matching) → WellFormed m → IsStable m a → (i s : ℕ) → Prefers m i s (a i)
+        → is_admitted m a i s ≡ false }
+    ensures one_reason { (m : Market) (a : Matching) → WellFormed m → IsStable m a → (i s : ℕ) → Prefers m i s (a i)
+        → (r : Reason) → (Applies (cutoff m a s) (key_of m i s) r ↔ (r ≡ reason m a i s)) }
 {}
 
 /// Cutoffs certify stability: a matching within seats is stable exactly where each student has the first
 /// of its choices that admits it by the cutoffs of that matching.
 pub fn cutoffs_certify_stability()
-    ensures { (m : Market) (a : Matching) → WellFormed m → (IsStable m a ↔ (WithinSeats m a × ((i : ℕ) → a i ≡ first_admitting m a i))) }
+    ensures { (m : Market) (a : Matching) → WellFormed m
+        → (IsStable m a ↔ (WithinSeats m a × ((i : ℕ) → a i ≡ first_admitting m a i))) }
 {}

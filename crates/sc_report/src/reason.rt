@@ -50,7 +50,9 @@ pub fn reason_by(cutoff: Cutoff, key: Key) -> Reason
 fn reason_of(rows: &[CutoffRow], choice: &Proposal) -> Reason
     requires { choice.now.position < length rows.now }
     // By whichever papers and matching the rows were made.
-    ensures { (m : Market) (a : Matching) → rows.now ≡ rows_in_order m a → position (nat_eq choice.now.school) (schools_of m) ≡ Some choice.now.position → result ≡ reason_by (cutoff m a choice.now.school) choice.now.key }
+    ensures { (m : Market) (a : Matching) → rows.now ≡ rows_in_order m a
+        → position (nat_eq choice.now.school) (schools_of m) ≡ Some choice.now.position
+        → result ≡ reason_by (cutoff m a choice.now.school) choice.now.key }
 {
     reason_by(rows[choice.position].cutoff, choice.key)
 }
@@ -80,11 +82,13 @@ pub(crate) fn row_at_rank(
     requires rows { length rows.now ≡ length papers.now.schools }
     requires stands { StandsAt papers.now entrant.now }
     // By whichever matching the rows were made.
-    ensures row { (a : Matching) → rows.now ≡ rows_in_order papers.now a → Holds a entrant.now → rank ≤ length (reasons_of papers.now a entrant.now.student)
+    ensures row { (a : Matching) → rows.now ≡ rows_in_order papers.now a → Holds a entrant.now
+        → rank ≤ length (reasons_of papers.now a entrant.now.student)
         → option_map (λ missed. missed.row) result ≡ slice_get (reasons_of papers.now a entrant.now.student) rank }
     ensures within { IsSome result → rank < length (choices_of papers.now entrant.now.student) }
     ensures student { IfSome result (λ missed. missed.row.student ≡ entrant.now.student) }
-    ensures position { IfSome result (λ missed. position (nat_eq missed.row.school) (schools_of papers.now) ≡ Some missed.position) }
+    ensures position { IfSome result (λ missed. position (nat_eq missed.row.school) (schools_of papers.now)
+        ≡ Some missed.position) }
 {
     let Some(school) = papers.choice_at(entrant.position as usize, rank) else {
         return None;
@@ -119,7 +123,8 @@ fn push_reasons(
     requires stands { StandsAt papers.now entrant }
     requires well_formed { WellFormed papers.now }
     // By whichever matching the rows were made.
-    ensures { OnOk result ((a : Matching) → rows.now ≡ rows_in_order papers.now a → Holds a entrant → reasons.new.items ≡ reasons.old.items ++ reasons_of papers.now a entrant.student) }
+    ensures { OnOk result ((a : Matching) → rows.now ≡ rows_in_order papers.now a → Holds a entrant
+        → reasons.new.items ≡ reasons.old.items ++ reasons_of papers.now a entrant.student) }
 {
     let mut rank = 0;
     'ranks: while let Some(found) = row_at_rank(rows, papers, &entrant, rank) {
@@ -140,7 +145,8 @@ fn reasons_among(
     requires stand { All (StandsAt papers.now) entrants.now }
     requires well_formed { WellFormed papers.now }
     // By whichever matching the rows were made.
-    ensures { IfOk result (λ reasons. (a : Matching) → rows.now ≡ rows_in_order papers.now a → All (Holds a) entrants.now → reasons.items ≡ flat_map (reasons_of papers.now a) (numbers_of entrants.now)) }
+    ensures { IfOk result (λ reasons. (a : Matching) → rows.now ≡ rows_in_order papers.now a
+        → All (Holds a) entrants.now → reasons.items ≡ flat_map (reasons_of papers.now a) (numbers_of entrants.now)) }
 {
     let mut reasons = Vec::new(alloc);
     for entrant in entrants {
@@ -153,7 +159,8 @@ fn reasons_among(
 /// students by rising number, and a student's rows in order of choice. The only error is want of
 /// memory. The cost is one pass over the students, a sort of their numbers, and a look-up for each row.
 pub fn reasons(alloc: Global, clearing: &Clearing) -> Result<Vec<ReasonRow>, AllocError>
-    ensures { IfOk result (λ rows. rows.items ≡ reason_rows clearing.now.standing.papers (matching_of clearing.now.standing)) }
+    ensures { IfOk result (λ rows. rows.items
+        ≡ reason_rows clearing.now.standing.papers (matching_of clearing.now.standing)) }
 {
     let papers = clearing.papers();
     let places = places_of(alloc, papers, clearing.places())?;

@@ -75,7 +75,8 @@ fn push_student(
     requires stands { StandsAt papers.now entrant }
     requires well_formed { WellFormed papers.now }
     // By whichever matching the rows were made.
-    ensures { OnOk result ((a : Matching) → rows.now ≡ rows_in_order papers.now a → Holds a entrant → text.new.items ≡ text.old.items ++ flat_map reason_line (reasons_of papers.now a entrant.student)) }
+    ensures { OnOk result ((a : Matching) → rows.now ≡ rows_in_order papers.now a → Holds a entrant
+        → text.new.items ≡ text.old.items ++ flat_map reason_line (reasons_of papers.now a entrant.student)) }
 {
     let mut rank = 0;
     'ranks: while let Some(found) = row_at_rank(rows, papers, &entrant, rank) {
@@ -103,7 +104,8 @@ pub(crate) fn push_reason_lines(
     requires well_formed { WellFormed papers.now }
     // By whichever matching the rows were made.
     ensures { OnOk result ((a : Matching) → rows.now ≡ rows_in_order papers.now a → All (Holds a) entrants.now
-        → text.new.items ≡ text.old.items ++ reason_lines (flat_map (reasons_of papers.now a) (numbers_of entrants.now))) }
+        → text.new.items ≡ text.old.items
+        ++ reason_lines (flat_map (reasons_of papers.now a) (numbers_of entrants.now))) }
 {
     let endings = Endings::new(alloc, rows)?;
     let mut number = Vec::with_capacity(alloc, LONGEST_NUMBER)?;
@@ -126,7 +128,8 @@ pub(crate) fn room_for_reasons(widths: Widths, rejections: usize) -> usize {
 /// the reason, by the students' rising numbers and in order of choice. The only error is want of
 /// memory. The cost is that of `reasons`, and memory is taken for the text and in proportion to the schools.
 pub fn reason_text(alloc: Global, clearing: &Clearing) -> Result<Vec<u8>, AllocError>
-    ensures { IfOk result (λ text. text.items ≡ reason_text clearing.now.standing.papers (matching_of clearing.now.standing)) }
+    ensures { IfOk result (λ text. text.items
+        ≡ reason_text clearing.now.standing.papers (matching_of clearing.now.standing)) }
 {
     let papers = clearing.papers();
     let places = places_of(alloc, papers, clearing.places())?;

@@ -54,7 +54,8 @@ pub fn write_report_of<W: Write>(
 ) -> Result<(), ReportFault>
     requires { length matched.places.now ≡ length matched.papers.now.students }
     ensures bytes { (a : Matching) → ArePlaces matched.entry.papers.now a matched.entry.places.now
-        → WritesReport matched.entry.papers.now a (W.contents (device_of to.old)) (W.contents (device_of to.new)) result }
+        → WritesReport matched.entry.papers.now a
+        (W.contents (device_of to.old)) (W.contents (device_of to.new)) result }
     ensures failed { has_failed to.new ≡ (has_failed to.old || is_write_fault result) }
 {
     let text = report_text_of(alloc, matched)?;

@@ -37,7 +37,8 @@ pub fn table_named(name: &str) -> Option<Table>
 /// The text of one table of the report of the standing assignment, with its header. The only error is want of memory.
 /// The cost is that of `assignment_text`, `cutoff_text` or `reason_text`.
 pub fn table_text(alloc: Global, clearing: &Clearing, table: Table) -> Result<Vec<u8>, AllocError>
-    ensures { IfOk result (λ text. text.items ≡ table_text clearing.now.standing.papers (matching_of clearing.now.standing) table) }
+    ensures { IfOk result (λ text. text.items
+        ≡ table_text clearing.now.standing.papers (matching_of clearing.now.standing) table) }
 {
     match table {
         Table::Assignment => assignment_text(alloc, clearing),

@@ -38,7 +38,8 @@ fn push_place(text: &mut Vec<u8>, held: Option<SchoolNo>) -> Result<(), AllocErr
 
 /// Adds the line of a student.
 fn push_line(text: &mut Vec<u8>, entrant: Entrant) -> Result<(), AllocError>
-    ensures { OnOk result ((a : Matching) → Holds a entrant → text.new.items ≡ text.old.items ++ assignment_line a entrant.student) }
+    ensures { OnOk result ((a : Matching) → Holds a entrant
+        → text.new.items ≡ text.old.items ++ assignment_line a entrant.student) }
 {
     push_number(text, u64::from(entrant.student.get()))?;
     text.extend_from_slice(b",")?;
@@ -48,7 +49,8 @@ fn push_line(text: &mut Vec<u8>, entrant: Entrant) -> Result<(), AllocError>
 
 /// Adds the header and the line of each student.
 fn push_assignments(text: &mut Vec<u8>, entrants: &[Entrant]) -> Result<(), AllocError>
-    ensures { OnOk result ((a : Matching) → All (Holds a) entrants.now → text.new.items ≡ text.old.items ++ assignment_lines a (numbers_of entrants.now)) }
+    ensures { OnOk result ((a : Matching) → All (Holds a) entrants.now
+        → text.new.items ≡ text.old.items ++ assignment_lines a (numbers_of entrants.now)) }
 {
     text.extend_from_slice(HEADER)?;
     for entrant in entrants {
@@ -68,7 +70,8 @@ fn room_for_assignment(widths: Widths, papers: &Papers) -> usize {
 /// the student has, or a dash. The only error is want of memory. The cost is a sort of the
 /// students' numbers, and a pass over them and over the schools.
 pub fn assignment_text(alloc: Global, clearing: &Clearing) -> Result<Vec<u8>, AllocError>
-    ensures { IfOk result (λ text. text.items ≡ assignment_text clearing.now.standing.papers (matching_of clearing.now.standing)) }
+    ensures { IfOk result (λ text. text.items
+        ≡ assignment_text clearing.now.standing.papers (matching_of clearing.now.standing)) }
 {
     let papers = clearing.papers();
     let places = places_of(alloc, papers, clearing.places())?;
@@ -98,7 +101,8 @@ fn push_report(
     requires places { length matched.places.now ≡ length matched.papers.now.students }
     requires well_formed { WellFormed matched.papers.now }
     // By whichever matching the rows were made.
-    ensures { OnOk result ((a : Matching) → ArePlaces matched.entry.papers.now a matched.entry.places.now → rows.now ≡ rows_in_order matched.entry.papers.now a
+    ensures { OnOk result ((a : Matching) → ArePlaces matched.entry.papers.now a matched.entry.places.now
+        → rows.now ≡ rows_in_order matched.entry.papers.now a
         → text.new.items ≡ text.old.items ++ report_text matched.entry.papers.now a) }
 {
     let papers = matched.papers;
@@ -117,7 +121,8 @@ fn push_report(
 /// students' and the schools' numbers, and one pass for the lines.
 pub fn report_text_of(alloc: Global, matched: Matched<'_>) -> Result<Vec<u8>, AllocError>
     requires { length matched.places.now ≡ length matched.papers.now.students }
-    ensures { IfOk result (λ text. (a : Matching) → ArePlaces matched.entry.papers.now a matched.entry.places.now → IsReportText matched.entry.papers.now a text.items) }
+    ensures { IfOk result (λ text. (a : Matching) → ArePlaces matched.entry.papers.now a matched.entry.places.now
+        → IsReportText matched.entry.papers.now a text.items) }
 {
     let rows = rows_in_order(alloc, matched.papers, matched.places)?;
     let mut text = Vec::new(alloc);
@@ -127,7 +132,8 @@ pub fn report_text_of(alloc: Global, matched: Matched<'_>) -> Result<Vec<u8>, Al
 
 /// The report text of the standing assignment, as `report_text_of` makes it.
 pub fn report_text(alloc: Global, clearing: &Clearing) -> Result<Vec<u8>, AllocError>
-    ensures { IfOk result (λ text. IsReportText clearing.now.standing.papers (matching_of clearing.now.standing) text.items) }
+    ensures { IfOk result (λ text. IsReportText clearing.now.standing.papers
+        (matching_of clearing.now.standing) text.items) }
 {
     let papers = clearing.papers();
     let places = places_of(alloc, papers, clearing.places())?;

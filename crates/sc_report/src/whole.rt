@@ -2,7 +2,7 @@
 ghost use Rattle.std.specs.Prelude.{◌≡◌, ℕ, List, ◌++◌, ◌-◌, ◌<◌, ◌≤◌, ◌||◌, length, take, vec_items, vec_len, IfOk, OnErr, is_err};
 ghost use Rattle.std.specs.Io.KnownBytes.{IsAtEnd};
 ghost use Rattle.sc_report.specs.Watched.{device_of, has_failed};
-ghost use Rattle.sc_report.specs.Whole.{GivesAtMost, GivesMore, ReadsWhole, WritesWhole, is_device_fault};
+ghost use Rattle.sc_report.specs.Whole.{GivesAtMost, GivesMore, ReaderFailsAsTold, ReadsWhole, WritesWhole};
 ghost use Rattle.sc_report.specs.declared.whole.ReadFault.TheVariants.{Device, OutOfMemory};
 
 use crate::watched::{DeviceFailed, Watched};
@@ -70,7 +70,7 @@ pub fn read_whole<R: Read>(
     ensures bytes { ReadsWhole vec_items limit (R.remaining (device_of from.old))
         (R.remaining (device_of from.new)) result }
     ensures within { IfOk result (λ given. vec_len given ≤ limit) }
-    ensures failed { has_failed from.new ≡ (has_failed from.old || is_device_fault result) }
+    ensures failed { ReaderFailsAsTold from.old from.new result }
 {
     let mut piece = vec![in alloc; 0u8; limit.min(PIECE)]?;
     let mut given = Vec::new(alloc);
@@ -96,7 +96,7 @@ fn read_piece<R: Read>(
         IsAtEnd (R.remaining (device_of from.new))) }
     ensures lost { OnErr result (GivesAtMost (length piece.old) (R.remaining (device_of from.old))
         (R.remaining (device_of from.new))) }
-    ensures failed { has_failed from.new ≡ (has_failed from.old || is_device_fault result) }
+    ensures failed { ReaderFailsAsTold from.old from.new result }
 {
     let count = from.read(piece)?;
     given.extend_from_slice(&piece[..count])?;

@@ -41,7 +41,8 @@ fn with_student(tally: Tally, key: Key) -> Tally
 /// is the one at the position, and has this school.
 fn held_at(papers: &Papers, position: usize, place: Option<SchoolNo>) -> Option<(usize, Key)>
     ensures within { IfSome result (λ found. found.0 < length papers.now.schools) }
-    ensures found { (a : Matching) (student : ℕ) → slice_get (students_of papers.now) position ≡ Some student → a student ≡ place → result ≡ held_at papers.now a student }
+    ensures found { (a : Matching) (student : ℕ) → slice_get (students_of papers.now) position ≡ Some student
+        → a student ≡ place → result ≡ held_at papers.now a student }
 {
     let Some(school) = place else {
         return None;
@@ -71,7 +72,8 @@ fn count_student(tallies: &mut [Tally], papers: &Papers, position: usize, place:
     requires few { All (λ t. t.held ≤ position) tallies.old }
     ensures schools { length tallies.new ≡ length papers.now.schools }
     ensures few { All (λ t. t.held ≤ position + 1) tallies.new }
-    ensures counted { (a : Matching) (student : ℕ) → slice_get (students_of papers.now) position ≡ Some student → a student ≡ place → AreTalliesAmong papers.now a (take position (students_of papers.now)) tallies.old
+    ensures counted { (a : Matching) (student : ℕ) → slice_get (students_of papers.now) position ≡ Some student
+        → a student ≡ place → AreTalliesAmong papers.now a (take position (students_of papers.now)) tallies.old
         → AreTalliesAmong papers.now a (take (position + 1) (students_of papers.now)) tallies.new }
 {
     if let Some((at, key)) = held_at(papers, position, place) {
@@ -119,7 +121,8 @@ pub fn tallies(
     places: &[Option<SchoolNo>],
 ) -> Result<Vec<Tally>, AllocError>
     requires { length places.now ≡ length papers.now.students }
-    ensures tallies { IfOk result (λ tallies. (a : Matching) → ArePlaces papers.now a places.now → AreTallies papers.now a tallies.items) }
+    ensures tallies { IfOk result (λ tallies. (a : Matching) → ArePlaces papers.now a places.now
+        → AreTallies papers.now a tallies.items) }
     ensures schools { IfOk result (λ tallies. length tallies.items ≡ length papers.now.schools) }
     ensures well_formed { OnOk result (WellFormed papers.now) }
 {
