@@ -3,7 +3,8 @@ use Rattle.std.proofs.Common.{◌≡◌, refl, sym, ap, ◌∙◌, subst, inl, i
 use Rattle.std.proofs.lemmas.Bool.{cases_eq, eq-eqb, ne_eqb, cond-true, cond-false}
 use Rattle.std.proofs.lemmas.List.{take_rest, take_all, length-append, length-take}
 use Rattle.std.specs.Io.KnownBytes.{Consumes, IsAtEnd}
-use Rattle.sc_report.specs.Comparing.{common, differing_line, line_ends, ComparesWith, Meets}
+use Rattle.sc_report.specs.Comparing.{common, differing_line, line_ends, ComparesWith}
+use Rattle.sc_report.specs.Steps.{Meets}
 use Rattle.sc_report.specs.Whole.{GivesAtMost}
 use Rattle.sc_report.specs.declared.comparing.Met.{Met}
 use Rattle.sc_report.proofs.KnownLemmas.{take-more, Consumes-more}

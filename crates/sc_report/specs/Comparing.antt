@@ -1,9 +1,5 @@
 -- What comparing the bytes of a reader with a text finds, where those bytes are known.
-use Rattle.std.specs.Prelude.{◌≡◌, ℕ, ◌+◌, ◌<◌, ◌≤◌, ◌==◌, List, [], ◌∷◌, Option, None, Some, length, take, count_by, if◌then◌else◌, ⊤}
-use Rattle.std.specs.Io.KnownBytes.{Consumes}
-use Rattle.sc_report.specs.declared.comparing.Meeting.{Meeting}
-use Rattle.sc_report.specs.declared.comparing.Meeting.TheVariants.{Alike, Ended}
-use Rattle.sc_report.specs.declared.comparing.Met.{Met}
+use Rattle.std.specs.Prelude.{◌≡◌, ℕ, ◌+◌, ◌==◌, List, [], ◌∷◌, Option, None, Some, count_by, if◌then◌else◌, ⊤}
 
 -- what two texts begin with alike
 abbrev pub common : List ℕ → List ℕ → List ℕ
@@ -25,13 +21,3 @@ abbrev pub ComparesWith : List ℕ → Option (List ℕ) → Option (List ℕ) �
 ComparesWith text None left found = ⊤
 ComparesWith text (Some bytes) left None = (bytes ≡ text) × (left ≡ Some [])
 ComparesWith text (Some bytes) left (Some line) = (bytes ≡ text → ⊥) × (line ≡ differing_line text bytes)
-
--- a reader gave some bytes, of which so many begin this text
-abbrev pub Meets : List ℕ → Option (List ℕ) → Option (List ℕ) → Met → Type 0
-Meets text bytes left met =
-    (came : List ℕ) × Consumes bytes left came × (length came ≡ met.came) × (met.alike ≡ length (common text came)) × (take met.alike text ≡ common text came)
-
--- a reader that had these bytes goes on as a text does, beyond so many of its bytes; or what comparing it found
-abbrev pub GoesOn : List ℕ → ℕ → Option (List ℕ) → Option (List ℕ) → Meeting → Type 0
-GoesOn text len bytes left (Alike more) = (len < more) × (more ≤ length text) × Consumes bytes left (take more text)
-GoesOn text len bytes left (Ended difference) = ComparesWith text bytes left difference

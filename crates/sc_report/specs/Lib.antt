@@ -15,3 +15,4 @@ pub mod Table
 pub mod Report
 pub mod Reply
 pub mod LogText
+pub mod Steps

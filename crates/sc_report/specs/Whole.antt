@@ -1,5 +1,5 @@
 -- What writing a text whole and reading an input whole do to the bytes of a device, where those are known.
-use Rattle.std.specs.Prelude.{◌≡◌, ℕ, ◌≤◌, ◌||◌, Bool, true, false, List, ◌++◌, Option, Result, length, take, drop, ⊤, None, Some, Ok, Err, MatchResult}
+use Rattle.std.specs.Prelude.{◌≡◌, ℕ, ◌≤◌, ◌||◌, Bool, true, false, List, Option, Result, length, take, drop, ⊤, None, Some, Ok, Err, MatchResult}
 use Rattle.std.specs.Io.KnownBytes.{Appends, Consumes}
 use Rattle.sc_report.specs.Watched.{has_failed}
 use Rattle.sc_report.specs.declared.watched.Watched.{Watched}
@@ -23,11 +23,6 @@ GivesFirst limit (Some bytes) (Some left) given = (given ≡ take limit bytes) �
 -- a reader gave no more than `limit` bytes
 abbrev pub GivesAtMost : ℕ → Option (List ℕ) → Option (List ℕ) → Type 0
 GivesAtMost limit bytes left = (given : List ℕ) × Consumes bytes left given × (length given ≤ limit)
-
--- a reader gave `count` more bytes, which stand after those that it had given
-abbrev pub GivesMore : Option (List ℕ) → Option (List ℕ) → List ℕ → List ℕ → ℕ → Type 0
-GivesMore bytes left old new count =
-    (came : List ℕ) × (new ≡ old ++ came) × (length came ≡ count) × Consumes bytes left came
 
 -- what a whole read gave at `Ok`, and how much it took at `Err`
 abbrev pub ReadsWhole : {V E : Type 0} → (V → List ℕ) → ℕ → Option (List ℕ) → Option (List ℕ) → Result V E → Type 0

@@ -1,7 +1,8 @@
 //! Comparing an input with a text, piece by piece.
 ghost use Rattle.std.specs.Prelude.{◌≡◌, ℕ, ◌+◌, ◌<◌, ◌≤◌, List, Option, length, take, IfOk, OnErr};
 ghost use Rattle.std.specs.Io.KnownBytes.{Consumes, IsAtEnd};
-ghost use Rattle.sc_report.specs.Comparing.{common, line_ends, ComparesWith, GoesOn, Meets};
+ghost use Rattle.sc_report.specs.Comparing.{common, line_ends, ComparesWith};
+ghost use Rattle.sc_report.specs.Steps.{GoesOn, Meets};
 ghost use Rattle.sc_report.specs.Watched.{device_of};
 ghost use Rattle.sc_report.specs.Whole.{GivesAtMost, ReaderFailsAsTold};
 

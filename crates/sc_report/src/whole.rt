@@ -1,8 +1,9 @@
 //! Writing a text whole and reading an input whole.
 ghost use Rattle.std.specs.Prelude.{◌≡◌, ℕ, List, ◌++◌, ◌-◌, ◌<◌, ◌≤◌, ◌||◌, length, take, vec_items, vec_len, IfOk, OnErr, is_err};
 ghost use Rattle.std.specs.Io.KnownBytes.{IsAtEnd};
+ghost use Rattle.sc_report.specs.Steps.{GivesMore};
 ghost use Rattle.sc_report.specs.Watched.{device_of, has_failed};
-ghost use Rattle.sc_report.specs.Whole.{GivesAtMost, GivesMore, ReaderFailsAsTold, ReadsWhole, WritesWhole};
+ghost use Rattle.sc_report.specs.Whole.{GivesAtMost, ReaderFailsAsTold, ReadsWhole, WritesWhole};
 ghost use Rattle.sc_report.specs.declared.whole.ReadFault.TheVariants.{Device, OutOfMemory};
 
 use crate::watched::{DeviceFailed, Watched};
