@@ -167,11 +167,7 @@ one-cause m number text (Refused r) (Refused t) why other =
     let same = one-line text number number why.0 other.0 why.1 other.1 in
     let refused : Some r ≡ Some t = sym why.2 ∙ ap (verdict m) same.amendment ∙ other.2 in cc
 one-cause m number text (Refused r) OutOfMemory why other = absurd other
-one-cause m number text OutOfMemory Shape why other = absurd why
-one-cause m number text OutOfMemory Number why other = absurd why
-one-cause m number text OutOfMemory JournalFull why other = absurd why
-one-cause m number text OutOfMemory (Refused t) why other = absurd why
-one-cause m number text OutOfMemory OutOfMemory why other = absurd why
+one-cause m number text OutOfMemory _ why other = absurd why
 
 same-fault : (f g : JournalFault) → f.line ≡ g.line → f.cause ≡ g.cause → f ≡ g
 same-fault f g line cause = ap (λ n. record { line = n; cause = f.cause }) line ∙ ap (λ c. record { line = g.line; cause = c }) cause

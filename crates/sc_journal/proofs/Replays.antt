@@ -12,7 +12,7 @@ use Rattle.sc_journal.specs.Replaying.{IsCauseOrMemory, IsLineEnd, IsTaken, line
 use Rattle.sc_journal.specs.Spelling.{IsInRanges}
 use Rattle.sc_journal.proofs.Growing.{accepted-more, after-more, journal-more}
 use Rattle.sc_journal.specs.declared.fault.JournalCause.{JournalCause}
-use Rattle.sc_journal.specs.declared.fault.JournalCause.TheVariants.{Shape, Number, JournalFull, Refused, OutOfMemory}
+use Rattle.sc_journal.specs.declared.fault.JournalCause.TheVariants.{OutOfMemory}
 use Rattle.sc_journal.specs.declared.fault.JournalFault.{JournalFault}
 use Rattle.sc_journal.specs.declared.journal.Tail.TheVariants.{Torn, Whole}
 
@@ -98,8 +98,5 @@ pub first-fault : (before now : StampedPapers) (bytes : List ℕ) (start number 
     → IsLineEnd bytes start end → IsCauseOrMemory now.papers (number + 1) (slice_range bytes start end) cause
     → IsReplayFault before bytes (record { line = line_of (number + 1) cause; cause = cause })
 first-fault before now bytes start number end cause at line (inl memory) = inl (rw memory refl)
-first-fault before now bytes start number end Shape at line (inr why) = inr (is-first before now bytes start number end _ at line refl why)
-first-fault before now bytes start number end Number at line (inr why) = inr (is-first before now bytes start number end _ at line refl why)
-first-fault before now bytes start number end JournalFull at line (inr why) = inr (is-first before now bytes start number end _ at line refl why)
-first-fault before now bytes start number end (Refused refusal) at line (inr why) = inr (is-first before now bytes start number end _ at line refl why)
 first-fault before now bytes start number end OutOfMemory at line (inr why) = absurd why
+first-fault before now bytes start number end _ at line (inr why) = inr (is-first before now bytes start number end _ at line refl why)

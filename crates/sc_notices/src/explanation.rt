@@ -1,5 +1,5 @@
 //! What came of each choice, as text.
-ghost use Rattle.std.specs.Prelude.{◌≡◌, ◌<◌, ◌++◌, ◌||◌, codes, decimal, flat_map, is_some, length, nat_eq, position, All, IfOk, IfSome, OnOk, Some};
+ghost use Rattle.std.specs.Prelude.{◌≡◌, ◌<◌, ◌++◌, ◌||◌, codes, decimal, is_some, length, nat_eq, position, All, IfOk, IfSome, OnOk, Some};
 ghost use Rattle.sc_papers.specs.Market.{Market, is_student, schools_of};
 ghost use Rattle.sc_papers.specs.Matching.{Matching};
 ghost use Rattle.sc_papers.specs.WellFormed.{WellFormed, WithinLimits};
@@ -9,7 +9,7 @@ ghost use Rattle.sc_report.specs.Entrants.{numbers_of, Holds, StandsAt};
 ghost use Rattle.sc_report.specs.Reason.{reason_by};
 ghost use Rattle.sc_notices.specs.Explanation.{is_given, outcome_by};
 ghost use Rattle.sc_notices.specs.ExplanationText.{choice_fields, explanation_lines, explanation_of, explanation_text, cutoff_part, own_fields, own_part, student_lines};
-ghost use Rattle.sc_notices.specs.Lottery.{cutoff_rank, lottery_rank};
+ghost use Rattle.sc_notices.specs.Lottery.{lottery_rank};
 ghost use Rattle.sc_notices.specs.Tickets.{IsLotteryOf};
 
 use crate::fields::push_field;

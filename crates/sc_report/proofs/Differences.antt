@@ -1,11 +1,10 @@
 -- How far two texts are alike, and what a reader that was met so far has.
-use Rattle.std.proofs.Common.{◌≡◌, refl, sym, ap, ◌∙◌, subst, inl, inr, ℕ, zero, suc, ◌+◌, ◌-◌, ◌<◌, ◌≤◌, ◌==◌, nat_eq, true, false, List, [], ◌∷◌, ◌++◌, Option, None, Some, length, take, drop, get_or, cond, take-append-drop, arith, append-nil}
+use Rattle.std.proofs.Common.{◌≡◌, refl, sym, ap, ◌∙◌, subst, inl, inr, ℕ, zero, suc, ◌+◌, ◌-◌, ◌<◌, ◌≤◌, ◌==◌, List, [], ◌∷◌, ◌++◌, Option, None, Some, length, take, drop, get_or, take-append-drop, arith, append-nil}
 use Rattle.std.proofs.lemmas.Bool.{cases_eq, eq-eqb, ne_eqb, cond-true, cond-false}
 use Rattle.std.proofs.lemmas.List.{take_rest, take_all, length-append, length-take}
 use Rattle.std.specs.Io.KnownBytes.{Consumes, IsAtEnd}
 use Rattle.sc_report.specs.Comparing.{common, differing_line, line_ends, ComparesWith}
 use Rattle.sc_report.specs.Steps.{Meets}
-use Rattle.sc_report.specs.Whole.{GivesAtMost}
 use Rattle.sc_report.specs.declared.comparing.Met.{Met}
 use Rattle.sc_report.proofs.KnownLemmas.{take-more, Consumes-more}
 

@@ -1,10 +1,10 @@
 -- Lemmas on texts that are written and inputs that are read piece by piece.
-use Rattle.std.proofs.Common.{◌≡◌, ℕ, ◌+◌, ◌-◌, ◌≤◌, Bool, true, false, ◌||◌, List, ◌++◌, Option, None, Some, refl, sym, ap, ◌∙◌, subst, length, take, drop, take-append-drop, arith, append-nil}
-use Rattle.std.proofs.lemmas.List.{drop-take, take-take, take_rest, take_all, drop_all, take_at, drop_at, length-append}
-use Rattle.std.specs.Io.KnownBytes.{Appends, Consumes, IsAtEnd}
+use Rattle.std.proofs.Common.{◌≡◌, ℕ, ◌+◌, ◌-◌, ◌≤◌, Bool, true, false, ◌||◌, List, ◌++◌, Option, refl, sym, ap, ◌∙◌, subst, length, take, drop, take-append-drop, arith}
+use Rattle.std.proofs.lemmas.List.{drop-take, take-take, take_rest, length-append}
+use Rattle.std.specs.Io.KnownBytes.{Appends, Consumes}
 use Rattle.std.proofs.KnownBytes.{Appends-trans, Consumes-trans}
 use Rattle.std.specs.Prelude.{Result, Ok, Err, IsErr}
-use Rattle.sc_report.specs.Whole.{GivesFirst, GivesAtMost, ReadsWhole}
+use Rattle.sc_report.specs.Whole.{GivesAtMost, ReadsWhole}
 
 -- a prefix and what was taken after it make a longer prefix
 pub take-more : (at count : ℕ) (text : List ℕ) → take (at + count) text ≡ take at text ++ take count (drop at text)
