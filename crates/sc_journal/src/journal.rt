@@ -34,7 +34,7 @@ fn line_end(bytes: &[u8], start: usize) -> Option<usize>
 }
 
 /// The amendment of the line of this number.
-fn numbered(alloc: Global, number: u64, text: &[u8]) -> Result<Amendment, JournalCause>
+fn amendment_of(alloc: Global, number: u64, text: &[u8]) -> Result<Amendment, JournalCause>
     ensures { MatchResult result (IsLineOf text.now number) (IsReadCause number text.now) }
 {
     let Ok(line) = read_line(alloc, text) else {
@@ -63,7 +63,7 @@ fn apply_line(
     ensures { MatchResult result (λ done. IsTaken amended.old amended.new number text.now)
         (IsCauseOrMemory amended.old.papers number text.now) }
 {
-    let amendment = match numbered(alloc, number, text) {
+    let amendment = match amendment_of(alloc, number, text) {
         Ok(amendment) => amendment,
         Err(cause) => return Err(cause),
     };

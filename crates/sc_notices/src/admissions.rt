@@ -10,7 +10,7 @@ ghost use Rattle.sc_notices.specs.KeyLists.{AreCandidates};
 use crate::candidates::{Candidates, find_candidates};
 use crate::explanation::push_own;
 use crate::fields::push_field;
-use crate::key_lists::ordered;
+use crate::key_lists::sorted_keys;
 use crate::status::{Status, push_status};
 use sc_decimal::push_number;
 use sc_papers::{Key, Papers, SchoolNo};
@@ -77,9 +77,9 @@ fn push_school(
     let Some(position) = papers.school_position(school) else {
         unreachable!()
     };
-    let admitted = ordered(alloc, candidates.admitted.at(position))?;
+    let admitted = sorted_keys(alloc, candidates.admitted.at(position))?;
     push_list(text, Status::Admitted, school, admitted.as_slice())?;
-    let waiting = ordered(alloc, candidates.waiting.at(position))?;
+    let waiting = sorted_keys(alloc, candidates.waiting.at(position))?;
     push_list(text, Status::Waiting, school, waiting.as_slice())
 }
 

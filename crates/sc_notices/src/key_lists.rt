@@ -64,7 +64,7 @@ impl KeyLists {
 }
 
 /// These keys, best first. The only error is want of memory.
-pub(crate) fn ordered(alloc: Global, keys: &[Key]) -> Result<Vec<Key>, AllocError>
+pub(crate) fn sorted_keys(alloc: Global, keys: &[Key]) -> Result<Vec<Key>, AllocError>
     ensures { IfOk result (λ ordered. ordered.items ≡ in_order keys.now) }
 {
     let mut ordered = Vec::from_slice(alloc, keys)?;

@@ -55,7 +55,7 @@ pub(crate) fn listings(alloc: Global, papers: &Papers) -> Result<Vec<u32>, Alloc
 }
 
 /// How many students list a school, by the counts of all schools; nobody lists one that is not in the papers.
-pub(crate) fn listed(counts: &[u32], papers: &Papers, school: SchoolNo) -> u32
+pub(crate) fn listings_of(counts: &[u32], papers: &Papers, school: SchoolNo) -> u32
     requires counts { AreListings papers.now (students_of papers.now) counts.now }
     requires well_formed { WellFormed papers.now }
     ensures { result ≡ listed papers.now school }

@@ -5,7 +5,7 @@ ghost use Rattle.sc_repair.specs.Standing.{matching_of};
 ghost use Rattle.sc_notices.specs.SummaryText.{rank_line, rank_lines, row_line, school_lines, summary_text, unplaced_line};
 
 use crate::fields::{push_field, push_last_field};
-use crate::listings::{listed, listings};
+use crate::listings::{listings, listings_of};
 use crate::ranks::rank_counts;
 use sc_papers::{Assignment, LONGEST_LIST, MOST_STUDENTS, Papers};
 use sc_repair::Clearing;
@@ -80,7 +80,11 @@ fn push_schools(text: &mut Vec<u8>, alloc: Global, clearing: &Clearing) -> Resul
     let counts = listings(alloc, papers)?;
     text.extend_from_slice(SCHOOL_HEADER)?;
     for row in rows.as_slice() {
-        push_school(text, row, listed(counts.as_slice(), papers, row.school))?;
+        push_school(
+            text,
+            row,
+            listings_of(counts.as_slice(), papers, row.school),
+        )?;
     }
     Ok(())
 }

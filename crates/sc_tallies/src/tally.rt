@@ -17,7 +17,7 @@ pub struct Tally {
 }
 
 /// The later of a key and the last one so far.
-fn later(last: Option<Key>, key: Key) -> Option<Key>
+fn later_key(last: Option<Key>, key: Key) -> Option<Key>
     ensures { result ≡ or_later last key }
 {
     match last {
@@ -33,7 +33,7 @@ fn with_student(tally: Tally, key: Key) -> Tally
 {
     Tally {
         held: tally.held + 1,
-        last: later(tally.last, key),
+        last: later_key(tally.last, key),
     }
 }
 

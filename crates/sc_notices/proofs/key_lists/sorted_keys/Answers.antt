@@ -1,7 +1,7 @@
 use Rattle.std.proofs.Common.{◌∙◌, ap}
 use Rattle.sc_seats.specs.Roll.{in_order}
 use Rattle.sc_notices.proofs.OrderedLemmas.{sorted-in_order}
-use Rattle.sc_notices.proofs.key_lists.ordered.Goals as goal
+use Rattle.sc_notices.proofs.key_lists.sorted_keys.Goals as goal
 
 pub returns : goal.returns
 returns c =

@@ -1,6 +1,6 @@
 use Rattle.std.proofs.Common.{sym}
 use Rattle.sc_notices.proofs.ListingLemmas.{listed-away, listed-there}
-use Rattle.sc_notices.proofs.listings.listed.Goals as goal
+use Rattle.sc_notices.proofs.listings.listings_of.Goals as goal
 
 pub returns-in-Some : goal.returns-in-Some
 returns-in-Some c = listed-there c.args.papers.now c.args.counts.now c.args.school c.in-Some.position c.requires.counts (sym c.in-Some.ensures)
