@@ -13,7 +13,7 @@ use Rattle.sc_intake.specs.declared.fault.Cause.{Cause}
 use Rattle.sc_intake.specs.declared.fault.Cause.TheVariants.{TooLong, Header, Fields, Number, Range, Twice, NoList, NotInRoster, Refused, OutOfMemory}
 use Rattle.sc_intake.specs.declared.fault.IntakeFault.{IntakeFault}
 use Rattle.sc_intake.specs.declared.fault.Source.{Source}
-use Rattle.sc_intake.specs.declared.fault.Source.TheVariants.{Schools, Roster, Lists, Script, Log, Journal, Bundle, Report}
+use Rattle.sc_intake.specs.declared.fault.Source.TheVariants.{Schools, Roster, Lists, Script}
 use Rattle.sc_checks.specs.Choices.{refusal_of, refused_told, ToldList}
 use Rattle.sc_checks.specs.Columns.{column_name, first_with, Field}
 use Rattle.sc_checks.specs.Forms.{columns_of, form_of}
@@ -59,10 +59,7 @@ file_of files Schools = Some files.schools
 file_of files Roster = Some files.roster
 file_of files Lists = Some files.lists
 file_of files Script = Some files.script
-file_of files Log = None
-file_of files Journal = None
-file_of files Bundle = None
-file_of files Report = None
+file_of files _ = None
 
 -- where a row stands: the line of the file, or else its number among the rows
 abbrev pub place_text : List ℕ → ℕ → Option Row → List ℕ
@@ -175,10 +172,7 @@ row_of files Schools number = row_at files.schools.text number
 row_of files Roster number = row_at files.roster.text number
 row_of files Lists number = row_at files.lists.text number
 row_of files Script number = row_at files.script.text number
-row_of files Log number = None
-row_of files Journal number = None
-row_of files Bundle number = None
-row_of files Report number = None
+row_of files _ number = None
 
 -- the line of a fault of this input and this row
 abbrev pub line_by : Option File → Option Row → IntakeFault → List ℕ

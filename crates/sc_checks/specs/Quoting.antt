@@ -12,10 +12,6 @@ byte_text byte =
     else if nat_le 32 byte && nat_le byte 126 then byte ∷ []
     else 92 ∷ 120 ∷ hex_digit (byte / 16) ∷ hex_digit (byte % 16) ∷ []
 
--- how many bytes of a value are told
-abbrev pub most_told : ℕ
-most_told = 40
-
 -- a value between quotes; of a longer one its first 40 bytes, with dots behind
 abbrev pub quoted : List ℕ → List ℕ
 quoted value = codes "\"" ++ flat_map byte_text (take 40 value) ++ codes "\"" ++ (if nat_lt 40 (length value) then codes "..." else [])

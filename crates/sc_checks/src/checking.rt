@@ -1,5 +1,5 @@
 //! Every fault of the files of an opening and of a script, from their texts.
-ghost use Rattle.std.specs.Prelude.{◌≡◌, ◌++◌, ◌∷◌, [], ℕ, List, IfNone, IfOk, MatchOption, OnOk, is_some};
+ghost use Rattle.std.specs.Prelude.{◌≡◌, ◌++◌, ◌∷◌, [], ℕ, List, IfNone, IfOk, MatchOption, OnOk};
 ghost use Rattle.sc_intake.specs.Checking.{known_schools};
 ghost use Rattle.sc_checks.specs.Checks.{every_fault, faults_of_good};
 ghost use Rattle.sc_checks.specs.Left.{left_alone, left_found, left_together, AreJudged, AreSameGood};
@@ -54,7 +54,8 @@ impl<'a> Model for Faults<'a> {
 
 /// The next fault of each file alone, in the order schools, roster, lists.
 fn next_alone(files: &mut Files<'_>) -> Result<Option<IntakeFault>, AllocError>
-    ensures next { IfOk result (λ found. MatchOption found (left_alone files.old ≡ []) (λ fault. left_alone files.old ≡ fault ∷ left_alone files.new)) }
+    ensures next { IfOk result (λ found.
+        MatchOption found (left_alone files.old ≡ []) (λ fault. left_alone files.old ≡ fault ∷ left_alone files.new)) }
     ensures end { IfOk result (λ found. IfNone found (AreJudged files.new)) }
     ensures good { OnOk result (AreSameGood files.old files.new) }
 {
@@ -75,7 +76,8 @@ fn judge_together(
     files: &Files<'_>,
 ) -> Result<Found, AllocError>
     requires { AreJudged files.now }
-    ensures found { IfOk result (λ found. found.faults.items ≡ faults_of_good seed (known_schools schools.now) files.now.schools.good files.now.roster.good files.now.lists.good) }
+    ensures found { IfOk result (λ found. found.faults.items ≡ faults_of_good seed
+        (known_schools schools.now) files.now.schools.good files.now.roster.good files.now.lists.good) }
     ensures told { IfOk result (λ found. found.told ≡ 0) }
 {
     let (Some(known), Some(roster), Some(lists)) = (
@@ -113,7 +115,8 @@ fn found_together(
 
 /// The next of faults that were found.
 fn next_found(found: &mut Found) -> Option<IntakeFault>
-    ensures { MatchOption result ((left_found found.old ≡ []) × (left_found found.new ≡ [])) (λ fault. left_found found.old ≡ fault ∷ left_found found.new) }
+    ensures { MatchOption result ((left_found found.old ≡ []) × (left_found found.new ≡ []))
+        (λ fault. left_found found.old ≡ fault ∷ left_found found.new) }
 {
     let fault = *found.faults.as_slice().get(found.told)?;
     found.told += 1;
@@ -129,8 +132,10 @@ fn next_together(
     together: &mut Option<Found>,
 ) -> Result<Option<IntakeFault>, AllocError>
     requires { AreJudged files.now }
-    ensures { IfOk result (λ found. MatchOption found ((left_together seed schools.now files.now together.old ≡ []) × (left_together seed schools.now files.now together.new ≡ []))
-        (λ fault. left_together seed schools.now files.now together.old ≡ fault ∷ left_together seed schools.now files.now together.new)) }
+    ensures { IfOk result (λ found. MatchOption found ((left_together seed schools.now files.now together.old ≡ [])
+        × (left_together seed schools.now files.now together.new ≡ []))
+        (λ fault. left_together seed schools.now files.now together.old
+        ≡ fault ∷ left_together seed schools.now files.now together.new)) }
 {
     let mut found = found_together(alloc, seed, schools, files, together.take())?;
     let next = next_found(&mut found);
@@ -155,7 +160,8 @@ pub fn every_fault<'a>(
     lists: &'a [u8],
     script: &'a [u8],
 ) -> Result<Faults<'a>, AllocError>
-    ensures { IfOk result (λ faults. (any : List ℕ) → faults ≡ every_fault any schools.now roster.now lists.now script.now) }
+    ensures { IfOk result (λ faults. (any : List ℕ)
+        → faults ≡ every_fault any schools.now roster.now lists.now script.now) }
 {
     let files = Files {
         schools: judge_schools(alloc, schools)?,
@@ -181,7 +187,8 @@ impl<'a> Faults<'a> {
     /// The cost of all of them is that of reading the files and making their papers, and of reading the script; the
     /// memory that of the rows that have no fault and of their papers.
     pub fn next_fault(&mut self) -> Result<Option<IntakeFault>, AllocError>
-        ensures { IfOk result (λ found. MatchOption found ((self.old ≡ []) × (self.new ≡ [])) (λ fault. self.old ≡ fault ∷ self.new)) }
+        ensures { IfOk result (λ found. MatchOption found ((self.old ≡ []) × (self.new ≡ []))
+            (λ fault. self.old ≡ fault ∷ self.new)) }
     {
         if let Some(fault) = next_alone(&mut self.files)? {
             return Ok(Some(fault));

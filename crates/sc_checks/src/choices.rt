@@ -50,7 +50,7 @@ pub(crate) fn refusal_of(fault: &IntakeFault) -> Option<Refusal>
 }
 
 /// How often a school stands in a list.
-fn times(school: SchoolNo, schools: &[SchoolNo]) -> usize
+fn times_in(school: SchoolNo, schools: &[SchoolNo]) -> usize
     ensures { result ≡ count_by (nat_eq school) schools.now }
 {
     let mut count = 0;
@@ -69,8 +69,8 @@ fn is_refused(refusal: &Refusal, schools: &[SchoolNo]) -> bool
     match refusal {
         Refusal::EmptyList => schools.is_empty(),
         Refusal::ListTooLong => schools.len() > LONGEST_LIST,
-        Refusal::UnknownSchool { school } => times(*school, schools) > 0,
-        Refusal::SchoolTwice { school } => times(*school, schools) > 1,
+        Refusal::UnknownSchool { school } => times_in(*school, schools) > 0,
+        Refusal::SchoolTwice { school } => times_in(*school, schools) > 1,
         _ => false,
     }
 }
@@ -111,7 +111,8 @@ fn lines_of<'a>(
     text: &'a [u8],
     lists: &[ListRow],
 ) -> Result<Vec<Option<RowLine<'a>>>, AllocError>
-    ensures { IfOk result (λ lines. map (option_map row_view) lines.items ≡ map (λ list. row_at text.now list.row) lists.now) }
+    ensures { IfOk result (λ lines. map (option_map row_view) lines.items
+        ≡ map (λ list. row_at text.now list.row) lists.now) }
 {
     let mut finder = RowFinder::new(text);
     let mut lines = Vec::new(alloc);
@@ -164,7 +165,8 @@ fn line_of<'a>(
 
 /// Judges a file up to its next fault, which is not told, and says whether there was one.
 fn pass_fault(sheet: &mut Sheet<'_, ListRow>) -> Result<bool, AllocError>
-    ensures passed { IfOk result (λ passed. MatchBool passed (length sheet.new.faults < length sheet.old.faults) (IsJudged sheet.new)) }
+    ensures passed { IfOk result (λ passed. MatchBool passed (length sheet.new.faults < length sheet.old.faults)
+        (IsJudged sheet.new)) }
     ensures good { OnOk result (sheet.new.good ≡ sheet.old.good) }
 {
     match sheet.next_fault() {
@@ -230,13 +232,14 @@ impl<'a> ListTable<'a> {
     }
 
     /// The list of the student of a row of the roster, where it has what the papers refuse.
-    pub(crate) fn refused(
+    pub(crate) fn refused_list(
         &self,
         refusal: &Refusal,
         row: Option<RowLine<'_>>,
     ) -> Option<RefusedList<'a>>
         requires judged { IsJudged self.now.sheet }
-        requires positions { ArePositions self.now.positions (unwrap_or self.now.sheet.good []) (unwrap_or self.now.sheet.good []) }
+        requires positions { ArePositions self.now.positions (unwrap_or self.now.sheet.good [])
+            (unwrap_or self.now.sheet.good []) }
         ensures { (text : List ℕ) → IsTableOf text (good_lists text) self.now
             → option_map refused_view result ≡ refused_told text refusal.now (option_map row_view row.entry) }
     {

@@ -22,14 +22,16 @@ pub fn reading_a_file_is_judging_it()
 /// Three files make papers exactly where they have no fault. Where they make none, the fault that is told is the first
 /// of all their faults.
 pub fn files_make_papers_where_they_have_no_fault()
-    ensures none { (seed schools roster lists : List ℕ) → (is_ok (papers_in seed schools roster lists) ≡ true ↔ faults_in seed schools roster lists ≡ []) }
+    ensures none { (seed schools roster lists : List ℕ)
+        → (is_ok (papers_in seed schools roster lists) ≡ true ↔ faults_in seed schools roster lists ≡ []) }
     ensures first { (seed schools roster lists : List ℕ) (fault : IntakeFault)
         → (papers_in seed schools roster lists ≡ Err fault ↔ BeginsWith fault (faults_in seed schools roster lists)) }
 {}
 
 /// The faults of three files are the same under every seed.
 pub fn no_seed_changes_the_faults()
-    ensures { (seed other schools roster lists : List ℕ) → faults_in seed schools roster lists ≡ faults_in other schools roster lists }
+    ensures { (seed other schools roster lists : List ℕ)
+        → faults_in seed schools roster lists ≡ faults_in other schools roster lists }
 {}
 
 /// A script without a byte has no fault.
@@ -40,5 +42,6 @@ pub fn empty_script_has_no_fault()
 /// Where a text has no quote, the rows that are told by their lines are the records that are read of it, each with its
 /// fields.
 pub fn rows_that_are_told_are_those_that_are_read()
-    ensures { (text : List ℕ) → has_quote text ≡ false → records default_config (strip_bom text) ≡ map (λ row. fields_from [] row.bytes) (rows_of text) }
+    ensures { (text : List ℕ) → has_quote text ≡ false
+        → records default_config (strip_bom text) ≡ map (λ row. fields_from [] row.bytes) (rows_of text) }
 {}

@@ -115,7 +115,8 @@ fn cut_line<'a>(rest: Rest<'a>) -> (RowLine<'a>, Rest<'a>)
 /// The next row of what is left, and what is left after it, if there is a row.
 fn next_row<'a>(from: Rest<'a>) -> Option<(RowLine<'a>, Rest<'a>)>
     requires { from.line + length from.text.now ≤ 2 ^ 63 }
-    ensures row { MatchOption result (rows_left from.entry ≡ []) (λ found. rows_left from.entry ≡ row_view found.0 ∷ rows_left found.1) }
+    ensures row { MatchOption result (rows_left from.entry ≡ [])
+        (λ found. rows_left from.entry ≡ row_view found.0 ∷ rows_left found.1) }
     ensures less { IfSome result (λ found. found.1.line + length found.1.text.now ≤ 2 ^ 63) }
 {
     let mut rest = from;

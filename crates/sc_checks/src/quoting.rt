@@ -52,7 +52,8 @@ fn told_of(value: &[u8]) -> &[u8]
 
 /// Adds dots where a value is longer than what is told of it.
 fn push_dots(text: &mut Vec<u8>, value: &[u8]) -> Result<(), AllocError>
-    ensures { OnOk result (text.new.items ≡ text.old.items ++ (if nat_lt 40 (length value.now) then codes "..." else [])) }
+    ensures { OnOk result (text.new.items ≡ text.old.items
+        ++ (if nat_lt 40 (length value.now) then codes "..." else [])) }
 {
     if value.len() > MOST_TOLD {
         text.extend_from_slice(b"...")?;

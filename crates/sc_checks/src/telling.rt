@@ -26,7 +26,8 @@ pub(crate) fn push_place(
     number: u64,
     row: Option<RowLine<'_>>,
 ) -> Result<(), AllocError>
-    ensures { OnOk result (text.new.items ≡ text.old.items ++ place_text name.now number (option_map row_view row.entry)) }
+    ensures { OnOk result (text.new.items ≡ text.old.items
+        ++ place_text name.now number (option_map row_view row.entry)) }
 {
     text.extend_from_slice(name.as_bytes())?;
     match row {
@@ -127,7 +128,8 @@ fn push_count(text: &mut Vec<u8>, form: Form, line: &[u8]) -> Result<(), AllocEr
 
 /// Adds a field in print, with its column.
 pub(crate) fn push_shown(text: &mut Vec<u8>, column: Column, value: &[u8]) -> Result<(), AllocError>
-    ensures { OnOk result (text.new.items ≡ text.old.items ++ shown_text (record { column = column; value = value.now })) }
+    ensures { OnOk result (text.new.items ≡ text.old.items
+        ++ shown_text (record { column = column; value = value.now })) }
 {
     text.extend_from_slice(b", ")?;
     text.extend_from_slice(column.name().as_bytes())?;
@@ -142,7 +144,8 @@ fn push_value(
     column: Column,
     value: &[u8],
 ) -> Result<(), AllocError>
-    ensures { OnOk result (text.new.items ≡ text.old.items ++ field_text cause.now (record { column = column; value = value.now })) }
+    ensures { OnOk result (text.new.items ≡ text.old.items
+        ++ field_text cause.now (record { column = column; value = value.now })) }
 {
     push_shown(text, column, value)?;
     text.extend_from_slice(b": ")?;
@@ -164,7 +167,8 @@ fn push_field(
     cause: &Cause,
     field: &Option<ToldField<'_>>,
 ) -> Result<(), AllocError>
-    ensures { OnOk result (text.new.items ≡ text.old.items ++ about_field source cause.now (option_map field_view field.now)) }
+    ensures { OnOk result (text.new.items ≡ text.old.items
+        ++ about_field source cause.now (option_map field_view field.now)) }
 {
     match field {
         Some(field) => push_value(text, cause, field.column, field.value),
@@ -180,7 +184,8 @@ fn push_fields(
     form: Form,
     line: &[u8],
 ) -> Result<(), AllocError>
-    ensures { OnOk result (text.new.items ≡ text.old.items ++ about_fields source cause.now form (fields_from [] line.now)) }
+    ensures { OnOk result (text.new.items ≡ text.old.items
+        ++ about_fields source cause.now form (fields_from [] line.now)) }
 {
     push_subject(text, form, line)?;
     let field = first_with(cause, line, columns_of(form));
@@ -195,7 +200,8 @@ fn push_whole(
     form: Form,
     line: &[u8],
 ) -> Result<(), AllocError>
-    ensures { OnOk result (text.new.items ≡ text.old.items ++ about_subject source cause.now form (fields_from [] line.now)) }
+    ensures { OnOk result (text.new.items ≡ text.old.items
+        ++ about_subject source cause.now form (fields_from [] line.now)) }
 {
     push_subject(text, form, line)?;
     push_general(text, source, cause)
@@ -236,7 +242,8 @@ fn push_refused(
     form: Form,
     line: &[u8],
 ) -> Result<(), AllocError>
-    ensures { OnOk result (text.new.items ≡ text.old.items ++ about_refused refusal.now form (fields_from [] line.now)) }
+    ensures { OnOk result (text.new.items ≡ text.old.items
+        ++ about_refused refusal.now form (fields_from [] line.now)) }
 {
     push_subject(text, form, line)?;
     push_refused_field(text, refusal, line)?;
@@ -270,7 +277,8 @@ pub(crate) fn push_row(
     cause: &Cause,
     row: Option<RowLine<'_>>,
 ) -> Result<(), AllocError>
-    ensures { OnOk result (text.new.items ≡ text.old.items ++ about_row source cause.now (option_map row_view row.entry)) }
+    ensures { OnOk result (text.new.items ≡ text.old.items
+        ++ about_row source cause.now (option_map row_view row.entry)) }
 {
     match row {
         Some(row) => push_line(text, source, cause, row.bytes),

@@ -1,8 +1,8 @@
 //! Faults as text.
-ghost use Rattle.std.specs.Prelude.{◌≡◌, ◌≤◌, ◌++◌, [], length, IfOk, IfSome, OnOk, codes, option_map};
+ghost use Rattle.std.specs.Prelude.{◌≡◌, ◌≤◌, ◌++◌, [], length, IfOk, IfSome, OnOk, codes, option_map, Some};
 ghost use Rattle.sc_intake.specs.FaultText.{fault_text};
-ghost use Rattle.sc_checks.specs.Choices.{good_lists, refusal_of, refused_told};
-ghost use Rattle.sc_checks.specs.FaultLines.{choices_line, choices_text, end_text, faults_text, line_by, line_if, line_of, line_unless, list_text, row_of};
+ghost use Rattle.sc_checks.specs.Choices.{good_lists, refusal_of};
+ghost use Rattle.sc_checks.specs.FaultLines.{choices_line, choices_text, end_text, faults_text, line_by, line_if, line_of, list_text, row_of};
 ghost use Rattle.sc_checks.specs.Representation.{file_view, files_view, refused_view, row_view, FindsIn, IsTableOf, Tells};
 
 use crate::checking::Faults;
@@ -87,7 +87,8 @@ fn push_fault(
     row: Option<RowLine<'_>>,
     fault: &IntakeFault,
 ) -> Result<(), AllocError>
-    ensures { OnOk result (text.new.items ≡ text.old.items ++ line_by (option_map file_view file.entry) (option_map row_view row.entry) fault.now) }
+    ensures { OnOk result (text.new.items ≡ text.old.items
+        ++ line_by (option_map file_view file.entry) (option_map row_view row.entry) fault.now) }
 {
     let Some(file) = file else {
         return push_unnamed(text, alloc, fault);
@@ -117,24 +118,32 @@ fn push_list(text: &mut Vec<u8>, name: &str, list: &RefusedList<'_>) -> Result<(
     push_choices(text, list.line)
 }
 
+/// A student of the roster whom the papers refuse: why they do, the row of the roster, if it is told by its line, and the
+/// fault.
+#[derive(Clone, Copy)]
+struct RefusedRow<'a> {
+    refusal: Refusal,
+    row: Option<RowLine<'a>>,
+    fault: &'a IntakeFault,
+}
+
 /// Adds the line of a student's choices that the papers refuse.
 fn push_choices_line(
     text: &mut Vec<u8>,
     alloc: Global,
     files: &InputFiles<'_>,
-    refusal: &Refusal,
-    row: Option<RowLine<'_>>,
+    refused: &RefusedRow<'_>,
     list: &RefusedList<'_>,
-    fault: &IntakeFault,
 ) -> Result<(), AllocError>
-    ensures { OnOk result (text.new.items ≡ text.old.items ++ choices_line (files_view files.now) refusal.now (option_map row_view row.entry) (refused_view list.now) fault.now) }
+    ensures { OnOk result (text.new.items ≡ text.old.items ++ choices_line (files_view files.now)
+        refused.now.refusal (option_map row_view refused.now.row) (refused_view list.now) refused.now.fault.now) }
 {
     push_list(text, files.lists.name, list)?;
     text.extend_from_slice(b" (")?;
-    push_place(text, files.roster.name, fault.row, row)?;
+    push_place(text, files.roster.name, refused.fault.row, refused.row)?;
     text.extend_from_slice(b"): ")?;
-    push_refusal_words(text, refusal)?;
-    push_end(text, alloc, &fault.cause)
+    push_refusal_words(text, &refused.refusal)?;
+    push_end(text, alloc, &refused.fault.cause)
 }
 
 /// Adds the line of a student whom the papers refuse.
@@ -143,17 +152,15 @@ fn push_refusal(
     alloc: Global,
     files: &InputFiles<'_>,
     table: &ListTable<'_>,
-    refusal: &Refusal,
-    row: Option<RowLine<'_>>,
-    fault: &IntakeFault,
+    refused: &RefusedRow<'_>,
 ) -> Result<(), AllocError>
     requires { IsTableOf files.now.lists.text.now (good_lists files.now.lists.text.now) table.now }
-    ensures { OnOk result (text.new.items ≡ text.old.items
-        ++ line_unless (refused_told files.now.lists.text.now refusal.now (option_map row_view row.entry)) (files_view files.now) refusal.now (option_map row_view row.entry) fault.now) }
+    ensures { OnOk result (text.new.items ≡ text.old.items ++ line_if (Some refused.now.refusal)
+        (files_view files.now) (option_map row_view refused.now.row) refused.now.fault.now) }
 {
-    match table.refused(refusal, row) {
-        Some(list) => push_choices_line(text, alloc, files, refusal, row, &list, fault),
-        None => push_fault(text, alloc, Some(files.roster), row, fault),
+    match table.refused_list(&refused.refusal, refused.row) {
+        Some(list) => push_choices_line(text, alloc, files, refused, &list),
+        None => push_fault(text, alloc, Some(files.roster), refused.row, refused.fault),
     }
 }
 
@@ -186,17 +193,16 @@ fn push_refused(
     text: &mut Vec<u8>,
     alloc: Global,
     teller: &mut Teller<'_>,
-    refusal: Refusal,
-    row: Option<RowLine<'_>>,
-    fault: &IntakeFault,
+    refused: &RefusedRow<'_>,
 ) -> Result<(), AllocError>
     requires { Tells teller.old }
-    ensures line { OnOk result (text.new.items ≡ text.old.items ++ line_unless (refused_told teller.old.files.lists.text.now refusal (option_map row_view row.entry)) (files_view teller.old.files) refusal (option_map row_view row.entry) fault.now) }
+    ensures line { OnOk result (text.new.items ≡ text.old.items ++ line_if (Some refused.now.refusal)
+        (files_view teller.old.files) (option_map row_view refused.now.row) refused.now.fault.now) }
     ensures files { teller.new.files ≡ teller.old.files }
     ensures tells { Tells teller.new }
 {
     let table = table_in(alloc, teller.files.lists.text, teller.table.take())?;
-    let pushed = push_refusal(text, alloc, &teller.files, &table, &refusal, row, fault);
+    let pushed = push_refusal(text, alloc, &teller.files, &table, refused);
     teller.table = Some(table);
     pushed
 }
@@ -210,12 +216,20 @@ fn push_found(
     fault: &IntakeFault,
 ) -> Result<(), AllocError>
     requires { Tells teller.old }
-    ensures line { OnOk result (text.new.items ≡ text.old.items ++ line_if (refusal_of fault.now.source fault.now.cause) (files_view teller.old.files) (option_map row_view row.entry) fault.now) }
+    ensures line { OnOk result (text.new.items ≡ text.old.items ++ line_if (refusal_of fault.now.source fault.now.cause)
+        (files_view teller.old.files) (option_map row_view row.entry) fault.now) }
     ensures files { teller.new.files ≡ teller.old.files }
     ensures tells { Tells teller.new }
 {
     match refusal_of(fault) {
-        Some(refusal) => push_refused(text, alloc, teller, refusal, row, fault),
+        Some(refusal) => {
+            let refused = RefusedRow {
+                refusal,
+                row,
+                fault,
+            };
+            push_refused(text, alloc, teller, &refused)
+        }
         None => push_fault(
             text,
             alloc,
@@ -285,9 +299,11 @@ impl<'a> FaultLines<'a> {
 
     /// Adds the line of the next fault to a text, and says whether there is one.
     fn push_next(&mut self, text: &mut Vec<u8>) -> Result<bool, AllocError>
-        ensures lines { OnOk result (text.new.items ++ faults_text self.old.files self.new.left ≡ text.old.items ++ faults_text self.old.files self.old.left) }
+        ensures lines { OnOk result (text.new.items ++ faults_text self.old.files self.new.left
+            ≡ text.old.items ++ faults_text self.old.files self.old.left) }
         ensures files { self.new.files ≡ self.old.files }
-        ensures found { IfOk result (λ found. MatchBool found (length self.new.left < length self.old.left) ((self.old.left ≡ []) × (self.new.left ≡ []))) }
+        ensures found { IfOk result (λ found. MatchBool found (length self.new.left < length self.old.left)
+            ((self.old.left ≡ []) × (self.new.left ≡ []))) }
     {
         match self.faults.next_fault() {
             Ok(Some(fault)) => {
@@ -301,7 +317,8 @@ impl<'a> FaultLines<'a> {
 
     /// Adds the lines of the next faults, as long as the text has less than 64 KiB.
     fn push_piece(&mut self, text: &mut Vec<u8>) -> Result<(), AllocError>
-        ensures lines { OnOk result (text.new.items ++ faults_text self.old.files self.new.left ≡ text.old.items ++ faults_text self.old.files self.old.left) }
+        ensures lines { OnOk result (text.new.items ++ faults_text self.old.files self.new.left
+            ≡ text.old.items ++ faults_text self.old.files self.old.left) }
         ensures files { self.new.files ≡ self.old.files }
         ensures fewer { OnOk result (length self.new.left ≤ length self.old.left) }
     {
@@ -323,9 +340,11 @@ impl<'a> FaultLines<'a> {
     /// the rows of its faults do not rise; and of judging the lists once more, where the papers refuse a student. The
     /// memory, beside that of the faults, is that of one piece and one line, and of the table of the lists.
     pub fn next_piece(&mut self, text: &mut Vec<u8>) -> Result<bool, AllocError>
-        ensures lines { OnOk result (text.new.items ++ faults_text self.old.files self.new.left ≡ faults_text self.old.files self.old.left) }
+        ensures lines { OnOk result (text.new.items ++ faults_text self.old.files self.new.left
+            ≡ faults_text self.old.files self.old.left) }
         ensures files { self.new.files ≡ self.old.files }
-        ensures found { IfOk result (λ found. MatchBool found (length self.new.left < length self.old.left) (self.old.left ≡ [])) }
+        ensures found { IfOk result (λ found. MatchBool found (length self.new.left < length self.old.left)
+            (self.old.left ≡ [])) }
     {
         text.clear();
         if !self.push_next(text)? {
