@@ -32,30 +32,9 @@ fn match_papers<W: Write>(
     }
 }
 
-/// Writes the report of papers, or their log, flushes it, and answers the papers.
-fn match_and_keep<W: Write>(
-    alloc: Global,
-    papers: Papers,
-    show_log: bool,
-    out: &mut Watched<W>,
-) -> Result<Papers, RunFault>
-    ensures bytes { WritesMatch show_log (Ok papers)
-        (W.contents (device_of out.old)) (W.contents (device_of out.new)) result }
-    ensures papers { IfOk result (λ kept. kept ≡ papers) }
-    ensures failed { has_failed out.new ≡ (has_failed out.old || is_output_fault result) }
-{
-    match match_papers(alloc, &papers, show_log, out) {
-        Ok(()) => Ok(papers),
-        Err(fault) => {
-            drop(papers);
-            Err(fault)
-        }
-    }
-}
-
-/// Writes the report of the papers that the texts hold, or their log, flushes it, and answers the papers. The texts are given up once the papers are read, so that their
-/// memory serves the settling.
-fn match_owned<W: Write>(
+/// Writes the report of the papers that the texts hold, or their log, flushes it, and answers the papers. The texts are
+/// given up once the papers are read, so that their memory serves the settling.
+fn match_texts<W: Write>(
     alloc: Global,
     seed: &Seed,
     texts: OpeningTexts,
@@ -67,9 +46,16 @@ fn match_owned<W: Write>(
     ensures papers { IfOk result (λ papers. opening_in seed.now (texts_of texts) ≡ Ok papers) }
     ensures failed { has_failed out.new ≡ (has_failed out.old || is_output_fault result) }
 {
-    match read_owned(alloc, seed, texts) {
-        Ok(papers) => match_and_keep(alloc, papers, show_log, out),
-        Err(fault) => Err(fault),
+    let papers = match read_owned(alloc, seed, texts) {
+        Ok(papers) => papers,
+        Err(fault) => return Err(fault),
+    };
+    match match_papers(alloc, &papers, show_log, out) {
+        Ok(()) => Ok(papers),
+        Err(fault) => {
+            drop(papers);
+            Err(fault)
+        }
     }
 }
 
@@ -99,5 +85,5 @@ pub fn match_files<R: Read, W: Write>(
         Ok(texts) => texts,
         Err(fault) => return Err(fault),
     };
-    match_owned(alloc, seed, texts, show_log, out)
+    match_texts(alloc, seed, texts, show_log, out)
 }

@@ -54,24 +54,6 @@ pub fn write_text<W: Write>(text: &[u8], out: &mut Watched<W>) -> Result<(), Run
     flush_output(out)
 }
 
-/// Writes the report of papers and what the students have, and does not flush it.
-fn write_report_text<W: Write>(
-    alloc: Global,
-    matched: Matched<'_>,
-    out: &mut Watched<W>,
-) -> Result<(), RunFault>
-    requires { length matched.places.now ≡ length matched.papers.now.students }
-    ensures bytes { (a : Matching) → ArePlaces matched.entry.papers.now a matched.entry.places.now → WritesText (IsReportText matched.entry.papers.now a)
-        (W.contents (device_of out.old)) (W.contents (device_of out.new)) result }
-    ensures failed { has_failed out.new ≡ (has_failed out.old || is_output_fault result) }
-{
-    match write_report_of(alloc, matched, out) {
-        Ok(()) => Ok(()),
-        Err(ReportFault::Write) => Err(RunFault::WriteOut),
-        Err(ReportFault::OutOfMemory) => Err(RunFault::OutOfMemory),
-    }
-}
-
 /// Writes the report of the standing assignment of a clearing, and does not flush it.
 pub fn write_standing_report<W: Write>(
     alloc: Global,
@@ -100,10 +82,11 @@ pub fn write_flushed_report<W: Write>(
         (W.contents (device_of out.old)) (W.contents (device_of out.new)) result }
     ensures failed { has_failed out.new ≡ (has_failed out.old || is_output_fault result) }
 {
-    if let Err(fault) = write_report_text(alloc, matched, out) {
-        return Err(fault);
+    match write_report_of(alloc, matched, out) {
+        Ok(()) => flush_output(out),
+        Err(ReportFault::Write) => Err(RunFault::WriteOut),
+        Err(ReportFault::OutOfMemory) => Err(RunFault::OutOfMemory),
     }
-    flush_output(out)
 }
 
 /// Writes a log of rejections, and flushes it.
