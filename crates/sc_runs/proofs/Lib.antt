@@ -6,8 +6,6 @@ pub mod Calls
 pub mod ReportOrder
 pub mod Seeds
 pub mod Standings
-pub mod Explanations
-pub mod SchoolLists
 pub mod Changes
 pub mod LastLines
 pub mod Checks

@@ -11,6 +11,7 @@ pub mod Auditing
 pub mod Publishing
 pub mod Replaying
 pub mod Standing
+pub mod Notices
 pub mod Explaining
 pub mod Admitting
 pub mod Changing

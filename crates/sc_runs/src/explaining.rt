@@ -1,27 +1,22 @@
 //! From files to what came of each choice.
 
-ghost use Rattle.std.specs.Prelude.{◌≡◌, ◌||◌, ◌++◌, ℕ, true, Option, None, Some, All, is_some};
-ghost use Rattle.sc_papers.specs.Market.{Market};
-ghost use Rattle.sc_papers.specs.Matching.{Matching};
-ghost use Rattle.sc_repair.specs.Standing.{matching_of};
+ghost use Rattle.std.specs.Prelude.{◌≡◌, ◌||◌, ◌++◌, All, is_some};
 ghost use Rattle.sc_report.specs.Watched.{device_of, has_failed};
-ghost use Rattle.sc_runs.specs.Explaining.{explanation, is_known, student_in, ExplainsStanding, WritesExplanation};
+ghost use Rattle.sc_runs.specs.Explaining.{explanations, student_in, ExplainsStanding};
 ghost use Rattle.sc_runs.specs.Inputs.{opening_turns, TakesWithin};
-ghost use Rattle.sc_runs.specs.Opening.{is_output_fault, papers_in};
+ghost use Rattle.sc_runs.specs.Opening.{is_output_fault};
 ghost use Rattle.sc_runs.specs.Standing.{journal_turns, TellsFiles};
 
 use crate::fault::RunFault;
-use crate::inputs::{Opening, OpeningSlices, read_opening_and};
-use crate::standing::stand;
-use crate::writing::write_text;
+use crate::inputs::Opening;
+use crate::notices::{Subject, Told, notice_files};
 use sc_decimal::read_number;
-use sc_intake::Source;
 use sc_journal::Tail;
 use sc_notices::{explanation_of, explanation_text};
 use sc_papers::{Seed, StudentNo};
 use sc_repair::Clearing;
 use sc_report::Watched;
-use std::alloc::Global;
+use std::alloc::{AllocError, Global};
 use std::io::{Read, Write};
 
 /// What explaining came to.
@@ -44,97 +39,15 @@ pub fn read_student(text: &[u8]) -> Option<StudentNo>
     }
 }
 
-/// Writes an explanation, and flushes it.
-fn write_explained<W: Write>(
-    text: &[u8],
-    tail: Tail,
-    out: &mut Watched<W>,
-) -> Result<Explained, RunFault>
-    // Of whichever papers and matching it is.
-    ensures bytes { (student : Option ℕ) (m : Market) (a : Matching) → is_known student m ≡ true → text.now ≡ explanation student m a
-        → WritesExplanation student m a tail (W.contents (device_of out.old)) (W.contents (device_of out.new)) result }
-    ensures failed { has_failed out.new ≡ (has_failed out.old || is_output_fault result) }
-{
-    match write_text(text, out) {
-        Ok(()) => Ok(Explained::Written { tail }),
-        Err(fault) => Err(fault),
-    }
-}
+impl Subject for StudentNo {
+    ghost notice = { explanations };
 
-/// Writes the explanation of all students, and flushes it.
-fn explain_all<W: Write>(
-    alloc: Global,
-    clearing: &Clearing,
-    tail: Tail,
-    out: &mut Watched<W>,
-) -> Result<Explained, RunFault>
-    ensures bytes { WritesExplanation None clearing.now.standing.papers (matching_of clearing.now.standing) tail
-        (W.contents (device_of out.old)) (W.contents (device_of out.new)) result }
-    ensures failed { has_failed out.new ≡ (has_failed out.old || is_output_fault result) }
-{
-    match explanation_text(alloc, clearing) {
-        Ok(text) => write_explained(text.as_slice(), tail, out),
-        Err(_) => Err(RunFault::OutOfMemory),
+    fn told_of_all(alloc: Global, clearing: &Clearing) -> Result<Vec<u8>, AllocError> {
+        explanation_text(alloc, clearing)
     }
-}
 
-/// Writes the explanation of one student, and flushes it, or answers that the student is not in the papers.
-fn explain_one<W: Write>(
-    alloc: Global,
-    clearing: &Clearing,
-    student: StudentNo,
-    tail: Tail,
-    out: &mut Watched<W>,
-) -> Result<Explained, RunFault>
-    ensures bytes { WritesExplanation (Some student) clearing.now.standing.papers (matching_of clearing.now.standing) tail
-        (W.contents (device_of out.old)) (W.contents (device_of out.new)) result }
-    ensures failed { has_failed out.new ≡ (has_failed out.old || is_output_fault result) }
-{
-    match explanation_of(alloc, clearing, student) {
-        Ok(Some(text)) => write_explained(text.as_slice(), tail, out),
-        Ok(None) => Ok(Explained::UnknownStudent { student }),
-        Err(_) => Err(RunFault::OutOfMemory),
-    }
-}
-
-/// Writes the explanation of one student, or of all where none is asked for.
-fn explain_standing<W: Write>(
-    alloc: Global,
-    clearing: &Clearing,
-    student: Option<StudentNo>,
-    tail: Tail,
-    out: &mut Watched<W>,
-) -> Result<Explained, RunFault>
-    ensures bytes { WritesExplanation student clearing.now.standing.papers (matching_of clearing.now.standing) tail
-        (W.contents (device_of out.old)) (W.contents (device_of out.new)) result }
-    ensures failed { has_failed out.new ≡ (has_failed out.old || is_output_fault result) }
-{
-    match student {
-        Some(student) => explain_one(alloc, clearing, student, tail, out),
-        None => explain_all(alloc, clearing, tail, out),
-    }
-}
-
-/// Explains what stands after the amendments of a journal over the papers that the texts hold.
-fn explain_texts<W: Write>(
-    alloc: Global,
-    seed: &Seed,
-    texts: OpeningSlices<'_>,
-    journal: &[u8],
-    student: Option<StudentNo>,
-    out: &mut Watched<W>,
-) -> Result<Explained, RunFault>
-    ensures explained { ExplainsStanding student (papers_in seed.now texts.entry.schools.now texts.entry.roster.now texts.entry.lists.now) journal.now
-        (W.contents (device_of out.old)) (W.contents (device_of out.new)) result }
-    ensures failed { has_failed out.new ≡ (has_failed out.old || is_output_fault result) }
-{
-    match stand(alloc, seed, texts, journal) {
-        Ok((clearing, tail)) => {
-            let explained = explain_standing(alloc, &clearing, student, tail, out);
-            drop(clearing);
-            explained
-        }
-        Err(fault) => Err(fault),
+    fn told_of(self, alloc: Global, clearing: &Clearing) -> Result<Option<Vec<u8>>, AllocError> {
+        explanation_of(alloc, clearing, self)
     }
 }
 
@@ -157,22 +70,16 @@ pub fn explain_files<R: Read, W: Write>(
     student: Option<StudentNo>,
     out: &mut Watched<W>,
 ) -> Result<Explained, RunFault>
-    ensures explained { TellsFiles (ExplainsStanding student) seed.now (opening_turns R.remaining opening.old opening.new) (journal_turns R.remaining journal.old journal.new)
+    ensures explained { TellsFiles (ExplainsStanding student) seed.now
+        (opening_turns R.remaining opening.old opening.new) (journal_turns R.remaining journal.old journal.new)
         (W.contents (device_of out.old)) (W.contents (device_of out.new)) result }
     ensures failed { has_failed out.new ≡ (has_failed out.old || is_output_fault result) }
     ensures limit { All TakesWithin (opening_turns R.remaining opening.old opening.new ++ journal_turns R.remaining journal.old journal.new) }
     ensures stays { is_some journal.new ≡ is_some journal.old }
 {
-    let texts = match read_opening_and(alloc, opening, journal, Source::Journal) {
-        Ok(texts) => texts,
-        Err(fault) => return Err(fault),
-    };
-    explain_texts(
-        alloc,
-        seed,
-        texts.opening.as_slices(),
-        texts.last.as_slice(),
-        student,
-        out,
-    )
+    match notice_files(alloc, seed, opening, journal, student, out) {
+        Ok(Told::Written { tail }) => Ok(Explained::Written { tail }),
+        Ok(Told::Unknown { subject }) => Ok(Explained::UnknownStudent { student: subject }),
+        Err(fault) => Err(fault),
+    }
 }

@@ -1,24 +1,23 @@
 use Rattle.std.proofs.Common.{◌++◌}
+use Rattle.sc_journal.specs.declared.journal.Tail.{Tail}
 use Rattle.sc_report.specs.Watched.{device_of, has_failed}
-use Rattle.sc_runs.specs.Explaining.{ExplainsStanding}
 use Rattle.sc_runs.specs.Inputs.{opening_turns, texts_of}
-use Rattle.sc_runs.specs.Standing.{journal_turns}
-use Rattle.sc_runs.specs.declared.explaining.Explained.{Explained}
+use Rattle.sc_runs.specs.Standing.{journal_turns, IsStandingText, WritesOfStanding}
 use Rattle.sc_runs.proofs.Standings.{TellsFiles-read, unfailed-unread}
-use Rattle.sc_runs.proofs.explaining.explain_files.Goals as goal
+use Rattle.sc_runs.proofs.telling.tell_files.Goals as goal
 
 pub returns-in-Err-clause-failed : goal.returns-in-Err-clause-failed
 returns-in-Err-clause-failed g c =
-    unfailed-unread Explained (has_failed c.args.out.now)
+    unfailed-unread Tail (has_failed c.args.out.now)
     (opening_turns g.R.Read.remaining c.args.opening.now c.read_opening_and.new.opening ++ journal_turns g.R.Read.remaining c.args.journal.now c.read_opening_and.new.last)
     c.in-Err.fault c.in-Err.ensures.ended
 
-pub returns-clause-explained : goal.returns-clause-explained
-returns-clause-explained g c =
-    TellsFiles-read (ExplainsStanding c.args.student) c.args.seed.now
+pub returns-clause-told : goal.returns-clause-told
+returns-clause-told g c =
+    TellsFiles-read (WritesOfStanding (IsStandingText c.args.which)) c.args.seed.now
     (opening_turns g.R.Read.remaining c.args.opening.now c.read_opening_and.new.opening) (journal_turns g.R.Read.remaining c.args.journal.now c.read_opening_and.new.last)
     (texts_of c.in-Ok.texts.opening) c.in-Ok.texts.last.items
     c.as_slices.result.schools.now c.as_slices.result.roster.now c.as_slices.result.lists.now c.as_slice.result.now
-    (g.W.Write.contents (device_of c.args.out.now)) (g.W.Write.contents (device_of c.explain_texts.new.out)) c.explain_texts.result
+    (g.W.Write.contents (device_of c.args.out.now)) (g.W.Write.contents (device_of c.tell_texts.new.out)) c.tell_texts.result
     c.in-Ok.ensures.read c.in-Ok.ensures.last (record { schools_same = c.as_slices.ensures.schools; roster_same = c.as_slices.ensures.roster; lists_same = c.as_slices.ensures.lists })
-    c.as_slice.ensures.value c.explain_texts.ensures.explained
+    c.as_slice.ensures.value c.tell_texts.ensures.told
