@@ -32,10 +32,6 @@ pub record AreWrittenTo (files : Files) (all : List IntakeFault) (old : Option (
   pub lines : faults_text files all ≡ text ++ faults_text files left
   pub answer : checked_of all ≡ checked_with checked left
 
--- nothing was written so far
-pub AreWrittenTo-none : (files : Files) (all : List IntakeFault) (old : Option (List ℕ)) → AreWrittenTo files all old all old Clean
-AreWrittenTo-none files all old = record { text = []; wrote = Appends-nothing old; lines = refl; answer = refl }
-
 left-some : (all left later : List IntakeFault) (checked : Checked) → checked_of all ≡ checked_with checked left → length later < length left → checked_of all ≡ Faulty
 left-some all (fault ∷ left) later Clean is fewer = is
 left-some all [] later Clean is fewer = absurd (grind (arith, fewer))
@@ -51,18 +47,6 @@ AreWrittenTo-more files all old left later now after checked piece so fewer line
   lines = so.lines ∙ ap (λ (t : List ℕ). so.text ++ t) (sym lines) ∙ sym (append_assoc so.text piece (faults_text files later));
   answer = left-some all left later checked so.answer fewer;
 }
-
--- all lines were written
-pub AreWrittenTo-all : (files : Files) (all : List IntakeFault) (old : Option (List ℕ)) (left : List IntakeFault) (now : Option (List ℕ)) (checked : Checked)
-    → AreWrittenTo files all old left now checked → left ≡ [] → WritesFaults files all old now (Ok checked)
-AreWrittenTo-all files all old left now checked so end = (answer checked (so.answer ∙ ap (checked_with checked) end), subst (Appends old now) text so.wrote)
-  where
-    text : so.text ≡ faults_text files all
-    text = sym (so.lines ∙ ap (λ (faults : List IntakeFault). so.text ++ faults_text files faults) end ∙ append-nil so.text)
-
-    answer : (c : Checked) → checked_of all ≡ checked_with c [] → c ≡ checked_of all
-    answer Clean is = sym is
-    answer Faulty is = sym is
 
 -- a prefix of a text is one of a longer text
 prefix-more : (old now : Option (List ℕ)) (text more : List ℕ) → AppendsPrefix old now text → AppendsPrefix old now (text ++ more)
@@ -100,10 +84,6 @@ AreWrittenTo-failed files all old left later now after checked piece WriteJourna
 pub unfailed-still : (before now after : Bool) → after ≡ (now || false) → now ≡ before → after ≡ before
 unfailed-still before true after called since = called ∙ since
 unfailed-still before false after called since = called ∙ since
-
--- the lines were flushed
-pub WritesFaults-flushed : (files : Files) (all : List IntakeFault) (a b c : Option (List ℕ)) (checked : Checked) → WritesFaults files all a b (Ok checked) → Keeps b c → WritesFaults files all a c (Ok checked)
-WritesFaults-flushed files all a b c checked wrote kept = (wrote.0, Appends-kept a b c (faults_text files all) wrote.1 kept)
 
 -- or they were not
 pub WritesFaults-unflushed : (files : Files) (all : List IntakeFault) (a b c : Option (List ℕ)) (checked : Checked) (fault : RunFault) → WritesFaults files all a b (Ok checked) → Keeps b c → fault ≡ WriteOut → WritesFaults files all a c (Err fault)

@@ -17,10 +17,6 @@ later earlier (Some parts) = Some (record { before = earlier ++ parts.before; af
 abbrev pub marker_here : List ℕ → Bool → List ℕ → Option (List ℕ)
 marker_here marker fresh bytes = if fresh then after_marker marker bytes else None
 
-pub later-nil : (parts : Option Parts) → later [] parts ≡ parts
-later-nil None = refl
-later-nil (Some parts) = refl
-
 later-one_later : (earlier : List ℕ) (byte : ℕ) (parts : Option Parts) → later earlier (one_later byte parts) ≡ later (earlier ++ byte ∷ []) parts
 later-one_later earlier byte None = refl
 later-one_later earlier byte (Some parts) =
@@ -54,10 +50,6 @@ cut_at-found marker bytes fresh at after within found =
 -- the parts that are left to find from a place on
 abbrev pub parts_from : List ℕ → List ℕ → ℕ → Option Parts
 parts_from marker bytes at = later (take at bytes) (cut_at marker (begins_line bytes at) (drop at bytes))
-
--- the first place begins a line
-pub parts_from-start : (marker bytes : List ℕ) → parts_from marker bytes 0 ≡ cut_at marker true bytes
-parts_from-start marker bytes = later-nil (cut_at marker true bytes)
 
 -- where the marker stands nowhere, no line is the marker
 no-marker : (marker bytes : List ℕ) (fresh : Bool) → (starts_with nat_eq bytes marker ≡ true → ⊥) → marker_here marker fresh bytes ≡ None

@@ -76,9 +76,6 @@ GivesAtMost-first limit (Some bytes) (Some left) given gave = (
   (let cut = length-take limit bytes in omega arith),
 )
 
-pub TakesWithin-first : (turn : Turn) (given : List ℕ) → GivesFirst 67108865 turn.left_before turn.left_after given → TakesWithin turn
-TakesWithin-first turn given gave = GivesAtMost-first 67108865 turn.left_before turn.left_after given gave
-
 -- of a reader that is not come to, nothing is taken
 GivesAtMost-none : (limit : ℕ) (bytes left : Option (List ℕ)) → left ≡ bytes → GivesAtMost limit bytes left
 GivesAtMost-none limit None left same = ([], tt, omega arith)

@@ -30,18 +30,6 @@ pub or-nothing : (failed more : Bool) → more ≡ false → failed ≡ (failed 
 or-nothing false more none = sym none
 or-nothing true more none = refl
 
-pub KeepsBoth-refl : (a : Contents) → KeepsBoth a a
-KeepsBoth-refl a = (Keeps-refl a.journal, Keeps-refl a.output)
-
--- the writes that answer an amendment that is accepted
-pub answer_to-accepted : (number : ℕ) (p : StampedPapers) (stamped : Stamped) → stamped_verdict p stamped ≡ None
-    → to_journal (next_line p stamped.amendment) ∷ to_output (reply_text number (Ok tt)) ∷ [] ≡ answer_to number p (Ok stamped)
-answer_to-accepted number p stamped allowed = sym (ap (answer_by_verdict (next_line p stamped.amendment) number) allowed)
-
--- the papers and the stamps after it
-pub after_record-accepted : (p : StampedPapers) (stamped : Stamped) → stamped_verdict p stamped ≡ None → stamped_after p stamped.amendment ≡ after_record p (Ok stamped)
-after_record-accepted p stamped allowed = sym (ap (after_stamped_verdict p stamped.amendment) allowed)
-
 -- a refusal that is answered is the verdict
 verdict-refused : (found : Option Refusal) (refusal : Refusal) → Err refusal ≡ unless_refused found → found ≡ Some refusal
 verdict-refused None refusal is = absurd (true≢false (ap is_err is))
@@ -82,13 +70,6 @@ answered-next old now next opening all number following p later entry before lef
       ∙ ap (λ records. answered.written ++ answers (number + 1) p records) (sym begins)
       ∙ answered.rest;
 }
-
-pub answered-all : (old now : Contents) (opening : StampedPapers) (all whole : List (Result Stamped Refusal)) (number : ℕ) (p : StampedPapers) (left : List (Result Stamped Refusal))
-    → Answered old now opening all number p left → left ≡ [] → all ≡ whole → GrowsByAll (answers 1 opening whole) old now
-answered-all old now opening all whole number p left answered none same =
-    subst (λ records. GrowsByAll (answers 1 opening records) old now) same
-    (subst (λ pieces. GrowsByAll pieces old now)
-    (sym (append-nil answered.written) ∙ ap (λ records. answered.written ++ answers (number + 1) p records) (sym none) ∙ answered.rest) answered.wrote)
 
 -- a prefix of the answers to the next record is one of the answers to all
 answered-prefix : (old now next : Contents) (opening : StampedPapers) (all : List (Result Stamped Refusal)) (number : ℕ) (p : StampedPapers) (entry : Result Stamped Refusal) (left : List (Result Stamped Refusal))
@@ -166,26 +147,6 @@ journal_of-answers number p (entry ∷ rest) =
     journal_of-append (answer_to number p entry) (answers (number + 1) (after_record p entry) rest)
     ∙ ap (λ text. journal_of (answer_to number p entry) ++ text) (journal_of-answers (number + 1) (after_record p entry) rest)
     ∙ journal_of-answer number p entry (accepted (after_record p entry) rest)
-
--- the papers have a fault, and nothing was written
-pub WritesRun-unopened : (reading : Result Market IntakeFault) (scripted : Result (List (Result Stamped Refusal)) IntakeFault) (old : Contents) (fault : RunFault)
-    → IsOpeningFault reading fault → WritesRun (opened_in reading scripted) old old (Err fault)
-WritesRun-unopened reading scripted old (Read source) is = absurd is
-WritesRun-unopened reading scripted old (Intake fault) is = (ap (λ r. opened_in r scripted) is, KeepsBoth-refl old)
-WritesRun-unopened reading scripted old (Journal fault) is = absurd is
-WritesRun-unopened reading scripted old WriteOut is = absurd is
-WritesRun-unopened reading scripted old WriteJournal is = absurd is
-WritesRun-unopened reading scripted old OutOfMemory is = inl (KeepsBoth-refl old)
-
--- the papers were read, the script has a fault, and nothing was written
-pub WritesRun-unscripted : (scripted : Result (List (Result Stamped Refusal)) IntakeFault) (m : Market) (old : Contents) (fault : RunFault)
-    → IsOpeningFault scripted fault → WritesRun (opened_in (Ok m) scripted) old old (Err fault)
-WritesRun-unscripted scripted m old (Read source) is = absurd is
-WritesRun-unscripted scripted m old (Intake fault) is = (ap (opened_in (Ok m)) is, KeepsBoth-refl old)
-WritesRun-unscripted scripted m old (Journal fault) is = absurd is
-WritesRun-unscripted scripted m old WriteOut is = absurd is
-WritesRun-unscripted scripted m old WriteJournal is = absurd is
-WritesRun-unscripted scripted m old OutOfMemory is = inl (KeepsBoth-refl old)
 
 -- all of some writes, and then others, whole or in part
 pub Writes-then : (xs ys : List Piece) (a b c : Contents) (result : Result (Unit {0}) RunFault) → GrowsByAll xs a b → Writes ys b c result → Writes (xs ++ ys) a c result

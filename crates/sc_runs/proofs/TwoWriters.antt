@@ -89,18 +89,6 @@ IsPrefix-all (x ∷ xs) = inr (journal_of xs, output_of xs, refl, refl, IsPrefix
 pub GrowsByPrefix-all : (xs : List Piece) (a b : Contents) → GrowsByAll xs a b → GrowsByPrefix xs a b
 GrowsByPrefix-all xs a b grown = (journal_of xs, output_of xs, IsPrefix-all xs, grown)
 
--- a prefix of one write to the journal
-pub GrowsByPrefix-journal : (text : List ℕ) (rest : List Piece) (a : Contents) (after : Option (List ℕ)) → AppendsPrefix a.journal after text
-    → GrowsByPrefix (to_journal text ∷ rest) a (record { journal = after; output = a.output })
-GrowsByPrefix-journal text rest a after (count, written) =
-    (take count text, [], inl (count, 0, refl, refl), (written, Appends-nothing a.output))
-
--- a prefix of one write to the output
-pub GrowsByPrefix-output : (text : List ℕ) (rest : List Piece) (a : Contents) (after : Option (List ℕ)) → AppendsPrefix a.output after text
-    → GrowsByPrefix (to_output text ∷ rest) a (record { journal = a.journal; output = after })
-GrowsByPrefix-output text rest a after (count, written) =
-    ([], take count text, inl (0, count, refl, refl), (Appends-nothing a.journal, written))
-
 -- one write to the journal, whole
 pub GrowsByAll-journal : (text : List ℕ) (a : Contents) (after : Option (List ℕ)) → Appends a.journal after text
     → GrowsByAll (to_journal text ∷ []) a (record { journal = after; output = a.output })
@@ -194,8 +182,3 @@ Writes-flushed pieces j j' o o' o'' (Ok done) grown kept_journal kept_output kin
 Writes-flushed pieces j j' o o' o'' (Err fault) grown kept_journal kept_output kind =
     subst (λ f. Writes {A = Unit {0}} pieces (record { journal = j; output = o }) (record { journal = j'; output = o'' }) (Err f)) (sym kind)
     (GrowsByPrefix-flushed pieces j j' o o' o'' grown kept_journal kept_output)
-
--- a flush of the output does not end for the journal
-pub is_journal_fault-output : (result : Result (Unit {0}) RunFault) → IfErr result (λ fault. fault ≡ WriteOut) → is_journal_fault result ≡ false
-is_journal_fault-output (Ok done) kind = refl
-is_journal_fault-output (Err fault) kind = ap (λ f. is_journal_fault {A = Unit {0}} (Err f)) kind
