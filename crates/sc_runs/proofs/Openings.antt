@@ -20,7 +20,7 @@ use Rattle.sc_intake.specs.Schools.{schools_in}
 use Rattle.sc_intake.specs.declared.lists.ListRow.{ListRow}
 use Rattle.sc_intake.specs.declared.roster.RosterRow.{RosterRow}
 use Rattle.sc_intake.specs.declared.schools.SchoolRow.{SchoolRow}
-use Rattle.sc_runs.specs.Opening.{papers_in, is_output_fault, IsCertificate, IsMatchText, IsOpeningFault, WritesExactly, WritesMatch, WritesText}
+use Rattle.sc_runs.specs.Opening.{papers_in, IsCertificate, IsMatchText, IsOpeningFault, WritesExactly, WritesMatch, WritesText}
 
 -- what a writer holds stays through a flush
 pub Appends-kept : (a b c : Option (List ℕ)) (text : List ℕ) → Appends a b text → Keeps b c → Appends a c text

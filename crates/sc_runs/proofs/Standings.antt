@@ -6,8 +6,9 @@ use Rattle.sc_papers.specs.Market.{Market}
 use Rattle.sc_intake.specs.declared.fault.IntakeFault.{IntakeFault}
 use Rattle.sc_intake.specs.declared.fault.Source.{Source}
 use Rattle.sc_report.specs.declared.watched.Watched.{Watched}
+use Rattle.sc_runs.specs.Failing.{is_output_fault}
 use Rattle.sc_runs.specs.Inputs.{in_order, turns_if_any, Texts, Turn, AreRead, EndsAmong, EndsReading, IsReadIfAny, IsUntouched, TakesWithin}
-use Rattle.sc_runs.specs.Opening.{is_output_fault, papers_in}
+use Rattle.sc_runs.specs.Opening.{papers_in}
 use Rattle.sc_runs.specs.Standing.{TellsFiles}
 use Rattle.sc_runs.specs.declared.fault.RunFault.{RunFault}
 use Rattle.sc_runs.specs.declared.fault.RunFault.TheVariants.{Read, Intake, Journal, WriteOut, WriteJournal, OutOfMemory}

@@ -5,8 +5,9 @@ use Rattle.std.specs.Io.KnownBytes.{Appends, Keeps}
 use Rattle.std.specs.Prelude.{IfErr}
 use Rattle.sc_report.specs.Whole.{AppendsPrefix}
 use Rattle.sc_runs.proofs.Openings.{Appends-kept, Keeps-refl}
+use Rattle.sc_runs.specs.Failing.{is_journal_fault}
 use Rattle.sc_runs.specs.Opening.{WritesText}
-use Rattle.sc_runs.specs.Run.{is_journal_fault, Writes}
+use Rattle.sc_runs.specs.Run.{Writes}
 use Rattle.sc_runs.specs.declared.fault.RunFault.{RunFault}
 use Rattle.sc_runs.specs.declared.fault.RunFault.TheVariants.{Read, Intake, Journal, WriteOut, WriteJournal, OutOfMemory}
 use Rattle.sc_runs.specs.TwoWriters.{Contents, Piece, journal_of, output_of, to_journal, to_output, GrowsByAll, GrowsByPrefix, IsPrefix}

@@ -6,8 +6,9 @@ use Rattle.sc_papers.specs.Market.{Market}
 use Rattle.sc_intake.specs.Script.{script_in}
 use Rattle.sc_intake.specs.declared.fault.IntakeFault.{IntakeFault}
 use Rattle.sc_runs.specs.Bundle.{Sections, bundle_of}
+use Rattle.sc_runs.specs.Failing.{is_output_fault}
 use Rattle.sc_runs.specs.Inputs.{Turn, EndsReading, IsRead}
-use Rattle.sc_runs.specs.Opening.{is_output_fault, papers_in, WritesMatch}
+use Rattle.sc_runs.specs.Opening.{papers_in, WritesMatch}
 use Rattle.sc_runs.specs.Run.{opened_in, WritesRun}
 use Rattle.sc_runs.specs.declared.ending.Ending.{Ending}
 use Rattle.sc_runs.specs.declared.ending.Ending.TheVariants.{Done, NotCertified, Faulty, Torn, BadSeed, BadBundle, BadStudent, BadTable, TableBesideLog, UnknownStudent, BadSchool, UnknownSchool, BadSince, NoLine, AlreadyThere, Unwritten, Fault}

@@ -92,16 +92,6 @@ MatchesFiles seed show_log turns old new result = EndsUnread turns old new resul
 abbrev pub ArePapersOf : List ℕ → List Turn → Market → Type 0
 ArePapersOf seed turns m = (texts : Texts) × AreRead turns (in_order texts) × (opening_in seed texts ≡ Ok m)
 
--- whether a run ended because the output failed
-abbrev pub is_output_fault : {A : Type 0} → Result A RunFault → Bool
-is_output_fault (Ok done) = false
-is_output_fault (Err (Read source)) = false
-is_output_fault (Err (Intake fault)) = false
-is_output_fault (Err (Journal fault)) = false
-is_output_fault (Err WriteOut) = true
-is_output_fault (Err WriteJournal) = false
-is_output_fault (Err OutOfMemory) = false
-
 abbrev run_fault_by : Cause → IntakeFault → RunFault
 run_fault_by cause.TooLong fault = Intake fault
 run_fault_by cause.Header fault = Intake fault

@@ -85,16 +85,6 @@ Writes pieces old new (Err (Read source)) = ⊥
 Writes pieces old new (Err (Intake fault)) = ⊥
 Writes pieces old new (Err (Journal fault)) = ⊥
 
--- whether a run ended because the journal could not be written
-abbrev pub is_journal_fault : {A : Type 0} → Result A RunFault → Bool
-is_journal_fault (Ok done) = false
-is_journal_fault (Err (Read source)) = false
-is_journal_fault (Err (Intake fault)) = false
-is_journal_fault (Err (Journal fault)) = false
-is_journal_fault (Err WriteOut) = false
-is_journal_fault (Err WriteJournal) = true
-is_journal_fault (Err OutOfMemory) = false
-
 -- what a run has read: the papers of the opening, and the records of the script
 pub record Opened : Type 0 where
   pub papers : Market

@@ -1,13 +1,14 @@
 //! From three files and a log to a verdict.
 
-ghost use Rattle.std.specs.Prelude.{◌≡◌, ◌||◌, ◌++◌, ◌∷◌, [], All, IfOk, MatchResult, Ok};
+ghost use Rattle.std.specs.Prelude.{◌≡◌, ◌++◌, ◌∷◌, [], All, IfOk, MatchResult, Ok};
 ghost use Rattle.sc_audit.specs.Verdict.{IsVerdict};
 ghost use Rattle.sc_intake.specs.Log.{log_in};
 ghost use Rattle.sc_intake.specs.declared.fault.Source.TheVariants as input;
-ghost use Rattle.sc_report.specs.Watched.{device_of, has_failed};
+ghost use Rattle.sc_report.specs.Watched.{device_of};
 ghost use Rattle.sc_runs.specs.Auditing.{claimed_in, verdict_text, AuditsFiles, WritesAudit, WritesVerdictLine, WritesVerdict};
+ghost use Rattle.sc_runs.specs.Failing.{OutputFailsAsTold};
 ghost use Rattle.sc_runs.specs.Inputs.{opening_turns, texts_of, turn_of, TakesWithin};
-ghost use Rattle.sc_runs.specs.Opening.{is_output_fault, opening_in, IsOpeningFault};
+ghost use Rattle.sc_runs.specs.Opening.{opening_in, IsOpeningFault};
 
 use crate::fault::RunFault;
 use crate::inputs::{Opening, OpeningTexts, read_inputs};
@@ -64,7 +65,7 @@ fn write_verdict<W: Write>(
     out: &mut Watched<W>,
 ) -> Result<(), RunFault>
     ensures bytes { WritesVerdictLine verdict.now (W.contents (device_of out.old)) (W.contents (device_of out.new)) result }
-    ensures failed { has_failed out.new ≡ (has_failed out.old || is_output_fault result) }
+    ensures failed { OutputFailsAsTold out.old out.new result }
 {
     match verdict_line(alloc, verdict) {
         Ok(line) => write_text(line.as_slice(), out),
@@ -80,7 +81,7 @@ fn audit_papers<W: Write>(
     out: &mut Watched<W>,
 ) -> Result<Verdict, RunFault>
     ensures verdict { WritesVerdict (claimed_in (Ok papers.now) (log_in log.now)) (W.contents (device_of out.old)) (W.contents (device_of out.new)) result }
-    ensures failed { has_failed out.new ≡ (has_failed out.old || is_output_fault result) }
+    ensures failed { OutputFailsAsTold out.old out.new result }
 {
     let entries = match read_entries(alloc, log) {
         Ok(entries) => entries,
@@ -104,7 +105,7 @@ fn answer_papers<W: Write>(
     out: &mut Watched<W>,
 ) -> Result<Audited, RunFault>
     ensures verdict { WritesAudit (claimed_in (Ok papers) (log_in log.now)) (W.contents (device_of out.old)) (W.contents (device_of out.new)) result }
-    ensures failed { has_failed out.new ≡ (has_failed out.old || is_output_fault result) }
+    ensures failed { OutputFailsAsTold out.old out.new result }
 {
     match audit_papers(alloc, &papers, log, out) {
         Ok(verdict) => Ok(Audited { papers, verdict }),
@@ -125,7 +126,7 @@ fn audit_texts<W: Write>(
 ) -> Result<Audited, RunFault>
     ensures verdict { WritesAudit (claimed_in (opening_in seed.now (texts_of texts)) (log_in log.now))
         (W.contents (device_of out.old)) (W.contents (device_of out.new)) result }
-    ensures failed { has_failed out.new ≡ (has_failed out.old || is_output_fault result) }
+    ensures failed { OutputFailsAsTold out.old out.new result }
 {
     match read_owned(alloc, seed, texts) {
         Ok(papers) => answer_papers(alloc, papers, log, out),
@@ -151,7 +152,7 @@ pub fn audit_files<R: Read, W: Write>(
     ensures verdict { AuditsFiles seed.now
         (opening_turns R.remaining opening.old opening.new ++ turn_of R.remaining input.Log log.old log.new ∷ [])
         (W.contents (device_of out.old)) (W.contents (device_of out.new)) result }
-    ensures failed { has_failed out.new ≡ (has_failed out.old || is_output_fault result) }
+    ensures failed { OutputFailsAsTold out.old out.new result }
     ensures limit { All TakesWithin (opening_turns R.remaining opening.old opening.new ++ turn_of R.remaining input.Log log.old log.new ∷ []) }
 {
     let texts = match read_inputs(alloc, opening, log, Source::Log) {

@@ -7,9 +7,9 @@ ghost use Rattle.sc_papers.specs.Market.{Market};
 ghost use Rattle.sc_report.specs.Watched.{device_of, has_failed};
 ghost use Rattle.sc_runs.specs.Bundle.{sections_of};
 ghost use Rattle.sc_runs.specs.BundleRun.{ending_of, ends_by_output, EndsBundle, RunsBundle};
+ghost use Rattle.sc_runs.specs.Failing.{is_journal_fault, OutputFailsAsTold};
 ghost use Rattle.sc_runs.specs.Inputs.{turn_of, TakesWithin};
-ghost use Rattle.sc_runs.specs.Opening.{is_output_fault, IsReadingOf, WritesMatch};
-ghost use Rattle.sc_runs.specs.Run.{is_journal_fault};
+ghost use Rattle.sc_runs.specs.Opening.{IsReadingOf, WritesMatch};
 ghost use Rattle.sc_runs.specs.declared.ending.Ending.TheVariants.{Fault};
 ghost use Rattle.sc_runs.specs.declared.fault.RunFault.TheVariants.{WriteJournal};
 
@@ -72,7 +72,7 @@ fn report_read<W: Write>(
     requires { (reading : Result Market IntakeFault) × IsReadingOf reading read }
     ensures bytes { (reading : Result Market IntakeFault) → IsReadingOf reading read →
         WritesMatch false reading (W.contents (device_of out.old)) (W.contents (device_of out.new)) result }
-    ensures failed { has_failed out.new ≡ (has_failed out.old || is_output_fault result) }
+    ensures failed { OutputFailsAsTold out.old out.new result }
     ensures no_journal { is_journal_fault result ≡ false }
 {
     match read {

@@ -1,17 +1,18 @@
 //! From files to whose place the amendments of a journal changed.
 
-ghost use Rattle.std.specs.Prelude.{◌≡◌, ◌||◌, ◌<◌, ◌++◌, ◌∷◌, [], false, Option, List, ℕ, All, IfErr, IfOk, MatchOption};
+ghost use Rattle.std.specs.Prelude.{◌≡◌, ◌<◌, ◌++◌, ◌∷◌, [], false, Option, List, ℕ, All, IfErr, IfOk, MatchOption};
 ghost use Rattle.sc_decimal.specs.Number.{read_number};
 ghost use Rattle.sc_intake.specs.declared.fault.Source.TheVariants as input;
 ghost use Rattle.sc_papers.specs.Market.{Market};
 ghost use Rattle.sc_papers.specs.Matching.{Matching};
 ghost use Rattle.sc_repair.specs.Standing.{matching_of};
 ghost use Rattle.sc_report.specs.Entrants.{AreRising, Holds};
-ghost use Rattle.sc_report.specs.Watched.{device_of, has_failed};
+ghost use Rattle.sc_report.specs.Watched.{device_of};
 ghost use Rattle.sc_notices.specs.ChangesText.{changes_text};
 ghost use Rattle.sc_runs.specs.Changing.{whole_lines, AreFirstLines, ArePlacesAfter, ChangesFiles, IsChangeFrom, TellsChange};
+ghost use Rattle.sc_runs.specs.Failing.{is_output_fault, OutputFailsAsTold};
 ghost use Rattle.sc_runs.specs.Inputs.{opening_turns, turn_of, TakesWithin};
-ghost use Rattle.sc_runs.specs.Opening.{is_output_fault, papers_in, WritesText};
+ghost use Rattle.sc_runs.specs.Opening.{papers_in, WritesText};
 ghost use Rattle.sc_runs.specs.Standing.{IsStandingFault, WritesOfStanding};
 
 use crate::fault::RunFault;
@@ -97,7 +98,7 @@ fn write_changes<W: Write>(
     ensures bytes { WritesText (λ text. (m : Market) (a : Matching) → AreRising m before.now → All (Holds a) before.now
         → text ≡ changes_text m a clearing.now.standing.papers (matching_of clearing.now.standing))
         (W.contents (device_of out.old)) (W.contents (device_of out.new)) result }
-    ensures failed { has_failed out.new ≡ (has_failed out.old || is_output_fault result) }
+    ensures failed { OutputFailsAsTold out.old out.new result }
 {
     match changes_text(alloc, before, clearing) {
         Ok(text) => write_text(text.as_slice(), out),
@@ -117,7 +118,7 @@ fn change_from<W: Write>(
 ) -> Result<Tail, RunFault>
     ensures change { WritesOfStanding (IsChangeFrom before.now) (papers_in seed.now texts.entry.schools.now texts.entry.roster.now texts.entry.lists.now) journal.now
         (W.contents (device_of out.old)) (W.contents (device_of out.new)) result }
-    ensures failed { has_failed out.new ≡ (has_failed out.old || is_output_fault result) }
+    ensures failed { OutputFailsAsTold out.old out.new result }
 {
     match stand(alloc, seed, texts, journal) {
         Ok((clearing, tail)) => {
@@ -145,7 +146,7 @@ fn change_since<W: Write>(
     requires { AreFirstLines since journal.now lines.now }
     ensures change { TellsChange since (papers_in seed.now texts.entry.schools.now texts.entry.roster.now texts.entry.lists.now) journal.now
         (W.contents (device_of out.old)) (W.contents (device_of out.new)) result }
-    ensures failed { has_failed out.new ≡ (has_failed out.old || is_output_fault result) }
+    ensures failed { OutputFailsAsTold out.old out.new result }
 {
     let before = match places_after(alloc, seed, texts, lines) {
         Ok(before) => before,
@@ -194,7 +195,7 @@ fn change_texts<W: Write>(
 ) -> Result<Changed, RunFault>
     ensures change { TellsChange since (papers_in seed.now texts.entry.schools.now texts.entry.roster.now texts.entry.lists.now) journal.now
         (W.contents (device_of out.old)) (W.contents (device_of out.new)) result }
-    ensures failed { has_failed out.new ≡ (has_failed out.old || is_output_fault result) }
+    ensures failed { OutputFailsAsTold out.old out.new result }
 {
     match first_lines(journal, since) {
         Some(lines) => change_since(alloc, seed, texts, journal, since, lines, out),
@@ -226,7 +227,7 @@ pub fn changes_files<R: Read, W: Write>(
     ensures change { ChangesFiles since seed.now
         (opening_turns R.remaining opening.old opening.new ++ turn_of R.remaining input.Journal journal.old journal.new ∷ [])
         (W.contents (device_of out.old)) (W.contents (device_of out.new)) result }
-    ensures failed { has_failed out.new ≡ (has_failed out.old || is_output_fault result) }
+    ensures failed { OutputFailsAsTold out.old out.new result }
     ensures limit { All TakesWithin (opening_turns R.remaining opening.old opening.new ++ turn_of R.remaining input.Journal journal.old journal.new ∷ []) }
 {
     let texts = match read_inputs(alloc, opening, journal, Source::Journal) {

@@ -1,14 +1,14 @@
 //! From files to every fault of them.
 
-ghost use Rattle.std.specs.Prelude.{◌≡◌, ◌||◌, ◌++◌, ℕ, List, All, is_some};
+ghost use Rattle.std.specs.Prelude.{◌≡◌, ◌++◌, ℕ, List, All, is_some};
 ghost use Rattle.sc_intake.specs.declared.fault.Source.TheVariants as input;
 ghost use Rattle.sc_checks.specs.Checks.{every_fault};
 ghost use Rattle.sc_checks.specs.FaultLines.{files_of};
 ghost use Rattle.sc_checks.specs.Representation.{files_view, names_view};
-ghost use Rattle.sc_report.specs.Watched.{device_of, has_failed};
+ghost use Rattle.sc_report.specs.Watched.{device_of};
 ghost use Rattle.sc_runs.specs.Checking.{ChecksFiles, WritesFaults};
+ghost use Rattle.sc_runs.specs.Failing.{OutputFailsAsTold};
 ghost use Rattle.sc_runs.specs.Inputs.{opening_turns, turns_if_any, TakesWithin};
-ghost use Rattle.sc_runs.specs.Opening.{is_output_fault};
 
 use crate::fault::RunFault;
 use crate::inputs::{Opening, OpeningSlices, read_opening_and};
@@ -36,7 +36,7 @@ fn write_pieces<W: Write>(
     out: &mut Watched<W>,
 ) -> Result<Checked, RunFault>
     ensures bytes { WritesFaults lines.old.files lines.old.left (W.contents (device_of out.old)) (W.contents (device_of out.new)) result }
-    ensures failed { has_failed out.new ≡ (has_failed out.old || is_output_fault result) }
+    ensures failed { OutputFailsAsTold out.old out.new result }
 {
     let mut text = Vec::new(alloc);
     let mut checked = Checked::Clean;
@@ -59,7 +59,7 @@ fn write_faults<W: Write>(
     out: &mut Watched<W>,
 ) -> Result<Checked, RunFault>
     ensures bytes { WritesFaults lines.old.files lines.old.left (W.contents (device_of out.old)) (W.contents (device_of out.new)) result }
-    ensures failed { has_failed out.new ≡ (has_failed out.old || is_output_fault result) }
+    ensures failed { OutputFailsAsTold out.old out.new result }
 {
     match write_pieces(alloc, lines, out) {
         Ok(checked) => match flush_output(out) {
@@ -104,7 +104,7 @@ fn check_texts<W: Write>(
     ensures bytes { (any : List ℕ) → WritesFaults (files_view files.now)
         (every_fault any files.now.schools.text.now files.now.roster.text.now files.now.lists.text.now files.now.script.text.now)
         (W.contents (device_of out.old)) (W.contents (device_of out.new)) result }
-    ensures failed { has_failed out.new ≡ (has_failed out.old || is_output_fault result) }
+    ensures failed { OutputFailsAsTold out.old out.new result }
 {
     match every_fault(
         alloc,
@@ -137,7 +137,7 @@ fn check_named<W: Write>(
         (files_of (names_view names.now) texts.entry.schools.now texts.entry.roster.now texts.entry.lists.now script.now)
         (every_fault any texts.entry.schools.now texts.entry.roster.now texts.entry.lists.now script.now)
         (W.contents (device_of out.old)) (W.contents (device_of out.new)) result }
-    ensures failed { has_failed out.new ≡ (has_failed out.old || is_output_fault result) }
+    ensures failed { OutputFailsAsTold out.old out.new result }
 {
     let files = files_of(names, texts, script);
     check_texts(alloc, seed, &files, out)
@@ -163,7 +163,7 @@ pub fn check_files<R: Read, W: Write>(
 ) -> Result<Checked, RunFault>
     ensures checked { ChecksFiles (names_view names.now) (opening_turns R.remaining opening.old opening.new) (turns_if_any R.remaining input.Script script.old script.new)
         (W.contents (device_of out.old)) (W.contents (device_of out.new)) result }
-    ensures failed { has_failed out.new ≡ (has_failed out.old || is_output_fault result) }
+    ensures failed { OutputFailsAsTold out.old out.new result }
     ensures limit { All TakesWithin (opening_turns R.remaining opening.old opening.new ++ turns_if_any R.remaining input.Script script.old script.new) }
     ensures stays { is_some script.new ≡ is_some script.old }
 {

@@ -1,9 +1,10 @@
 //! From three files to an assignment.
 
-ghost use Rattle.std.specs.Prelude.{◌≡◌, ◌||◌, All, IfOk, Ok};
-ghost use Rattle.sc_report.specs.Watched.{device_of, has_failed};
+ghost use Rattle.std.specs.Prelude.{◌≡◌, All, IfOk, Ok};
+ghost use Rattle.sc_report.specs.Watched.{device_of};
+ghost use Rattle.sc_runs.specs.Failing.{OutputFailsAsTold};
 ghost use Rattle.sc_runs.specs.Inputs.{opening_turns, texts_of, TakesWithin};
-ghost use Rattle.sc_runs.specs.Opening.{is_output_fault, opening_in, ArePapersOf, MatchesFiles, WritesMatch};
+ghost use Rattle.sc_runs.specs.Opening.{opening_in, ArePapersOf, MatchesFiles, WritesMatch};
 
 use crate::fault::RunFault;
 use crate::inputs::{Opening, OpeningTexts, read_opening};
@@ -23,7 +24,7 @@ fn match_papers<W: Write>(
 ) -> Result<(), RunFault>
     ensures bytes { WritesMatch show_log (Ok papers.now)
         (W.contents (device_of out.old)) (W.contents (device_of out.new)) result }
-    ensures failed { has_failed out.new ≡ (has_failed out.old || is_output_fault result) }
+    ensures failed { OutputFailsAsTold out.old out.new result }
 {
     if show_log {
         log_papers(alloc, papers, out)
@@ -44,7 +45,7 @@ fn match_texts<W: Write>(
     ensures bytes { WritesMatch show_log (opening_in seed.now (texts_of texts))
         (W.contents (device_of out.old)) (W.contents (device_of out.new)) result }
     ensures papers { IfOk result (λ papers. opening_in seed.now (texts_of texts) ≡ Ok papers) }
-    ensures failed { has_failed out.new ≡ (has_failed out.old || is_output_fault result) }
+    ensures failed { OutputFailsAsTold out.old out.new result }
 {
     let papers = match read_owned(alloc, seed, texts) {
         Ok(papers) => papers,
@@ -78,7 +79,7 @@ pub fn match_files<R: Read, W: Write>(
     ensures bytes { MatchesFiles seed.now show_log (opening_turns R.remaining opening.old opening.new)
         (W.contents (device_of out.old)) (W.contents (device_of out.new)) result }
     ensures papers { IfOk result (λ papers. ArePapersOf seed.now (opening_turns R.remaining opening.old opening.new) papers) }
-    ensures failed { has_failed out.new ≡ (has_failed out.old || is_output_fault result) }
+    ensures failed { OutputFailsAsTold out.old out.new result }
     ensures limit { All TakesWithin (opening_turns R.remaining opening.old opening.new) }
 {
     let texts = match read_opening(alloc, opening) {

@@ -1,13 +1,14 @@
 //! From files to a notice: what is told of one student or school, or of all.
 
-ghost use Rattle.std.specs.Prelude.{◌≡◌, ◌||◌, ◌++◌, true, Option, None, Some, All, IfOk, IfSome, is_some};
+ghost use Rattle.std.specs.Prelude.{◌≡◌, ◌++◌, true, Option, None, Some, All, IfOk, IfSome, is_some};
 ghost use Rattle.sc_papers.specs.Market.{Market};
 ghost use Rattle.sc_papers.specs.Matching.{Matching};
 ghost use Rattle.sc_repair.specs.Standing.{matching_of};
-ghost use Rattle.sc_report.specs.Watched.{device_of, has_failed};
+ghost use Rattle.sc_report.specs.Watched.{device_of};
+ghost use Rattle.sc_runs.specs.Failing.{OutputFailsAsTold};
 ghost use Rattle.sc_runs.specs.Inputs.{opening_turns, TakesWithin};
 ghost use Rattle.sc_runs.specs.Notices.{is_known, notice_text, Notice, TellsStanding, WritesNotice};
-ghost use Rattle.sc_runs.specs.Opening.{is_output_fault, papers_in};
+ghost use Rattle.sc_runs.specs.Opening.{papers_in};
 ghost use Rattle.sc_runs.specs.Standing.{journal_turns, TellsFiles};
 
 use crate::fault::RunFault;
@@ -58,7 +59,7 @@ fn write_notice<S: Subject, W: Write>(
     ensures bytes { (asked : Option S) (m : Market) (a : Matching)
         → is_known S.notice asked m ≡ true → text.now ≡ notice_text S.notice asked m a
         → WritesNotice S.notice asked m a tail (W.contents (device_of out.old)) (W.contents (device_of out.new)) result }
-    ensures failed { has_failed out.new ≡ (has_failed out.old || is_output_fault result) }
+    ensures failed { OutputFailsAsTold out.old out.new result }
 {
     match write_text(text, out) {
         Ok(()) => Ok(Told::Written { tail }),
@@ -75,7 +76,7 @@ fn notice_all<S: Subject, W: Write>(
 ) -> Result<Told<S>, RunFault>
     ensures bytes { WritesNotice S.notice None clearing.now.standing.papers (matching_of clearing.now.standing) tail
         (W.contents (device_of out.old)) (W.contents (device_of out.new)) result }
-    ensures failed { has_failed out.new ≡ (has_failed out.old || is_output_fault result) }
+    ensures failed { OutputFailsAsTold out.old out.new result }
 {
     match S::told_of_all(alloc, clearing) {
         Ok(text) => write_notice(text.as_slice(), tail, out),
@@ -93,7 +94,7 @@ fn notice_one<S: Subject, W: Write>(
 ) -> Result<Told<S>, RunFault>
     ensures bytes { WritesNotice S.notice (Some subject) clearing.now.standing.papers (matching_of clearing.now.standing) tail
         (W.contents (device_of out.old)) (W.contents (device_of out.new)) result }
-    ensures failed { has_failed out.new ≡ (has_failed out.old || is_output_fault result) }
+    ensures failed { OutputFailsAsTold out.old out.new result }
 {
     match subject.told_of(alloc, clearing) {
         Ok(Some(text)) => write_notice(text.as_slice(), tail, out),
@@ -112,7 +113,7 @@ fn notice_standing<S: Subject, W: Write>(
 ) -> Result<Told<S>, RunFault>
     ensures bytes { WritesNotice S.notice asked clearing.now.standing.papers (matching_of clearing.now.standing) tail
         (W.contents (device_of out.old)) (W.contents (device_of out.new)) result }
-    ensures failed { has_failed out.new ≡ (has_failed out.old || is_output_fault result) }
+    ensures failed { OutputFailsAsTold out.old out.new result }
 {
     match asked {
         Some(subject) => notice_one(alloc, clearing, subject, tail, out),
@@ -132,7 +133,7 @@ fn notice_texts<S: Subject, W: Write>(
     ensures told { TellsStanding S.notice asked
         (papers_in seed.now texts.entry.schools.now texts.entry.roster.now texts.entry.lists.now) journal.now
         (W.contents (device_of out.old)) (W.contents (device_of out.new)) result }
-    ensures failed { has_failed out.new ≡ (has_failed out.old || is_output_fault result) }
+    ensures failed { OutputFailsAsTold out.old out.new result }
 {
     match stand(alloc, seed, texts, journal) {
         Ok((clearing, tail)) => {
@@ -157,7 +158,7 @@ pub fn notice_files<S: Subject, R: Read, W: Write>(
     ensures told { TellsFiles (TellsStanding S.notice asked) seed.now
         (opening_turns R.remaining opening.old opening.new) (journal_turns R.remaining journal.old journal.new)
         (W.contents (device_of out.old)) (W.contents (device_of out.new)) result }
-    ensures failed { has_failed out.new ≡ (has_failed out.old || is_output_fault result) }
+    ensures failed { OutputFailsAsTold out.old out.new result }
     ensures limit { All TakesWithin (opening_turns R.remaining opening.old opening.new ++ journal_turns R.remaining journal.old journal.new) }
     ensures stays { is_some journal.new ≡ is_some journal.old }
 {

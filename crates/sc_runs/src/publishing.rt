@@ -1,6 +1,6 @@
 //! From three files, a log and a published report to a finding.
 
-ghost use Rattle.std.specs.Prelude.{◌≡◌, ◌||◌, ◌++◌, ◌∷◌, [], All, IfErr, IfOk, Ok, length};
+ghost use Rattle.std.specs.Prelude.{◌≡◌, ◌++◌, ◌∷◌, [], All, IfErr, IfOk, Ok, length};
 ghost use Rattle.sc_papers.specs.Log.{matching_of};
 ghost use Rattle.sc_papers.specs.Matching.{Matching};
 ghost use Rattle.sc_audit.specs.Verdict.{IsVerdict};
@@ -8,10 +8,11 @@ ghost use Rattle.sc_audit.specs.declared.verdict.Verdict.TheVariants as verdict;
 ghost use Rattle.sc_intake.specs.Log.{log_in};
 ghost use Rattle.sc_intake.specs.declared.fault.Source.TheVariants as input;
 ghost use Rattle.sc_report.specs.Text.{report_text};
-ghost use Rattle.sc_report.specs.Watched.{device_of, has_failed};
+ghost use Rattle.sc_report.specs.Watched.{device_of};
 ghost use Rattle.sc_runs.specs.Auditing.{claimed_in};
+ghost use Rattle.sc_runs.specs.Failing.{OutputFailsAsTold};
 ghost use Rattle.sc_runs.specs.Inputs.{opening_turns, texts_of, turn_of, TakesWithin};
-ghost use Rattle.sc_runs.specs.Opening.{is_output_fault, opening_in, WritesText};
+ghost use Rattle.sc_runs.specs.Opening.{opening_in, WritesText};
 ghost use Rattle.sc_runs.specs.Publishing.{finding_of, finding_text, AuditsReport, EndsComparing, EndsFinding, IsCompared, IsFinding, WritesFinding};
 ghost use Rattle.sc_tallies.specs.Places.{ArePlaces};
 
@@ -75,7 +76,7 @@ fn write_finding<W: Write>(
     out: &mut Watched<W>,
 ) -> Result<(), RunFault>
     ensures bytes { WritesText (λ text. text ≡ finding_text finding.now) (W.contents (device_of out.old)) (W.contents (device_of out.new)) result }
-    ensures failed { has_failed out.new ≡ (has_failed out.old || is_output_fault result) }
+    ensures failed { OutputFailsAsTold out.old out.new result }
 {
     match finding_line(alloc, finding) {
         Ok(line) => write_text(line.as_slice(), out),
@@ -177,7 +178,7 @@ fn audit_papers<R: Read, W: Write>(
 ) -> Result<Finding, RunFault>
     ensures finding { WritesFinding (claimed_in (Ok papers.now) (log_in log.now)) (turn_of R.remaining input.Report report.old report.new)
         (W.contents (device_of out.old)) (W.contents (device_of out.new)) result }
-    ensures failed { has_failed out.new ≡ (has_failed out.old || is_output_fault result) }
+    ensures failed { OutputFailsAsTold out.old out.new result }
 {
     let entries = match read_entries(alloc, log) {
         Ok(entries) => entries,
@@ -204,7 +205,7 @@ fn audit_texts<R: Read, W: Write>(
 ) -> Result<Finding, RunFault>
     ensures finding { WritesFinding (claimed_in (opening_in seed.now (texts_of texts)) (log_in log.now)) (turn_of R.remaining input.Report report.old report.new)
         (W.contents (device_of out.old)) (W.contents (device_of out.new)) result }
-    ensures failed { has_failed out.new ≡ (has_failed out.old || is_output_fault result) }
+    ensures failed { OutputFailsAsTold out.old out.new result }
 {
     match read_owned(alloc, seed, texts) {
         Ok(papers) => {
@@ -240,7 +241,7 @@ pub fn audit_report_files<R: Read, W: Write>(
         (opening_turns R.remaining opening.old opening.new ++ turn_of R.remaining input.Log log.old log.new ∷ [])
         (turn_of R.remaining input.Report report.old report.new)
         (W.contents (device_of out.old)) (W.contents (device_of out.new)) result }
-    ensures failed { has_failed out.new ≡ (has_failed out.old || is_output_fault result) }
+    ensures failed { OutputFailsAsTold out.old out.new result }
     ensures limit { All TakesWithin (opening_turns R.remaining opening.old opening.new ++ turn_of R.remaining input.Log log.old log.new ∷ []) }
 {
     let texts = match read_inputs(alloc, opening, log, Source::Log) {

@@ -1,10 +1,11 @@
 //! From three files and a journal to a report.
 
-ghost use Rattle.std.specs.Prelude.{◌≡◌, ◌||◌, ◌++◌, ◌∷◌, [], All, Ok};
+ghost use Rattle.std.specs.Prelude.{◌++◌, ◌∷◌, [], All, Ok};
 ghost use Rattle.sc_intake.specs.declared.fault.Source.TheVariants as input;
-ghost use Rattle.sc_report.specs.Watched.{device_of, has_failed};
+ghost use Rattle.sc_report.specs.Watched.{device_of};
+ghost use Rattle.sc_runs.specs.Failing.{OutputFailsAsTold};
 ghost use Rattle.sc_runs.specs.Inputs.{opening_turns, texts_of, turn_of, TakesWithin};
-ghost use Rattle.sc_runs.specs.Opening.{is_output_fault, opening_in};
+ghost use Rattle.sc_runs.specs.Opening.{opening_in};
 ghost use Rattle.sc_runs.specs.Replaying.{ReplaysFiles, WritesReplay, WritesReplayed};
 
 use crate::fault::RunFault;
@@ -37,7 +38,7 @@ fn report_amended<W: Write>(
     out: &mut Watched<W>,
 ) -> Result<Replayed, RunFault>
     ensures bytes { WritesReplayed amended.papers tail (W.contents (device_of out.old)) (W.contents (device_of out.new)) result }
-    ensures failed { has_failed out.new ≡ (has_failed out.old || is_output_fault result) }
+    ensures failed { OutputFailsAsTold out.old out.new result }
 {
     let papers = amended.into_reordered();
     // This call tells that the papers are well-formed.
@@ -59,7 +60,7 @@ fn report_replayed<W: Write>(
     out: &mut Watched<W>,
 ) -> Result<Replayed, RunFault>
     ensures report { WritesReplay (Ok papers) journal.now (W.contents (device_of out.old)) (W.contents (device_of out.new)) result }
-    ensures failed { has_failed out.new ≡ (has_failed out.old || is_output_fault result) }
+    ensures failed { OutputFailsAsTold out.old out.new result }
 {
     match replay_papers(alloc, papers, journal) {
         Ok((amended, tail)) => report_amended(alloc, amended, tail, out),
@@ -77,7 +78,7 @@ fn replay_texts<W: Write>(
 ) -> Result<Replayed, RunFault>
     ensures report { WritesReplay (opening_in seed.now (texts_of texts)) journal.now
         (W.contents (device_of out.old)) (W.contents (device_of out.new)) result }
-    ensures failed { has_failed out.new ≡ (has_failed out.old || is_output_fault result) }
+    ensures failed { OutputFailsAsTold out.old out.new result }
 {
     match read_owned(alloc, seed, texts) {
         Ok(papers) => report_replayed(alloc, papers, journal, out),
@@ -103,7 +104,7 @@ pub fn replay_files<R: Read, W: Write>(
     ensures report { ReplaysFiles seed.now
         (opening_turns R.remaining opening.old opening.new ++ turn_of R.remaining input.Journal journal.old journal.new ∷ [])
         (W.contents (device_of out.old)) (W.contents (device_of out.new)) result }
-    ensures failed { has_failed out.new ≡ (has_failed out.old || is_output_fault result) }
+    ensures failed { OutputFailsAsTold out.old out.new result }
     ensures limit { All TakesWithin (opening_turns R.remaining opening.old opening.new ++ turn_of R.remaining input.Journal journal.old journal.new ∷ []) }
 {
     let texts = match read_inputs(alloc, opening, journal, Source::Journal) {

@@ -1,6 +1,6 @@
 //! From four files to replies and an assignment.
 
-ghost use Rattle.std.specs.Prelude.{◌≡◌, ◌||◌, ℕ, List, ◌++◌, ◌∷◌, [], All, Option, false, IfOk, MatchResult, Ok, ◌≤◌, ◌+◌, length};
+ghost use Rattle.std.specs.Prelude.{◌≡◌, ℕ, List, ◌++◌, ◌∷◌, [], All, Option, false, IfOk, MatchResult, Ok, ◌≤◌, ◌+◌, length};
 ghost use Rattle.sc_papers.specs.WellFormed.{WellFormed};
 ghost use Rattle.sc_intake.specs.Script.{script_in};
 ghost use Rattle.sc_intake.specs.declared.input.TheConstants.{MOST_BYTES};
@@ -8,10 +8,11 @@ ghost use Rattle.sc_intake.specs.declared.fault.Source.TheVariants as input;
 ghost use Rattle.sc_repair.specs.Standing.{matching_of};
 ghost use Rattle.sc_report.specs.Text.{report_text};
 ghost use Rattle.sc_report.specs.Watched.{device_of, has_failed};
-ghost use Rattle.sc_runs.specs.Opening.{is_output_fault, papers_in, IsOpeningFault};
+ghost use Rattle.sc_runs.specs.Failing.{JournalFailsAsTold, OutputFailsAsTold};
+ghost use Rattle.sc_runs.specs.Opening.{papers_in, IsOpeningFault};
 ghost use Rattle.sc_runs.specs.Inputs.{opening_turns, turn_of, TakesWithin};
 ghost use Rattle.sc_runs.specs.TwoWriters.{to_output};
-ghost use Rattle.sc_runs.specs.Run.{is_journal_fault, opened_in, RunsFiles, Writes, WritesRun};
+ghost use Rattle.sc_runs.specs.Run.{opened_in, RunsFiles, Writes, WritesRun};
 ghost use Rattle.sc_runs.specs.Session.{WritesReport, WritesSession};
 
 use crate::amendable::{Amendable, Settling};
@@ -47,8 +48,8 @@ fn finish<W: Write, J: Recorder>(
     ensures writes { Writes (to_output (report_text clearing.now.standing.papers (matching_of clearing.now.standing)) ∷ [])
         (record { journal = J.contents journal.old; output = W.contents (device_of out.old) })
         (record { journal = J.contents journal.new; output = W.contents (device_of out.new) }) result }
-    ensures failed { has_failed out.new ≡ (has_failed out.old || is_output_fault result) }
-    ensures journal_failed { J.has_failed journal.new ≡ (J.has_failed journal.old || is_journal_fault result) }
+    ensures failed { OutputFailsAsTold out.old out.new result }
+    ensures journal_failed { JournalFailsAsTold (J.has_failed journal.old) (J.has_failed journal.new) result }
 {
     if let Err(fault) = write_standing_report(alloc, clearing, out) {
         return Err(fault);
@@ -71,8 +72,8 @@ fn settle_and_finish<A: Amendable, W: Write, J: Recorder>(
     ensures writes { WritesReport (A.stands amended).papers
         (record { journal = J.contents journal.old; output = W.contents (device_of out.old) })
         (record { journal = J.contents journal.new; output = W.contents (device_of out.new) }) result }
-    ensures failed { has_failed out.new ≡ (has_failed out.old || is_output_fault result) }
-    ensures journal_failed { J.has_failed journal.new ≡ (J.has_failed journal.old || is_journal_fault result) }
+    ensures failed { OutputFailsAsTold out.old out.new result }
+    ensures journal_failed { JournalFailsAsTold (J.has_failed journal.old) (J.has_failed journal.new) result }
 {
     match amended.settle(alloc) {
         Ok(clearing) => {
@@ -97,8 +98,8 @@ fn run_records<A: Amendable + Drop, W: Write, J: Recorder>(
     ensures writes { WritesSession (A.stands amended) records.entry
         (record { journal = J.contents journal.old; output = W.contents (device_of out.old) })
         (record { journal = J.contents journal.new; output = W.contents (device_of out.new) }) result }
-    ensures failed { has_failed out.new ≡ (has_failed out.old || is_output_fault result) }
-    ensures journal_failed { J.has_failed journal.new ≡ (J.has_failed journal.old || is_journal_fault result) }
+    ensures failed { OutputFailsAsTold out.old out.new result }
+    ensures journal_failed { JournalFailsAsTold (J.has_failed journal.old) (J.has_failed journal.new) result }
 {
     let mut session = Session::new(amended);
     match session.answer_all(alloc, &mut records, out, journal) {
@@ -119,8 +120,8 @@ fn run_papers<A: Amendable + Drop, W: Write, J: Recorder>(
     ensures writes { WritesRun (opened_in (Ok papers) (script_in script.now))
         (record { journal = J.contents journal.old; output = W.contents (device_of out.old) })
         (record { journal = J.contents journal.new; output = W.contents (device_of out.new) }) result }
-    ensures failed { has_failed out.new ≡ (has_failed out.old || is_output_fault result) }
-    ensures journal_failed { J.has_failed journal.new ≡ (J.has_failed journal.old || is_journal_fault result) }
+    ensures failed { OutputFailsAsTold out.old out.new result }
+    ensures journal_failed { JournalFailsAsTold (J.has_failed journal.old) (J.has_failed journal.new) result }
 {
     let amended = match A::open(alloc, papers) {
         Ok(amended) => amended,
@@ -146,8 +147,8 @@ pub fn run_texts<W: Write, J: Recorder>(
     ensures writes { WritesRun (opened_in (papers_in seed.now texts.entry.schools.now texts.entry.roster.now texts.entry.lists.now) (script_in script.now))
         (record { journal = J.contents journal.old; output = W.contents (device_of out.old) })
         (record { journal = J.contents journal.new; output = W.contents (device_of out.new) }) result }
-    ensures failed { has_failed out.new ≡ (has_failed out.old || is_output_fault result) }
-    ensures journal_failed { J.has_failed journal.new ≡ (J.has_failed journal.old || is_journal_fault result) }
+    ensures failed { OutputFailsAsTold out.old out.new result }
+    ensures journal_failed { JournalFailsAsTold (J.has_failed journal.old) (J.has_failed journal.new) result }
 {
     let papers = match read_papers(alloc, seed, texts) {
         Ok(papers) => papers,
@@ -185,8 +186,8 @@ pub fn run<R: Read, W: Write, J: Write>(
         (opening_turns R.remaining inputs.old.opening inputs.new.opening ++ turn_of R.remaining input.Script inputs.old.script inputs.new.script ∷ [])
         (record { journal = J.contents (device_of journal.old); output = W.contents (device_of out.old) })
         (record { journal = J.contents (device_of journal.new); output = W.contents (device_of out.new) }) result }
-    ensures failed { has_failed out.new ≡ (has_failed out.old || is_output_fault result) }
-    ensures journal_failed { has_failed journal.new ≡ (has_failed journal.old || is_journal_fault result) }
+    ensures failed { OutputFailsAsTold out.old out.new result }
+    ensures journal_failed { JournalFailsAsTold (has_failed journal.old) (has_failed journal.new) result }
     ensures limit { All TakesWithin (opening_turns R.remaining inputs.old.opening inputs.new.opening ++ turn_of R.remaining input.Script inputs.old.script inputs.new.script ∷ []) }
 {
     let texts = match read_inputs(

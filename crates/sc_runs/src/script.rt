@@ -1,14 +1,14 @@
 //! A script's records answered, one after the other.
 
-ghost use Rattle.std.specs.Prelude.{◌≡◌, ◌||◌, ℕ, ◌+◌, ◌<◌, ◌≤◌, List, length, ◌∷◌, [], ◌++◌, Option, None, Ok, false, IfOk, OnOk};
+ghost use Rattle.std.specs.Prelude.{◌≡◌, ℕ, ◌+◌, ◌<◌, ◌≤◌, List, length, ◌∷◌, [], ◌++◌, Option, None, Ok, false, IfOk, OnOk};
 ghost use Rattle.sc_intake.specs.declared.input.TheConstants.{MOST_BYTES};
 ghost use Rattle.sc_papers.specs.declared.stamp.TheConstants.Stamp.{GREATEST};
 ghost use Rattle.sc_stamps.specs.Verdict.{stamped_verdict};
 ghost use Rattle.sc_report.specs.Reply.{reply_text};
-ghost use Rattle.sc_report.specs.Watched.{device_of, has_failed};
-ghost use Rattle.sc_runs.specs.Opening.{is_output_fault};
+ghost use Rattle.sc_report.specs.Watched.{device_of};
+ghost use Rattle.sc_runs.specs.Failing.{is_journal_fault, JournalFailsAsTold, OutputFailsAsTold};
 ghost use Rattle.sc_runs.specs.TwoWriters.{to_journal, to_output};
-ghost use Rattle.sc_runs.specs.Run.{after_record, after_script, answer_to, answers, is_journal_fault, next_line, Writes};
+ghost use Rattle.sc_runs.specs.Run.{after_record, after_script, answer_to, answers, next_line, Writes};
 
 use crate::amendable::Amendable;
 use crate::fault::RunFault;
@@ -54,7 +54,7 @@ fn write_reply<W: Write>(
     ensures writes { (kept : Option (List ℕ)) → Writes (to_output (reply_text number reply.now) ∷ [])
         (record { journal = kept; output = W.contents (device_of out.old) })
         (record { journal = kept; output = W.contents (device_of out.new) }) result }
-    ensures failed { has_failed out.new ≡ (has_failed out.old || is_output_fault result) }
+    ensures failed { OutputFailsAsTold out.old out.new result }
     ensures kept { is_journal_fault result ≡ false }
 {
     match reply_line(alloc, number, reply) {
@@ -74,8 +74,8 @@ fn write_accepted<W: Write, J: Recorder>(
     ensures writes { Writes (to_journal line.now ∷ to_output (reply_text number (Ok tt)) ∷ [])
         (record { journal = J.contents journal.old; output = W.contents (device_of out.old) })
         (record { journal = J.contents journal.new; output = W.contents (device_of out.new) }) result }
-    ensures failed { has_failed out.new ≡ (has_failed out.old || is_output_fault result) }
-    ensures journal_failed { J.has_failed journal.new ≡ (J.has_failed journal.old || is_journal_fault result) }
+    ensures failed { OutputFailsAsTold out.old out.new result }
+    ensures journal_failed { JournalFailsAsTold (J.has_failed journal.old) (J.has_failed journal.new) result }
 {
     match journal.write_line(line) {
         Ok(()) => write_reply(alloc, number, &Ok(()), out),
@@ -109,8 +109,8 @@ impl<A: Amendable> Session<A> {
         ensures writes { Writes (answer_to self.old.records (A.stands self.old.amended) (Ok stamped))
             (record { journal = J.contents journal.old; output = W.contents (device_of out.old) })
             (record { journal = J.contents journal.new; output = W.contents (device_of out.new) }) result }
-        ensures failed { has_failed out.new ≡ (has_failed out.old || is_output_fault result) }
-        ensures journal_failed { J.has_failed journal.new ≡ (J.has_failed journal.old || is_journal_fault result) }
+        ensures failed { OutputFailsAsTold out.old out.new result }
+        ensures journal_failed { JournalFailsAsTold (J.has_failed journal.old) (J.has_failed journal.new) result }
     {
         let line = match next_line(alloc, &self.amended, &stamped.amendment) {
             Ok(line) => line,
@@ -135,8 +135,8 @@ impl<A: Amendable> Session<A> {
         ensures writes { Writes (answer_to self.old.records (A.stands self.old.amended) (Ok stamped))
             (record { journal = J.contents journal.old; output = W.contents (device_of out.old) })
             (record { journal = J.contents journal.new; output = W.contents (device_of out.new) }) result }
-        ensures failed { has_failed out.new ≡ (has_failed out.old || is_output_fault result) }
-        ensures journal_failed { J.has_failed journal.new ≡ (J.has_failed journal.old || is_journal_fault result) }
+        ensures failed { OutputFailsAsTold out.old out.new result }
+        ensures journal_failed { JournalFailsAsTold (J.has_failed journal.old) (J.has_failed journal.new) result }
     {
         match self.amended.check(&stamped) {
             Ok(()) => self.accept(alloc, stamped, out, journal),
@@ -158,8 +158,8 @@ impl<A: Amendable> Session<A> {
         ensures writes { Writes (answer_to self.old.records (A.stands self.old.amended) entry)
             (record { journal = J.contents journal.old; output = W.contents (device_of out.old) })
             (record { journal = J.contents journal.new; output = W.contents (device_of out.new) }) result }
-        ensures failed { has_failed out.new ≡ (has_failed out.old || is_output_fault result) }
-        ensures journal_failed { J.has_failed journal.new ≡ (J.has_failed journal.old || is_journal_fault result) }
+        ensures failed { OutputFailsAsTold out.old out.new result }
+        ensures journal_failed { JournalFailsAsTold (J.has_failed journal.old) (J.has_failed journal.new) result }
     {
         match entry {
             Ok(stamped) => self.answer_amendment(alloc, stamped, out, journal),
@@ -182,8 +182,8 @@ impl<A: Amendable> Session<A> {
         ensures writes { Writes (answers 1 (A.stands self.old.amended) script.old)
             (record { journal = J.contents journal.old; output = W.contents (device_of out.old) })
             (record { journal = J.contents journal.new; output = W.contents (device_of out.new) }) result }
-        ensures failed { has_failed out.new ≡ (has_failed out.old || is_output_fault result) }
-        ensures journal_failed { J.has_failed journal.new ≡ (J.has_failed journal.old || is_journal_fault result) }
+        ensures failed { OutputFailsAsTold out.old out.new result }
+        ensures journal_failed { JournalFailsAsTold (J.has_failed journal.old) (J.has_failed journal.new) result }
     {
         'records: loop {
             let entry = match script.next_record() {

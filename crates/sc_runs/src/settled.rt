@@ -1,8 +1,8 @@
 //! From papers to what is written of their assignment.
 
-ghost use Rattle.std.specs.Prelude.{◌≡◌, ◌||◌};
-ghost use Rattle.sc_report.specs.Watched.{device_of, has_failed};
-ghost use Rattle.sc_runs.specs.Opening.{is_output_fault, IsCertificate, IsReport, WritesText};
+ghost use Rattle.sc_report.specs.Watched.{device_of};
+ghost use Rattle.sc_runs.specs.Failing.{OutputFailsAsTold};
+ghost use Rattle.sc_runs.specs.Opening.{IsCertificate, IsReport, WritesText};
 
 use crate::fault::RunFault;
 use crate::writing::{write_flushed_report, write_log};
@@ -20,7 +20,7 @@ pub fn report_papers<W: Write>(
     out: &mut Watched<W>,
 ) -> Result<(), RunFault>
     ensures bytes { WritesText (IsReport papers.now) (W.contents (device_of out.old)) (W.contents (device_of out.new)) result }
-    ensures failed { has_failed out.new ≡ (has_failed out.old || is_output_fault result) }
+    ensures failed { OutputFailsAsTold out.old out.new result }
 {
     match settle_by_first_keys(alloc, papers) {
         Ok(outcome) => {
@@ -45,7 +45,7 @@ pub fn log_papers<W: Write>(
     out: &mut Watched<W>,
 ) -> Result<(), RunFault>
     ensures bytes { WritesText (IsCertificate papers.now) (W.contents (device_of out.old)) (W.contents (device_of out.new)) result }
-    ensures failed { has_failed out.new ≡ (has_failed out.old || is_output_fault result) }
+    ensures failed { OutputFailsAsTold out.old out.new result }
 {
     match settle(alloc, papers) {
         Ok(settled) => {

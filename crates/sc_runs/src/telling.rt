@@ -1,10 +1,11 @@
 //! From files to one text of what stands: its summary, or a table of its report.
 
-ghost use Rattle.std.specs.Prelude.{◌≡◌, ◌||◌, ◌++◌, All, IfOk, is_some};
+ghost use Rattle.std.specs.Prelude.{◌≡◌, ◌++◌, All, IfOk, is_some};
 ghost use Rattle.sc_repair.specs.Standing.{matching_of};
-ghost use Rattle.sc_report.specs.Watched.{device_of, has_failed};
+ghost use Rattle.sc_report.specs.Watched.{device_of};
+ghost use Rattle.sc_runs.specs.Failing.{OutputFailsAsTold};
 ghost use Rattle.sc_runs.specs.Inputs.{opening_turns, TakesWithin};
-ghost use Rattle.sc_runs.specs.Opening.{is_output_fault, papers_in, WritesText};
+ghost use Rattle.sc_runs.specs.Opening.{papers_in, WritesText};
 ghost use Rattle.sc_runs.specs.Standing.{journal_turns, standing_text, IsStandingText, IsSummary, IsTable, TellsFiles, WritesOfStanding};
 
 use crate::fault::RunFault;
@@ -52,7 +53,7 @@ fn write_standing_text<W: Write>(
     ensures bytes { WritesText
         (λ text. text ≡ standing_text which clearing.now.standing.papers (matching_of clearing.now.standing))
         (W.contents (device_of out.old)) (W.contents (device_of out.new)) result }
-    ensures failed { has_failed out.new ≡ (has_failed out.old || is_output_fault result) }
+    ensures failed { OutputFailsAsTold out.old out.new result }
 {
     match standing_text(alloc, clearing, which) {
         Ok(text) => write_text(text.as_slice(), out),
@@ -72,7 +73,7 @@ fn tell_texts<W: Write>(
     ensures told { WritesOfStanding (IsStandingText which)
         (papers_in seed.now texts.entry.schools.now texts.entry.roster.now texts.entry.lists.now) journal.now
         (W.contents (device_of out.old)) (W.contents (device_of out.new)) result }
-    ensures failed { has_failed out.new ≡ (has_failed out.old || is_output_fault result) }
+    ensures failed { OutputFailsAsTold out.old out.new result }
 {
     match stand(alloc, seed, texts, journal) {
         Ok((clearing, tail)) => {
@@ -100,7 +101,7 @@ fn tell_files<R: Read, W: Write>(
     ensures told { TellsFiles (WritesOfStanding (IsStandingText which)) seed.now
         (opening_turns R.remaining opening.old opening.new) (journal_turns R.remaining journal.old journal.new)
         (W.contents (device_of out.old)) (W.contents (device_of out.new)) result }
-    ensures failed { has_failed out.new ≡ (has_failed out.old || is_output_fault result) }
+    ensures failed { OutputFailsAsTold out.old out.new result }
     ensures limit { All TakesWithin (opening_turns R.remaining opening.old opening.new ++ journal_turns R.remaining journal.old journal.new) }
     ensures stays { is_some journal.new ≡ is_some journal.old }
 {
@@ -137,7 +138,7 @@ pub fn summary_files<R: Read, W: Write>(
     ensures summary { TellsFiles (WritesOfStanding IsSummary) seed.now
         (opening_turns R.remaining opening.old opening.new) (journal_turns R.remaining journal.old journal.new)
         (W.contents (device_of out.old)) (W.contents (device_of out.new)) result }
-    ensures failed { has_failed out.new ≡ (has_failed out.old || is_output_fault result) }
+    ensures failed { OutputFailsAsTold out.old out.new result }
     ensures limit { All TakesWithin (opening_turns R.remaining opening.old opening.new ++ journal_turns R.remaining journal.old journal.new) }
     ensures stays { is_some journal.new ≡ is_some journal.old }
 {
@@ -165,7 +166,7 @@ pub fn table_files<R: Read, W: Write>(
     ensures table { TellsFiles (WritesOfStanding (IsTable table)) seed.now
         (opening_turns R.remaining opening.old opening.new) (journal_turns R.remaining journal.old journal.new)
         (W.contents (device_of out.old)) (W.contents (device_of out.new)) result }
-    ensures failed { has_failed out.new ≡ (has_failed out.old || is_output_fault result) }
+    ensures failed { OutputFailsAsTold out.old out.new result }
     ensures limit { All TakesWithin (opening_turns R.remaining opening.old opening.new ++ journal_turns R.remaining journal.old journal.new) }
     ensures stays { is_some journal.new ≡ is_some journal.old }
 {

@@ -1,13 +1,14 @@
 //! Writing to the output: a line, a text, a report and a log.
 
-ghost use Rattle.std.specs.Prelude.{◌≡◌, ◌||◌, length, IfErr};
+ghost use Rattle.std.specs.Prelude.{◌≡◌, length, IfErr};
 ghost use Rattle.std.specs.Io.KnownBytes.{Keeps};
 ghost use Rattle.sc_papers.specs.Matching.{Matching};
 ghost use Rattle.sc_repair.specs.Standing.{matching_of};
 ghost use Rattle.sc_report.specs.LogText.{log_text};
 ghost use Rattle.sc_report.specs.Text.{IsReportText};
-ghost use Rattle.sc_report.specs.Watched.{device_of, has_failed};
-ghost use Rattle.sc_runs.specs.Opening.{is_output_fault, WritesExactly, WritesText};
+ghost use Rattle.sc_report.specs.Watched.{device_of};
+ghost use Rattle.sc_runs.specs.Failing.{OutputFailsAsTold};
+ghost use Rattle.sc_runs.specs.Opening.{WritesExactly, WritesText};
 ghost use Rattle.sc_runs.specs.declared.fault.RunFault.TheVariants.{WriteOut};
 ghost use Rattle.sc_tallies.specs.Places.{ArePlaces};
 
@@ -23,7 +24,7 @@ use std::io::Write;
 /// Writes a line, or any text, and does not flush it.
 pub fn write_line<W: Write>(line: &[u8], out: &mut Watched<W>) -> Result<(), RunFault>
     ensures bytes { WritesExactly line.now (W.contents (device_of out.old)) (W.contents (device_of out.new)) result }
-    ensures failed { has_failed out.new ≡ (has_failed out.old || is_output_fault result) }
+    ensures failed { OutputFailsAsTold out.old out.new result }
 {
     match write_whole(out, line) {
         Ok(()) => Ok(()),
@@ -35,7 +36,7 @@ pub fn write_line<W: Write>(line: &[u8], out: &mut Watched<W>) -> Result<(), Run
 pub fn flush_output<W: Write>(out: &mut Watched<W>) -> Result<(), RunFault>
     ensures bytes { Keeps (W.contents (device_of out.old)) (W.contents (device_of out.new)) }
     ensures kinds { IfErr result (λ fault. fault ≡ WriteOut) }
-    ensures failed { has_failed out.new ≡ (has_failed out.old || is_output_fault result) }
+    ensures failed { OutputFailsAsTold out.old out.new result }
 {
     match out.flush() {
         Ok(()) => Ok(()),
@@ -46,7 +47,7 @@ pub fn flush_output<W: Write>(out: &mut Watched<W>) -> Result<(), RunFault>
 /// Writes a text, and flushes it.
 pub fn write_text<W: Write>(text: &[u8], out: &mut Watched<W>) -> Result<(), RunFault>
     ensures bytes { WritesExactly text.now (W.contents (device_of out.old)) (W.contents (device_of out.new)) result }
-    ensures failed { has_failed out.new ≡ (has_failed out.old || is_output_fault result) }
+    ensures failed { OutputFailsAsTold out.old out.new result }
 {
     if let Err(fault) = write_line(text, out) {
         return Err(fault);
@@ -62,7 +63,7 @@ pub fn write_standing_report<W: Write>(
 ) -> Result<(), RunFault>
     ensures bytes { WritesText (IsReportText clearing.now.standing.papers (matching_of clearing.now.standing))
         (W.contents (device_of out.old)) (W.contents (device_of out.new)) result }
-    ensures failed { has_failed out.new ≡ (has_failed out.old || is_output_fault result) }
+    ensures failed { OutputFailsAsTold out.old out.new result }
 {
     match write_report(alloc, clearing, out) {
         Ok(()) => Ok(()),
@@ -80,7 +81,7 @@ pub fn write_flushed_report<W: Write>(
     requires { length matched.places.now ≡ length matched.papers.now.students }
     ensures bytes { (a : Matching) → ArePlaces matched.entry.papers.now a matched.entry.places.now → WritesText (IsReportText matched.entry.papers.now a)
         (W.contents (device_of out.old)) (W.contents (device_of out.new)) result }
-    ensures failed { has_failed out.new ≡ (has_failed out.old || is_output_fault result) }
+    ensures failed { OutputFailsAsTold out.old out.new result }
 {
     match write_report_of(alloc, matched, out) {
         Ok(()) => flush_output(out),
@@ -97,7 +98,7 @@ pub fn write_log<W: Write>(
 ) -> Result<(), RunFault>
     ensures bytes { WritesText (λ text. text ≡ log_text log.now)
         (W.contents (device_of out.old)) (W.contents (device_of out.new)) result }
-    ensures failed { has_failed out.new ≡ (has_failed out.old || is_output_fault result) }
+    ensures failed { OutputFailsAsTold out.old out.new result }
 {
     match log_text(alloc, log) {
         Ok(text) => write_text(text.as_slice(), out),

@@ -6,8 +6,8 @@ use Rattle.sc_runs.specs.Bundle.{bundle_of, sections_of}
 use Rattle.sc_runs.specs.BundleRun.{ending_of, EndsBundle, RunsSections, WritesWith}
 use Rattle.sc_papers.specs.Market.{Market}
 use Rattle.sc_intake.specs.declared.fault.IntakeFault.{IntakeFault}
+use Rattle.sc_runs.specs.Failing.{is_journal_fault}
 use Rattle.sc_runs.specs.Opening.{papers_in, IsOpeningFault, IsReadingOf}
-use Rattle.sc_runs.specs.Run.{is_journal_fault}
 use Rattle.sc_runs.specs.declared.ending.Ending.TheVariants.{Fault}
 use Rattle.sc_runs.specs.declared.fault.RunFault.{RunFault}
 use Rattle.sc_runs.specs.declared.fault.RunFault.TheVariants.{Read, Intake, Journal, WriteOut, WriteJournal, OutOfMemory}
