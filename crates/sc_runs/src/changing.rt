@@ -133,18 +133,18 @@ fn change_from<W: Write>(
     }
 }
 
-/// Writes whose place changed after the first lines of a journal, so many, over the papers that the texts hold.
+/// Writes whose place changed after the first lines of a journal over the papers that the texts hold.
 fn change_since<W: Write>(
     alloc: Global,
     seed: &Seed,
     texts: OpeningSlices<'_>,
     journal: &[u8],
-    since: u32,
     lines: &[u8],
     out: &mut Watched<W>,
 ) -> Result<Changed, RunFault>
-    requires { AreFirstLines since journal.now lines.now }
-    ensures change { TellsChange since (papers_in seed.now texts.entry.schools.now texts.entry.roster.now texts.entry.lists.now) journal.now
+    // After however many lines these are.
+    ensures change { (since : ℕ) → AreFirstLines since journal.now lines.now → TellsChange since
+        (papers_in seed.now texts.entry.schools.now texts.entry.roster.now texts.entry.lists.now) journal.now
         (W.contents (device_of out.old)) (W.contents (device_of out.new)) result }
     ensures failed { OutputFailsAsTold out.old out.new result }
 {
@@ -198,7 +198,7 @@ fn change_texts<W: Write>(
     ensures failed { OutputFailsAsTold out.old out.new result }
 {
     match first_lines(journal, since) {
-        Some(lines) => change_since(alloc, seed, texts, journal, since, lines, out),
+        Some(lines) => change_since(alloc, seed, texts, journal, lines, out),
         None => answer_no_line(alloc, seed, texts, journal, since),
     }
 }
