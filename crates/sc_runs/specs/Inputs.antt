@@ -1,6 +1,6 @@
 -- What the inputs of a call are, and what reading them does: one after the other, each whole, before any is
 -- looked into. None may be longer than 64 MiB.
-use Rattle.std.specs.Prelude.{◌≡◌, ◌⊎◌, ℕ, ◌<◌, ◌≤◌, Bool, true, List, [], ◌∷◌, length, Option, None, Some, ⊤}
+use Rattle.std.specs.Prelude.{◌≡◌, ◌⊎◌, ℕ, ◌<◌, ◌≤◌, Bool, true, List, [], ◌∷◌, ◌++◌, length, Option, None, Some, ⊤}
 use Rattle.std.specs.List.{All}
 use Rattle.sc_intake.specs.Fault.{fault_at}
 use Rattle.sc_intake.specs.declared.fault.Cause.TheVariants.{TooLong}
@@ -40,6 +40,10 @@ opening_turns remaining old new =
     ∷ turn_of remaining input.Roster old.roster new.roster
     ∷ turn_of remaining input.Lists old.lists new.lists
     ∷ []
+
+-- the files of an opening, and an input that is read after them
+abbrev pub turns_with : {R : Type 0} → (R → Option (List ℕ)) → Opening R → Opening R → Source → Watched R → Watched R → List Turn
+turns_with remaining old new source last left = opening_turns remaining old new ++ turn_of remaining source last left ∷ []
 
 -- the turn of a reader, if there is one
 abbrev pub turns_if_any : {R : Type 0} → (R → Option (List ℕ)) → Source → Option (Watched R) → Option (Watched R) → List Turn

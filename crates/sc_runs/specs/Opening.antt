@@ -15,10 +15,15 @@ use Rattle.sc_report.specs.Whole.{AppendsPrefix}
 use Rattle.sc_runs.specs.Inputs.{in_order, Texts, Turn, AreRead, EndsAmong}
 use Rattle.sc_runs.specs.declared.fault.RunFault.{RunFault}
 use Rattle.sc_runs.specs.declared.fault.RunFault.TheVariants.{Read, Intake, Journal, WriteOut, WriteJournal, OutOfMemory}
+use Rattle.sc_runs.specs.declared.inputs.OpeningSlices.{OpeningSlices}
 
 -- the papers of an opening's texts, or their first fault
 abbrev pub opening_in : List ℕ → Texts → Result Market IntakeFault
 opening_in seed texts = papers_in seed texts.schools texts.roster texts.lists
+
+-- the papers that the lent texts of an opening hold, or their first fault
+abbrev pub papers_held : List ℕ → OpeningSlices → Result Market IntakeFault
+papers_held seed texts = papers_in seed texts.schools.now texts.roster.now texts.lists.now
 
 -- reading ended early for the first fault of what was read, or for want of memory
 abbrev pub IsOpeningFault : {A : Type 0} → Result A IntakeFault → RunFault → Type 0

@@ -2,6 +2,7 @@
 -- bytes are known.
 use Rattle.std.specs.Prelude.{◌≡◌, ◌⊎◌, ℕ, List, ◌++◌, Option, Result, Ok, Err, ⊤}
 use Rattle.std.specs.Io.KnownBytes.{Appends, Keeps}
+use Rattle.std.specs.List.{All}
 use Rattle.sc_papers.specs.Market.{Market}
 use Rattle.sc_papers.specs.Matching.{Matching, IsStudentOptimal}
 use Rattle.sc_stamps.specs.Verdict.{StampedPapers, unamended}
@@ -14,16 +15,21 @@ use Rattle.sc_report.specs.Whole.{AppendsPrefix}
 use Rattle.sc_report.specs.declared.table.Table.{Table}
 use Rattle.sc_report.specs.declared.watched.Watched.{Watched}
 use Rattle.sc_notices.specs.SummaryText.{summary_text}
-use Rattle.sc_runs.specs.Inputs.{in_order, turns_if_any, Texts, Turn, AreRead, IsReadIfAny}
+use Rattle.sc_runs.specs.Inputs.{in_order, opening_turns, turns_if_any, Texts, Turn, AreRead, IsReadIfAny, TakesWithin}
 use Rattle.sc_runs.specs.Opening.{opening_in, EndsUnread}
 use Rattle.sc_runs.specs.declared.fault.RunFault.{RunFault}
 use Rattle.sc_runs.specs.declared.fault.RunFault.TheVariants.{Read, Intake, Journal, WriteOut, WriteJournal, OutOfMemory}
+use Rattle.sc_runs.specs.declared.inputs.Opening.{Opening}
 use Rattle.sc_runs.specs.declared.telling.StandingText.{StandingText}
 use Rattle.sc_runs.specs.declared.telling.StandingText.TheVariants.{Summary, OneTable}
 
 -- the turn of a journal's reader, if there is a journal
 abbrev pub journal_turns : {R : Type 0} → (R → Option (List ℕ)) → Option (Watched R) → Option (Watched R) → List Turn
 journal_turns remaining old new = turns_if_any remaining input.Journal old new
+
+-- of no file of an opening is more taken than may be, nor of a journal, if there is one
+abbrev pub AllTakeWithin : {R : Type 0} → (R → Option (List ℕ)) → Opening R → Opening R → Option (Watched R) → Option (Watched R) → Type 0
+AllTakeWithin remaining opening opened journal read = All TakesWithin (opening_turns remaining opening opened ++ journal_turns remaining journal read)
 
 -- these papers stand after the amendments of a journal over the papers that were read, and the journal ends so
 abbrev pub Stands : Result Market IntakeFault → List ℕ → Market → Tail → Type 0

@@ -1,13 +1,13 @@
 //! From three files and a log to a verdict.
 
-ghost use Rattle.std.specs.Prelude.{◌≡◌, ◌++◌, ◌∷◌, [], All, IfOk, MatchResult, Ok};
+ghost use Rattle.std.specs.Prelude.{◌≡◌, All, IfOk, MatchResult, Ok};
 ghost use Rattle.sc_audit.specs.Verdict.{IsVerdict};
 ghost use Rattle.sc_intake.specs.Log.{log_in};
 ghost use Rattle.sc_intake.specs.declared.fault.Source.TheVariants as input;
 ghost use Rattle.sc_report.specs.Watched.{device_of};
 ghost use Rattle.sc_runs.specs.Auditing.{claimed_in, verdict_text, AuditsFiles, WritesAudit, WritesVerdictLine, WritesVerdict};
 ghost use Rattle.sc_runs.specs.Failing.{OutputFailsAsTold};
-ghost use Rattle.sc_runs.specs.Inputs.{opening_turns, texts_of, turn_of, TakesWithin};
+ghost use Rattle.sc_runs.specs.Inputs.{texts_of, turns_with, TakesWithin};
 ghost use Rattle.sc_runs.specs.Opening.{opening_in, IsOpeningFault};
 
 use crate::fault::RunFault;
@@ -64,7 +64,8 @@ fn write_verdict<W: Write>(
     verdict: &Verdict,
     out: &mut Watched<W>,
 ) -> Result<(), RunFault>
-    ensures bytes { WritesVerdictLine verdict.now (W.contents (device_of out.old)) (W.contents (device_of out.new)) result }
+    ensures bytes { WritesVerdictLine verdict.now
+        (W.contents (device_of out.old)) (W.contents (device_of out.new)) result }
     ensures failed { OutputFailsAsTold out.old out.new result }
 {
     match verdict_line(alloc, verdict) {
@@ -80,7 +81,8 @@ fn audit_papers<W: Write>(
     log: &[u8],
     out: &mut Watched<W>,
 ) -> Result<Verdict, RunFault>
-    ensures verdict { WritesVerdict (claimed_in (Ok papers.now) (log_in log.now)) (W.contents (device_of out.old)) (W.contents (device_of out.new)) result }
+    ensures verdict { WritesVerdict (claimed_in (Ok papers.now) (log_in log.now))
+        (W.contents (device_of out.old)) (W.contents (device_of out.new)) result }
     ensures failed { OutputFailsAsTold out.old out.new result }
 {
     let entries = match read_entries(alloc, log) {
@@ -104,7 +106,8 @@ fn answer_papers<W: Write>(
     log: &[u8],
     out: &mut Watched<W>,
 ) -> Result<Audited, RunFault>
-    ensures verdict { WritesAudit (claimed_in (Ok papers) (log_in log.now)) (W.contents (device_of out.old)) (W.contents (device_of out.new)) result }
+    ensures verdict { WritesAudit (claimed_in (Ok papers) (log_in log.now))
+        (W.contents (device_of out.old)) (W.contents (device_of out.new)) result }
     ensures failed { OutputFailsAsTold out.old out.new result }
 {
     match audit_papers(alloc, &papers, log, out) {
@@ -150,10 +153,10 @@ pub fn audit_files<R: Read, W: Write>(
     out: &mut Watched<W>,
 ) -> Result<Audited, RunFault>
     ensures verdict { AuditsFiles seed.now
-        (opening_turns R.remaining opening.old opening.new ++ turn_of R.remaining input.Log log.old log.new ∷ [])
+        (turns_with R.remaining opening.old opening.new input.Log log.old log.new)
         (W.contents (device_of out.old)) (W.contents (device_of out.new)) result }
     ensures failed { OutputFailsAsTold out.old out.new result }
-    ensures limit { All TakesWithin (opening_turns R.remaining opening.old opening.new ++ turn_of R.remaining input.Log log.old log.new ∷ []) }
+    ensures limit { All TakesWithin (turns_with R.remaining opening.old opening.new input.Log log.old log.new) }
 {
     let texts = match read_inputs(alloc, opening, log, Source::Log) {
         Ok(texts) => texts,

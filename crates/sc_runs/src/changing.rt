@@ -1,6 +1,6 @@
 //! From files to whose place the amendments of a journal changed.
 
-ghost use Rattle.std.specs.Prelude.{◌≡◌, ◌<◌, ◌++◌, ◌∷◌, [], false, Option, List, ℕ, All, IfErr, IfOk, MatchOption};
+ghost use Rattle.std.specs.Prelude.{◌≡◌, ◌<◌, false, Option, List, ℕ, All, IfErr, IfOk, MatchOption};
 ghost use Rattle.sc_decimal.specs.Number.{read_number};
 ghost use Rattle.sc_intake.specs.declared.fault.Source.TheVariants as input;
 ghost use Rattle.sc_papers.specs.Market.{Market};
@@ -11,8 +11,8 @@ ghost use Rattle.sc_report.specs.Watched.{device_of};
 ghost use Rattle.sc_notices.specs.ChangesText.{changes_text};
 ghost use Rattle.sc_runs.specs.Changing.{whole_lines, AreFirstLines, ArePlacesAfter, ChangesFiles, IsChangeFrom, TellsChange};
 ghost use Rattle.sc_runs.specs.Failing.{is_output_fault, OutputFailsAsTold};
-ghost use Rattle.sc_runs.specs.Inputs.{opening_turns, turn_of, TakesWithin};
-ghost use Rattle.sc_runs.specs.Opening.{papers_in, WritesText};
+ghost use Rattle.sc_runs.specs.Inputs.{turns_with, TakesWithin};
+ghost use Rattle.sc_runs.specs.Opening.{papers_held, WritesText};
 ghost use Rattle.sc_runs.specs.Standing.{IsStandingFault, WritesOfStanding};
 
 use crate::fault::RunFault;
@@ -72,8 +72,8 @@ fn places_after(
     texts: OpeningSlices<'_>,
     lines: &[u8],
 ) -> Result<Vec<Entrant>, RunFault>
-    ensures places { IfOk result (λ places. ArePlacesAfter (papers_in seed.now texts.entry.schools.now texts.entry.roster.now texts.entry.lists.now) lines.now places.items) }
-    ensures refused { IfErr result (IsStandingFault (papers_in seed.now texts.entry.schools.now texts.entry.roster.now texts.entry.lists.now) lines.now) }
+    ensures places { IfOk result (λ places. ArePlacesAfter (papers_held seed.now texts.entry) lines.now places.items) }
+    ensures refused { IfErr result (IsStandingFault (papers_held seed.now texts.entry) lines.now) }
 {
     match stand(alloc, seed, texts, lines) {
         Ok((clearing, _)) => {
@@ -116,7 +116,7 @@ fn change_from<W: Write>(
     before: &[Entrant],
     out: &mut Watched<W>,
 ) -> Result<Tail, RunFault>
-    ensures change { WritesOfStanding (IsChangeFrom before.now) (papers_in seed.now texts.entry.schools.now texts.entry.roster.now texts.entry.lists.now) journal.now
+    ensures change { WritesOfStanding (IsChangeFrom before.now) (papers_held seed.now texts.entry) journal.now
         (W.contents (device_of out.old)) (W.contents (device_of out.new)) result }
     ensures failed { OutputFailsAsTold out.old out.new result }
 {
@@ -144,7 +144,7 @@ fn change_since<W: Write>(
 ) -> Result<Changed, RunFault>
     // After however many lines these are.
     ensures change { (since : ℕ) → AreFirstLines since journal.now lines.now → TellsChange since
-        (papers_in seed.now texts.entry.schools.now texts.entry.roster.now texts.entry.lists.now) journal.now
+        (papers_held seed.now texts.entry) journal.now
         (W.contents (device_of out.old)) (W.contents (device_of out.new)) result }
     ensures failed { OutputFailsAsTold out.old out.new result }
 {
@@ -170,7 +170,7 @@ fn answer_no_line(
     line: u32,
 ) -> Result<Changed, RunFault>
     requires { whole_lines journal.now < line }
-    ensures change { (bytes : Option (List ℕ)) → TellsChange line (papers_in seed.now texts.entry.schools.now texts.entry.roster.now texts.entry.lists.now) journal.now
+    ensures change { (bytes : Option (List ℕ)) → TellsChange line (papers_held seed.now texts.entry) journal.now
         bytes bytes result }
     ensures failed { is_output_fault result ≡ false }
 {
@@ -193,7 +193,7 @@ fn change_texts<W: Write>(
     since: u32,
     out: &mut Watched<W>,
 ) -> Result<Changed, RunFault>
-    ensures change { TellsChange since (papers_in seed.now texts.entry.schools.now texts.entry.roster.now texts.entry.lists.now) journal.now
+    ensures change { TellsChange since (papers_held seed.now texts.entry) journal.now
         (W.contents (device_of out.old)) (W.contents (device_of out.new)) result }
     ensures failed { OutputFailsAsTold out.old out.new result }
 {
@@ -225,10 +225,11 @@ pub fn changes_files<R: Read, W: Write>(
     out: &mut Watched<W>,
 ) -> Result<Changed, RunFault>
     ensures change { ChangesFiles since seed.now
-        (opening_turns R.remaining opening.old opening.new ++ turn_of R.remaining input.Journal journal.old journal.new ∷ [])
+        (turns_with R.remaining opening.old opening.new input.Journal journal.old journal.new)
         (W.contents (device_of out.old)) (W.contents (device_of out.new)) result }
     ensures failed { OutputFailsAsTold out.old out.new result }
-    ensures limit { All TakesWithin (opening_turns R.remaining opening.old opening.new ++ turn_of R.remaining input.Journal journal.old journal.new ∷ []) }
+    ensures limit { All TakesWithin
+        (turns_with R.remaining opening.old opening.new input.Journal journal.old journal.new) }
 {
     let texts = match read_inputs(alloc, opening, journal, Source::Journal) {
         Ok(texts) => texts,

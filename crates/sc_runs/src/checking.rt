@@ -35,7 +35,8 @@ fn write_pieces<W: Write>(
     lines: &mut FaultLines<'_>,
     out: &mut Watched<W>,
 ) -> Result<Checked, RunFault>
-    ensures bytes { WritesFaults lines.old.files lines.old.left (W.contents (device_of out.old)) (W.contents (device_of out.new)) result }
+    ensures bytes { WritesFaults lines.old.files lines.old.left
+        (W.contents (device_of out.old)) (W.contents (device_of out.new)) result }
     ensures failed { OutputFailsAsTold out.old out.new result }
 {
     let mut text = Vec::new(alloc);
@@ -58,7 +59,8 @@ fn write_faults<W: Write>(
     lines: &mut FaultLines<'_>,
     out: &mut Watched<W>,
 ) -> Result<Checked, RunFault>
-    ensures bytes { WritesFaults lines.old.files lines.old.left (W.contents (device_of out.old)) (W.contents (device_of out.new)) result }
+    ensures bytes { WritesFaults lines.old.files lines.old.left
+        (W.contents (device_of out.old)) (W.contents (device_of out.new)) result }
     ensures failed { OutputFailsAsTold out.old out.new result }
 {
     match write_pieces(alloc, lines, out) {
@@ -72,7 +74,8 @@ fn write_faults<W: Write>(
 
 /// The inputs of these names and texts.
 fn files_of<'a>(names: &FileNames<'a>, texts: OpeningSlices<'a>, script: &'a [u8]) -> InputFiles<'a>
-    ensures { files_view result ≡ files_of (names_view names.now) texts.entry.schools.now texts.entry.roster.now texts.entry.lists.now script.now }
+    ensures { files_view result ≡ files_of
+        (names_view names.now) texts.entry.schools.now texts.entry.roster.now texts.entry.lists.now script.now }
 {
     InputFiles {
         schools: InputFile {
@@ -102,7 +105,8 @@ fn check_texts<W: Write>(
     out: &mut Watched<W>,
 ) -> Result<Checked, RunFault>
     ensures bytes { (any : List ℕ) → WritesFaults (files_view files.now)
-        (every_fault any files.now.schools.text.now files.now.roster.text.now files.now.lists.text.now files.now.script.text.now)
+        (every_fault any files.now.schools.text.now files.now.roster.text.now
+        files.now.lists.text.now files.now.script.text.now)
         (W.contents (device_of out.old)) (W.contents (device_of out.new)) result }
     ensures failed { OutputFailsAsTold out.old out.new result }
 {
@@ -133,8 +137,10 @@ fn check_named<W: Write>(
     script: &[u8],
     out: &mut Watched<W>,
 ) -> Result<Checked, RunFault>
-    ensures bytes { (any : List ℕ) → WritesFaults
-        (files_of (names_view names.now) texts.entry.schools.now texts.entry.roster.now texts.entry.lists.now script.now)
+    ensures bytes { (any : List ℕ)
+        → WritesFaults
+        (files_of (names_view names.now)
+        texts.entry.schools.now texts.entry.roster.now texts.entry.lists.now script.now)
         (every_fault any texts.entry.schools.now texts.entry.roster.now texts.entry.lists.now script.now)
         (W.contents (device_of out.old)) (W.contents (device_of out.new)) result }
     ensures failed { OutputFailsAsTold out.old out.new result }
@@ -161,10 +167,12 @@ pub fn check_files<R: Read, W: Write>(
     script: &mut Option<Watched<R>>,
     out: &mut Watched<W>,
 ) -> Result<Checked, RunFault>
-    ensures checked { ChecksFiles (names_view names.now) (opening_turns R.remaining opening.old opening.new) (turns_if_any R.remaining input.Script script.old script.new)
+    ensures checked { ChecksFiles (names_view names.now) (opening_turns R.remaining opening.old opening.new)
+        (turns_if_any R.remaining input.Script script.old script.new)
         (W.contents (device_of out.old)) (W.contents (device_of out.new)) result }
     ensures failed { OutputFailsAsTold out.old out.new result }
-    ensures limit { All TakesWithin (opening_turns R.remaining opening.old opening.new ++ turns_if_any R.remaining input.Script script.old script.new) }
+    ensures limit { All TakesWithin (opening_turns R.remaining opening.old opening.new
+        ++ turns_if_any R.remaining input.Script script.old script.new) }
     ensures stays { is_some script.new ≡ is_some script.old }
 {
     let texts = match read_opening_and(alloc, opening, script, Source::Script) {

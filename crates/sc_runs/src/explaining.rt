@@ -1,11 +1,11 @@
 //! From files to what came of each choice.
 
-ghost use Rattle.std.specs.Prelude.{◌≡◌, ◌++◌, All, is_some};
+ghost use Rattle.std.specs.Prelude.{◌≡◌, is_some};
 ghost use Rattle.sc_report.specs.Watched.{device_of};
 ghost use Rattle.sc_runs.specs.Explaining.{explanations, student_in, ExplainsStanding};
 ghost use Rattle.sc_runs.specs.Failing.{OutputFailsAsTold};
-ghost use Rattle.sc_runs.specs.Inputs.{opening_turns, TakesWithin};
-ghost use Rattle.sc_runs.specs.Standing.{journal_turns, TellsFiles};
+ghost use Rattle.sc_runs.specs.Inputs.{opening_turns};
+ghost use Rattle.sc_runs.specs.Standing.{journal_turns, AllTakeWithin, TellsFiles};
 
 use crate::fault::RunFault;
 use crate::inputs::Opening;
@@ -74,7 +74,7 @@ pub fn explain_files<R: Read, W: Write>(
         (opening_turns R.remaining opening.old opening.new) (journal_turns R.remaining journal.old journal.new)
         (W.contents (device_of out.old)) (W.contents (device_of out.new)) result }
     ensures failed { OutputFailsAsTold out.old out.new result }
-    ensures limit { All TakesWithin (opening_turns R.remaining opening.old opening.new ++ journal_turns R.remaining journal.old journal.new) }
+    ensures limit { AllTakeWithin R.remaining opening.old opening.new journal.old journal.new }
     ensures stays { is_some journal.new ≡ is_some journal.old }
 {
     match notice_files(alloc, seed, opening, journal, student, out) {

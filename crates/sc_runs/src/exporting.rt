@@ -1,10 +1,10 @@
 //! From files to the files of the papers as they stand.
 
-ghost use Rattle.std.specs.Prelude.{◌≡◌, ◌++◌, All, IfErr, IfOk, Ok, is_some};
+ghost use Rattle.std.specs.Prelude.{◌≡◌, IfErr, IfOk, Ok, is_some};
 ghost use Rattle.sc_runs.specs.Exporting.{AreFilesOf, ExportsFiles, ExportsStanding};
-ghost use Rattle.sc_runs.specs.Inputs.{opening_turns, texts_of, TakesWithin};
+ghost use Rattle.sc_runs.specs.Inputs.{opening_turns, texts_of};
 ghost use Rattle.sc_runs.specs.Opening.{opening_in};
-ghost use Rattle.sc_runs.specs.Standing.{journal_turns};
+ghost use Rattle.sc_runs.specs.Standing.{journal_turns, AllTakeWithin};
 ghost use Rattle.sc_runs.specs.declared.fault.RunFault.TheVariants.{OutOfMemory};
 
 use crate::fault::RunFault;
@@ -84,8 +84,9 @@ pub fn export_files<R: Read>(
     opening: &mut Opening<R>,
     journal: &mut Option<Watched<R>>,
 ) -> Result<Exported, RunFault>
-    ensures files { ExportsFiles seed.now (opening_turns R.remaining opening.old opening.new) (journal_turns R.remaining journal.old journal.new) result }
-    ensures limit { All TakesWithin (opening_turns R.remaining opening.old opening.new ++ journal_turns R.remaining journal.old journal.new) }
+    ensures files { ExportsFiles seed.now (opening_turns R.remaining opening.old opening.new)
+        (journal_turns R.remaining journal.old journal.new) result }
+    ensures limit { AllTakeWithin R.remaining opening.old opening.new journal.old journal.new }
     ensures stays { is_some journal.new ≡ is_some journal.old }
 {
     let texts = match read_opening_and(alloc, opening, journal, Source::Journal) {

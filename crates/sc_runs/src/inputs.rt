@@ -1,7 +1,7 @@
 //! The inputs of a call, and reading each of them whole.
 
 ghost use Rattle.std.specs.Prelude.{◌≡◌, ◌++◌, ◌∷◌, [], All, IfErr, IfOk, is_some};
-ghost use Rattle.sc_runs.specs.Inputs.{in_order, opening_turns, texts_of, turn_of, turns_if_any, AreRead, EndsAmong, EndsReading, IsRead, IsReadIfAny, TakesWithin};
+ghost use Rattle.sc_runs.specs.Inputs.{in_order, opening_turns, texts_of, turn_of, turns_if_any, turns_with, AreRead, EndsAmong, EndsReading, IsRead, IsReadIfAny, TakesWithin};
 
 use crate::fault::RunFault;
 use sc_intake::{Cause, IntakeFault, MOST_BYTES, Source};
@@ -78,7 +78,8 @@ pub fn read_opening<R: Read>(
     alloc: Global,
     opening: &mut Opening<R>,
 ) -> Result<OpeningTexts, RunFault>
-    ensures read { IfOk result (λ given. AreRead (opening_turns R.remaining opening.old opening.new) (in_order (texts_of given))) }
+    ensures read { IfOk result (λ given. AreRead (opening_turns R.remaining opening.old opening.new)
+        (in_order (texts_of given))) }
     ensures ended { IfErr result (EndsAmong (opening_turns R.remaining opening.old opening.new)) }
     ensures limit { All TakesWithin (opening_turns R.remaining opening.old opening.new) }
 {
@@ -108,10 +109,11 @@ pub fn read_inputs<R: Read>(
     last: &mut Watched<R>,
     source: Source,
 ) -> Result<InputTexts, RunFault>
-    ensures read { IfOk result (λ given. AreRead (opening_turns R.remaining opening.old opening.new ++ turn_of R.remaining source last.old last.new ∷ [])
+    ensures read { IfOk result (λ given.
+        AreRead (turns_with R.remaining opening.old opening.new source last.old last.new)
         (in_order (texts_of given.opening) ++ given.last.items ∷ [])) }
-    ensures ended { IfErr result (EndsAmong (opening_turns R.remaining opening.old opening.new ++ turn_of R.remaining source last.old last.new ∷ [])) }
-    ensures limit { All TakesWithin (opening_turns R.remaining opening.old opening.new ++ turn_of R.remaining source last.old last.new ∷ []) }
+    ensures ended { IfErr result (EndsAmong (turns_with R.remaining opening.old opening.new source last.old last.new)) }
+    ensures limit { All TakesWithin (turns_with R.remaining opening.old opening.new source last.old last.new) }
 {
     let opening = match read_opening(alloc, opening) {
         Ok(opening) => opening,
@@ -147,10 +149,14 @@ pub fn read_opening_and<R: Read>(
     last: &mut Option<Watched<R>>,
     source: Source,
 ) -> Result<InputTexts, RunFault>
-    ensures read { IfOk result (λ given. AreRead (opening_turns R.remaining opening.old opening.new) (in_order (texts_of given.opening))) }
-    ensures last { IfOk result (λ given. IsReadIfAny (turns_if_any R.remaining source last.old last.new) given.last.items) }
-    ensures ended { IfErr result (EndsAmong (opening_turns R.remaining opening.old opening.new ++ turns_if_any R.remaining source last.old last.new)) }
-    ensures limit { All TakesWithin (opening_turns R.remaining opening.old opening.new ++ turns_if_any R.remaining source last.old last.new) }
+    ensures read { IfOk result (λ given. AreRead (opening_turns R.remaining opening.old opening.new)
+        (in_order (texts_of given.opening))) }
+    ensures last { IfOk result (λ given.
+        IsReadIfAny (turns_if_any R.remaining source last.old last.new) given.last.items) }
+    ensures ended { IfErr result (EndsAmong (opening_turns R.remaining opening.old opening.new
+        ++ turns_if_any R.remaining source last.old last.new)) }
+    ensures limit { All TakesWithin (opening_turns R.remaining opening.old opening.new
+        ++ turns_if_any R.remaining source last.old last.new) }
     ensures stays { is_some last.new ≡ is_some last.old }
 {
     let opening = match read_opening(alloc, opening) {

@@ -58,38 +58,49 @@ pub fn numbers_are_taken_in_these_ranges(number: u32) {
 /// of entry included, and to the stamps after it, and no line of it is torn.
 pub fn journal_of_a_run_is_replayed()
     ensures { (m : Market) (text : List ℕ) (script : List (Result Stamped Refusal)) → script_in text ≡ Ok script
-        → IsReplay (unamended m) (after_script (unamended m) script) (journal_text 1 (accepted (unamended m) script)) Whole }
+        → IsReplay (unamended m) (after_script (unamended m) script)
+        (journal_text 1 (accepted (unamended m) script)) Whole }
 {}
 
 /// The journal of a run never has more lines than there are numbers for.
 pub fn journal_of_a_run_is_never_full()
-    ensures { (m : Market) (script : List (Result Stamped Refusal)) → length (accepted (unamended m) script) ≤ LineNo.GREATEST }
+    ensures { (m : Market) (script : List (Result Stamped Refusal))
+        → length (accepted (unamended m) script) ≤ LineNo.GREATEST }
 {}
 
 /// Each `ok` that stands whole in the output has its line whole in the journal, whatever ended the run. However much of what it writes
 /// two empty writers were given: where the output has the replies to the first records of the script, the journal has the lines of
 /// all those among them that were accepted.
 pub fn no_reply_before_its_line()
-    ensures { (opened : Opened) (first rest : List (Result Stamped Refusal)) (journal output : List ℕ) (result : Result (Unit {0}) RunFault) → opened.script ≡ first ++ rest
-        → WritesRun (Ok opened) (record { journal = Some []; output = Some [] }) (record { journal = Some journal; output = Some output }) result
-        → StartsWith output (replies 1 (unamended opened.papers) first) → StartsWith journal (journal_text 1 (accepted (unamended opened.papers) first)) }
+    ensures { (opened : Opened) (first rest : List (Result Stamped Refusal)) (journal output : List ℕ)
+        (result : Result (Unit {0}) RunFault) → opened.script ≡ first ++ rest
+        → WritesRun (Ok opened) (record { journal = Some []; output = Some [] })
+        (record { journal = Some journal; output = Some output }) result
+        → StartsWith output (replies 1 (unamended opened.papers) first)
+        → StartsWith journal (journal_text 1 (accepted (unamended opened.papers) first)) }
 {}
 
 /// The order of stamped amendments decides nothing where it leaves the same papers: two lists of them over the same
 /// papers of an opening, or two interleavings of several desks' lists, refused ones among them, after which the schools
 /// and the students are the same up to order, leave every student the same, and one report.
 pub fn stamped_amendments_that_leave_the_same_papers_leave_one_report()
-    ensures matching { (m : Market) (first second : List Stamped) (a b : Matching) → WellFormed m → AreSameUpToOrder (papers_after m first) (papers_after m second)
-        → IsStudentOptimal (papers_after m first) a → IsStudentOptimal (papers_after m second) b → (i : ℕ) → a i ≡ b i }
-    ensures report { (m : Market) (first second : List Stamped) (a b : Matching) → WellFormed m → AreSameUpToOrder (papers_after m first) (papers_after m second)
-        → IsStudentOptimal (papers_after m first) a → IsStudentOptimal (papers_after m second) b → report_text (papers_after m first) a ≡ report_text (papers_after m second) b }
-    ensures desks { (m : Market) (desks : List (List Stamped)) (first second : List Stamped) (a b : Matching) → WellFormed m → IsInterleaving desks first → IsInterleaving desks second
-        → AreSameUpToOrder (papers_after m first) (papers_after m second) → IsStudentOptimal (papers_after m first) a → IsStudentOptimal (papers_after m second) b
+    ensures matching { (m : Market) (first second : List Stamped) (a b : Matching) → WellFormed m
+        → AreSameUpToOrder (papers_after m first) (papers_after m second) → IsStudentOptimal (papers_after m first) a
+        → IsStudentOptimal (papers_after m second) b → (i : ℕ) → a i ≡ b i }
+    ensures report { (m : Market) (first second : List Stamped) (a b : Matching) → WellFormed m
+        → AreSameUpToOrder (papers_after m first) (papers_after m second) → IsStudentOptimal (papers_after m first) a
+        → IsStudentOptimal (papers_after m second) b
+        → report_text (papers_after m first) a ≡ report_text (papers_after m second) b }
+    ensures desks { (m : Market) (desks : List (List Stamped)) (first second : List Stamped) (a b : Matching)
+        → WellFormed m → IsInterleaving desks first → IsInterleaving desks second
+        → AreSameUpToOrder (papers_after m first) (papers_after m second) → IsStudentOptimal (papers_after m first) a
+        → IsStudentOptimal (papers_after m second) b
         → ((i : ℕ) → a i ≡ b i) × (report_text (papers_after m first) a ≡ report_text (papers_after m second) b) }
 {}
 
 /// After the last whole line of a journal nobody's place changes: what is told since then is the header alone.
 pub fn nothing_changes_after_the_last_line()
-    ensures { (reading : Result Market IntakeFault) (journal : List ℕ) (now : Market) (tail : Tail) (text : List ℕ) → Stands reading journal now tail
-        → IsChange (whole_lines journal) reading journal now text → text ≡ codes "student,before,after\n" }
+    ensures { (reading : Result Market IntakeFault) (journal : List ℕ) (now : Market) (tail : Tail) (text : List ℕ)
+        → Stands reading journal now tail → IsChange (whole_lines journal) reading journal now text
+        → text ≡ codes "student,before,after\n" }
 {}

@@ -57,7 +57,8 @@ fn begins_line(bytes: &[u8], at: usize) -> bool
 /// What stands after the marker's line where that line begins at the place `at`.
 fn after_marker_at<'a>(bytes: &'a [u8], at: usize, marker: &[u8]) -> Option<&'a [u8]>
     requires { at ≤ length bytes.now }
-    ensures { option_copied result ≡ (if line_begins bytes.now at then marker_passed marker.now (drop at bytes.now) else None) }
+    ensures { option_copied result
+        ≡ (if line_begins bytes.now at then marker_passed marker.now (drop at bytes.now) else None) }
 {
     if begins_line(bytes, at) {
         after_marker(&bytes[at..], marker)

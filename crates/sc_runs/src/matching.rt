@@ -78,7 +78,8 @@ pub fn match_files<R: Read, W: Write>(
 ) -> Result<Papers, RunFault>
     ensures bytes { MatchesFiles seed.now show_log (opening_turns R.remaining opening.old opening.new)
         (W.contents (device_of out.old)) (W.contents (device_of out.new)) result }
-    ensures papers { IfOk result (λ papers. ArePapersOf seed.now (opening_turns R.remaining opening.old opening.new) papers) }
+    ensures papers { IfOk result (λ papers.
+        ArePapersOf seed.now (opening_turns R.remaining opening.old opening.new) papers) }
     ensures failed { OutputFailsAsTold out.old out.new result }
     ensures limit { All TakesWithin (opening_turns R.remaining opening.old opening.new) }
 {

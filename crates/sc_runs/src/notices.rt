@@ -1,15 +1,15 @@
 //! From files to a notice: what is told of one student or school, or of all.
 
-ghost use Rattle.std.specs.Prelude.{◌≡◌, ◌++◌, true, Option, None, Some, All, IfOk, IfSome, is_some};
+ghost use Rattle.std.specs.Prelude.{◌≡◌, true, Option, None, Some, IfOk, IfSome, is_some};
 ghost use Rattle.sc_papers.specs.Market.{Market};
 ghost use Rattle.sc_papers.specs.Matching.{Matching};
 ghost use Rattle.sc_repair.specs.Standing.{matching_of};
 ghost use Rattle.sc_report.specs.Watched.{device_of};
 ghost use Rattle.sc_runs.specs.Failing.{OutputFailsAsTold};
-ghost use Rattle.sc_runs.specs.Inputs.{opening_turns, TakesWithin};
+ghost use Rattle.sc_runs.specs.Inputs.{opening_turns};
 ghost use Rattle.sc_runs.specs.Notices.{is_known, notice_text, Notice, TellsStanding, WritesNotice};
-ghost use Rattle.sc_runs.specs.Opening.{papers_in};
-ghost use Rattle.sc_runs.specs.Standing.{journal_turns, TellsFiles};
+ghost use Rattle.sc_runs.specs.Opening.{papers_held};
+ghost use Rattle.sc_runs.specs.Standing.{journal_turns, AllTakeWithin, TellsFiles};
 
 use crate::fault::RunFault;
 use crate::inputs::{Opening, OpeningSlices, read_opening_and};
@@ -35,7 +35,8 @@ pub trait Subject: Copy {
 
     /// What is told of this one, or `None` where they are not in the papers. The only error is want of memory.
     fn told_of(self, alloc: Global, clearing: &Clearing) -> Result<Option<Vec<u8>>, AllocError>
-        ensures known { IfOk result (λ found. is_some found ≡ is_known notice (Some self) clearing.now.standing.papers) }
+        ensures known { IfOk result (λ found. is_some found
+            ≡ is_known notice (Some self) clearing.now.standing.papers) }
         ensures text { IfOk result (λ found. IfSome found (λ text. text.items
             ≡ notice_text notice (Some self) clearing.now.standing.papers (matching_of clearing.now.standing))) };
 }
@@ -56,9 +57,10 @@ fn write_notice<S: Subject, W: Write>(
     out: &mut Watched<W>,
 ) -> Result<Told<S>, RunFault>
     // Of whichever papers and matching it is.
-    ensures bytes { (asked : Option S) (m : Market) (a : Matching)
-        → is_known S.notice asked m ≡ true → text.now ≡ notice_text S.notice asked m a
-        → WritesNotice S.notice asked m a tail (W.contents (device_of out.old)) (W.contents (device_of out.new)) result }
+    ensures bytes { (asked : Option S) (m : Market) (a : Matching) → is_known S.notice asked m ≡ true
+        → text.now ≡ notice_text S.notice asked m a
+        → WritesNotice S.notice asked m a tail
+        (W.contents (device_of out.old)) (W.contents (device_of out.new)) result }
     ensures failed { OutputFailsAsTold out.old out.new result }
 {
     match write_text(text, out) {
@@ -92,7 +94,8 @@ fn notice_one<S: Subject, W: Write>(
     tail: Tail,
     out: &mut Watched<W>,
 ) -> Result<Told<S>, RunFault>
-    ensures bytes { WritesNotice S.notice (Some subject) clearing.now.standing.papers (matching_of clearing.now.standing) tail
+    ensures bytes { WritesNotice S.notice (Some subject) clearing.now.standing.papers
+        (matching_of clearing.now.standing) tail
         (W.contents (device_of out.old)) (W.contents (device_of out.new)) result }
     ensures failed { OutputFailsAsTold out.old out.new result }
 {
@@ -131,7 +134,7 @@ fn notice_texts<S: Subject, W: Write>(
     out: &mut Watched<W>,
 ) -> Result<Told<S>, RunFault>
     ensures told { TellsStanding S.notice asked
-        (papers_in seed.now texts.entry.schools.now texts.entry.roster.now texts.entry.lists.now) journal.now
+        (papers_held seed.now texts.entry) journal.now
         (W.contents (device_of out.old)) (W.contents (device_of out.new)) result }
     ensures failed { OutputFailsAsTold out.old out.new result }
 {
@@ -159,7 +162,7 @@ pub fn notice_files<S: Subject, R: Read, W: Write>(
         (opening_turns R.remaining opening.old opening.new) (journal_turns R.remaining journal.old journal.new)
         (W.contents (device_of out.old)) (W.contents (device_of out.new)) result }
     ensures failed { OutputFailsAsTold out.old out.new result }
-    ensures limit { All TakesWithin (opening_turns R.remaining opening.old opening.new ++ journal_turns R.remaining journal.old journal.new) }
+    ensures limit { AllTakeWithin R.remaining opening.old opening.new journal.old journal.new }
     ensures stays { is_some journal.new ≡ is_some journal.old }
 {
     let texts = match read_opening_and(alloc, opening, journal, Source::Journal) {

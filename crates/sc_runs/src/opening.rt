@@ -2,7 +2,7 @@
 
 ghost use Rattle.std.specs.Prelude.{◌≡◌, MatchResult, Ok};
 ghost use Rattle.sc_runs.specs.Inputs.{texts_of};
-ghost use Rattle.sc_runs.specs.Opening.{opening_in, papers_in, IsOpeningFault};
+ghost use Rattle.sc_runs.specs.Opening.{opening_in, papers_held, IsOpeningFault};
 
 use crate::fault::RunFault;
 use crate::inputs::{OpeningSlices, OpeningTexts};
@@ -12,8 +12,8 @@ use std::alloc::Global;
 /// The papers that the texts hold, or their first fault.
 pub fn read_papers(alloc: Global, seed: &Seed, texts: OpeningSlices<'_>) -> Result<Papers, RunFault>
     ensures { MatchResult result
-        (λ papers. papers_in seed.now texts.entry.schools.now texts.entry.roster.now texts.entry.lists.now ≡ Ok papers)
-        (IsOpeningFault (papers_in seed.now texts.entry.schools.now texts.entry.roster.now texts.entry.lists.now)) }
+        (λ papers. papers_held seed.now texts.entry ≡ Ok papers)
+        (IsOpeningFault (papers_held seed.now texts.entry)) }
 {
     let papers = sc_intake::read_papers(alloc, *seed, texts.schools, texts.roster, texts.lists)?;
     Ok(papers)

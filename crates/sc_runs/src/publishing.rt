@@ -1,6 +1,6 @@
 //! From three files, a log and a published report to a finding.
 
-ghost use Rattle.std.specs.Prelude.{◌≡◌, ◌++◌, ◌∷◌, [], All, IfErr, IfOk, Ok, length};
+ghost use Rattle.std.specs.Prelude.{◌≡◌, All, IfErr, IfOk, Ok, length};
 ghost use Rattle.sc_papers.specs.Log.{matching_of};
 ghost use Rattle.sc_papers.specs.Matching.{Matching};
 ghost use Rattle.sc_audit.specs.Verdict.{IsVerdict};
@@ -11,7 +11,7 @@ ghost use Rattle.sc_report.specs.Text.{report_text};
 ghost use Rattle.sc_report.specs.Watched.{device_of};
 ghost use Rattle.sc_runs.specs.Auditing.{claimed_in};
 ghost use Rattle.sc_runs.specs.Failing.{OutputFailsAsTold};
-ghost use Rattle.sc_runs.specs.Inputs.{opening_turns, texts_of, turn_of, TakesWithin};
+ghost use Rattle.sc_runs.specs.Inputs.{texts_of, turn_of, turns_with, TakesWithin};
 ghost use Rattle.sc_runs.specs.Opening.{opening_in, WritesText};
 ghost use Rattle.sc_runs.specs.Publishing.{finding_of, finding_text, AuditsReport, EndsComparing, EndsFinding, IsCompared, IsFinding, WritesFinding};
 ghost use Rattle.sc_tallies.specs.Places.{ArePlaces};
@@ -75,7 +75,8 @@ fn write_finding<W: Write>(
     finding: &Finding,
     out: &mut Watched<W>,
 ) -> Result<(), RunFault>
-    ensures bytes { WritesText (λ text. text ≡ finding_text finding.now) (W.contents (device_of out.old)) (W.contents (device_of out.new)) result }
+    ensures bytes { WritesText (λ text. text ≡ finding_text finding.now)
+        (W.contents (device_of out.old)) (W.contents (device_of out.new)) result }
     ensures failed { OutputFailsAsTold out.old out.new result }
 {
     match finding_line(alloc, finding) {
@@ -101,8 +102,10 @@ fn compare<R: Read>(
     report: &mut Watched<R>,
 ) -> Result<Option<u64>, RunFault>
     requires { length matched.places.now ≡ length matched.papers.now.students }
-    ensures compared { IfOk result (λ found. (a : Matching) → ArePlaces matched.entry.papers.now a matched.entry.places.now
-        → IsCompared (report_text matched.entry.papers.now a) (turn_of R.remaining input.Report report.old report.new) found) }
+    ensures compared { IfOk result (λ found. (a : Matching)
+        → ArePlaces matched.entry.papers.now a matched.entry.places.now
+        → IsCompared (report_text matched.entry.papers.now a)
+        (turn_of R.remaining input.Report report.old report.new) found) }
     ensures ended { IfErr result (EndsComparing (turn_of R.remaining input.Report report.old report.new)) }
 {
     let text = match report_text_of(alloc, matched) {
@@ -127,9 +130,12 @@ fn find_audited<R: Read>(
     report: &mut Watched<R>,
 ) -> Result<Finding, RunFault>
     requires verdict { IsVerdict papers.now log.now audited.now.verdict }
-    requires places { audited.now.verdict ≡ verdict.Certified → ArePlaces papers.now (matching_of papers.now log.now) audited.now.places.items }
-    ensures found { IfOk result (IsFinding papers.now log.now (turn_of R.remaining input.Report report.old report.new)) }
-    ensures ended { IfErr result (EndsFinding papers.now log.now (turn_of R.remaining input.Report report.old report.new)) }
+    requires places { audited.now.verdict ≡ verdict.Certified
+        → ArePlaces papers.now (matching_of papers.now log.now) audited.now.places.items }
+    ensures found { IfOk result
+        (IsFinding papers.now log.now (turn_of R.remaining input.Report report.old report.new)) }
+    ensures ended { IfErr result
+        (EndsFinding papers.now log.now (turn_of R.remaining input.Report report.old report.new)) }
 {
     match audited.verdict {
         Verdict::BadEntry { line } => Ok(Finding::BadEntry { line }),
@@ -155,8 +161,10 @@ fn find<R: Read>(
     log: &[Rejection],
     report: &mut Watched<R>,
 ) -> Result<Finding, RunFault>
-    ensures found { IfOk result (IsFinding papers.now log.now (turn_of R.remaining input.Report report.old report.new)) }
-    ensures ended { IfErr result (EndsFinding papers.now log.now (turn_of R.remaining input.Report report.old report.new)) }
+    ensures found { IfOk result
+        (IsFinding papers.now log.now (turn_of R.remaining input.Report report.old report.new)) }
+    ensures ended { IfErr result
+        (EndsFinding papers.now log.now (turn_of R.remaining input.Report report.old report.new)) }
 {
     match audit_and_place(alloc, papers, log) {
         Ok(audited) => {
@@ -176,7 +184,8 @@ fn audit_papers<R: Read, W: Write>(
     report: &mut Watched<R>,
     out: &mut Watched<W>,
 ) -> Result<Finding, RunFault>
-    ensures finding { WritesFinding (claimed_in (Ok papers.now) (log_in log.now)) (turn_of R.remaining input.Report report.old report.new)
+    ensures finding { WritesFinding (claimed_in (Ok papers.now) (log_in log.now))
+        (turn_of R.remaining input.Report report.old report.new)
         (W.contents (device_of out.old)) (W.contents (device_of out.new)) result }
     ensures failed { OutputFailsAsTold out.old out.new result }
 {
@@ -203,7 +212,8 @@ fn audit_texts<R: Read, W: Write>(
     report: &mut Watched<R>,
     out: &mut Watched<W>,
 ) -> Result<Finding, RunFault>
-    ensures finding { WritesFinding (claimed_in (opening_in seed.now (texts_of texts)) (log_in log.now)) (turn_of R.remaining input.Report report.old report.new)
+    ensures finding { WritesFinding (claimed_in (opening_in seed.now (texts_of texts)) (log_in log.now))
+        (turn_of R.remaining input.Report report.old report.new)
         (W.contents (device_of out.old)) (W.contents (device_of out.new)) result }
     ensures failed { OutputFailsAsTold out.old out.new result }
 {
@@ -238,11 +248,11 @@ pub fn audit_report_files<R: Read, W: Write>(
     out: &mut Watched<W>,
 ) -> Result<Finding, RunFault>
     ensures finding { AuditsReport seed.now
-        (opening_turns R.remaining opening.old opening.new ++ turn_of R.remaining input.Log log.old log.new ∷ [])
+        (turns_with R.remaining opening.old opening.new input.Log log.old log.new)
         (turn_of R.remaining input.Report report.old report.new)
         (W.contents (device_of out.old)) (W.contents (device_of out.new)) result }
     ensures failed { OutputFailsAsTold out.old out.new result }
-    ensures limit { All TakesWithin (opening_turns R.remaining opening.old opening.new ++ turn_of R.remaining input.Log log.old log.new ∷ []) }
+    ensures limit { All TakesWithin (turns_with R.remaining opening.old opening.new input.Log log.old log.new) }
 {
     let texts = match read_inputs(alloc, opening, log, Source::Log) {
         Ok(texts) => texts,

@@ -1,10 +1,10 @@
 //! From three files and a journal to a report.
 
-ghost use Rattle.std.specs.Prelude.{◌++◌, ◌∷◌, [], All, Ok};
+ghost use Rattle.std.specs.Prelude.{All, Ok};
 ghost use Rattle.sc_intake.specs.declared.fault.Source.TheVariants as input;
 ghost use Rattle.sc_report.specs.Watched.{device_of};
 ghost use Rattle.sc_runs.specs.Failing.{OutputFailsAsTold};
-ghost use Rattle.sc_runs.specs.Inputs.{opening_turns, texts_of, turn_of, TakesWithin};
+ghost use Rattle.sc_runs.specs.Inputs.{texts_of, turns_with, TakesWithin};
 ghost use Rattle.sc_runs.specs.Opening.{opening_in};
 ghost use Rattle.sc_runs.specs.Replaying.{ReplaysFiles, WritesReplay, WritesReplayed};
 
@@ -37,7 +37,8 @@ fn report_amended<W: Write>(
     tail: Tail,
     out: &mut Watched<W>,
 ) -> Result<Replayed, RunFault>
-    ensures bytes { WritesReplayed amended.papers tail (W.contents (device_of out.old)) (W.contents (device_of out.new)) result }
+    ensures bytes { WritesReplayed amended.papers tail
+        (W.contents (device_of out.old)) (W.contents (device_of out.new)) result }
     ensures failed { OutputFailsAsTold out.old out.new result }
 {
     let papers = amended.into_reordered();
@@ -59,7 +60,8 @@ fn report_replayed<W: Write>(
     journal: &[u8],
     out: &mut Watched<W>,
 ) -> Result<Replayed, RunFault>
-    ensures report { WritesReplay (Ok papers) journal.now (W.contents (device_of out.old)) (W.contents (device_of out.new)) result }
+    ensures report { WritesReplay (Ok papers) journal.now
+        (W.contents (device_of out.old)) (W.contents (device_of out.new)) result }
     ensures failed { OutputFailsAsTold out.old out.new result }
 {
     match replay_papers(alloc, papers, journal) {
@@ -102,10 +104,11 @@ pub fn replay_files<R: Read, W: Write>(
     out: &mut Watched<W>,
 ) -> Result<Replayed, RunFault>
     ensures report { ReplaysFiles seed.now
-        (opening_turns R.remaining opening.old opening.new ++ turn_of R.remaining input.Journal journal.old journal.new ∷ [])
+        (turns_with R.remaining opening.old opening.new input.Journal journal.old journal.new)
         (W.contents (device_of out.old)) (W.contents (device_of out.new)) result }
     ensures failed { OutputFailsAsTold out.old out.new result }
-    ensures limit { All TakesWithin (opening_turns R.remaining opening.old opening.new ++ turn_of R.remaining input.Journal journal.old journal.new ∷ []) }
+    ensures limit { All TakesWithin
+        (turns_with R.remaining opening.old opening.new input.Journal journal.old journal.new) }
 {
     let texts = match read_inputs(alloc, opening, journal, Source::Journal) {
         Ok(texts) => texts,

@@ -1,6 +1,6 @@
 //! From four files to replies and an assignment.
 
-ghost use Rattle.std.specs.Prelude.{◌≡◌, ℕ, List, ◌++◌, ◌∷◌, [], All, Option, false, IfOk, MatchResult, Ok, ◌≤◌, ◌+◌, length};
+ghost use Rattle.std.specs.Prelude.{◌≡◌, ℕ, List, ◌∷◌, [], All, Option, false, IfOk, MatchResult, Ok, ◌≤◌, ◌+◌, length};
 ghost use Rattle.sc_papers.specs.WellFormed.{WellFormed};
 ghost use Rattle.sc_intake.specs.Script.{script_in};
 ghost use Rattle.sc_intake.specs.declared.input.TheConstants.{MOST_BYTES};
@@ -9,8 +9,8 @@ ghost use Rattle.sc_repair.specs.Standing.{matching_of};
 ghost use Rattle.sc_report.specs.Text.{report_text};
 ghost use Rattle.sc_report.specs.Watched.{device_of, has_failed};
 ghost use Rattle.sc_runs.specs.Failing.{JournalFailsAsTold, OutputFailsAsTold};
-ghost use Rattle.sc_runs.specs.Opening.{papers_in, IsOpeningFault};
-ghost use Rattle.sc_runs.specs.Inputs.{opening_turns, turn_of, TakesWithin};
+ghost use Rattle.sc_runs.specs.Opening.{papers_held, IsOpeningFault};
+ghost use Rattle.sc_runs.specs.Inputs.{turns_with, TakesWithin};
 ghost use Rattle.sc_runs.specs.TwoWriters.{to_output};
 ghost use Rattle.sc_runs.specs.Run.{opened_in, RunsFiles, Writes, WritesRun};
 ghost use Rattle.sc_runs.specs.Session.{WritesReport, WritesSession};
@@ -31,7 +31,8 @@ use std::io::{Read, Write};
 
 /// The records of a script, or the fault of it.
 fn read_records(alloc: Global, script: &[u8]) -> Result<ScriptRecords<'_>, RunFault>
-    ensures read { MatchResult result (λ records. script_in script.now ≡ Ok records) (IsOpeningFault (script_in script.now)) }
+    ensures read { MatchResult result (λ records. script_in script.now ≡ Ok records)
+        (IsOpeningFault (script_in script.now)) }
     ensures bounded { IfOk result (λ records. length records ≤ MOST_BYTES + 1) }
 {
     let records = ScriptRecords::open(alloc, script)?;
@@ -45,7 +46,8 @@ fn finish<W: Write, J: Recorder>(
     out: &mut Watched<W>,
     journal: &mut J,
 ) -> Result<(), RunFault>
-    ensures writes { Writes (to_output (report_text clearing.now.standing.papers (matching_of clearing.now.standing)) ∷ [])
+    ensures writes { Writes
+        (to_output (report_text clearing.now.standing.papers (matching_of clearing.now.standing)) ∷ [])
         (record { journal = J.contents journal.old; output = W.contents (device_of out.old) })
         (record { journal = J.contents journal.new; output = W.contents (device_of out.new) }) result }
     ensures failed { OutputFailsAsTold out.old out.new result }
@@ -144,7 +146,7 @@ pub fn run_texts<W: Write, J: Recorder>(
     out: &mut Watched<W>,
     journal: &mut J,
 ) -> Result<(), RunFault>
-    ensures writes { WritesRun (opened_in (papers_in seed.now texts.entry.schools.now texts.entry.roster.now texts.entry.lists.now) (script_in script.now))
+    ensures writes { WritesRun (opened_in (papers_held seed.now texts.entry) (script_in script.now))
         (record { journal = J.contents journal.old; output = W.contents (device_of out.old) })
         (record { journal = J.contents journal.new; output = W.contents (device_of out.new) }) result }
     ensures failed { OutputFailsAsTold out.old out.new result }
@@ -183,12 +185,14 @@ pub fn run<R: Read, W: Write, J: Write>(
     journal: &mut Watched<J>,
 ) -> Result<(), RunFault>
     ensures writes { RunsFiles seed.now
-        (opening_turns R.remaining inputs.old.opening inputs.new.opening ++ turn_of R.remaining input.Script inputs.old.script inputs.new.script ∷ [])
+        (turns_with R.remaining inputs.old.opening inputs.new.opening input.Script inputs.old.script inputs.new.script)
         (record { journal = J.contents (device_of journal.old); output = W.contents (device_of out.old) })
         (record { journal = J.contents (device_of journal.new); output = W.contents (device_of out.new) }) result }
     ensures failed { OutputFailsAsTold out.old out.new result }
     ensures journal_failed { JournalFailsAsTold (has_failed journal.old) (has_failed journal.new) result }
-    ensures limit { All TakesWithin (opening_turns R.remaining inputs.old.opening inputs.new.opening ++ turn_of R.remaining input.Script inputs.old.script inputs.new.script ∷ []) }
+    ensures limit { All TakesWithin
+        (turns_with R.remaining inputs.old.opening inputs.new.opening
+        input.Script inputs.old.script inputs.new.script) }
 {
     let texts = match read_inputs(
         alloc,

@@ -105,7 +105,8 @@ impl<A: Amendable> Session<A> {
     ) -> Result<(), RunFault>
         requires allowed { stamped_verdict (A.stands self.old.amended) stamped ≡ None }
         ensures records { OnOk result (self.new.records ≡ self.old.records) }
-        ensures papers { OnOk result (A.stands self.new.amended ≡ after_record (A.stands self.old.amended) (Ok stamped)) }
+        ensures papers { OnOk result (A.stands self.new.amended
+            ≡ after_record (A.stands self.old.amended) (Ok stamped)) }
         ensures writes { Writes (answer_to self.old.records (A.stands self.old.amended) (Ok stamped))
             (record { journal = J.contents journal.old; output = W.contents (device_of out.old) })
             (record { journal = J.contents journal.new; output = W.contents (device_of out.new) }) result }
@@ -131,7 +132,8 @@ impl<A: Amendable> Session<A> {
         journal: &mut J,
     ) -> Result<(), RunFault>
         ensures records { OnOk result (self.new.records ≡ self.old.records) }
-        ensures papers { OnOk result (A.stands self.new.amended ≡ after_record (A.stands self.old.amended) (Ok stamped)) }
+        ensures papers { OnOk result (A.stands self.new.amended
+            ≡ after_record (A.stands self.old.amended) (Ok stamped)) }
         ensures writes { Writes (answer_to self.old.records (A.stands self.old.amended) (Ok stamped))
             (record { journal = J.contents journal.old; output = W.contents (device_of out.old) })
             (record { journal = J.contents journal.new; output = W.contents (device_of out.new) }) result }

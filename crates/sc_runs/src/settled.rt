@@ -19,7 +19,8 @@ pub fn report_papers<W: Write>(
     papers: &Papers,
     out: &mut Watched<W>,
 ) -> Result<(), RunFault>
-    ensures bytes { WritesText (IsReport papers.now) (W.contents (device_of out.old)) (W.contents (device_of out.new)) result }
+    ensures bytes { WritesText (IsReport papers.now)
+        (W.contents (device_of out.old)) (W.contents (device_of out.new)) result }
     ensures failed { OutputFailsAsTold out.old out.new result }
 {
     match settle_by_first_keys(alloc, papers) {
@@ -44,7 +45,8 @@ pub fn log_papers<W: Write>(
     papers: &Papers,
     out: &mut Watched<W>,
 ) -> Result<(), RunFault>
-    ensures bytes { WritesText (IsCertificate papers.now) (W.contents (device_of out.old)) (W.contents (device_of out.new)) result }
+    ensures bytes { WritesText (IsCertificate papers.now)
+        (W.contents (device_of out.old)) (W.contents (device_of out.new)) result }
     ensures failed { OutputFailsAsTold out.old out.new result }
 {
     match settle(alloc, papers) {

@@ -2,7 +2,7 @@
 
 ghost use Rattle.std.specs.Prelude.{IfErr, IfOk};
 ghost use Rattle.sc_repair.specs.Standing.{IsCertified};
-ghost use Rattle.sc_runs.specs.Opening.{papers_in};
+ghost use Rattle.sc_runs.specs.Opening.{papers_held};
 ghost use Rattle.sc_runs.specs.Standing.{IsStandingFault, Stands};
 
 use crate::fault::RunFault;
@@ -22,9 +22,10 @@ pub fn stand(
     texts: OpeningSlices<'_>,
     journal: &[u8],
 ) -> Result<(Clearing, Tail), RunFault>
-    ensures stands { IfOk result (λ stood. Stands (papers_in seed.now texts.entry.schools.now texts.entry.roster.now texts.entry.lists.now) journal.now stood.0.standing.papers stood.1) }
+    ensures stands { IfOk result (λ stood.
+        Stands (papers_held seed.now texts.entry) journal.now stood.0.standing.papers stood.1) }
     ensures certified { IfOk result (λ stood. IsCertified stood.0.standing) }
-    ensures refused { IfErr result (IsStandingFault (papers_in seed.now texts.entry.schools.now texts.entry.roster.now texts.entry.lists.now) journal.now) }
+    ensures refused { IfErr result (IsStandingFault (papers_held seed.now texts.entry) journal.now) }
 {
     let papers = match read_papers(alloc, seed, texts) {
         Ok(papers) => papers,

@@ -1,12 +1,12 @@
 //! From files to one text of what stands: its summary, or a table of its report.
 
-ghost use Rattle.std.specs.Prelude.{◌≡◌, ◌++◌, All, IfOk, is_some};
+ghost use Rattle.std.specs.Prelude.{◌≡◌, IfOk, is_some};
 ghost use Rattle.sc_repair.specs.Standing.{matching_of};
 ghost use Rattle.sc_report.specs.Watched.{device_of};
 ghost use Rattle.sc_runs.specs.Failing.{OutputFailsAsTold};
-ghost use Rattle.sc_runs.specs.Inputs.{opening_turns, TakesWithin};
-ghost use Rattle.sc_runs.specs.Opening.{papers_in, WritesText};
-ghost use Rattle.sc_runs.specs.Standing.{journal_turns, standing_text, IsStandingText, IsSummary, IsTable, TellsFiles, WritesOfStanding};
+ghost use Rattle.sc_runs.specs.Inputs.{opening_turns};
+ghost use Rattle.sc_runs.specs.Opening.{papers_held, WritesText};
+ghost use Rattle.sc_runs.specs.Standing.{journal_turns, standing_text, AllTakeWithin, IsStandingText, IsSummary, IsTable, TellsFiles, WritesOfStanding};
 
 use crate::fault::RunFault;
 use crate::inputs::{Opening, OpeningSlices, read_opening_and};
@@ -71,7 +71,7 @@ fn tell_texts<W: Write>(
     out: &mut Watched<W>,
 ) -> Result<Tail, RunFault>
     ensures told { WritesOfStanding (IsStandingText which)
-        (papers_in seed.now texts.entry.schools.now texts.entry.roster.now texts.entry.lists.now) journal.now
+        (papers_held seed.now texts.entry) journal.now
         (W.contents (device_of out.old)) (W.contents (device_of out.new)) result }
     ensures failed { OutputFailsAsTold out.old out.new result }
 {
@@ -102,7 +102,7 @@ fn tell_files<R: Read, W: Write>(
         (opening_turns R.remaining opening.old opening.new) (journal_turns R.remaining journal.old journal.new)
         (W.contents (device_of out.old)) (W.contents (device_of out.new)) result }
     ensures failed { OutputFailsAsTold out.old out.new result }
-    ensures limit { All TakesWithin (opening_turns R.remaining opening.old opening.new ++ journal_turns R.remaining journal.old journal.new) }
+    ensures limit { AllTakeWithin R.remaining opening.old opening.new journal.old journal.new }
     ensures stays { is_some journal.new ≡ is_some journal.old }
 {
     let texts = match read_opening_and(alloc, opening, journal, Source::Journal) {
@@ -139,7 +139,7 @@ pub fn summary_files<R: Read, W: Write>(
         (opening_turns R.remaining opening.old opening.new) (journal_turns R.remaining journal.old journal.new)
         (W.contents (device_of out.old)) (W.contents (device_of out.new)) result }
     ensures failed { OutputFailsAsTold out.old out.new result }
-    ensures limit { All TakesWithin (opening_turns R.remaining opening.old opening.new ++ journal_turns R.remaining journal.old journal.new) }
+    ensures limit { AllTakeWithin R.remaining opening.old opening.new journal.old journal.new }
     ensures stays { is_some journal.new ≡ is_some journal.old }
 {
     tell_files(alloc, seed, opening, journal, StandingText::Summary, out)
@@ -167,7 +167,7 @@ pub fn table_files<R: Read, W: Write>(
         (opening_turns R.remaining opening.old opening.new) (journal_turns R.remaining journal.old journal.new)
         (W.contents (device_of out.old)) (W.contents (device_of out.new)) result }
     ensures failed { OutputFailsAsTold out.old out.new result }
-    ensures limit { All TakesWithin (opening_turns R.remaining opening.old opening.new ++ journal_turns R.remaining journal.old journal.new) }
+    ensures limit { AllTakeWithin R.remaining opening.old opening.new journal.old journal.new }
     ensures stays { is_some journal.new ≡ is_some journal.old }
 {
     tell_files(
