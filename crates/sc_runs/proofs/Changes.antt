@@ -11,10 +11,11 @@ use Rattle.sc_journal.specs.declared.journal.Tail.{Tail}
 use Rattle.sc_tallies.proofs.Tallying.{take-one}
 use Rattle.sc_report.specs.declared.entrants.Entrant.{Entrant}
 use Rattle.sc_notices.proofs.RankLemmas.{counted-more}
-use Rattle.sc_runs.specs.Changing.{whole_lines, AreFirstLines, ArePlacesAfter, ChangesFiles, IsChange, IsChangeFrom, TellsChange}
+use Rattle.sc_runs.specs.Changing.{whole_lines, AreFirstLines, ChangesFiles, IsChange, TellsChange}
 use Rattle.sc_runs.specs.Inputs.{in_order, Texts, Turn, AreRead}
 use Rattle.sc_runs.specs.Opening.{papers_in}
 use Rattle.sc_runs.specs.Standing.{IsStandingFault, WritesOfStanding}
+use Rattle.sc_runs.specs.Steps.{ArePlacesAfter, IsChangeFrom}
 use Rattle.sc_runs.specs.declared.changing.Changed.{Changed}
 use Rattle.sc_runs.specs.declared.fault.RunFault.{RunFault}
 use Rattle.sc_runs.specs.declared.fault.RunFault.TheVariants.{Read, Intake, Journal, WriteOut, WriteJournal, OutOfMemory}

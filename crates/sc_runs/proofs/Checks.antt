@@ -11,7 +11,7 @@ use Rattle.sc_checks.specs.FaultLines.{faults_text, files_of, Files, Names}
 use Rattle.sc_report.specs.Whole.{AppendsPrefix}
 use Rattle.sc_runs.specs.Checking.{checked_of, ChecksFiles, WritesFaults}
 use Rattle.sc_runs.specs.Inputs.{in_order, Texts, Turn, AreRead, IsReadIfAny}
-use Rattle.sc_runs.specs.Opening.{WritesExactly}
+use Rattle.sc_runs.specs.Steps.{WritesExactly}
 use Rattle.sc_runs.specs.declared.checking.Checked.{Checked}
 use Rattle.sc_runs.specs.declared.checking.Checked.TheVariants.{Clean, Faulty}
 use Rattle.sc_runs.specs.declared.fault.RunFault.{RunFault}

@@ -10,6 +10,7 @@ use Rattle.sc_intake.specs.declared.fault.IntakeFault.{IntakeFault}
 use Rattle.sc_report.specs.LogText.{log_text}
 use Rattle.sc_report.specs.Text.{IsReportText}
 use Rattle.sc_report.specs.Whole.{AppendsPrefix}
+use Rattle.sc_runs.specs.Steps.{IsOpeningFault, WritesExactly}
 use Rattle.sc_runs.specs.declared.fault.RunFault.{RunFault}
 use Rattle.sc_runs.specs.declared.fault.RunFault.TheVariants.{Read, Intake, Journal, WriteOut, WriteJournal, OutOfMemory}
 use Rattle.sc_papers.specs.Market.{Market}
@@ -20,7 +21,7 @@ use Rattle.sc_intake.specs.Schools.{schools_in}
 use Rattle.sc_intake.specs.declared.lists.ListRow.{ListRow}
 use Rattle.sc_intake.specs.declared.roster.RosterRow.{RosterRow}
 use Rattle.sc_intake.specs.declared.schools.SchoolRow.{SchoolRow}
-use Rattle.sc_runs.specs.Opening.{papers_in, IsCertificate, IsMatchText, IsOpeningFault, WritesExactly, WritesMatch, WritesText}
+use Rattle.sc_runs.specs.Opening.{papers_in, IsCertificate, IsMatchText, WritesMatch, WritesText}
 
 -- what a writer holds stays through a flush
 pub Appends-kept : (a b c : Option (List ℕ)) (text : List ℕ) → Appends a b text → Keeps b c → Appends a c text

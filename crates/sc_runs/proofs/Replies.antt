@@ -15,10 +15,10 @@ use Rattle.sc_intake.specs.declared.fault.IntakeFault.{IntakeFault}
 use Rattle.sc_journal.specs.Journal.{journal_text}
 use Rattle.sc_journal.proofs.Stamping.{accepted-after}
 use Rattle.sc_report.specs.Reply.{reply_text}
-use Rattle.sc_runs.specs.Opening.{IsOpeningFault, IsReport}
+use Rattle.sc_runs.specs.Opening.{IsReport}
+use Rattle.sc_runs.specs.Steps.{IsOpeningFault, WritesLastReport, WritesSession}
 use Rattle.sc_runs.specs.TwoWriters.{Contents, Piece, journal_of, output_of, to_journal, to_output, GrowsByAll, GrowsByPrefix}
 use Rattle.sc_runs.specs.Run.{accepted, accepted_in, after_record, after_script, answer_to, answers, answer_by_verdict, next_line, opened_in, replies, reply_to, unless_verdict, KeepsBoth, Writes, WritesRun}
-use Rattle.sc_runs.specs.Session.{WritesReport, WritesSession}
 use Rattle.sc_runs.specs.declared.fault.RunFault.{RunFault}
 use Rattle.sc_runs.specs.declared.fault.RunFault.TheVariants.{Read, Intake, Journal, WriteOut, WriteJournal, OutOfMemory}
 use Rattle.sc_runs.proofs.LastReport.{IsReport-some, WellFormed-after_script}
@@ -169,7 +169,7 @@ Writes-cut xs ys a b (Intake fault) wrote = absurd wrote
 
 -- all answers were written, and then the report of the papers as they stand, whole or in part
 pub WritesSession-answered : (p later : StampedPapers) (script : List (Result Stamped Refusal)) (old mid new : Contents) (result : Result (Unit {0}) RunFault)
-    → later ≡ after_script p script → GrowsByAll (answers 1 p script) old mid → WritesReport later.papers mid new result → WritesSession p script old new result
+    → later ≡ after_script p script → GrowsByAll (answers 1 p script) old mid → WritesLastReport later.papers mid new result → WritesSession p script old new result
 WritesSession-answered p later script old mid new result is answered (report, of, wrote) = (
   report,
   subst (λ q. IsReport q.papers report) is of,

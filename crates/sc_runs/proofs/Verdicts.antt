@@ -8,7 +8,8 @@ use Rattle.sc_papers.specs.declared.rejection.Rejection.{Rejection}
 use Rattle.sc_audit.specs.Verdict.{IsVerdict}
 use Rattle.sc_audit.specs.declared.verdict.Verdict.{Verdict}
 use Rattle.sc_intake.specs.declared.fault.IntakeFault.{IntakeFault}
-use Rattle.sc_runs.specs.Auditing.{claimed_in, verdict_text, Claimed, WritesAudit, WritesVerdictLine, WritesVerdict}
+use Rattle.sc_runs.specs.Auditing.{claimed_in, verdict_text, Claimed, WritesAudit, WritesVerdict}
+use Rattle.sc_runs.specs.Steps.{WritesVerdictLine}
 use Rattle.sc_runs.specs.declared.fault.RunFault.{RunFault}
 use Rattle.sc_runs.specs.declared.fault.RunFault.TheVariants.{Read, Intake, Journal, WriteOut, WriteJournal, OutOfMemory}
 

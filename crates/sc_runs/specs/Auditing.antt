@@ -39,16 +39,6 @@ claimed_in reading logged = do
 abbrev pub audit_in : List ℕ → Texts → List ℕ → Result Claimed IntakeFault
 audit_in seed texts log = claimed_in (opening_in seed texts) (log_in log)
 
--- a verdict's line was written; a prefix of it where the writer failed, and nothing at want of memory
-abbrev pub WritesVerdictLine : Verdict → Option (List ℕ) → Option (List ℕ) → Result (Unit {0}) RunFault → Type 0
-WritesVerdictLine verdict old new (Ok done) = Appends old new (verdict_text verdict)
-WritesVerdictLine verdict old new (Err WriteOut) = AppendsPrefix old new (verdict_text verdict)
-WritesVerdictLine verdict old new (Err OutOfMemory) = Keeps old new
-WritesVerdictLine verdict old new (Err (Read source)) = ⊥
-WritesVerdictLine verdict old new (Err (Intake fault)) = ⊥
-WritesVerdictLine verdict old new (Err (Journal fault)) = ⊥
-WritesVerdictLine verdict old new (Err WriteJournal) = ⊥
-
 -- a verdict of the log that was read was found, and its line written; a prefix of it where the writer failed, and nothing
 -- where the inputs have a fault
 abbrev pub WritesVerdict : Result Claimed IntakeFault → Option (List ℕ) → Option (List ℕ) → Result Verdict RunFault → Type 0

@@ -62,11 +62,6 @@ abbrev pub RunsBundle : Turn → Option (List ℕ) → Option (List ℕ) → End
 RunsBundle turn old new ending = ((fault : RunFault) × (ending ≡ Fault fault) × EndsReading turn fault × Keeps old new)
     ⊎ ((text : List ℕ) × IsRead turn text × EndsBundle text old new ending)
 
--- how running the sections of a bundle ends
-abbrev pub ending_of : Result (Unit {0}) RunFault → Ending
-ending_of (Ok done) = Done
-ending_of (Err fault) = Fault fault
-
 -- whether a call ended because the output failed
 abbrev pub ends_by_output : Ending → Bool
 ends_by_output Done = false

@@ -1,13 +1,10 @@
 -- What telling whose place the amendments of a journal changed does, where bytes are known.
 use Rattle.std.specs.Prelude.{◌≡◌, ◌⊎◌, ℕ, ◌<◌, ◌==◌, List, [], ◌∷◌, ◌++◌, Option, Result, Ok, Err, count_by}
 use Rattle.std.specs.Io.KnownBytes.{Keeps}
-use Rattle.std.specs.List.{All}
 use Rattle.sc_papers.specs.Market.{Market}
 use Rattle.sc_papers.specs.Matching.{Matching, IsStudentOptimal}
 use Rattle.sc_intake.specs.declared.fault.IntakeFault.{IntakeFault}
 use Rattle.sc_journal.specs.declared.journal.Tail.{Tail}
-use Rattle.sc_report.specs.Entrants.{AreRising, Holds}
-use Rattle.sc_report.specs.declared.entrants.Entrant.{Entrant}
 use Rattle.sc_notices.specs.ChangesText.{changes_text}
 use Rattle.sc_runs.specs.Inputs.{in_order, Texts, Turn, AreRead}
 use Rattle.sc_runs.specs.Opening.{opening_in, EndsUnread}
@@ -26,23 +23,6 @@ pub record AreFirstLines (count : ℕ) (text lines : List ℕ) : Type 0 where
   pub cut : text ≡ lines ++ rest
   pub counted : whole_lines lines ≡ count
   pub whole : (lines ≡ []) ⊎ ((body : List ℕ) × (lines ≡ body ++ 10 ∷ []))
-
--- these are the students of the papers that stand after a journal, by rising number, each with what they have under
--- the student-optimal stable matching
-pub record ArePlacesAfter (reading : Result Market IntakeFault) (journal : List ℕ) (places : List Entrant) : Type 0 where
-  pub papers : Market
-  pub ending : Tail
-  pub matching : Matching
-  pub stands : Stands reading journal papers ending
-  pub optimal : IsStudentOptimal papers matching
-  pub students : AreRising papers places
-  pub held : All (Holds matching) places
-
--- a text tells whose place differs between those that are given so and the papers now, under their student-optimal
--- stable matching
-abbrev pub IsChangeFrom : List Entrant → Market → List ℕ → Type 0
-IsChangeFrom places now text = (b : Matching) × IsStudentOptimal now b
-    × ((m : Market) (a : Matching) → AreRising m places → All (Holds a) places → text ≡ changes_text m a now b)
 
 -- a text tells whose place differs between the papers that stand after the first lines of a journal, so many, and those
 -- that stand after all of it, each under their student-optimal stable matching

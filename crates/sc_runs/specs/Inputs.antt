@@ -10,7 +10,6 @@ use Rattle.sc_report.specs.Watched.{device_of, has_failed}
 use Rattle.sc_report.specs.Whole.{GivesAtMost}
 use Rattle.sc_report.specs.declared.watched.Watched.{Watched}
 use Rattle.sc_runs.specs.declared.inputs.Opening.{Opening}
-use Rattle.sc_runs.specs.declared.inputs.OpeningTexts.{OpeningTexts}
 use Rattle.sc_runs.specs.declared.fault.RunFault.{RunFault}
 use Rattle.sc_runs.specs.declared.fault.RunFault.TheVariants.{Read, Intake, Journal, WriteOut, WriteJournal, OutOfMemory}
 
@@ -118,7 +117,3 @@ pub record Texts : Type 0 where
 -- the texts, in the order in which they are read
 abbrev pub in_order : Texts → List (List ℕ)
 in_order texts = texts.schools ∷ texts.roster ∷ texts.lists ∷ []
-
--- the texts that were read
-abbrev pub texts_of : OpeningTexts → Texts
-texts_of given = record { schools = given.schools.items; roster = given.roster.items; lists = given.lists.items }

@@ -7,7 +7,6 @@ pub mod Opening
 pub mod BundleRun
 pub mod TwoWriters
 pub mod Run
-pub mod Session
 pub mod Auditing
 pub mod Publishing
 pub mod Replaying
@@ -20,3 +19,4 @@ pub mod FaultLine
 pub mod Exporting
 pub mod Checking
 pub mod Desks
+pub mod Steps

@@ -1,16 +1,11 @@
 -- Marker lines: where one stands, and what is before and after it.
 use Rattle.std.specs.Prelude.{ℕ, ◌-◌, ◌==◌, nat_eq, Bool, ◌||◌, List, [], ◌∷◌, Option, None, Some, if◌then◌else◌, length, drop, slice_index}
 use Rattle.std.specs.List.{starts_with}
-use Rattle.sc_runs.specs.declared.markers.Cut.{Cut}
 
 -- bytes in two parts, with the marker's line between them
 pub record Parts : Type 0 where
   pub before : List ℕ
   pub after : List ℕ
-
--- the two parts that a `Cut` points to
-abbrev pub parts_of : Cut → Parts
-parts_of cut = record { before = cut.before.now; after = cut.after.now }
 
 -- what stands after an LF, where the bytes begin with one
 abbrev pub after_lf : List ℕ → Option (List ℕ)

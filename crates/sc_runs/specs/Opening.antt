@@ -1,5 +1,5 @@
 -- What the files of an opening make, and what matching them does to the writer's bytes, where those are known.
-use Rattle.std.specs.Prelude.{◌≡◌, ◌⊎◌, ℕ, Bool, true, false, List, Option, Result, Ok, Err, ⊤, IsErrAnd}
+use Rattle.std.specs.Prelude.{◌≡◌, ◌⊎◌, ℕ, Bool, true, false, List, Option, Result, Ok, Err, IsErrAnd}
 use Rattle.std.specs.Io.KnownBytes.{Appends, Keeps}
 use Rattle.sc_papers.specs.Log.{IsSettled}
 use Rattle.sc_papers.specs.Market.{Market}
@@ -15,29 +15,10 @@ use Rattle.sc_report.specs.Whole.{AppendsPrefix}
 use Rattle.sc_runs.specs.Inputs.{in_order, Texts, Turn, AreRead, EndsAmong}
 use Rattle.sc_runs.specs.declared.fault.RunFault.{RunFault}
 use Rattle.sc_runs.specs.declared.fault.RunFault.TheVariants.{Read, Intake, Journal, WriteOut, WriteJournal, OutOfMemory}
-use Rattle.sc_runs.specs.declared.inputs.OpeningSlices.{OpeningSlices}
 
 -- the papers of an opening's texts, or their first fault
 abbrev pub opening_in : List ℕ → Texts → Result Market IntakeFault
 opening_in seed texts = papers_in seed texts.schools texts.roster texts.lists
-
--- the papers that the lent texts of an opening hold, or their first fault
-abbrev pub papers_held : List ℕ → OpeningSlices → Result Market IntakeFault
-papers_held seed texts = papers_in seed texts.schools.now texts.roster.now texts.lists.now
-
--- reading ended early for the first fault of what was read, or for want of memory
-abbrev pub IsOpeningFault : {A : Type 0} → Result A IntakeFault → RunFault → Type 0
-IsOpeningFault reading (Read source) = ⊥
-IsOpeningFault reading (Intake fault) = reading ≡ Err fault
-IsOpeningFault reading (Journal fault) = ⊥
-IsOpeningFault reading WriteOut = ⊥
-IsOpeningFault reading WriteJournal = ⊥
-IsOpeningFault reading OutOfMemory = ⊤
-
--- this came of reading the papers that the texts hold: those papers, or their first fault
-abbrev pub IsReadingOf : Result Market IntakeFault → Result Market RunFault → Type 0
-IsReadingOf reading (Ok m) = reading ≡ Ok m
-IsReadingOf reading (Err fault) = IsOpeningFault reading fault
 
 -- a writer was given one of these texts whole at `Ok`, a prefix of one where it failed, and nothing at
 -- want of memory
@@ -49,16 +30,6 @@ WritesText Is old new (Err (Intake fault)) = ⊥
 WritesText Is old new (Err (Journal fault)) = ⊥
 WritesText Is old new (Err WriteJournal) = ⊥
 WritesText Is old new (Err OutOfMemory) = Keeps old new
-
--- a writer was given this text whole at `Ok`, and a prefix of it where it failed
-abbrev pub WritesExactly : List ℕ → Option (List ℕ) → Option (List ℕ) → Result (Unit {0}) RunFault → Type 0
-WritesExactly text old new (Ok done) = Appends old new text
-WritesExactly text old new (Err WriteOut) = AppendsPrefix old new text
-WritesExactly text old new (Err (Read source)) = ⊥
-WritesExactly text old new (Err (Intake fault)) = ⊥
-WritesExactly text old new (Err (Journal fault)) = ⊥
-WritesExactly text old new (Err WriteJournal) = ⊥
-WritesExactly text old new (Err OutOfMemory) = ⊥
 
 -- a text is that of a log that is settled for the papers, and so certifies their matching
 abbrev pub IsCertificate : Market → List ℕ → Type 0

@@ -46,11 +46,6 @@ IsFinding m log report (Over s) = IsVerdict m log (verdict.Over s) × IsUntouche
 IsFinding m log report (ReportDiffers line) = IsSettled m log × IsCompared (report_by m log) report (Some line)
 IsFinding m log report Certified = IsSettled m log × IsCompared (report_by m log) report None
 
--- what comparing a report comes to, under a log that is settled
-abbrev pub finding_of : Option ℕ → Finding
-finding_of None = Certified
-finding_of (Some line) = ReportDiffers line
-
 -- comparing a report ended early: its reader failed, or there was no memory
 abbrev pub EndsComparing : Turn → RunFault → Type 0
 EndsComparing report (Read source) = (source ≡ input.Report) × (report.failed_after ≡ true)

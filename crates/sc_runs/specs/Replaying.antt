@@ -12,7 +12,7 @@ use Rattle.sc_journal.specs.declared.fault.JournalCause.TheVariants as cause
 use Rattle.sc_journal.specs.declared.journal.Tail.{Tail}
 use Rattle.sc_report.specs.Whole.{AppendsPrefix}
 use Rattle.sc_runs.specs.Inputs.{in_order, Texts, Turn, AreRead}
-use Rattle.sc_runs.specs.Opening.{opening_in, EndsUnread, IsReport, WritesText}
+use Rattle.sc_runs.specs.Opening.{opening_in, EndsUnread, IsReport}
 use Rattle.sc_runs.specs.declared.replaying.Replayed.{Replayed}
 use Rattle.sc_runs.specs.declared.fault.RunFault.{RunFault}
 use Rattle.sc_runs.specs.declared.fault.RunFault.TheVariants.{Read, Intake, Journal, WriteOut, WriteJournal, OutOfMemory}
@@ -20,12 +20,6 @@ use Rattle.sc_runs.specs.declared.fault.RunFault.TheVariants.{Read, Intake, Jour
 -- a text is the report after a journal was replayed over papers, which ended so
 abbrev pub IsReplayReport : Market → List ℕ → Tail → List ℕ → Type 0
 IsReplayReport m journal tail text = (now : StampedPapers) × IsReplay (unamended m) now journal tail × IsReport now.papers text
-
--- the report of amended papers was written, and they are answered up to the order of entry, with how the journal ends; a
--- prefix of it where the writer failed, and nothing for want of memory
-abbrev pub WritesReplayed : Market → Tail → Option (List ℕ) → Option (List ℕ) → Result Replayed RunFault → Type 0
-WritesReplayed m tail old new (Ok done) = IsReordering done.papers m × (done.tail ≡ tail) × WritesText (IsReport m) old new (Ok tt)
-WritesReplayed m tail old new (Err fault) = WritesText (IsReport m) old new (Err fault)
 
 -- a replay answers the papers after the journal, up to the order of entry, and how it ends, and wrote their report; a prefix
 -- of it where the writer failed, and nothing where the inputs or the journal have a fault

@@ -20,8 +20,6 @@ use Rattle.sc_runs.specs.Opening.{opening_in, EndsUnread}
 use Rattle.sc_runs.specs.declared.fault.RunFault.{RunFault}
 use Rattle.sc_runs.specs.declared.fault.RunFault.TheVariants.{Read, Intake, Journal, WriteOut, WriteJournal, OutOfMemory}
 use Rattle.sc_runs.specs.declared.inputs.Opening.{Opening}
-use Rattle.sc_runs.specs.declared.telling.StandingText.{StandingText}
-use Rattle.sc_runs.specs.declared.telling.StandingText.TheVariants.{Summary, OneTable}
 
 -- the turn of a journal's reader, if there is a journal
 abbrev pub journal_turns : {R : Type 0} → (R → Option (List ℕ)) → Option (Watched R) → Option (Watched R) → List Turn
@@ -70,12 +68,3 @@ IsSummary m text = (a : Matching) × IsStudentOptimal m a × (text ≡ summary_t
 -- a text is a table of the report of the papers under their student-optimal stable matching
 abbrev pub IsTable : Table → Market → List ℕ → Type 0
 IsTable table m text = (a : Matching) × IsStudentOptimal m a × (text ≡ table_text m a table)
-
--- what is told of the papers under a matching
-abbrev pub standing_text : StandingText → Market → Matching → List ℕ
-standing_text Summary m a = summary_text m a
-standing_text (OneTable table) m a = table_text m a table
-
--- a text is what is told of the papers under their student-optimal stable matching
-abbrev pub IsStandingText : StandingText → Market → List ℕ → Type 0
-IsStandingText which m text = (a : Matching) × IsStudentOptimal m a × (text ≡ standing_text which m a)

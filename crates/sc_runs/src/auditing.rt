@@ -5,10 +5,11 @@ ghost use Rattle.sc_audit.specs.Verdict.{IsVerdict};
 ghost use Rattle.sc_intake.specs.Log.{log_in};
 ghost use Rattle.sc_intake.specs.declared.fault.Source.TheVariants as input;
 ghost use Rattle.sc_report.specs.Watched.{device_of};
-ghost use Rattle.sc_runs.specs.Auditing.{claimed_in, verdict_text, AuditsFiles, WritesAudit, WritesVerdictLine, WritesVerdict};
+ghost use Rattle.sc_runs.specs.Auditing.{claimed_in, verdict_text, AuditsFiles, WritesAudit, WritesVerdict};
 ghost use Rattle.sc_runs.specs.Failing.{OutputFailsAsTold};
-ghost use Rattle.sc_runs.specs.Inputs.{texts_of, turns_with, TakesWithin};
-ghost use Rattle.sc_runs.specs.Opening.{opening_in, IsOpeningFault};
+ghost use Rattle.sc_runs.specs.Inputs.{turns_with, TakesWithin};
+ghost use Rattle.sc_runs.specs.Opening.{opening_in};
+ghost use Rattle.sc_runs.specs.Steps.{texts_of, IsOpeningFault, WritesVerdictLine};
 
 use crate::fault::RunFault;
 use crate::inputs::{Opening, OpeningTexts, read_inputs};

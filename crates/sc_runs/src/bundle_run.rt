@@ -6,10 +6,11 @@ ghost use Rattle.sc_intake.specs.declared.fault.Source.TheVariants as source;
 ghost use Rattle.sc_papers.specs.Market.{Market};
 ghost use Rattle.sc_report.specs.Watched.{device_of, has_failed};
 ghost use Rattle.sc_runs.specs.Bundle.{sections_of};
-ghost use Rattle.sc_runs.specs.BundleRun.{ending_of, ends_by_output, EndsBundle, RunsBundle};
+ghost use Rattle.sc_runs.specs.BundleRun.{ends_by_output, EndsBundle, RunsBundle};
 ghost use Rattle.sc_runs.specs.Failing.{is_journal_fault, OutputFailsAsTold};
 ghost use Rattle.sc_runs.specs.Inputs.{turn_of, TakesWithin};
-ghost use Rattle.sc_runs.specs.Opening.{IsReadingOf, WritesMatch};
+ghost use Rattle.sc_runs.specs.Opening.{WritesMatch};
+ghost use Rattle.sc_runs.specs.Steps.{ending_of, IsReadingOf};
 ghost use Rattle.sc_runs.specs.declared.ending.Ending.TheVariants.{Fault};
 ghost use Rattle.sc_runs.specs.declared.fault.RunFault.TheVariants.{WriteJournal};
 

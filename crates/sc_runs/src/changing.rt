@@ -9,11 +9,12 @@ ghost use Rattle.sc_repair.specs.Standing.{matching_of};
 ghost use Rattle.sc_report.specs.Entrants.{AreRising, Holds};
 ghost use Rattle.sc_report.specs.Watched.{device_of};
 ghost use Rattle.sc_notices.specs.ChangesText.{changes_text};
-ghost use Rattle.sc_runs.specs.Changing.{whole_lines, AreFirstLines, ArePlacesAfter, ChangesFiles, IsChangeFrom, TellsChange};
+ghost use Rattle.sc_runs.specs.Changing.{whole_lines, AreFirstLines, ChangesFiles, TellsChange};
 ghost use Rattle.sc_runs.specs.Failing.{is_output_fault, OutputFailsAsTold};
 ghost use Rattle.sc_runs.specs.Inputs.{turns_with, TakesWithin};
-ghost use Rattle.sc_runs.specs.Opening.{papers_held, WritesText};
+ghost use Rattle.sc_runs.specs.Opening.{WritesText};
 ghost use Rattle.sc_runs.specs.Standing.{IsStandingFault, WritesOfStanding};
+ghost use Rattle.sc_runs.specs.Steps.{papers_held, ArePlacesAfter, IsChangeFrom};
 
 use crate::fault::RunFault;
 use crate::inputs::{Opening, OpeningSlices, read_inputs};

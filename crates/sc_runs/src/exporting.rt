@@ -2,9 +2,10 @@
 
 ghost use Rattle.std.specs.Prelude.{◌≡◌, IfErr, IfOk, Ok, is_some};
 ghost use Rattle.sc_runs.specs.Exporting.{AreFilesOf, ExportsFiles, ExportsStanding};
-ghost use Rattle.sc_runs.specs.Inputs.{opening_turns, texts_of};
+ghost use Rattle.sc_runs.specs.Inputs.{opening_turns};
 ghost use Rattle.sc_runs.specs.Opening.{opening_in};
 ghost use Rattle.sc_runs.specs.Standing.{journal_turns, AllTakeWithin};
+ghost use Rattle.sc_runs.specs.Steps.{texts_of};
 ghost use Rattle.sc_runs.specs.declared.fault.RunFault.TheVariants.{OutOfMemory};
 
 use crate::fault::RunFault;

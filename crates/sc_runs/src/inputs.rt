@@ -1,7 +1,8 @@
 //! The inputs of a call, and reading each of them whole.
 
 ghost use Rattle.std.specs.Prelude.{◌≡◌, ◌++◌, ◌∷◌, [], All, IfErr, IfOk, is_some};
-ghost use Rattle.sc_runs.specs.Inputs.{in_order, opening_turns, texts_of, turn_of, turns_if_any, turns_with, AreRead, EndsAmong, EndsReading, IsRead, IsReadIfAny, TakesWithin};
+ghost use Rattle.sc_runs.specs.Inputs.{in_order, opening_turns, turn_of, turns_if_any, turns_with, AreRead, EndsAmong, EndsReading, IsRead, IsReadIfAny, TakesWithin};
+ghost use Rattle.sc_runs.specs.Steps.{texts_of};
 
 use crate::fault::RunFault;
 use sc_intake::{Cause, IntakeFault, MOST_BYTES, Source};

@@ -3,7 +3,8 @@ ghost use Rattle.std.specs.Prelude.{◌≡◌, ℕ, ◌<◌, ◌≤◌, nat_eq, 
 ghost use Rattle.std.specs.List.{starts_with};
 ghost use Rattle.std.specs.Option.{option_copied, option_map};
 ghost use Rattle.memchr.specs.Find.{IsFirst};
-ghost use Rattle.sc_runs.specs.Markers.{after_end as end_passed, after_lf as lf_passed, after_marker as marker_passed, begins_line as line_begins, cut_at as parts_at, parts_of};
+ghost use Rattle.sc_runs.specs.Markers.{after_end as end_passed, after_lf as lf_passed, after_marker as marker_passed, begins_line as line_begins, cut_at as parts_at};
+ghost use Rattle.sc_runs.specs.Steps.{parts_of};
 
 use memchr::memmem;
 

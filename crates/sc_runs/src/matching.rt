@@ -3,8 +3,9 @@
 ghost use Rattle.std.specs.Prelude.{◌≡◌, All, IfOk, Ok};
 ghost use Rattle.sc_report.specs.Watched.{device_of};
 ghost use Rattle.sc_runs.specs.Failing.{OutputFailsAsTold};
-ghost use Rattle.sc_runs.specs.Inputs.{opening_turns, texts_of, TakesWithin};
+ghost use Rattle.sc_runs.specs.Inputs.{opening_turns, TakesWithin};
 ghost use Rattle.sc_runs.specs.Opening.{opening_in, ArePapersOf, MatchesFiles, WritesMatch};
+ghost use Rattle.sc_runs.specs.Steps.{texts_of};
 
 use crate::fault::RunFault;
 use crate::inputs::{Opening, OpeningTexts, read_opening};

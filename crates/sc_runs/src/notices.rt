@@ -8,8 +8,8 @@ ghost use Rattle.sc_report.specs.Watched.{device_of};
 ghost use Rattle.sc_runs.specs.Failing.{OutputFailsAsTold};
 ghost use Rattle.sc_runs.specs.Inputs.{opening_turns};
 ghost use Rattle.sc_runs.specs.Notices.{is_known, notice_text, Notice, TellsStanding, WritesNotice};
-ghost use Rattle.sc_runs.specs.Opening.{papers_held};
 ghost use Rattle.sc_runs.specs.Standing.{journal_turns, AllTakeWithin, TellsFiles};
+ghost use Rattle.sc_runs.specs.Steps.{papers_held};
 
 use crate::fault::RunFault;
 use crate::inputs::{Opening, OpeningSlices, read_opening_and};

@@ -1,8 +1,8 @@
 //! From the texts of an opening to its papers.
 
 ghost use Rattle.std.specs.Prelude.{◌≡◌, MatchResult, Ok};
-ghost use Rattle.sc_runs.specs.Inputs.{texts_of};
-ghost use Rattle.sc_runs.specs.Opening.{opening_in, papers_held, IsOpeningFault};
+ghost use Rattle.sc_runs.specs.Opening.{opening_in};
+ghost use Rattle.sc_runs.specs.Steps.{papers_held, texts_of, IsOpeningFault};
 
 use crate::fault::RunFault;
 use crate::inputs::{OpeningSlices, OpeningTexts};

@@ -11,9 +11,10 @@ ghost use Rattle.sc_report.specs.Text.{report_text};
 ghost use Rattle.sc_report.specs.Watched.{device_of};
 ghost use Rattle.sc_runs.specs.Auditing.{claimed_in};
 ghost use Rattle.sc_runs.specs.Failing.{OutputFailsAsTold};
-ghost use Rattle.sc_runs.specs.Inputs.{texts_of, turn_of, turns_with, TakesWithin};
+ghost use Rattle.sc_runs.specs.Inputs.{turn_of, turns_with, TakesWithin};
 ghost use Rattle.sc_runs.specs.Opening.{opening_in, WritesText};
-ghost use Rattle.sc_runs.specs.Publishing.{finding_of, finding_text, AuditsReport, EndsComparing, EndsFinding, IsCompared, IsFinding, WritesFinding};
+ghost use Rattle.sc_runs.specs.Publishing.{finding_text, AuditsReport, EndsComparing, EndsFinding, IsCompared, IsFinding, WritesFinding};
+ghost use Rattle.sc_runs.specs.Steps.{finding_of, texts_of};
 ghost use Rattle.sc_tallies.specs.Places.{ArePlaces};
 
 use crate::auditing::read_entries;

@@ -4,9 +4,10 @@ ghost use Rattle.std.specs.Prelude.{All, Ok};
 ghost use Rattle.sc_intake.specs.declared.fault.Source.TheVariants as input;
 ghost use Rattle.sc_report.specs.Watched.{device_of};
 ghost use Rattle.sc_runs.specs.Failing.{OutputFailsAsTold};
-ghost use Rattle.sc_runs.specs.Inputs.{texts_of, turns_with, TakesWithin};
+ghost use Rattle.sc_runs.specs.Inputs.{turns_with, TakesWithin};
 ghost use Rattle.sc_runs.specs.Opening.{opening_in};
-ghost use Rattle.sc_runs.specs.Replaying.{ReplaysFiles, WritesReplay, WritesReplayed};
+ghost use Rattle.sc_runs.specs.Replaying.{ReplaysFiles, WritesReplay};
+ghost use Rattle.sc_runs.specs.Steps.{texts_of, WritesReplayed};
 
 use crate::fault::RunFault;
 use crate::inputs::{Opening, OpeningTexts, read_inputs};

@@ -9,11 +9,10 @@ ghost use Rattle.sc_repair.specs.Standing.{matching_of};
 ghost use Rattle.sc_report.specs.Text.{report_text};
 ghost use Rattle.sc_report.specs.Watched.{device_of, has_failed};
 ghost use Rattle.sc_runs.specs.Failing.{JournalFailsAsTold, OutputFailsAsTold};
-ghost use Rattle.sc_runs.specs.Opening.{papers_held, IsOpeningFault};
 ghost use Rattle.sc_runs.specs.Inputs.{turns_with, TakesWithin};
+ghost use Rattle.sc_runs.specs.Steps.{papers_held, IsOpeningFault, WritesLastReport, WritesSession};
 ghost use Rattle.sc_runs.specs.TwoWriters.{to_output};
 ghost use Rattle.sc_runs.specs.Run.{opened_in, RunsFiles, Writes, WritesRun};
-ghost use Rattle.sc_runs.specs.Session.{WritesReport, WritesSession};
 
 use crate::amendable::{Amendable, Settling};
 use crate::fault::RunFault;
@@ -71,7 +70,7 @@ fn settle_and_finish<A: Amendable, W: Write, J: Recorder>(
     journal: &mut J,
 ) -> Result<(), RunFault>
     requires well_formed { WellFormed (A.stands amended).papers }
-    ensures writes { WritesReport (A.stands amended).papers
+    ensures writes { WritesLastReport (A.stands amended).papers
         (record { journal = J.contents journal.old; output = W.contents (device_of out.old) })
         (record { journal = J.contents journal.new; output = W.contents (device_of out.new) }) result }
     ensures failed { OutputFailsAsTold out.old out.new result }

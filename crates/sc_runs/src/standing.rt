@@ -2,8 +2,8 @@
 
 ghost use Rattle.std.specs.Prelude.{IfErr, IfOk};
 ghost use Rattle.sc_repair.specs.Standing.{IsCertified};
-ghost use Rattle.sc_runs.specs.Opening.{papers_held};
 ghost use Rattle.sc_runs.specs.Standing.{IsStandingFault, Stands};
+ghost use Rattle.sc_runs.specs.Steps.{papers_held};
 
 use crate::fault::RunFault;
 use crate::inputs::OpeningSlices;

@@ -5,8 +5,9 @@ ghost use Rattle.sc_repair.specs.Standing.{matching_of};
 ghost use Rattle.sc_report.specs.Watched.{device_of};
 ghost use Rattle.sc_runs.specs.Failing.{OutputFailsAsTold};
 ghost use Rattle.sc_runs.specs.Inputs.{opening_turns};
-ghost use Rattle.sc_runs.specs.Opening.{papers_held, WritesText};
-ghost use Rattle.sc_runs.specs.Standing.{journal_turns, standing_text, AllTakeWithin, IsStandingText, IsSummary, IsTable, TellsFiles, WritesOfStanding};
+ghost use Rattle.sc_runs.specs.Opening.{WritesText};
+ghost use Rattle.sc_runs.specs.Standing.{journal_turns, AllTakeWithin, IsSummary, IsTable, TellsFiles, WritesOfStanding};
+ghost use Rattle.sc_runs.specs.Steps.{papers_held, standing_text, IsStandingText};
 
 use crate::fault::RunFault;
 use crate::inputs::{Opening, OpeningSlices, read_opening_and};

@@ -8,7 +8,8 @@ ghost use Rattle.sc_report.specs.LogText.{log_text};
 ghost use Rattle.sc_report.specs.Text.{IsReportText};
 ghost use Rattle.sc_report.specs.Watched.{device_of};
 ghost use Rattle.sc_runs.specs.Failing.{OutputFailsAsTold};
-ghost use Rattle.sc_runs.specs.Opening.{WritesExactly, WritesText};
+ghost use Rattle.sc_runs.specs.Opening.{WritesText};
+ghost use Rattle.sc_runs.specs.Steps.{WritesExactly};
 ghost use Rattle.sc_runs.specs.declared.fault.RunFault.TheVariants.{WriteOut};
 ghost use Rattle.sc_tallies.specs.Places.{ArePlaces};
 

@@ -3,11 +3,12 @@ use Rattle.std.specs.Option.{option_copied}
 use Rattle.std.specs.Result.{MatchResult}
 use Rattle.sc_report.specs.Watched.{device_of}
 use Rattle.sc_runs.specs.Bundle.{bundle_of, sections_of}
-use Rattle.sc_runs.specs.BundleRun.{ending_of, EndsBundle, RunsSections, WritesWith}
+use Rattle.sc_runs.specs.BundleRun.{EndsBundle, RunsSections, WritesWith}
 use Rattle.sc_papers.specs.Market.{Market}
 use Rattle.sc_intake.specs.declared.fault.IntakeFault.{IntakeFault}
 use Rattle.sc_runs.specs.Failing.{is_journal_fault}
-use Rattle.sc_runs.specs.Opening.{papers_in, IsOpeningFault, IsReadingOf}
+use Rattle.sc_runs.specs.Opening.{papers_in}
+use Rattle.sc_runs.specs.Steps.{ending_of, IsOpeningFault, IsReadingOf}
 use Rattle.sc_runs.specs.declared.ending.Ending.TheVariants.{Fault}
 use Rattle.sc_runs.specs.declared.fault.RunFault.{RunFault}
 use Rattle.sc_runs.specs.declared.fault.RunFault.TheVariants.{Read, Intake, Journal, WriteOut, WriteJournal, OutOfMemory}

@@ -1,9 +1,10 @@
 use Rattle.std.proofs.Common.{Err, Ok, subst, sym}
 use Rattle.sc_report.specs.Watched.{device_of}
-use Rattle.sc_runs.specs.Changing.{ArePlacesAfter, IsChange}
+use Rattle.sc_runs.specs.Changing.{IsChange}
 use Rattle.sc_runs.specs.Opening.{papers_in}
 use Rattle.sc_runs.proofs.Changes.{fault-more, told-change, told-fault}
 use Rattle.sc_runs.proofs.changing.change_since.Goals as goal
+use Rattle.sc_runs.specs.Steps.{ArePlacesAfter}
 
 pub returns-in-Err-clause-change : goal.returns-in-Err-clause-change
 returns-in-Err-clause-change g c since first =

@@ -1,8 +1,9 @@
 use Rattle.std.proofs.Common.{refl}
-use Rattle.sc_runs.specs.Inputs.{in_order, opening_turns, texts_of, turn_of}
+use Rattle.sc_runs.specs.Inputs.{in_order, opening_turns, turn_of}
 use Rattle.sc_runs.proofs.Calls.{EndsAmong-last, EndsAmong-opening}
 use Rattle.sc_runs.proofs.Reading.{AreRead-more, TakesWithin-more, TakesWithin-untouched}
 use Rattle.sc_runs.proofs.inputs.read_inputs.Goals as goal
+use Rattle.sc_runs.specs.Steps.{texts_of}
 
 pub returns-in-Err-clause-ended : goal.returns-in-Err-clause-ended
 returns-in-Err-clause-ended g c =

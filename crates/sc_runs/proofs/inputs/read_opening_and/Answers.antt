@@ -1,8 +1,9 @@
 use Rattle.std.proofs.lemmas.List.Elements.{All-append}
-use Rattle.sc_runs.specs.Inputs.{in_order, opening_turns, texts_of, turns_if_any, TakesWithin}
+use Rattle.sc_runs.specs.Inputs.{in_order, opening_turns, turns_if_any, TakesWithin}
 use Rattle.sc_runs.proofs.Reading.{EndsAmong-first, EndsAmong-later}
 use Rattle.sc_runs.proofs.Standings.{any-untouched, TakesWithin-later}
 use Rattle.sc_runs.proofs.inputs.read_opening_and.Goals as goal
+use Rattle.sc_runs.specs.Steps.{texts_of}
 
 pub returns-in-Err-clause-ended : goal.returns-in-Err-clause-ended
 returns-in-Err-clause-ended g c =

@@ -1,8 +1,9 @@
 use Rattle.std.proofs.lemmas.Result.{IfOk-weaker}
 use Rattle.sc_report.specs.Watched.{device_of}
-use Rattle.sc_runs.specs.Inputs.{opening_turns, texts_of}
+use Rattle.sc_runs.specs.Inputs.{opening_turns}
 use Rattle.sc_runs.proofs.Calls.{MatchesFiles-read}
 use Rattle.sc_runs.proofs.matching.match_files.Goals as goal
+use Rattle.sc_runs.specs.Steps.{texts_of}
 
 pub returns-clause-bytes : goal.returns-clause-bytes
 returns-clause-bytes g c =

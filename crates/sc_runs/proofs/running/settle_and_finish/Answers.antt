@@ -2,7 +2,7 @@ use Rattle.std.proofs.Common.{refl, ap, subst, ◌∷◌, []}
 use Rattle.sc_repair.specs.Standing.{matching_of}
 use Rattle.sc_report.specs.Text.{report_text}
 use Rattle.sc_report.specs.Watched.{device_of}
-use Rattle.sc_runs.specs.Session.{WritesReport}
+use Rattle.sc_runs.specs.Steps.{WritesLastReport}
 use Rattle.sc_runs.specs.TwoWriters.{to_output}
 use Rattle.sc_runs.proofs.LastReport.{IsReport-some}
 use Rattle.sc_runs.proofs.TwoWriters.{GrowsByPrefix-nothing}
@@ -11,7 +11,7 @@ use Rattle.sc_runs.proofs.running.settle_and_finish.Goals as goal
 pub returns-in-Ok-clause-writes : goal.returns-in-Ok-clause-writes
 returns-in-Ok-clause-writes g c =
     let standing = c.in-Ok.clearing.standing in
-    subst (λ m. WritesReport m
+    subst (λ m. WritesLastReport m
     (record { journal = g.J.Recorder.contents c.args.journal.now; output = g.W.Write.contents (device_of c.args.out.now) })
     (record { journal = g.J.Recorder.contents c.finish-written.new.journal; output = g.W.Write.contents (device_of c.finish-written.new.out) }) c.finish-written.result)
     (ap (λ p. p.papers) c.in-Ok.ensures.papers)

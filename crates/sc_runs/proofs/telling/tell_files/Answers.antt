@@ -1,10 +1,11 @@
 use Rattle.std.proofs.Common.{◌++◌}
 use Rattle.sc_journal.specs.declared.journal.Tail.{Tail}
 use Rattle.sc_report.specs.Watched.{device_of, has_failed}
-use Rattle.sc_runs.specs.Inputs.{opening_turns, texts_of}
-use Rattle.sc_runs.specs.Standing.{journal_turns, IsStandingText, WritesOfStanding}
+use Rattle.sc_runs.specs.Inputs.{opening_turns}
+use Rattle.sc_runs.specs.Standing.{journal_turns, WritesOfStanding}
 use Rattle.sc_runs.proofs.Standings.{TellsFiles-read, unfailed-unread}
 use Rattle.sc_runs.proofs.telling.tell_files.Goals as goal
+use Rattle.sc_runs.specs.Steps.{texts_of, IsStandingText}
 
 pub returns-in-Err-clause-failed : goal.returns-in-Err-clause-failed
 returns-in-Err-clause-failed g c =

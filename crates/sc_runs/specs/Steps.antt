@@ -1,0 +1,137 @@
+-- What the steps of the calls do, between reading the inputs and the answer. Public contracts do not cite it.
+use Rattle.std.specs.Prelude.{◌++◌, ◌+◌, ◌∷◌, ◌≡◌, [], ⊤, Err, List, None, Ok, Option, Result, Some, ℕ}
+use Rattle.std.specs.List.{All}
+use Rattle.std.specs.Io.KnownBytes.{Appends, Keeps}
+use Rattle.sc_audit.specs.declared.verdict.Verdict.{Verdict}
+use Rattle.sc_intake.specs.Papers.{papers_in}
+use Rattle.sc_intake.specs.declared.fault.IntakeFault.{IntakeFault}
+use Rattle.sc_journal.specs.declared.journal.Tail.{Tail}
+use Rattle.sc_notices.specs.ChangesText.{changes_text}
+use Rattle.sc_notices.specs.SummaryText.{summary_text}
+use Rattle.sc_papers.specs.Market.{Market}
+use Rattle.sc_papers.specs.Matching.{IsStudentOptimal, Matching}
+use Rattle.sc_papers.specs.Reordering.{IsReordering}
+use Rattle.sc_papers.specs.declared.amendment.Refusal.{Refusal}
+use Rattle.sc_papers.specs.declared.amendment.Stamped.{Stamped}
+use Rattle.sc_report.specs.Entrants.{AreRising, Holds}
+use Rattle.sc_report.specs.Table.{table_text}
+use Rattle.sc_report.specs.Whole.{AppendsPrefix}
+use Rattle.sc_report.specs.declared.entrants.Entrant.{Entrant}
+use Rattle.sc_stamps.specs.Verdict.{StampedPapers}
+use Rattle.sc_runs.specs.Auditing.{verdict_text}
+use Rattle.sc_runs.specs.Inputs.{Texts}
+use Rattle.sc_runs.specs.Markers.{Parts}
+use Rattle.sc_runs.specs.Opening.{IsReport, WritesText}
+use Rattle.sc_runs.specs.Run.{after_script, answers, Writes}
+use Rattle.sc_runs.specs.Standing.{Stands}
+use Rattle.sc_runs.specs.TwoWriters.{to_output, Contents}
+use Rattle.sc_runs.specs.declared.ending.Ending.TheVariants.{Done, Fault}
+use Rattle.sc_runs.specs.declared.ending.Ending.{Ending}
+use Rattle.sc_runs.specs.declared.fault.RunFault.TheVariants.{Intake, Journal, OutOfMemory, Read, WriteJournal, WriteOut}
+use Rattle.sc_runs.specs.declared.fault.RunFault.{RunFault}
+use Rattle.sc_runs.specs.declared.inputs.OpeningSlices.{OpeningSlices}
+use Rattle.sc_runs.specs.declared.inputs.OpeningTexts.{OpeningTexts}
+use Rattle.sc_runs.specs.declared.markers.Cut.{Cut}
+use Rattle.sc_runs.specs.declared.publishing.Finding.TheVariants.{Certified, ReportDiffers}
+use Rattle.sc_runs.specs.declared.publishing.Finding.{Finding}
+use Rattle.sc_runs.specs.declared.replaying.Replayed.{Replayed}
+use Rattle.sc_runs.specs.declared.telling.StandingText.TheVariants.{OneTable, Summary}
+use Rattle.sc_runs.specs.declared.telling.StandingText.{StandingText}
+
+-- the texts that were read
+abbrev pub texts_of : OpeningTexts → Texts
+texts_of given = record { schools = given.schools.items; roster = given.roster.items; lists = given.lists.items }
+
+-- the papers that the lent texts of an opening hold, or their first fault
+abbrev pub papers_held : List ℕ → OpeningSlices → Result Market IntakeFault
+papers_held seed texts = papers_in seed texts.schools.now texts.roster.now texts.lists.now
+
+-- reading ended early for the first fault of what was read, or for want of memory
+abbrev pub IsOpeningFault : {A : Type 0} → Result A IntakeFault → RunFault → Type 0
+IsOpeningFault reading (Read source) = ⊥
+IsOpeningFault reading (Intake fault) = reading ≡ Err fault
+IsOpeningFault reading (Journal fault) = ⊥
+IsOpeningFault reading WriteOut = ⊥
+IsOpeningFault reading WriteJournal = ⊥
+IsOpeningFault reading OutOfMemory = ⊤
+
+-- this came of reading the papers that the texts hold: those papers, or their first fault
+abbrev pub IsReadingOf : Result Market IntakeFault → Result Market RunFault → Type 0
+IsReadingOf reading (Ok m) = reading ≡ Ok m
+IsReadingOf reading (Err fault) = IsOpeningFault reading fault
+
+-- a writer was given this text whole at `Ok`, and a prefix of it where it failed
+abbrev pub WritesExactly : List ℕ → Option (List ℕ) → Option (List ℕ) → Result (Unit {0}) RunFault → Type 0
+WritesExactly text old new (Ok done) = Appends old new text
+WritesExactly text old new (Err WriteOut) = AppendsPrefix old new text
+WritesExactly text old new (Err (Read source)) = ⊥
+WritesExactly text old new (Err (Intake fault)) = ⊥
+WritesExactly text old new (Err (Journal fault)) = ⊥
+WritesExactly text old new (Err WriteJournal) = ⊥
+WritesExactly text old new (Err OutOfMemory) = ⊥
+
+-- what is told of the papers under a matching
+abbrev pub standing_text : StandingText → Market → Matching → List ℕ
+standing_text Summary m a = summary_text m a
+standing_text (OneTable table) m a = table_text m a table
+
+-- a text is what is told of the papers under their student-optimal stable matching
+abbrev pub IsStandingText : StandingText → Market → List ℕ → Type 0
+IsStandingText which m text = (a : Matching) × IsStudentOptimal m a × (text ≡ standing_text which m a)
+
+-- the report of amended papers was written, and they are answered up to the order of entry, with how the journal ends; a
+-- prefix of it where the writer failed, and nothing for want of memory
+abbrev pub WritesReplayed : Market → Tail → Option (List ℕ) → Option (List ℕ) → Result Replayed RunFault → Type 0
+WritesReplayed m tail old new (Ok done) = IsReordering done.papers m × (done.tail ≡ tail) × WritesText (IsReport m) old new (Ok tt)
+WritesReplayed m tail old new (Err fault) = WritesText (IsReport m) old new (Err fault)
+
+-- these are the students of the papers that stand after a journal, by rising number, each with what they have under
+-- the student-optimal stable matching
+pub record ArePlacesAfter (reading : Result Market IntakeFault) (journal : List ℕ) (places : List Entrant) : Type 0 where
+  pub papers : Market
+  pub ending : Tail
+  pub matching : Matching
+  pub stands : Stands reading journal papers ending
+  pub optimal : IsStudentOptimal papers matching
+  pub students : AreRising papers places
+  pub held : All (Holds matching) places
+
+-- a text tells whose place differs between those that are given so and the papers now, under their student-optimal
+-- stable matching
+abbrev pub IsChangeFrom : List Entrant → Market → List ℕ → Type 0
+IsChangeFrom places now text = (b : Matching) × IsStudentOptimal now b
+    × ((m : Market) (a : Matching) → AreRising m places → All (Holds a) places → text ≡ changes_text m a now b)
+
+-- a verdict's line was written; a prefix of it where the writer failed, and nothing at want of memory
+abbrev pub WritesVerdictLine : Verdict → Option (List ℕ) → Option (List ℕ) → Result (Unit {0}) RunFault → Type 0
+WritesVerdictLine verdict old new (Ok done) = Appends old new (verdict_text verdict)
+WritesVerdictLine verdict old new (Err WriteOut) = AppendsPrefix old new (verdict_text verdict)
+WritesVerdictLine verdict old new (Err OutOfMemory) = Keeps old new
+WritesVerdictLine verdict old new (Err (Read source)) = ⊥
+WritesVerdictLine verdict old new (Err (Intake fault)) = ⊥
+WritesVerdictLine verdict old new (Err (Journal fault)) = ⊥
+WritesVerdictLine verdict old new (Err WriteJournal) = ⊥
+
+-- what comparing a report comes to, under a log that is settled
+abbrev pub finding_of : Option ℕ → Finding
+finding_of None = Certified
+finding_of (Some line) = ReportDiffers line
+
+-- the report of papers was written, or a prefix of it
+abbrev pub WritesLastReport : Market → Contents → Contents → Result (Unit {0}) RunFault → Type 0
+WritesLastReport m old new result = (report : List ℕ) × IsReport m report × Writes (to_output report ∷ []) old new result
+
+-- the answers to a script's records were written, and then the report of the papers after them, or a prefix of
+-- these writes
+abbrev pub WritesSession : StampedPapers → List (Result Stamped Refusal) → Contents → Contents → Result (Unit {0}) RunFault → Type 0
+WritesSession p script old new result =
+    (report : List ℕ) × IsReport (after_script p script).papers report × Writes (answers 1 p script ++ to_output report ∷ []) old new result
+
+-- how running the sections of a bundle ends
+abbrev pub ending_of : Result (Unit {0}) RunFault → Ending
+ending_of (Ok done) = Done
+ending_of (Err fault) = Fault fault
+
+-- the two parts that a `Cut` points to
+abbrev pub parts_of : Cut → Parts
+parts_of cut = record { before = cut.before.now; after = cut.after.now }
