@@ -60,9 +60,7 @@ pub fault-more : (reading : Result Market IntakeFault) (journal lines rest : Lis
 fault-more reading journal lines rest (Intake fault) cut is = is
 fault-more reading journal lines rest (Journal fault) cut (m, read, first) = (m, read, first_fault-more _ journal lines rest fault cut first)
 fault-more reading journal lines rest OutOfMemory cut is = tt
-fault-more reading journal lines rest (Read source) cut is = absurd is
-fault-more reading journal lines rest WriteOut cut is = absurd is
-fault-more reading journal lines rest WriteJournal cut is = absurd is
+fault-more reading journal lines rest _ cut is = absurd is
 
 -- where nothing stands, nothing is written
 pub told-fault : (Is : Market → List ℕ → Type 0) (reading : Result Market IntakeFault) (journal : List ℕ) (bytes : Option (List ℕ)) (fault : RunFault) → IsStandingFault reading journal fault
@@ -70,20 +68,16 @@ pub told-fault : (Is : Market → List ℕ → Type 0) (reading : Result Market 
 told-fault Is reading journal bytes (Intake fault) is = (is, Keeps-refl bytes)
 told-fault Is reading journal bytes (Journal fault) is = (is, Keeps-refl bytes)
 told-fault Is reading journal bytes OutOfMemory is = Keeps-refl bytes
-told-fault Is reading journal bytes (Read source) is = absurd is
-told-fault Is reading journal bytes WriteOut is = absurd is
-told-fault Is reading journal bytes WriteJournal is = absurd is
+told-fault Is reading journal bytes _ is = absurd is
 
 -- what was written of one kind was written of another that it is
 written-so : (Is Was : Market → List ℕ → Type 0) (reading : Result Market IntakeFault) (journal : List ℕ) (old new : Option (List ℕ)) → ((now : Market) (text : List ℕ) → Is now text → Was now text)
     → (result : Result Tail RunFault) → WritesOfStanding Is reading journal old new result → WritesOfStanding Was reading journal old new result
 written-so Is Was reading journal old new so (Ok tail) (now, stands, (text, is, appends)) = (now, stands, (text, so now text is, appends))
 written-so Is Was reading journal old new so (Err WriteOut) (now, tail, stands, (text, is, appends)) = (now, tail, stands, (text, so now text is, appends))
-written-so Is Was reading journal old new so (Err (Intake fault)) wrote = wrote
-written-so Is Was reading journal old new so (Err (Journal fault)) wrote = wrote
-written-so Is Was reading journal old new so (Err OutOfMemory) wrote = wrote
 written-so Is Was reading journal old new so (Err (Read source)) wrote = absurd wrote
 written-so Is Was reading journal old new so (Err WriteJournal) wrote = absurd wrote
+written-so Is Was reading journal old new so (Err _) wrote = wrote
 
 -- what changed from the places after the first lines is what changed since
 pub told-change : (since : ℕ) (reading : Result Market IntakeFault) (journal lines : List ℕ) (places : List Entrant) (old new : Option (List ℕ)) → AreFirstLines since journal lines → ArePlacesAfter reading lines places

@@ -1,5 +1,5 @@
 -- Faults of files, written or not.
-use Rattle.std.proofs.Common.{◌≡◌, refl, sym, ap, subst, ◌∙◌, inr, ℕ, ◌+◌, ◌<◌, Bool, true, false, ◌||◌, List, [], ◌∷◌, ◌++◌, length, take, Option, Result, Ok, Err, arith, append_assoc, append-nil}
+use Rattle.std.proofs.Common.{◌≡◌, sym, ap, subst, ◌∙◌, inr, ℕ, ◌+◌, ◌<◌, Bool, true, false, ◌||◌, List, [], ◌∷◌, ◌++◌, length, take, Option, Result, Ok, Err, arith, append_assoc}
 use Rattle.std.specs.Prelude.{min}
 use Rattle.std.specs.Io.KnownBytes.{Appends, Keeps}
 use Rattle.std.proofs.KnownBytes.{Appends-trans}
@@ -15,10 +15,9 @@ use Rattle.sc_runs.specs.Steps.{WritesExactly}
 use Rattle.sc_runs.specs.declared.checking.Checked.{Checked}
 use Rattle.sc_runs.specs.declared.checking.Checked.TheVariants.{Clean, Faulty}
 use Rattle.sc_runs.specs.declared.fault.RunFault.{RunFault}
-use Rattle.sc_runs.specs.declared.fault.RunFault.TheVariants.{Read, Intake, Journal, WriteOut, WriteJournal, OutOfMemory}
+use Rattle.sc_runs.specs.declared.fault.RunFault.TheVariants.{WriteOut}
 use Rattle.sc_runs.proofs.Calls.{AreTexts}
-use Rattle.sc_runs.proofs.Openings.{Appends-kept, Appends-prefix-kept, AppendsPrefix-whole}
-use Rattle.sc_runs.proofs.TwoWriters.{Appends-nothing}
+use Rattle.sc_runs.proofs.Openings.{Appends-prefix-kept, AppendsPrefix-whole}
 
 -- the answer, after this one, where these faults are left
 abbrev pub checked_with : Checked → List IntakeFault → Checked
@@ -74,11 +73,7 @@ pub AreWrittenTo-failed : (files : Files) (all : List IntakeFault) (old : Option
 AreWrittenTo-failed files all old left later now after checked piece WriteOut so lines wrote =
     subst (AppendsPrefix old after) (sym (so.lines ∙ ap (λ (t : List ℕ). so.text ++ t) (sym lines)))
     (prefix-after old now after so.text (piece ++ faults_text files later) so.wrote (prefix-more now after piece (faults_text files later) wrote))
-AreWrittenTo-failed files all old left later now after checked piece OutOfMemory so lines wrote = absurd wrote
-AreWrittenTo-failed files all old left later now after checked piece (Read source) so lines wrote = absurd wrote
-AreWrittenTo-failed files all old left later now after checked piece (Intake fault) so lines wrote = absurd wrote
-AreWrittenTo-failed files all old left later now after checked piece (Journal fault) so lines wrote = absurd wrote
-AreWrittenTo-failed files all old left later now after checked piece WriteJournal so lines wrote = absurd wrote
+AreWrittenTo-failed files all old left later now after checked piece _ so lines wrote = absurd wrote
 
 -- a writer that has not failed since did not fail at this call
 pub unfailed-still : (before now after : Bool) → after ≡ (now || false) → now ≡ before → after ≡ before

@@ -11,7 +11,7 @@ use Rattle.sc_runs.specs.Inputs.{in_order, Texts, Turn, AreRead}
 use Rattle.sc_runs.specs.Opening.{opening_in, WritesText}
 use Rattle.sc_runs.specs.Publishing.{finding_text, AuditsReport, EndsFinding, IsFinding, WritesFinding}
 use Rattle.sc_runs.specs.declared.fault.RunFault.{RunFault}
-use Rattle.sc_runs.specs.declared.fault.RunFault.TheVariants.{Read, Intake, Journal, WriteOut, WriteJournal, OutOfMemory}
+use Rattle.sc_runs.specs.declared.fault.RunFault.TheVariants.{Read, WriteOut, OutOfMemory}
 use Rattle.sc_runs.specs.declared.publishing.Finding.{Finding}
 use Rattle.sc_runs.specs.declared.publishing.Finding.TheVariants.{BadEntry, Over, ReportDiffers, Certified}
 
@@ -34,10 +34,7 @@ pub WritesFinding-failed : (m : Market) (logged : Result (List Rejection) Intake
 WritesFinding-failed m logged seen log report finding old new WriteOut read same is (text, told, wrote) =
     (record { papers = m; log = log }, ap (claimed_in (Ok m)) read, (finding, subst (λ l. IsFinding m l report finding) same is, subst (AppendsPrefix old new) told wrote))
 WritesFinding-failed m logged seen log report finding old new OutOfMemory read same is wrote = (finding-unfailed m seen report finding is, wrote)
-WritesFinding-failed m logged seen log report finding old new (Read source) read same is wrote = absurd wrote
-WritesFinding-failed m logged seen log report finding old new (Intake fault) read same is wrote = absurd wrote
-WritesFinding-failed m logged seen log report finding old new (Journal fault) read same is wrote = absurd wrote
-WritesFinding-failed m logged seen log report finding old new WriteJournal read same is wrote = absurd wrote
+WritesFinding-failed m logged seen log report finding old new _ read same is wrote = absurd wrote
 
 -- nothing was found, since comparing the report ended early, and nothing was written
 pub WritesFinding-ended : (m : Market) (logged : Result (List Rejection) IntakeFault) (seen log : List Rejection) (report : Turn) (old new : Option (List ℕ)) (fault : RunFault)
@@ -45,10 +42,7 @@ pub WritesFinding-ended : (m : Market) (logged : Result (List Rejection) IntakeF
 WritesFinding-ended m logged seen log report old new (Read source) read same ended kept =
     (record { papers = m; log = log }, ap (claimed_in (Ok m)) read, subst (λ l. EndsFinding m l report (Read source)) same ended, kept)
 WritesFinding-ended m logged seen log report old new OutOfMemory read same ended kept = (ended, kept)
-WritesFinding-ended m logged seen log report old new (Intake fault) read same ended kept = absurd ended
-WritesFinding-ended m logged seen log report old new (Journal fault) read same ended kept = absurd ended
-WritesFinding-ended m logged seen log report old new WriteOut read same ended kept = absurd ended
-WritesFinding-ended m logged seen log report old new WriteJournal read same ended kept = absurd ended
+WritesFinding-ended m logged seen log report old new _ read same ended kept = absurd ended
 
 -- the files and the log were read, and the log and the report were audited
 pub AuditsReport-read : (seed : List ℕ) (turns : List Turn) (report : Turn) (texts : Texts) (log given : List ℕ) (old new : Option (List ℕ)) (result : Result Finding RunFault)

@@ -1,27 +1,13 @@
 -- What the readers gave one after another is what the files make together.
-use Rattle.std.proofs.Common.{◌≡◌, ℕ, arith, Bool, true, false, List, Option, None, Some, Result, Ok, Err, length, refl, sym, ◌∙◌, subst}
+use Rattle.std.proofs.Common.{◌≡◌, ℕ, arith, List, Option, None, Some, Result, Ok, Err, length, refl, sym, ◌∙◌, subst}
 use Rattle.std.proofs.lemmas.List.{take_all}
 use Rattle.std.specs.Io.KnownBytes.{Appends, Keeps}
 use Rattle.std.specs.Prelude.{IfErr}
-use Rattle.sc_papers.specs.Log.{IsSettled}
-use Rattle.sc_papers.specs.Matching.{Matching, IsStudentOptimal}
-use Rattle.sc_papers.specs.declared.rejection.Rejection.{Rejection}
-use Rattle.sc_intake.specs.declared.fault.IntakeFault.{IntakeFault}
-use Rattle.sc_report.specs.LogText.{log_text}
-use Rattle.sc_report.specs.Text.{IsReportText}
 use Rattle.sc_report.specs.Whole.{AppendsPrefix}
-use Rattle.sc_runs.specs.Steps.{IsOpeningFault, WritesExactly}
+use Rattle.sc_runs.specs.Steps.{WritesExactly}
 use Rattle.sc_runs.specs.declared.fault.RunFault.{RunFault}
-use Rattle.sc_runs.specs.declared.fault.RunFault.TheVariants.{Read, Intake, Journal, WriteOut, WriteJournal, OutOfMemory}
-use Rattle.sc_papers.specs.Market.{Market}
-use Rattle.sc_intake.specs.Lists.{lists_in}
-use Rattle.sc_intake.specs.Papers.{papers_of}
-use Rattle.sc_intake.specs.Roster.{roster_in}
-use Rattle.sc_intake.specs.Schools.{schools_in}
-use Rattle.sc_intake.specs.declared.lists.ListRow.{ListRow}
-use Rattle.sc_intake.specs.declared.roster.RosterRow.{RosterRow}
-use Rattle.sc_intake.specs.declared.schools.SchoolRow.{SchoolRow}
-use Rattle.sc_runs.specs.Opening.{papers_in, IsCertificate, IsMatchText, WritesMatch, WritesText}
+use Rattle.sc_runs.specs.declared.fault.RunFault.TheVariants.{WriteOut}
+use Rattle.sc_runs.specs.Opening.{WritesText}
 
 -- what a writer holds stays through a flush
 pub Appends-kept : (a b c : Option (List ℕ)) (text : List ℕ) → Appends a b text → Keeps b c → Appends a c text
@@ -56,8 +42,4 @@ pub WritesText-of : (Is : List ℕ → Type 0) (text : List ℕ) (old new : Opti
     → Is text → WritesExactly text old new result → WritesText Is old new result
 WritesText-of Is text old new (Ok done) is wrote = (text, is, wrote)
 WritesText-of Is text old new (Err WriteOut) is wrote = (text, is, wrote)
-WritesText-of Is text old new (Err (Read source)) is wrote = absurd wrote
-WritesText-of Is text old new (Err (Intake fault)) is wrote = absurd wrote
-WritesText-of Is text old new (Err (Journal fault)) is wrote = absurd wrote
-WritesText-of Is text old new (Err WriteJournal) is wrote = absurd wrote
-WritesText-of Is text old new (Err OutOfMemory) is wrote = absurd wrote
+WritesText-of Is text old new (Err _) is wrote = absurd wrote

@@ -1,5 +1,5 @@
 -- What the lines, the reply lines and the report come to together.
-use Rattle.std.proofs.Common.{append_assoc, append-nil, ◌≡◌, Bool, true, false, ◌||◌, ℕ, ◌+◌, List, [], ◌∷◌, ◌++◌, Option, None, Some, Result, Ok, Err, refl, sym, ◌∙◌, subst, ap, inl, inr}
+use Rattle.std.proofs.Common.{append_assoc, append-nil, ◌≡◌, Bool, true, false, ◌||◌, ℕ, ◌+◌, List, [], ◌∷◌, ◌++◌, Option, None, Some, Result, Ok, Err, refl, sym, ◌∙◌, subst, ap, inr}
 use Rattle.std.specs.Io.KnownBytes.{Appends}
 use Rattle.std.proofs.lemmas.Bool.{true≢false}
 use Rattle.std.specs.Prelude.{MatchOption}
@@ -16,13 +16,12 @@ use Rattle.sc_journal.specs.Journal.{journal_text}
 use Rattle.sc_journal.proofs.Stamping.{accepted-after}
 use Rattle.sc_report.specs.Reply.{reply_text}
 use Rattle.sc_runs.specs.Opening.{IsReport}
-use Rattle.sc_runs.specs.Steps.{IsOpeningFault, WritesLastReport, WritesSession}
-use Rattle.sc_runs.specs.TwoWriters.{Contents, Piece, journal_of, output_of, to_journal, to_output, GrowsByAll, GrowsByPrefix}
-use Rattle.sc_runs.specs.Run.{accepted, accepted_in, after_record, after_script, answer_to, answers, answer_by_verdict, next_line, opened_in, replies, reply_to, unless_verdict, KeepsBoth, Writes, WritesRun}
+use Rattle.sc_runs.specs.Steps.{WritesLastReport, WritesSession}
+use Rattle.sc_runs.specs.TwoWriters.{Contents, Piece, journal_of, output_of, to_output, GrowsByAll, GrowsByPrefix}
+use Rattle.sc_runs.specs.Run.{accepted, accepted_in, after_record, after_script, answer_to, answers, answer_by_verdict, next_line, opened_in, replies, reply_to, unless_verdict, Writes, WritesRun}
 use Rattle.sc_runs.specs.declared.fault.RunFault.{RunFault}
 use Rattle.sc_runs.specs.declared.fault.RunFault.TheVariants.{Read, Intake, Journal, WriteOut, WriteJournal, OutOfMemory}
 use Rattle.sc_runs.proofs.LastReport.{IsReport-some, WellFormed-after_script}
-use Rattle.sc_runs.proofs.Openings.{Keeps-refl}
 use Rattle.sc_runs.proofs.TwoWriters.{GrowsByAll-none, GrowsByAll-trans, GrowsByPrefix-after, GrowsByPrefix-longer, GrowsByPrefix-nothing, journal_of-append, output_of-append}
 
 -- what ended without a fault of a writer did not make it fail
@@ -82,12 +81,10 @@ answered-prefix old now next opening all number p entry left answered prefix =
 
 answered-ended : (old now next : Contents) (opening : StampedPapers) (all : List (Result Stamped Refusal)) (number : ℕ) (p : StampedPapers) (entry : Result Stamped Refusal) (left : List (Result Stamped Refusal)) (fault : RunFault)
     → Answered old now opening all number p (entry ∷ left) → Writes {A = Unit {0}} (answer_to (number + 1) p entry) now next (Err fault) → Writes {A = Unit {0}} (answers 1 opening all) old next (Err fault)
-answered-ended old now next opening all number p entry left (Read source) answered wrote = absurd wrote
-answered-ended old now next opening all number p entry left (Intake fault) answered wrote = absurd wrote
-answered-ended old now next opening all number p entry left (Journal fault) answered wrote = absurd wrote
 answered-ended old now next opening all number p entry left WriteJournal answered wrote = answered-prefix old now next opening all number p entry left answered wrote
 answered-ended old now next opening all number p entry left WriteOut answered wrote = answered-prefix old now next opening all number p entry left answered wrote
 answered-ended old now next opening all number p entry left OutOfMemory answered wrote = answered-prefix old now next opening all number p entry left answered wrote
+answered-ended old now next opening all number p entry left _ answered wrote = absurd wrote
 
 pub answered-failed : (old now next : Contents) (opening : StampedPapers) (all whole : List (Result Stamped Refusal)) (number : ℕ) (p : StampedPapers) (entry : Result Stamped Refusal) (before left : List (Result Stamped Refusal)) (fault : RunFault)
     → Answered old now opening all number p before → before ≡ entry ∷ left → all ≡ whole → Writes {A = Unit {0}} (answer_to (number + 1) p entry) now next (Err fault)
@@ -207,9 +204,7 @@ WritesRun-written scripted m script old new (Ok done) read (report, is, wrote) =
 WritesRun-written scripted m script old new (Err WriteOut) read wrote = (record { papers = m; script = script }, ap (opened_in (Ok m)) read, wrote)
 WritesRun-written scripted m script old new (Err WriteJournal) read wrote = (record { papers = m; script = script }, ap (opened_in (Ok m)) read, wrote)
 WritesRun-written scripted m script old new (Err OutOfMemory) read wrote = inr (record { papers = m; script = script }, ap (opened_in (Ok m)) read, wrote)
-WritesRun-written scripted m script old new (Err (Journal fault)) read (report, is, wrote) = absurd wrote
-WritesRun-written scripted m script old new (Err (Read source)) read (report, is, wrote) = absurd wrote
-WritesRun-written scripted m script old new (Err (Intake fault)) read (report, is, wrote) = absurd wrote
+WritesRun-written scripted m script old new (Err _) read (report, is, wrote) = absurd wrote
 
 -- the same by papers that are those of an opening
 pub WritesRun-session : (scripted : Result (List (Result Stamped Refusal)) IntakeFault) (m : Market) (p : StampedPapers) (script : List (Result Stamped Refusal)) (old new : Contents) (result : Result (Unit {0}) RunFault)

@@ -7,7 +7,7 @@ use Rattle.sc_papers.proofs.Reordering.{optimal-reordered}
 use Rattle.sc_report.proofs.Orders.{report-moved}
 use Rattle.sc_runs.specs.Opening.{IsReport, WritesText}
 use Rattle.sc_runs.specs.declared.fault.RunFault.{RunFault}
-use Rattle.sc_runs.specs.declared.fault.RunFault.TheVariants.{Read, Intake, Journal, WriteOut, WriteJournal, OutOfMemory}
+use Rattle.sc_runs.specs.declared.fault.RunFault.TheVariants.{WriteOut, OutOfMemory}
 
 -- it is the same
 pub report-reordered : (m n : Market) → WellFormed m → IsReordering m n → (text : List ℕ) → IsReport m text → IsReport n text
@@ -17,8 +17,5 @@ report-reordered m n well moved text (a, optimal, is) = (a, (optimal-reordered m
 pub writes-reordered : (m n : Market) → WellFormed m → IsReordering m n → (old new : Option (List ℕ)) (result : Result (Unit {0}) RunFault) → WritesText (IsReport m) old new result → WritesText (IsReport n) old new result
 writes-reordered m n well moved old new (Ok done) (text, is, written) = (text, report-reordered m n well moved text is, written)
 writes-reordered m n well moved old new (Err WriteOut) (text, is, written) = (text, report-reordered m n well moved text is, written)
-writes-reordered m n well moved old new (Err (Read source)) none = absurd none
-writes-reordered m n well moved old new (Err (Intake fault)) none = absurd none
-writes-reordered m n well moved old new (Err (Journal fault)) none = absurd none
-writes-reordered m n well moved old new (Err WriteJournal) none = absurd none
 writes-reordered m n well moved old new (Err OutOfMemory) kept = kept
+writes-reordered m n well moved old new (Err _) none = absurd none

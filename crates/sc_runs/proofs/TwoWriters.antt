@@ -130,20 +130,12 @@ pub Writes-output : (text : List ℕ) (kept o o' : Option (List ℕ)) (result : 
 Writes-output text kept o o' (Ok done) (same, is, written) = GrowsByAll-output text (record { journal = kept; output = o }) o' (subst (Appends o o') is written)
 Writes-output text kept o o' (Err WriteOut) (same, is, written) = GrowsByPrefix-text text same kept kept o o' is (Keeps-refl kept) written
 Writes-output text kept o o' (Err OutOfMemory) wrote = GrowsByPrefix-kept (to_output text ∷ []) kept kept o o' (Keeps-refl kept) wrote
-Writes-output text kept o o' (Err WriteJournal) wrote = absurd wrote
-Writes-output text kept o o' (Err (Journal fault)) wrote = absurd wrote
-Writes-output text kept o o' (Err (Read source)) wrote = absurd wrote
-Writes-output text kept o o' (Err (Intake fault)) wrote = absurd wrote
+Writes-output text kept o o' (Err _) wrote = absurd wrote
 
 -- a text for the output does not end for the journal
 pub is_journal_fault-text : (Is : List ℕ → Type 0) (o o' : Option (List ℕ)) (result : Result (Unit {0}) RunFault) → WritesText Is o o' result → is_journal_fault result ≡ false
-is_journal_fault-text Is o o' (Ok done) wrote = refl
-is_journal_fault-text Is o o' (Err WriteOut) wrote = refl
-is_journal_fault-text Is o o' (Err OutOfMemory) wrote = refl
 is_journal_fault-text Is o o' (Err WriteJournal) wrote = absurd wrote
-is_journal_fault-text Is o o' (Err (Journal fault)) wrote = refl
-is_journal_fault-text Is o o' (Err (Read source)) wrote = refl
-is_journal_fault-text Is o o' (Err (Intake fault)) wrote = refl
+is_journal_fault-text Is o o' _ wrote = refl
 
 -- the writes of pieces by another name
 pub Writes-same : (xs ys : List Piece) (old new : Contents) (result : Result (Unit {0}) RunFault) → xs ≡ ys → Writes xs old new result → Writes ys old new result

@@ -11,7 +11,7 @@ use Rattle.sc_intake.specs.declared.fault.IntakeFault.{IntakeFault}
 use Rattle.sc_runs.specs.Auditing.{claimed_in, verdict_text, Claimed, WritesAudit, WritesVerdict}
 use Rattle.sc_runs.specs.Steps.{WritesVerdictLine}
 use Rattle.sc_runs.specs.declared.fault.RunFault.{RunFault}
-use Rattle.sc_runs.specs.declared.fault.RunFault.TheVariants.{Read, Intake, Journal, WriteOut, WriteJournal, OutOfMemory}
+use Rattle.sc_runs.specs.declared.fault.RunFault.TheVariants.{WriteOut, OutOfMemory}
 
 -- a verdict was told of papers and the log that was read
 pub WritesVerdict-written : (m : Market) (logged : Result (List Rejection) IntakeFault) (seen log : List Rejection) (verdict : Verdict) (old new : Option (List ℕ))
@@ -25,10 +25,7 @@ pub WritesVerdict-failed : (m : Market) (logged : Result (List Rejection) Intake
 WritesVerdict-failed m logged seen log verdict old new WriteOut read same is wrote =
     (record { papers = m; log = log }, ap (claimed_in (Ok m)) read, (verdict, subst (λ l. IsVerdict m l verdict) same is, wrote))
 WritesVerdict-failed m logged seen log verdict old new OutOfMemory read same is wrote = wrote
-WritesVerdict-failed m logged seen log verdict old new (Read source) read same is wrote = absurd wrote
-WritesVerdict-failed m logged seen log verdict old new (Intake fault) read same is wrote = absurd wrote
-WritesVerdict-failed m logged seen log verdict old new (Journal fault) read same is wrote = absurd wrote
-WritesVerdict-failed m logged seen log verdict old new WriteJournal read same is wrote = absurd wrote
+WritesVerdict-failed m logged seen log verdict old new _ read same is wrote = absurd wrote
 
 -- and the papers are answered with it
 pub WritesAudit-answered : (m : Market) (logged : Result (List Rejection) IntakeFault) (verdict : Verdict) (old new : Option (List ℕ))

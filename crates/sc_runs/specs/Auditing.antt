@@ -15,7 +15,7 @@ use Rattle.sc_runs.specs.Inputs.{in_order, Texts, Turn, AreRead}
 use Rattle.sc_runs.specs.Opening.{opening_in, EndsUnread}
 use Rattle.sc_runs.specs.declared.auditing.Audited.{Audited}
 use Rattle.sc_runs.specs.declared.fault.RunFault.{RunFault}
-use Rattle.sc_runs.specs.declared.fault.RunFault.TheVariants.{Read, Intake, Journal, WriteOut, WriteJournal, OutOfMemory}
+use Rattle.sc_runs.specs.declared.fault.RunFault.TheVariants.{Intake, WriteOut, OutOfMemory}
 
 -- the line that tells a verdict
 abbrev pub verdict_text : Verdict → List ℕ
@@ -47,9 +47,7 @@ WritesVerdict reading old new (Err (Intake fault)) = (reading ≡ Err fault) × 
 WritesVerdict reading old new (Err WriteOut) =
     (claimed : Claimed) × (reading ≡ Ok claimed) × ((verdict : Verdict) × IsVerdict claimed.papers claimed.log verdict × AppendsPrefix old new (verdict_text verdict))
 WritesVerdict reading old new (Err OutOfMemory) = Keeps old new
-WritesVerdict reading old new (Err (Read source)) = ⊥
-WritesVerdict reading old new (Err (Journal fault)) = ⊥
-WritesVerdict reading old new (Err WriteJournal) = ⊥
+WritesVerdict reading old new (Err _) = ⊥
 
 -- an audit answers the papers and the verdict of the log that were read, whose line was written
 abbrev pub WritesAudit : Result Claimed IntakeFault → Option (List ℕ) → Option (List ℕ) → Result Audited RunFault → Type 0

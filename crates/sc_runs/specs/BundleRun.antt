@@ -11,7 +11,7 @@ use Rattle.sc_runs.specs.Inputs.{Turn, EndsReading, IsRead}
 use Rattle.sc_runs.specs.Opening.{papers_in, WritesMatch}
 use Rattle.sc_runs.specs.Run.{opened_in, WritesRun}
 use Rattle.sc_runs.specs.declared.ending.Ending.{Ending}
-use Rattle.sc_runs.specs.declared.ending.Ending.TheVariants.{Done, NotCertified, Faulty, Torn, BadSeed, BadBundle, BadStudent, BadTable, TableBesideLog, UnknownStudent, BadSchool, UnknownSchool, BadSince, NoLine, AlreadyThere, Unwritten, Fault}
+use Rattle.sc_runs.specs.declared.ending.Ending.TheVariants.{Done, BadSeed, BadBundle, Fault}
 use Rattle.sc_runs.specs.declared.fault.RunFault.{RunFault}
 
 -- what running the papers and a script does, with a journal that keeps nothing; without a script it is
@@ -38,23 +38,11 @@ pub record RunsSections (text : List ℕ) (old new : Option (List ℕ)) (result 
 -- written; otherwise its sections are run
 abbrev pub EndsBundle : List ℕ → Option (List ℕ) → Option (List ℕ) → Ending → Type 0
 EndsBundle text old new Done = RunsSections text old new (Ok tt)
-EndsBundle text old new NotCertified = ⊥
-EndsBundle text old new Faulty = ⊥
-EndsBundle text old new Torn = ⊥
 EndsBundle text old new (BadSeed error) =
     (sections : Sections) × (bundle_of text ≡ Some sections) × (seed_of sections.seed ≡ Err error) × Keeps old new
 EndsBundle text old new BadBundle = (bundle_of text ≡ None) × Keeps old new
-EndsBundle text old new BadStudent = ⊥
-EndsBundle text old new BadTable = ⊥
-EndsBundle text old new TableBesideLog = ⊥
-EndsBundle text old new (UnknownStudent student) = ⊥
-EndsBundle text old new BadSchool = ⊥
-EndsBundle text old new (UnknownSchool school) = ⊥
-EndsBundle text old new BadSince = ⊥
-EndsBundle text old new (NoLine line) = ⊥
-EndsBundle text old new (AlreadyThere file) = ⊥
-EndsBundle text old new (Unwritten file) = ⊥
 EndsBundle text old new (Fault fault) = RunsSections text old new (Err fault)
+EndsBundle text old new _ = ⊥
 
 -- what running a bundle did: reading it ended early, and nothing was written; or it was read whole, and what it
 -- holds was run
@@ -64,20 +52,5 @@ RunsBundle turn old new ending = ((fault : RunFault) × (ending ≡ Fault fault)
 
 -- whether a call ended because the output failed
 abbrev pub ends_by_output : Ending → Bool
-ends_by_output Done = false
-ends_by_output NotCertified = false
-ends_by_output Faulty = false
-ends_by_output Torn = false
-ends_by_output (BadSeed error) = false
-ends_by_output BadBundle = false
-ends_by_output BadStudent = false
-ends_by_output BadTable = false
-ends_by_output TableBesideLog = false
-ends_by_output (UnknownStudent student) = false
-ends_by_output BadSchool = false
-ends_by_output (UnknownSchool school) = false
-ends_by_output BadSince = false
-ends_by_output (NoLine line) = false
-ends_by_output (AlreadyThere file) = false
-ends_by_output (Unwritten file) = false
 ends_by_output (Fault fault) = is_output_fault {A = Unit {0}} (Err fault)
+ends_by_output _ = false

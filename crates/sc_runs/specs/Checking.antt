@@ -1,6 +1,6 @@
 -- What checking files does, where bytes are known.
 use Rattle.std.specs.Prelude.{◌≡◌, ◌⊎◌, ℕ, List, [], ◌∷◌, ◌++◌, Option, Result, Ok, Err}
-use Rattle.std.specs.Io.KnownBytes.{Appends, Keeps}
+use Rattle.std.specs.Io.KnownBytes.{Appends}
 use Rattle.sc_intake.specs.declared.fault.IntakeFault.{IntakeFault}
 use Rattle.sc_checks.specs.Checks.{every_fault}
 use Rattle.sc_checks.specs.FaultLines.{faults_text, files_of, Files, Names}
@@ -10,7 +10,7 @@ use Rattle.sc_runs.specs.Opening.{EndsUnread}
 use Rattle.sc_runs.specs.declared.checking.Checked.{Checked}
 use Rattle.sc_runs.specs.declared.checking.Checked.TheVariants.{Clean, Faulty}
 use Rattle.sc_runs.specs.declared.fault.RunFault.{RunFault}
-use Rattle.sc_runs.specs.declared.fault.RunFault.TheVariants.{Read, Intake, Journal, WriteOut, WriteJournal, OutOfMemory}
+use Rattle.sc_runs.specs.declared.fault.RunFault.TheVariants.{WriteOut, OutOfMemory}
 
 -- whether there is a fault
 abbrev pub checked_of : List IntakeFault → Checked
@@ -23,10 +23,7 @@ abbrev pub WritesFaults : Files → List IntakeFault → Option (List ℕ) → O
 WritesFaults files faults old new (Ok checked) = (checked ≡ checked_of faults) × Appends old new (faults_text files faults)
 WritesFaults files faults old new (Err WriteOut) = AppendsPrefix old new (faults_text files faults)
 WritesFaults files faults old new (Err OutOfMemory) = AppendsPrefix old new (faults_text files faults)
-WritesFaults files faults old new (Err (Read source)) = ⊥
-WritesFaults files faults old new (Err (Intake fault)) = ⊥
-WritesFaults files faults old new (Err (Journal fault)) = ⊥
-WritesFaults files faults old new (Err WriteJournal) = ⊥
+WritesFaults files faults old new (Err _) = ⊥
 
 -- the lines of every fault of these texts and of a script, under their names, were written; no seed changes them
 abbrev pub WritesEveryFault : Names → Texts → List ℕ → Option (List ℕ) → Option (List ℕ) → Result Checked RunFault → Type 0

@@ -11,7 +11,7 @@ use Rattle.sc_report.specs.Whole.{GivesAtMost}
 use Rattle.sc_report.specs.declared.watched.Watched.{Watched}
 use Rattle.sc_runs.specs.declared.inputs.Opening.{Opening}
 use Rattle.sc_runs.specs.declared.fault.RunFault.{RunFault}
-use Rattle.sc_runs.specs.declared.fault.RunFault.TheVariants.{Read, Intake, Journal, WriteOut, WriteJournal, OutOfMemory}
+use Rattle.sc_runs.specs.declared.fault.RunFault.TheVariants.{Read, Intake, OutOfMemory}
 
 -- an input in its turn: which it is, the bytes that its reader has left, where those are known, and whether a
 -- call on the reader has failed, each before and after
@@ -78,10 +78,8 @@ pub record IsTooLong (turn : Turn) : Type 0 where
 abbrev pub EndsReading : Turn → RunFault → Type 0
 EndsReading turn (Read source) = (source ≡ turn.source) × (turn.failed_after ≡ true)
 EndsReading turn (Intake fault) = (fault ≡ fault_at turn.source 0 TooLong) × IsTooLong turn
-EndsReading turn (Journal fault) = ⊥
-EndsReading turn WriteOut = ⊥
-EndsReading turn WriteJournal = ⊥
 EndsReading turn OutOfMemory = turn.failed_after ≡ turn.failed_before
+EndsReading turn _ = ⊥
 
 -- an input was not come to: no byte of it was taken, and no call on its reader failed
 abbrev pub IsUntouched : Turn → Type 0

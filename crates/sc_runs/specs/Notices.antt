@@ -8,7 +8,7 @@ use Rattle.sc_journal.specs.declared.journal.Tail.{Tail}
 use Rattle.sc_report.specs.Whole.{AppendsPrefix}
 use Rattle.sc_runs.specs.Standing.{IsStandingFault, Stands}
 use Rattle.sc_runs.specs.declared.fault.RunFault.{RunFault}
-use Rattle.sc_runs.specs.declared.fault.RunFault.TheVariants.{Read, Intake, Journal, WriteOut, WriteJournal, OutOfMemory}
+use Rattle.sc_runs.specs.declared.fault.RunFault.TheVariants.{WriteOut, OutOfMemory}
 use Rattle.sc_runs.specs.declared.notices.Told.{Told}
 use Rattle.sc_runs.specs.declared.notices.Told.TheVariants.{Written, Unknown}
 
@@ -35,10 +35,7 @@ WritesNotice notice asked m a tail old new (Ok (Written ending)) = (ending ≡ t
 WritesNotice notice asked m a tail old new (Ok (Unknown subject)) = (asked ≡ Some subject) × (notice.has m subject ≡ false) × Keeps old new
 WritesNotice notice asked m a tail old new (Err WriteOut) = (is_known notice asked m ≡ true) × AppendsPrefix old new (notice_text notice asked m a)
 WritesNotice notice asked m a tail old new (Err OutOfMemory) = Keeps old new
-WritesNotice notice asked m a tail old new (Err (Read source)) = ⊥
-WritesNotice notice asked m a tail old new (Err (Intake fault)) = ⊥
-WritesNotice notice asked m a tail old new (Err (Journal fault)) = ⊥
-WritesNotice notice asked m a tail old new (Err WriteJournal) = ⊥
+WritesNotice notice asked m a tail old new (Err _) = ⊥
 
 -- nothing stands after the journal over the papers that were read, and nothing is written; or a notice is written of the
 -- papers that stand, under their student-optimal stable matching

@@ -14,7 +14,7 @@ use Rattle.sc_report.specs.Text.{IsReportText}
 use Rattle.sc_report.specs.Whole.{AppendsPrefix}
 use Rattle.sc_runs.specs.Inputs.{in_order, Texts, Turn, AreRead, EndsAmong}
 use Rattle.sc_runs.specs.declared.fault.RunFault.{RunFault}
-use Rattle.sc_runs.specs.declared.fault.RunFault.TheVariants.{Read, Intake, Journal, WriteOut, WriteJournal, OutOfMemory}
+use Rattle.sc_runs.specs.declared.fault.RunFault.TheVariants.{Intake, WriteOut, OutOfMemory}
 
 -- the papers of an opening's texts, or their first fault
 abbrev pub opening_in : List ℕ → Texts → Result Market IntakeFault
@@ -25,11 +25,8 @@ opening_in seed texts = papers_in seed texts.schools texts.roster texts.lists
 abbrev pub WritesText : (List ℕ → Type 0) → Option (List ℕ) → Option (List ℕ) → Result (Unit {0}) RunFault → Type 0
 WritesText Is old new (Ok done) = (text : List ℕ) × Is text × Appends old new text
 WritesText Is old new (Err WriteOut) = (text : List ℕ) × Is text × AppendsPrefix old new text
-WritesText Is old new (Err (Read source)) = ⊥
-WritesText Is old new (Err (Intake fault)) = ⊥
-WritesText Is old new (Err (Journal fault)) = ⊥
-WritesText Is old new (Err WriteJournal) = ⊥
 WritesText Is old new (Err OutOfMemory) = Keeps old new
+WritesText Is old new (Err _) = ⊥
 
 -- a text is that of a log that is settled for the papers, and so certifies their matching
 abbrev pub IsCertificate : Market → List ℕ → Type 0
@@ -50,9 +47,7 @@ WritesMatch show_log reading old new (Ok done) = (m : Market) × (reading ≡ Ok
 WritesMatch show_log reading old new (Err WriteOut) = (m : Market) × (reading ≡ Ok m) × WritesText (IsMatchText show_log m) old new (Err WriteOut)
 WritesMatch show_log reading old new (Err (Intake fault)) = (reading ≡ Err fault) × Keeps old new
 WritesMatch show_log reading old new (Err OutOfMemory) = Keeps old new
-WritesMatch show_log reading old new (Err (Read source)) = ⊥
-WritesMatch show_log reading old new (Err (Journal fault)) = ⊥
-WritesMatch show_log reading old new (Err WriteJournal) = ⊥
+WritesMatch show_log reading old new (Err _) = ⊥
 
 -- reading the inputs of a call ended early, and nothing was written
 abbrev pub EndsUnread : {A : Type 0} → List Turn → Option (List ℕ) → Option (List ℕ) → Result A RunFault → Type 0

@@ -49,20 +49,14 @@ IsFinding m log report Certified = IsSettled m log × IsCompared (report_by m lo
 -- comparing a report ended early: its reader failed, or there was no memory
 abbrev pub EndsComparing : Turn → RunFault → Type 0
 EndsComparing report (Read source) = (source ≡ input.Report) × (report.failed_after ≡ true)
-EndsComparing report (Intake fault) = ⊥
-EndsComparing report (Journal fault) = ⊥
-EndsComparing report WriteOut = ⊥
-EndsComparing report WriteJournal = ⊥
 EndsComparing report OutOfMemory = report.failed_after ≡ report.failed_before
+EndsComparing report _ = ⊥
 
 -- an audit of a log and a report ended early; where the report could not be read, the log is settled
 abbrev pub EndsFinding : Market → List Rejection → Turn → RunFault → Type 0
 EndsFinding m log report (Read source) = IsSettled m log × EndsComparing report (Read source)
-EndsFinding m log report (Intake fault) = ⊥
-EndsFinding m log report (Journal fault) = ⊥
-EndsFinding m log report WriteOut = ⊥
-EndsFinding m log report WriteJournal = ⊥
 EndsFinding m log report OutOfMemory = EndsComparing report OutOfMemory
+EndsFinding m log report _ = ⊥
 
 -- a finding of the log that was read and of the report was made, and its line written; a prefix of it where the writer
 -- failed, and nothing where the inputs have a fault, the report could not be read, or there was no memory

@@ -38,9 +38,7 @@ abbrev pub IsStandingFault : Result Market IntakeFault → List ℕ → RunFault
 IsStandingFault reading journal (Intake fault) = reading ≡ Err fault
 IsStandingFault reading journal (Journal fault) = (m : Market) × (reading ≡ Ok m) × IsFirstFault (unamended m) journal fault
 IsStandingFault reading journal OutOfMemory = ⊤
-IsStandingFault reading journal (Read source) = ⊥
-IsStandingFault reading journal WriteOut = ⊥
-IsStandingFault reading journal WriteJournal = ⊥
+IsStandingFault reading journal _ = ⊥
 
 -- a call answers how the journal ends, and wrote such a text of the papers that stand; a prefix of one where the
 -- writer failed, and nothing where nothing stands

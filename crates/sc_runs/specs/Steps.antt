@@ -27,7 +27,7 @@ use Rattle.sc_runs.specs.Standing.{Stands}
 use Rattle.sc_runs.specs.TwoWriters.{to_output, Contents}
 use Rattle.sc_runs.specs.declared.ending.Ending.TheVariants.{Done, Fault}
 use Rattle.sc_runs.specs.declared.ending.Ending.{Ending}
-use Rattle.sc_runs.specs.declared.fault.RunFault.TheVariants.{Intake, Journal, OutOfMemory, Read, WriteJournal, WriteOut}
+use Rattle.sc_runs.specs.declared.fault.RunFault.TheVariants.{Intake, OutOfMemory, WriteOut}
 use Rattle.sc_runs.specs.declared.fault.RunFault.{RunFault}
 use Rattle.sc_runs.specs.declared.inputs.OpeningSlices.{OpeningSlices}
 use Rattle.sc_runs.specs.declared.inputs.OpeningTexts.{OpeningTexts}
@@ -48,12 +48,9 @@ papers_held seed texts = papers_in seed texts.schools.now texts.roster.now texts
 
 -- reading ended early for the first fault of what was read, or for want of memory
 abbrev pub IsOpeningFault : {A : Type 0} → Result A IntakeFault → RunFault → Type 0
-IsOpeningFault reading (Read source) = ⊥
 IsOpeningFault reading (Intake fault) = reading ≡ Err fault
-IsOpeningFault reading (Journal fault) = ⊥
-IsOpeningFault reading WriteOut = ⊥
-IsOpeningFault reading WriteJournal = ⊥
 IsOpeningFault reading OutOfMemory = ⊤
+IsOpeningFault reading _ = ⊥
 
 -- this came of reading the papers that the texts hold: those papers, or their first fault
 abbrev pub IsReadingOf : Result Market IntakeFault → Result Market RunFault → Type 0
@@ -64,11 +61,7 @@ IsReadingOf reading (Err fault) = IsOpeningFault reading fault
 abbrev pub WritesExactly : List ℕ → Option (List ℕ) → Option (List ℕ) → Result (Unit {0}) RunFault → Type 0
 WritesExactly text old new (Ok done) = Appends old new text
 WritesExactly text old new (Err WriteOut) = AppendsPrefix old new text
-WritesExactly text old new (Err (Read source)) = ⊥
-WritesExactly text old new (Err (Intake fault)) = ⊥
-WritesExactly text old new (Err (Journal fault)) = ⊥
-WritesExactly text old new (Err WriteJournal) = ⊥
-WritesExactly text old new (Err OutOfMemory) = ⊥
+WritesExactly text old new (Err _) = ⊥
 
 -- what is told of the papers under a matching
 abbrev pub standing_text : StandingText → Market → Matching → List ℕ
@@ -107,10 +100,7 @@ abbrev pub WritesVerdictLine : Verdict → Option (List ℕ) → Option (List �
 WritesVerdictLine verdict old new (Ok done) = Appends old new (verdict_text verdict)
 WritesVerdictLine verdict old new (Err WriteOut) = AppendsPrefix old new (verdict_text verdict)
 WritesVerdictLine verdict old new (Err OutOfMemory) = Keeps old new
-WritesVerdictLine verdict old new (Err (Read source)) = ⊥
-WritesVerdictLine verdict old new (Err (Intake fault)) = ⊥
-WritesVerdictLine verdict old new (Err (Journal fault)) = ⊥
-WritesVerdictLine verdict old new (Err WriteJournal) = ⊥
+WritesVerdictLine verdict old new (Err _) = ⊥
 
 -- what comparing a report comes to, under a log that is settled
 abbrev pub finding_of : Option ℕ → Finding

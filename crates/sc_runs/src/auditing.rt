@@ -1,7 +1,6 @@
 //! From three files and a log to a verdict.
 
 ghost use Rattle.std.specs.Prelude.{◌≡◌, All, IfOk, MatchResult, Ok};
-ghost use Rattle.sc_audit.specs.Verdict.{IsVerdict};
 ghost use Rattle.sc_intake.specs.Log.{log_in};
 ghost use Rattle.sc_intake.specs.declared.fault.Source.TheVariants as input;
 ghost use Rattle.sc_report.specs.Watched.{device_of};

@@ -42,7 +42,6 @@ pub trait Subject: Copy {
 }
 
 /// What asking for a notice came to.
-#[derive(Clone, Copy)]
 pub enum Told<S> {
     /// The notice was written, and the journal ends so.
     Written { tail: Tail },
