@@ -185,23 +185,36 @@ fn settling_of(settle_each: bool) -> Settling {
     }
 }
 
+/// The words of a run after those of its opening: its script, where its journal goes and whether what is there is to be kept,
+/// and when the papers are settled.
+struct RunWords<'a> {
+    script: &'a str,
+    journal: &'a str,
+    no_clobber: bool,
+    settling: Settling,
+}
+
 /// Runs a script after an opening.
 fn run_script<R: Files + AllocGlobal, W: Write>(
     rt: &R,
     seed: &Seed,
     words: &OpeningWords<'_>,
-    script: &str,
-    journal: &str,
-    no_clobber: bool,
-    settling: Settling,
+    run_words: &RunWords<'_>,
     out: &mut Watched<W>,
 ) -> Result<Ending, RunFault> {
     let mut inputs = Inputs {
         opening: open_opening(rt, &words.files)?,
-        script: open_input(rt, script, Source::Script)?,
+        script: open_input(rt, run_words.script, Source::Script)?,
     };
-    let mut journal = create_journal(rt, journal, no_clobber, &inputs)?;
-    run(rt.alloc(), seed, &mut inputs, settling, out, &mut journal)?;
+    let mut journal = create_journal(rt, run_words.journal, run_words.no_clobber, &inputs)?;
+    run(
+        rt.alloc(),
+        seed,
+        &mut inputs,
+        run_words.settling,
+        out,
+        &mut journal,
+    )?;
     Ok(Ending::Done)
 }
 
@@ -503,17 +516,13 @@ fn dispatch<R: Files + AllocGlobal, W: Write>(
             no_clobber,
             settle_each,
         } => {
-            let settling = settling_of(*settle_each);
-            run_script(
-                rt,
-                seed,
-                opening,
+            let run_words = RunWords {
                 script,
                 journal,
-                *no_clobber,
-                settling,
-                out,
-            )
+                no_clobber: *no_clobber,
+                settling: settling_of(*settle_each),
+            };
+            run_script(rt, seed, opening, &run_words, out)
         }
         Subcommand::Audit { log, report: None } => audit_log(rt, seed, opening, log, out),
         Subcommand::Audit {
