@@ -9,7 +9,13 @@ use std::io::IsTerminal;
 use std::process::ExitCode;
 use std::{env, io};
 
+mod calls;
+mod checks;
 mod counted;
+mod exports;
+mod inputs;
+mod journal;
+mod messages;
 mod perform;
 #[cfg(test)]
 mod tests;

@@ -1,0 +1,75 @@
+//! The file of a journal that is written.
+use sc_report::Watched;
+use sc_runs::{Inputs, RunFault};
+use std::fs::{Metadata, OpenFile, OpenOptions, metadata};
+use std::os::unix::fs::MetadataExt;
+use std::rt::Files;
+
+/// Where the standard output is found as a file.
+const OUTPUT: &str = "/dev/stdout";
+
+/// Whether two files are one, under whatever names.
+fn are_one(one: &Metadata, other: &Metadata) -> bool {
+    one.dev() == other.dev() && one.ino() == other.ino()
+}
+
+/// Whether a file is this open input. An input of which nothing can be learnt counts as another file.
+fn is_input<F: OpenFile>(file: &Metadata, input: &Watched<F>) -> bool {
+    match input.inner().metadata() {
+        Ok(input) => are_one(file, &input),
+        Err(_) => false,
+    }
+}
+
+/// Whether a file is one of the inputs of a run.
+fn is_among<F: OpenFile>(file: &Metadata, inputs: &Inputs<F>) -> bool {
+    is_input(file, &inputs.opening.schools)
+        || is_input(file, &inputs.opening.roster)
+        || is_input(file, &inputs.opening.lists)
+        || is_input(file, &inputs.script)
+}
+
+/// Whether a file is where the standard output goes.
+fn is_output<R: Files>(rt: &R, file: &Metadata) -> bool {
+    match metadata(rt, OUTPUT) {
+        Ok(output) => are_one(file, &output),
+        Err(_) => false,
+    }
+}
+
+/// Empties a regular file that is to be the journal, unless it is one of the inputs or the output, or holds something that
+/// is to be kept: these are left as they are. A device, as `/dev/null`, has nothing to lose, but is no empty file.
+fn empty_journal<R: Files>(
+    rt: &R,
+    journal: &R::File,
+    no_clobber: bool,
+    inputs: &Inputs<R::File>,
+) -> Result<(), RunFault> {
+    let Ok(file) = journal.metadata() else {
+        return Err(RunFault::WriteJournal);
+    };
+    if no_clobber && !(file.is_file() && file.len() == 0) {
+        return Err(RunFault::WriteJournal);
+    }
+    if !file.is_file() {
+        return Ok(());
+    }
+    if is_among(&file, inputs) || is_output(rt, &file) || journal.set_len(0).is_err() {
+        return Err(RunFault::WriteJournal);
+    }
+    Ok(())
+}
+
+/// The journal file, made new or emptied. It is opened as it stands and looked at before it is emptied.
+pub fn create_journal<R: Files>(
+    rt: &R,
+    path: &str,
+    no_clobber: bool,
+    inputs: &Inputs<R::File>,
+) -> Result<Watched<R::File>, RunFault> {
+    let Ok(journal) = OpenOptions::new().write(true).create(true).open(rt, path) else {
+        return Err(RunFault::WriteJournal);
+    };
+    empty_journal(rt, &journal, no_clobber, inputs)?;
+    Ok(Watched::new(journal))
+}
