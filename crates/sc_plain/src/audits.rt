@@ -127,8 +127,9 @@ fn judge_changes_at(
     papers: &Papers,
     log: &[(u32, u32)],
     at: usize,
-    entry: (u32, u32),
 ) -> Result<(), Fail> {
+    assert!(rt; at < log.len());
+    let entry = log[at];
     judge_log(rt, alloc, market, papers, &without(alloc, log, at)?)?;
     judge_log(rt, alloc, market, papers, &with_repeat(alloc, log, at)?)?;
     judge_log(rt, alloc, market, papers, &with_swap(alloc, log, at)?)?;
@@ -156,8 +157,8 @@ fn judge_settled_log(
     assert_eq!(rt; verdict, Verdict::Certified);
     let log = plain_log(alloc, settled)?;
     judge_log(rt, alloc, market, papers, &log)?;
-    for (at, entry) in log.iter().enumerate() {
-        judge_changes_at(rt, alloc, market, papers, &log, at, *entry)?;
+    for at in 0..log.len() {
+        judge_changes_at(rt, alloc, market, papers, &log, at)?;
     }
     Ok(())
 }

@@ -1,0 +1,97 @@
+//! What becomes of the file of a journal.
+use super::{REPORT, expect, ordering, performed, write_files};
+use std::{fs, io};
+
+/// What a run tells whose schools and journal are these files, and then the journal.
+fn run_over(rt: &HostRuntime, schools: &str, journal: &str) -> io::Result<String> {
+    run_with(
+        rt,
+        schools,
+        journal,
+        &["--script", "script", "--journal", journal],
+    )
+}
+
+/// The same with these options.
+fn run_with(
+    rt: &HostRuntime,
+    schools: &str,
+    journal: &str,
+    options: &[&str],
+) -> io::Result<String> {
+    let words = ordering(rt.alloc(), "run", schools, options)?;
+    let told = performed(rt, words.as_slice(), "")?;
+    let kept = fs::read(rt, journal)?;
+    let kept = String::from_utf8_lossy(rt.alloc(), kept.as_slice())?;
+    Ok(format!(in rt.alloc(); "{told}|{kept}")?)
+}
+
+#[test]
+fn a_journal_outlives_an_input_that_is_not_there(rt: HostRuntime) -> io::Result<()> {
+    write_files(&rt)?;
+    fs::write(&rt, "script", "")?;
+    fs::write(&rt, "journal", "1,withdraw,1\n")?;
+    let want = "clearinghouse: cannot read schools\n4|1,withdraw,1\n";
+    expect(&rt, run_over(&rt, "absent", "journal"), "", want);
+    Ok(())
+}
+
+/// The inputs of a run, with what each holds.
+const HELD: &[(&str, &str)] = &[
+    ("schools", "school,zone,seats\n10,1,1\n20,0,1\n"),
+    ("roster", "student,zone,siblings\n1,0,20\n2,0,10\n"),
+    ("lists", "student,choices\n1,10 20\n2,20 10\n"),
+    ("script", "0,add,10,1\n"),
+];
+
+/// Takes a file away, if it is there.
+fn without(rt: &HostRuntime, file: &str) -> io::Result<()> {
+    if fs::exists(rt, file)? {
+        fs::remove_file(rt, file)?;
+    }
+    Ok(())
+}
+
+#[test]
+fn no_input_is_the_journal(rt: HostRuntime) -> io::Result<()> {
+    write_files(&rt)?;
+    fs::write(&rt, "script", "0,add,10,1\n")?;
+    let refused = "clearinghouse: cannot write journal\n4|";
+    for (input, held) in HELD {
+        expect(&rt, run_over(&rt, "schools", *input), refused, *held);
+        without(&rt, "linked")?;
+        fs::hard_link(&rt, *input, "linked")?;
+        expect(&rt, run_over(&rt, "schools", "linked"), refused, *held);
+    }
+    without(&rt, "linked")
+}
+
+/// What a run without a record tells that is to keep an old journal, and then the journal.
+fn run_that_keeps(rt: &HostRuntime) -> io::Result<String> {
+    let options = &["--no-clobber", "--script", "script", "--journal", "journal"];
+    run_with(rt, "schools", "journal", options)
+}
+
+#[test]
+fn no_journal_is_clobbered(rt: HostRuntime) -> io::Result<()> {
+    write_files(&rt)?;
+    fs::write(&rt, "script", "")?;
+    fs::write(&rt, "journal", "1,withdraw,1\n")?;
+    let refused = "clearinghouse: cannot write journal\n4|1,withdraw,1\n";
+    expect(&rt, run_that_keeps(&rt), "", refused);
+    expect(&rt, run_over(&rt, "schools", "journal"), REPORT, "0|");
+    // It is an empty file now.
+    expect(&rt, run_that_keeps(&rt), REPORT, "0|");
+    without(&rt, "journal")?;
+    expect(&rt, run_that_keeps(&rt), REPORT, "0|");
+    let null = &[
+        "--no-clobber",
+        "--script",
+        "script",
+        "--journal",
+        "/dev/null",
+    ];
+    let device = "clearinghouse: cannot write journal\n4|";
+    expect(&rt, run_with(&rt, "schools", "journal", null), "", device);
+    Ok(())
+}
