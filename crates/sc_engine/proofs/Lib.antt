@@ -18,5 +18,5 @@ pub mod Resuming
 pub mod Growing
 pub mod Forgetting
 pub mod Proposing
-pub mod Newcomers
+pub mod ApplicationsInTurn
 mod Clearing

@@ -9,7 +9,7 @@ use Rattle.sc_papers.specs.declared.key.Key.{Key}
 use Rattle.sc_papers.specs.declared.proposal.Proposal.{Proposal}
 use Rattle.sc_papers.proofs.Hands.{hand-is, hand-key}
 use Rattle.sc_papers.proofs.Positions.{position-there}
-use Rattle.sc_engine.specs.Newcomers.{IsFirstPosition}
+use Rattle.sc_engine.specs.Applications.{IsFirstPosition}
 use Rattle.sc_engine.specs.Proposals.{IsFirstProposal, IsProposal}
 
 -- no proposal to no choice

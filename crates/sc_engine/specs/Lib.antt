@@ -2,9 +2,9 @@ pub mod RoundView
 pub mod Rolls
 pub mod Round
 pub mod Counting
-pub mod Entrants
+pub mod Applicants
 pub mod Proposals
-pub mod Newcomers
-pub mod Outcome
+pub mod Applications
+pub mod SettledPlaces
 pub mod Noted
 pub mod Fresh

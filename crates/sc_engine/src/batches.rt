@@ -2,13 +2,13 @@
 
 ghost use Rattle.std.specs.Prelude.{◌≡◌, false, All, List, [], ◌++◌, OnOk};
 ghost use Rattle.sc_papers.specs.Market.{students_of};
-ghost use Rattle.sc_engine.specs.Newcomers.{entrants_of, ComesNext, IsFirstPosition, KnowsFirst};
+ghost use Rattle.sc_engine.specs.Applications.{applicants_of, ComesNext, IsFirstPosition, KnowsFirst};
 ghost use Rattle.sc_engine.specs.Proposals.{IsFirstProposal};
-ghost use Rattle.sc_engine.specs.Entrants.{numbers_of, AreEverybody, StandsAt};
+ghost use Rattle.sc_engine.specs.Applicants.{numbers_of, AreEverybody, StandsAt};
 ghost use Rattle.sc_engine.specs.Round.{view_of, is_spent};
 ghost use Rattle.sc_engine.specs.RoundView.{SettlesThese};
 
-use crate::entrants::Entrant;
+use crate::applicants::Applicant;
 use crate::round::Round;
 use sc_papers::{Papers, Proposal};
 use sc_seats::Roll;
@@ -18,33 +18,33 @@ use std::alloc::{AllocError, Global};
 /// what is made of them stays at hand.
 const BATCH: usize = 64;
 
-/// An entrant, and the position of the school of their first choice, if they have a choice.
+/// An applicant, and the position of the school of their first choice, if they have a choice.
 #[derive(Clone, Copy)]
-struct Newcomer {
-    entrant: Entrant,
+struct Application {
+    applicant: Applicant,
     first: Option<usize>,
 }
 
-/// The position of the school of an entrant's first choice, if they have one.
-fn first_position(papers: &Papers, entrant: &Entrant) -> Option<usize>
-    requires { StandsAt papers.now entrant.now }
-    ensures { IsFirstPosition papers.now entrant.now.student result }
+/// The position of the school of an applicant's first choice, if they have one.
+fn first_position(papers: &Papers, applicant: &Applicant) -> Option<usize>
+    requires { StandsAt papers.now applicant.now }
+    ensures { IsFirstPosition papers.now applicant.now.student result }
 {
-    let positions = papers.choice_positions_at(entrant.position as usize);
+    let positions = papers.choice_positions_at(applicant.position as usize);
     Some(usize::from(*positions.first()?))
 }
 
-/// What an entrant proposes first, whose first choice's school stands at this position, if they have a choice.
-fn first_proposal(papers: &Papers, entrant: &Entrant, first: Option<usize>) -> Option<Proposal>
-    requires stands { StandsAt papers.now entrant.now }
-    requires first { IsFirstPosition papers.now entrant.now.student first }
-    ensures { IsFirstProposal papers.now entrant.now.student result }
+/// What an applicant proposes first, whose first choice's school stands at this position, if they have a choice.
+fn first_proposal(papers: &Papers, applicant: &Applicant, first: Option<usize>) -> Option<Proposal>
+    requires stands { StandsAt papers.now applicant.now }
+    requires first { IsFirstPosition papers.now applicant.now.student first }
+    ensures { IsFirstProposal papers.now applicant.now.student result }
 {
     let position = first?;
     let Some(school) = papers.school_at(position) else {
         unreachable!()
     };
-    let Some(key) = papers.key_at(entrant.position as usize, position) else {
+    let Some(key) = papers.key_at(applicant.position as usize, position) else {
         unreachable!()
     };
     Some(Proposal {
@@ -54,50 +54,55 @@ fn first_proposal(papers: &Papers, entrant: &Entrant, first: Option<usize>) -> O
     })
 }
 
-/// Makes the entrants of a batch the newcomers, in place of those of the batch before. The only error is want of memory,
-/// and none is taken where there is room for the batch. The cost is the read of a row for each entrant.
+/// Makes the applications of a batch's applicants, in place of those of the batch before. The only error is want of memory,
+/// and none is taken where there is room for the batch. The cost is the read of a row for each applicant.
 fn read_batch(
     papers: &Papers,
-    batch: &[Entrant],
-    newcomers: &mut Vec<Newcomer>,
+    batch: &[Applicant],
+    applications: &mut Vec<Application>,
 ) -> Result<(), AllocError>
     requires { All (StandsAt papers.now) batch.now }
-    ensures entrants { OnOk result (entrants_of newcomers.new.items ≡ batch.now) }
-    ensures firsts { OnOk result (All (KnowsFirst papers.now) newcomers.new.items) }
+    ensures applicants { OnOk result (applicants_of applications.new.items ≡ batch.now) }
+    ensures firsts { OnOk result (All (KnowsFirst papers.now) applications.new.items) }
 {
-    newcomers.clear();
-    for entrant in batch {
+    applications.clear();
+    for applicant in batch {
         // No read waits for another, and nothing is decided by what was read, so the processor makes several reads at
         // once. What a student's priority is at the school is asked when the row has come.
-        let first = first_position(papers, entrant);
-        newcomers.push(Newcomer {
-            entrant: *entrant,
+        let first = first_position(papers, applicant);
+        applications.push(Application {
+            applicant: *applicant,
             first,
         })?;
     }
     Ok(())
 }
 
-/// Enters the newcomers, each with their first proposal, into a round in which others have entered before.
+/// Enters the applicants, each with their first proposal, into a round in which others have entered before.
 fn enter_batch<R: Roll>(
     round: &mut Round<R>,
     papers: &Papers,
-    newcomers: &[Newcomer],
+    applications: &[Application],
 ) -> Result<(), AllocError>
-    requires next { (before : List Entrant) × (after : List Entrant)
-        × ComesNext papers.now (view_of R.keys R.seats round.old) before (entrants_of newcomers.now) after }
-    requires firsts { All (KnowsFirst papers.now) newcomers.now }
+    requires next { (before : List Applicant) × (after : List Applicant)
+        × ComesNext papers.now (view_of R.keys R.seats round.old) before (applicants_of applications.now) after }
+    requires firsts { All (KnowsFirst papers.now) applications.now }
     requires ready { is_spent round.old ≡ false }
-    ensures entered { OnOk result ((before after : List Entrant)
-        → ComesNext papers.now (view_of R.keys R.seats round.old) before (entrants_of newcomers.now) after
+    ensures entered { OnOk result ((before after : List Applicant)
+        → ComesNext papers.now (view_of R.keys R.seats round.old) before (applicants_of applications.now) after
         → SettlesThese papers.now (view_of R.keys R.seats round.new)
-        (numbers_of (before ++ entrants_of newcomers.now))) }
+        (numbers_of (before ++ applicants_of applications.now))) }
     ensures ready { OnOk result (is_spent round.new ≡ false) }
 {
-    for newcomer in newcomers {
-        let entrant = newcomer.entrant;
-        let first = first_proposal(papers, &entrant, newcomer.first);
-        round.enter_with(papers, entrant.student, entrant.position as usize, first)?;
+    for application in applications {
+        let applicant = application.applicant;
+        let first = first_proposal(papers, &applicant, application.first);
+        round.enter_with(
+            papers,
+            applicant.student,
+            applicant.position as usize,
+            first,
+        )?;
     }
     Ok(())
 }
@@ -109,18 +114,18 @@ pub(crate) fn enter_in_batches<R: Roll>(
     alloc: Global,
     round: &mut Round<R>,
     papers: &Papers,
-    entrants: &[Entrant],
+    applicants: &[Applicant],
 ) -> Result<(), AllocError>
     requires first { SettlesThese papers.now (view_of R.keys R.seats round.old) [] }
     requires ready { is_spent round.old ≡ false }
-    requires everybody { AreEverybody papers.now entrants.now }
+    requires everybody { AreEverybody papers.now applicants.now }
     ensures all { OnOk result (SettlesThese papers.now (view_of R.keys R.seats round.new) (students_of papers.now)) }
     ensures ready { OnOk result (is_spent round.new ≡ false) }
 {
-    let mut newcomers = Vec::with_capacity(alloc, BATCH)?;
-    for batch in entrants.chunks(BATCH) {
-        read_batch(papers, batch, &mut newcomers)?;
-        enter_batch(round, papers, newcomers.as_slice())?;
+    let mut applications = Vec::with_capacity(alloc, BATCH)?;
+    for batch in applicants.chunks(BATCH) {
+        read_batch(papers, batch, &mut applications)?;
+        enter_batch(round, papers, applications.as_slice())?;
     }
     Ok(())
 }

@@ -3,12 +3,12 @@
 //! (McVitie and Wilson 1971).
 #![tactic(auto)]
 
+mod applicants;
 mod batches;
-mod entrants;
 pub mod laws;
 mod rank_table;
 mod round;
 mod settled;
 
 pub use round::Round;
-pub use settled::{Outcome, Settled, settle, settle_by_first_keys};
+pub use settled::{Settled, SettledPlaces, settle, settle_by_first_keys};

@@ -13,7 +13,7 @@ mod rolls;
 mod starting;
 
 use crate::rank_table::RankTable;
-use crate::settled::{Outcome, Settled};
+use crate::settled::{Settled, SettledPlaces};
 use ranks::{assignment_of, next_in, next_near, places_of, position_near};
 use sc_papers::{Assignment, Hints, Papers, Proposal, Rejection, SchoolNo, StudentNo};
 use sc_seats::Roll;
@@ -200,19 +200,19 @@ impl<R: Roll> Round<R> {
     /// The choices at which the students of the round stand, in the papers' order of entry, and how many rejections and
     /// proposals led there. A spent round answers the error, and so does want of memory. On an error the round is given
     /// up. The cost is a look at each student of the papers.
-    pub(crate) fn into_outcome(self, papers: &Papers) -> Result<Outcome, AllocError>
+    pub(crate) fn into_places(self, papers: &Papers) -> Result<SettledPlaces, AllocError>
         requires { is_spent self ≡ false → Fits papers.now (view_of R.keys R.seats self) }
         ensures was_ready { OnOk result (is_spent self ≡ false) }
-        ensures places { IfOk result (λ outcome. outcome.places.items
+        ensures places { IfOk result (λ settled. settled.places.items
             ≡ map (next_of papers.now (view_of R.keys R.seats self).ranks) (students_of papers.now)) }
-        ensures rejections { IfOk result (λ outcome. outcome.rejections ≡ length (view_of R.keys R.seats self).log) }
-        ensures proposals { IfOk result (λ outcome. outcome.proposals ≡ (view_of R.keys R.seats self).proposals) }
+        ensures rejections { IfOk result (λ settled. settled.rejections ≡ length (view_of R.keys R.seats self).log) }
+        ensures proposals { IfOk result (λ settled. settled.proposals ≡ (view_of R.keys R.seats self).proposals) }
     {
         if self.spent {
             return Err(AllocError);
         }
         let places = places_of(self.alloc, self.ranks.as_slice(), papers)?;
-        Ok(Outcome {
+        Ok(SettledPlaces {
             places,
             rejections: self.log.len(),
             proposals: self.proposals,

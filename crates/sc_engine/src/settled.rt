@@ -7,12 +7,12 @@ ghost use Rattle.sc_papers.specs.Log.{next_choice, IsSettled};
 ghost use Rattle.sc_papers.specs.Market.{students_of};
 ghost use Rattle.sc_papers.specs.Matching.{IsStudentOptimal};
 ghost use Rattle.sc_papers.specs.Progress.{placed};
-ghost use Rattle.sc_engine.specs.Outcome.{IsOutcome};
+ghost use Rattle.sc_engine.specs.SettledPlaces.{AreSettledPlaces};
 ghost use Rattle.sc_engine.specs.Round.{view_of, is_spent};
 ghost use Rattle.sc_engine.specs.RoundView.{Fits, next_of, SettlesFirst, SettlesThese};
 
+use crate::applicants::applicants_by_first_key;
 use crate::batches::enter_in_batches;
-use crate::entrants::entrants_by_first_key;
 use crate::round::Round;
 use sc_papers::{Assignment, Papers, Rejection, SchoolNo};
 use sc_seats::{HeapRoll, Roll};
@@ -31,7 +31,7 @@ pub struct Settled {
 
 /// What the proposals came to, for a caller that asks for no log.
 #[derive(Drop)]
-pub struct Outcome {
+pub struct SettledPlaces {
     /// The school that each student has, if any, in the papers' order of entry.
     pub places: Vec<Option<SchoolNo>>,
     /// How many rejections there were.
@@ -61,24 +61,24 @@ pub fn settle(alloc: Global, papers: &Papers) -> Result<Settled, AllocError>
 /// students enter by their priority class at their first choice, and within a class by the first byte of their draw. So
 /// fewer of them are put out again, and most offers are refused while their rows are at hand. The cost is a sort of numbers
 /// more, and no student is put into a table.
-pub fn settle_by_first_keys(alloc: Global, papers: &Papers) -> Result<Outcome, AllocError>
-    ensures { IfOk result (IsOutcome papers.now) }
+pub fn settle_by_first_keys(alloc: Global, papers: &Papers) -> Result<SettledPlaces, AllocError>
+    ensures { IfOk result (AreSettledPlaces papers.now) }
 {
     let mut round: Round<HeapRoll> = Round::start(alloc, papers)?;
-    let entrants = entrants_by_first_key(alloc, papers)?;
-    enter_in_batches(alloc, &mut round, papers, entrants.as_slice())?;
-    drop(entrants);
-    let outcome = outcome_of(round, papers)?;
-    Ok(outcome)
+    let applicants = applicants_by_first_key(alloc, papers)?;
+    enter_in_batches(alloc, &mut round, papers, applicants.as_slice())?;
+    drop(applicants);
+    let settled = settled_places_of(round, papers)?;
+    Ok(settled)
 }
 
-/// The outcome of a round in which all students have entered.
-fn outcome_of<R: Roll>(round: Round<R>, papers: &Papers) -> Result<Outcome, AllocError>
+/// The settled places of a round in which all students have entered.
+fn settled_places_of<R: Roll>(round: Round<R>, papers: &Papers) -> Result<SettledPlaces, AllocError>
     requires all { SettlesThese papers.now (view_of R.keys R.seats round) (students_of papers.now) }
-    ensures { IfOk result (IsOutcome papers.now) }
+    ensures { IfOk result (AreSettledPlaces papers.now) }
 {
-    let outcome = round.into_outcome(papers)?;
-    Ok(outcome)
+    let settled = round.into_places(papers)?;
+    Ok(settled)
 }
 
 /// As `settle`, over a kind of roll.

@@ -37,6 +37,6 @@ pub mod Locality
 pub mod Amending
 pub mod Unobjected
 pub mod TakingBack
-pub mod Exchanging
+pub mod Inverses
 pub mod Weaving
 pub mod EntryOrder

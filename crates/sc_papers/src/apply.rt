@@ -62,7 +62,7 @@ impl Papers {
                 Ok(())
             }
             other => {
-                let _ = self.exchange(other)?;
+                let _ = self.apply_reversibly(other)?;
                 Ok(())
             }
         }

@@ -19,7 +19,7 @@ use Rattle.sc_papers.specs.declared.records.Student.{Student}
 use Rattle.sc_papers.proofs.Objections.{first_of-none, refuse_if-none}
 use Rattle.sc_papers.proofs.Positions.{among-student, student-among}
 use Rattle.sc_papers.proofs.Students.{lister-among}
-use Rattle.sc_region.specs.Districts.{AreDistricts, DistrictsView, comer, firsts_at, leaver, new_first}
+use Rattle.sc_region.specs.Districts.{AreDistricts, DistrictsView, listed_by, firsts_at, unlisted_by, new_first}
 use Rattle.sc_region.specs.Groups.{first_choice, new_choices, position_of, start_of, widened}
 use Rattle.sc_region.proofs.Changes.{changed-found, changed-own, correct-known, enter-may, is-held, one-key, push-found, removed-found, rerank-known}
 use Rattle.sc_region.proofs.Choosing.{first-listed}
@@ -59,23 +59,23 @@ seated-student m s change i = go (school_of m s) refl
 
 -- one who keeps their choices, and one who comes with new ones
 abbrev pub KeepsFirst : Market → Amendment → ℕ → Type 0
-KeepsFirst m a i = (leaver a ≡ Some i → ⊥) × Contains (students_of m) i × (first_choice (after m a) i ≡ first_choice m i)
+KeepsFirst m a i = (unlisted_by a ≡ Some i → ⊥) × Contains (students_of m) i × (first_choice (after m a) i ≡ first_choice m i)
 
 abbrev pub ComesFirst : Market → Amendment → ℕ → Type 0
-ComesFirst m a i = (comer a ≡ Some i) × (first_choice (after m a) i ≡ new_first a)
+ComesFirst m a i = (listed_by a ≡ Some i) × (first_choice (after m a) i ≡ new_first a)
 
 choices-told : (m : Market) (i : ℕ) (student : Student) → student_of m i ≡ Some student → choices_of m i ≡ student.choices
 unfolding choices_of
 choices-told m i student found = ap (λ o. option_map_or (λ (x : Student). x.choices) o []) found
 
-keeps : (m : Market) (a : Amendment) (i : ℕ) (old new : Student) → (leaver a ≡ Some i → ⊥) → student_of m i ≡ Some old → student_of (after m a) i ≡ Some new → old.choices ≡ new.choices → KeepsFirst m a i
+keeps : (m : Market) (a : Amendment) (i : ℕ) (old new : Student) → (unlisted_by a ≡ Some i → ⊥) → student_of m i ≡ Some old → student_of (after m a) i ≡ Some new → old.choices ≡ new.choices → KeepsFirst m a i
 keeps m a i old new stays was is same = (
   stays,
   student-among m i (ap is_some was),
   ap (λ xs. slice_index xs 0) (choices-told (after m a) i new is ∙ sym same ∙ sym (choices-told m i old was)),
 )
 
-comes : (m : Market) (a : Amendment) (i : ℕ) (new : Student) → comer a ≡ Some i → student_of (after m a) i ≡ Some new → new.choices ≡ new_choices a → ComesFirst m a i
+comes : (m : Market) (a : Amendment) (i : ℕ) (new : Student) → listed_by a ≡ Some i → student_of (after m a) i ≡ Some new → new.choices ≡ new_choices a → ComesFirst m a i
 comes m a i new own is same = (own, ap (λ xs. slice_index xs 0) (choices-told (after m a) i new is ∙ same))
 
 apart-from : (j i : ℕ) → nat_eq j i ≡ false → Some j ≡ Some i → ⊥
@@ -133,19 +133,19 @@ first-after m (Correct j zone siblings continuing) well allowed i among =
 positive : (n : ℕ) → (n == 0) ≡ false → 0 < n
 positive n some = grind (arith, nat_tests)
 
-pub comer-some : (m : Market) (a : Amendment) → verdict m a ≡ None → (i : ℕ) → comer a ≡ Some i → 0 < length (new_choices a)
-comer-some m (Enter j zone siblings choices continuing) allowed i is = (enter-may m j zone siblings choices continuing allowed).lists.choices_some
-comer-some m (Withdraw j) allowed i is = absurd (none-some i is)
-comer-some m (Rerank j choices) allowed i is = positive (length choices) (refuse_if-none (length choices == 0) EmptyList (first_of-none (objections_to_rerank m j choices) allowed).1.0)
-comer-some m (Add t count) allowed i is = absurd (none-some i is)
-comer-some m (Close t count) allowed i is = absurd (none-some i is)
-comer-some m (Correct j zone siblings continuing) allowed i is = absurd (none-some i is)
+pub listed_by-some : (m : Market) (a : Amendment) → verdict m a ≡ None → (i : ℕ) → listed_by a ≡ Some i → 0 < length (new_choices a)
+listed_by-some m (Enter j zone siblings choices continuing) allowed i is = (enter-may m j zone siblings choices continuing allowed).lists.choices_some
+listed_by-some m (Withdraw j) allowed i is = absurd (none-some i is)
+listed_by-some m (Rerank j choices) allowed i is = positive (length choices) (refuse_if-none (length choices == 0) EmptyList (first_of-none (objections_to_rerank m j choices) allowed).1.0)
+listed_by-some m (Add t count) allowed i is = absurd (none-some i is)
+listed_by-some m (Close t count) allowed i is = absurd (none-some i is)
+listed_by-some m (Correct j zone siblings continuing) allowed i is = absurd (none-some i is)
 
 -- the widened districts, with the students listed anew, are districts of the papers after the amendment
 pub districts-after : (m : Market) (a : Amendment) → WellFormed m → WellFormed (after m a) → verdict m a ≡ None → (d : DistrictsView) → AreDistricts m d → is_school m (start_of m a) ≡ true
     → (firsts : List (List ℕ)) → length firsts ≡ length d.firsts
-    → ((p i : ℕ) → (leaver a ≡ Some i → ⊥) → Contains (firsts_at d.firsts p) i → Contains (firsts_at firsts p) i)
-    → ((i : ℕ) → comer a ≡ Some i → Contains (firsts_at firsts (position_of m (new_first a))) i)
+    → ((p i : ℕ) → (unlisted_by a ≡ Some i → ⊥) → Contains (firsts_at d.firsts p) i → Contains (firsts_at firsts p) i)
+    → ((i : ℕ) → listed_by a ≡ Some i → Contains (firsts_at firsts (position_of m (new_first a))) i)
     → AreDistricts (after m a) (record { groups = widened m a d.groups; firsts = firsts })
 unfolding widened
 districts-after m a well after_well allowed d districts known firsts one_each others moved = record {

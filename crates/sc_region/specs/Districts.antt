@@ -40,22 +40,22 @@ pub record AreWidened (m : Market) (a : Amendment) (d : DistrictsView) : Type 0 
   pub joined : widened m a d.groups ≡ d.groups
 
 -- who is no longer listed at the first choice that they had
-abbrev pub leaver : Amendment → Option ℕ
-leaver (Enter i zone siblings choices continuing) = None
-leaver (Withdraw i) = Some i
-leaver (Rerank i choices) = Some i
-leaver (Add s count) = None
-leaver (Close s count) = None
-leaver (Correct i zone siblings continuing) = None
+abbrev pub unlisted_by : Amendment → Option ℕ
+unlisted_by (Enter i zone siblings choices continuing) = None
+unlisted_by (Withdraw i) = Some i
+unlisted_by (Rerank i choices) = Some i
+unlisted_by (Add s count) = None
+unlisted_by (Close s count) = None
+unlisted_by (Correct i zone siblings continuing) = None
 
 -- who comes to be listed at the first of the new choices
-abbrev pub comer : Amendment → Option ℕ
-comer (Enter i zone siblings choices continuing) = Some i
-comer (Withdraw i) = None
-comer (Rerank i choices) = Some i
-comer (Add s count) = None
-comer (Close s count) = None
-comer (Correct i zone siblings continuing) = None
+abbrev pub listed_by : Amendment → Option ℕ
+listed_by (Enter i zone siblings choices continuing) = Some i
+listed_by (Withdraw i) = None
+listed_by (Rerank i choices) = Some i
+listed_by (Add s count) = None
+listed_by (Close s count) = None
+listed_by (Correct i zone siblings continuing) = None
 
 -- the first of the new choices
 abbrev pub new_first : Amendment → ℕ

@@ -3,7 +3,7 @@
 ghost use Rattle.std.specs.Prelude.{◌≡◌, ◌<◌, ◌==◌, ℕ, None, Some, filter, length, not, Contains, IfOk, OnOk};
 ghost use Rattle.sc_papers.specs.Market.{schools_of, students_of};
 ghost use Rattle.sc_papers.specs.Verdict.{verdict};
-ghost use Rattle.sc_region.specs.Districts.{comer, firsts_at, leaver, lists_in, new_first, students_in};
+ghost use Rattle.sc_region.specs.Districts.{listed_by, firsts_at, unlisted_by, lists_in, new_first, students_in};
 ghost use Rattle.sc_region.specs.Groups.{first_choice, position_of};
 
 use crate::candidates::{
@@ -11,7 +11,7 @@ use crate::candidates::{
 };
 use crate::first::First;
 use crate::grouping::{first_position_at, groups_of, position_of, regroup};
-use crate::marks::RegionMarks;
+use crate::marks::RegionPositions;
 use crate::members::positions_of;
 use crate::reach::{
     are_one, first_choice, groups_of_few, new_choices, region_groups, start_of, widen,
@@ -106,8 +106,8 @@ fn take_out(firsts: &mut Vec<Vec<First>>, place: usize, student: StudentNo)
 }
 
 /// Who is no longer listed at their first choice, once the amendment is made.
-fn leaver(amendment: &Amendment) -> Option<StudentNo>
-    ensures { result ≡ leaver amendment.now }
+fn unlisted_by(amendment: &Amendment) -> Option<StudentNo>
+    ensures { result ≡ unlisted_by amendment.now }
 {
     match amendment {
         Amendment::Withdraw { student } | Amendment::Rerank { student, .. } => Some(*student),
@@ -116,8 +116,8 @@ fn leaver(amendment: &Amendment) -> Option<StudentNo>
 }
 
 /// Who comes to be listed at the first of the amendment's choices.
-fn comer(amendment: &Amendment) -> Option<StudentNo>
-    ensures { result ≡ comer amendment.now }
+fn listed_by(amendment: &Amendment) -> Option<StudentNo>
+    ensures { result ≡ listed_by amendment.now }
 {
     match amendment {
         Amendment::Enter { student, .. } | Amendment::Rerank { student, .. } => Some(*student),
@@ -129,11 +129,11 @@ fn comer(amendment: &Amendment) -> Option<StudentNo>
 fn let_leave(firsts: &mut Vec<Vec<First>>, papers: &Papers, amendment: &Amendment)
     requires allowed { verdict papers.now amendment.now ≡ None }
     requires one_each { length firsts.old.items ≡ length (schools_of papers.now) }
-    ensures others { (p i : ℕ) → (leaver amendment.now ≡ Some i → ⊥)
+    ensures others { (p i : ℕ) → (unlisted_by amendment.now ≡ Some i → ⊥)
         → Contains (firsts_at (lists_in firsts.old.items) p) i → Contains (firsts_at (lists_in firsts.new.items) p) i }
     ensures one_each { length firsts.new.items ≡ length firsts.old.items }
 {
-    if let Some(student) = leaver(amendment) {
+    if let Some(student) = unlisted_by(amendment) {
         take_out(
             firsts,
             position_of(papers, first_choice(papers, student)),
@@ -152,11 +152,11 @@ fn let_come(
     requires one_each { length firsts.old.items ≡ length (schools_of papers.now) }
     ensures keeps { OnOk result ((p i : ℕ) → Contains (firsts_at (lists_in firsts.old.items) p) i
         → Contains (firsts_at (lists_in firsts.new.items) p) i) }
-    ensures moved { OnOk result ((i : ℕ) → comer amendment.now ≡ Some i
+    ensures moved { OnOk result ((i : ℕ) → listed_by amendment.now ≡ Some i
         → Contains (firsts_at (lists_in firsts.new.items) (position_of papers.now (new_first amendment.now))) i) }
     ensures one_each { OnOk result (length firsts.new.items ≡ length firsts.old.items) }
 {
-    if let Some(student) = comer(amendment) {
+    if let Some(student) = listed_by(amendment) {
         let first = new_choices(amendment)[0];
         // Who enters comes last, and whoever is in the papers by now stays where they are.
         let position = papers
@@ -320,7 +320,7 @@ impl Districts {
         alloc: Global,
         papers: &Papers,
         amendment: &Amendment,
-    ) -> Result<RegionMarks, AllocError>
+    ) -> Result<RegionPositions, AllocError>
         requires districts { AreDistricts papers.now self.old }
         requires allowed { verdict papers.now amendment.now ≡ None }
         ensures region { IfOk result (MarkRegion papers.now amendment.now) }
@@ -328,7 +328,7 @@ impl Districts {
     {
         self.widen(papers, amendment);
         let positions = self.region_positions(alloc, papers, amendment)?;
-        Ok(RegionMarks::at(papers.students_len(), positions))
+        Ok(RegionPositions::at(papers.students_len(), positions))
     }
 
     /// The region of an amendment that is not refused, as `region` gives it, and the districts in step with it, as `amend` brings them.
@@ -338,7 +338,7 @@ impl Districts {
         alloc: Global,
         papers: &Papers,
         amendment: &Amendment,
-    ) -> Result<(Self, RegionMarks), AllocError>
+    ) -> Result<(Self, RegionPositions), AllocError>
         requires districts { AreDistricts papers.now self }
         requires allowed { verdict papers.now amendment.now ≡ None }
         ensures districts { IfOk result

@@ -12,6 +12,6 @@ mod region_list;
 mod school_groups;
 
 pub use districts::Districts;
-pub use marks::RegionMarks;
+pub use marks::RegionPositions;
 pub use reach::region;
 pub use region_list::RegionList;

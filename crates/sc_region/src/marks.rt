@@ -5,14 +5,14 @@ use std::marker::Model;
 /// Which students of the papers are in a region: a mark for each of them, in order of entry. What is kept is
 /// where the marked ones stand, so a small region of large papers takes little memory.
 #[derive(Debug, Drop)]
-pub struct RegionMarks {
+pub struct RegionPositions {
     // How many students there are.
     count: usize,
     // The positions that are marked, rising.
     positions: Vec<usize>,
 }
 
-impl Model for RegionMarks {
+impl Model for RegionPositions {
     ghost use Rattle.std.specs.Prelude.{Bool, List};
     ghost use Rattle.sc_region.specs.Marks.{marks_at, AreRisingBelow};
 
@@ -23,7 +23,7 @@ impl Model for RegionMarks {
     ghost invariant = { λ r. AreRisingBelow r.count r.positions.items };
 }
 
-impl RegionMarks {
+impl RegionPositions {
     ghost use Rattle.std.specs.Prelude.{◌≡◌, ◌↔◌, ◌<◌, ℕ, false, length, slice_index_or, Contains, IsTrue};
     ghost use Rattle.std.specs.List.Sorted.{IsStrictlyIncreasing};
 
@@ -35,7 +35,7 @@ impl RegionMarks {
         ensures marked { (position : ℕ)
             → (Contains positions.items position ↔ IsTrue (slice_index_or result position false)) }
     {
-        RegionMarks { count, positions }
+        RegionPositions { count, positions }
     }
 
     /// The positions of those who are marked, lent, in order of entry: so whoever goes through the region alone

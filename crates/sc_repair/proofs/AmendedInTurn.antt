@@ -23,7 +23,7 @@ use Rattle.sc_stamps.proofs.Places.{length-put}
 use Rattle.sc_stamps.proofs.Step.{in-step-after}
 use Rattle.sc_stamps.specs.declared.marking.Marking.{Marking}
 use Rattle.sc_stamps.specs.declared.marking.Marking.TheVariants.{Newcomer, StudentLeaves, StudentStays, School as OfSchool}
-use Rattle.sc_repair.specs.Turns.{AreInTurn, AreTurns, TurnsOfEntry, begun_turns, entered, finished_turns, first_turns, in_turn, last_papers, last_stamps, last_turns, leaver, left, papers_in_turn, stamped_in_turn, swapped}
+use Rattle.sc_repair.specs.Turns.{AreInTurn, AreTurns, TurnsOfEntry, begun_turns, entered, finished_turns, first_turns, in_turn, last_papers, last_stamps, last_turns, position_of_leaver, left, papers_in_turn, stamped_in_turn, swapped}
 use Rattle.sc_repair.proofs.EntryTurns.{AreTurns-first, AreTurns-entered, AreTurns-left, AreTurns-swapped, exchanged-first, turn-alone, turns-avoid}
 use Rattle.sc_repair.proofs.InTurn.{Avoids, earlier, earlier-same, in_turn-entered, in_turn-set, in_turn-swapped, swapped-there}
 use Rattle.sc_repair.proofs.StampedInTurn.{each, entry-at, known-in_turn, nobody-in_turn, own-turn, place-in_turn, position-at, remove-in_turn, remove-plain, set_value-in_turn, unknown-at, verdict-in_turn}
@@ -86,7 +86,7 @@ module _ (t : TurnsOfEntry) (m : Market) (stamps : Stamps) (kept : AreInTurn t m
       (λ u. let p : StampedPapers = record { papers = record m { students = students u }; stamps = record stamps { students = own u } } in p)
 
   -- an amendment, by which whoever leaves stands last
-  pub after-in_turn : (a : Amendment) → ((p : ℕ) → leaver (marking_of m a) ≡ Some p → p ≡ length t.turns - 1) → verdict m a ≡ None
+  pub after-in_turn : (a : Amendment) → ((p : ℕ) → position_of_leaver (marking_of m a) ≡ Some p → p ≡ length t.turns - 1) → verdict m a ≡ None
       → stamped_in_turn (finished_turns (marking_of m a) (begun_turns (marking_of m a) t)).positions (after m a) (stamps_after m a stamps) ≡ stamped_after (stamped_in_turn t.positions m stamps) a
   unfolding seats_of
   after-in_turn (Enter i zone siblings choices continuing) last allowed =
@@ -183,7 +183,7 @@ turns-begun (StudentStays q) u are = are
 turns-begun (OfSchool q) u are = are
 
 -- a student who leaves stands in the papers
-pub leaver-within : (m : Market) (a : Amendment) → IfSome (leaver (marking_of m a)) (λ p. p < length m.students)
+pub leaver-within : (m : Market) (a : Amendment) → IfSome (position_of_leaver (marking_of m a)) (λ p. p < length m.students)
 leaver-within m (Enter i zone siblings choices continuing) = tt
 leaver-within m (Withdraw i) = go (position (nat_eq i) (students_of m)) refl
   where
@@ -216,7 +216,7 @@ module _ (t : TurnsOfEntry) (m : Market) (stamps : Stamps) (kept : AreInTurn t m
       ∙ swapped-in_turn t m stamps kept p (length m.students - 1) within (omega (arith, within))
 
   -- who is then the last one
-  pub leaves-last : (a : Amendment) (p : ℕ) → leaver (marking_of (last_papers (leaver (marking_of m a)) m) a) ≡ Some p → p ≡ length (last_turns (leaver (marking_of m a)) t).turns - 1
+  pub leaves-last : (a : Amendment) (p : ℕ) → position_of_leaver (marking_of (last_papers (position_of_leaver (marking_of m a)) m) a) ≡ Some p → p ≡ length (last_turns (position_of_leaver (marking_of m a)) t).turns - 1
   leaves-last (Enter i zone siblings choices continuing) p is = absurd (none-some p is)
   leaves-last (Withdraw i) p is = go (position (nat_eq i) (students_of m)) refl is
     where
@@ -238,18 +238,18 @@ module _ (t : TurnsOfEntry) (m : Market) (stamps : Stamps) (kept : AreInTurn t m
 
   -- the verdict, and what becomes of all three by an amendment
   module _ (a : Amendment) where
-    pub kept-ready : AreInTurn (last_turns (leaver (marking_of m a)) t) (last_papers (leaver (marking_of m a)) m) (last_stamps (leaver (marking_of m a)) stamps)
-    kept-ready = kept-last (leaver (marking_of m a)) (leaver-within m a)
+    pub kept-ready : AreInTurn (last_turns (position_of_leaver (marking_of m a)) t) (last_papers (position_of_leaver (marking_of m a)) m) (last_stamps (position_of_leaver (marking_of m a)) stamps)
+    kept-ready = kept-last (position_of_leaver (marking_of m a)) (leaver-within m a)
 
-    pub same-ready : stamped_in_turn (last_turns (leaver (marking_of m a)) t).positions (last_papers (leaver (marking_of m a)) m) (last_stamps (leaver (marking_of m a)) stamps) ≡ stamped_in_turn t.positions m stamps
-    same-ready = same-last (leaver (marking_of m a)) (leaver-within m a)
+    pub same-ready : stamped_in_turn (last_turns (position_of_leaver (marking_of m a)) t).positions (last_papers (position_of_leaver (marking_of m a)) m) (last_stamps (position_of_leaver (marking_of m a)) stamps) ≡ stamped_in_turn t.positions m stamps
+    same-ready = same-last (position_of_leaver (marking_of m a)) (leaver-within m a)
 
-    pub verdict-ready : verdict (papers_in_turn t.positions m) a ≡ verdict (last_papers (leaver (marking_of m a)) m) a
+    pub verdict-ready : verdict (papers_in_turn t.positions m) a ≡ verdict (last_papers (position_of_leaver (marking_of m a)) m) a
     verdict-ready =
         ap (λ (p : StampedPapers). verdict p.papers a) (sym same-ready)
-        ∙ verdict-in_turn (last_turns (leaver (marking_of m a)) t) (last_papers (leaver (marking_of m a)) m) (last_stamps (leaver (marking_of m a)) stamps) kept-ready a
+        ∙ verdict-in_turn (last_turns (position_of_leaver (marking_of m a)) t) (last_papers (position_of_leaver (marking_of m a)) m) (last_stamps (position_of_leaver (marking_of m a)) stamps) kept-ready a
 
-    pub accepted-ready : (last_stamps (leaver (marking_of m a)) stamps).accepted ≡ stamps.accepted
+    pub accepted-ready : (last_stamps (position_of_leaver (marking_of m a)) stamps).accepted ≡ stamps.accepted
     accepted-ready = ap (λ (p : StampedPapers). p.stamps.accepted) same-ready
 
     same-kind : (n : Market) (u : TurnsOfEntry) (b : Amendment) → finished_turns (marking_of m b) (begun_turns (marking_of m b) u) ≡ finished_turns (marking_of n b) (begun_turns (marking_of n b) u)
@@ -261,25 +261,25 @@ module _ (t : TurnsOfEntry) (m : Market) (stamps : Stamps) (kept : AreInTurn t m
     same-kind n u (Correct i zone siblings continuing) = refl
 
     -- once the amendment is made
-    pub kept-made : (u : TurnsOfEntry) (n : Market) (others : Stamps) → verdict (last_papers (leaver (marking_of m a)) m) a ≡ None
-        → n ≡ after (last_papers (leaver (marking_of m a)) m) a → others ≡ stamps_after (last_papers (leaver (marking_of m a)) m) a (last_stamps (leaver (marking_of m a)) stamps)
-        → u ≡ finished_turns (marking_of m a) (begun_turns (marking_of m a) (last_turns (leaver (marking_of m a)) t))
+    pub kept-made : (u : TurnsOfEntry) (n : Market) (others : Stamps) → verdict (last_papers (position_of_leaver (marking_of m a)) m) a ≡ None
+        → n ≡ after (last_papers (position_of_leaver (marking_of m a)) m) a → others ≡ stamps_after (last_papers (position_of_leaver (marking_of m a)) m) a (last_stamps (position_of_leaver (marking_of m a)) stamps)
+        → u ≡ finished_turns (marking_of m a) (begun_turns (marking_of m a) (last_turns (position_of_leaver (marking_of m a)) t))
         → AreInTurn u n others
     kept-made u n others allowed papers marks turns =
-        let done : TurnsOfEntry = finished_turns (marking_of (last_papers (leaver (marking_of m a)) m) a) (begun_turns (marking_of (last_papers (leaver (marking_of m a)) m) a) (last_turns (leaver (marking_of m a)) t)) in
-        subst (λ (x : TurnsOfEntry). AreInTurn x n others) (sym (turns ∙ same-kind (last_papers (leaver (marking_of m a)) m) (last_turns (leaver (marking_of m a)) t) a))
+        let done : TurnsOfEntry = finished_turns (marking_of (last_papers (position_of_leaver (marking_of m a)) m) a) (begun_turns (marking_of (last_papers (position_of_leaver (marking_of m a)) m) a) (last_turns (position_of_leaver (marking_of m a)) t)) in
+        subst (λ (x : TurnsOfEntry). AreInTurn x n others) (sym (turns ∙ same-kind (last_papers (position_of_leaver (marking_of m a)) m) (last_turns (position_of_leaver (marking_of m a)) t) a))
         (subst (λ (x : Market). AreInTurn done x others) (sym papers)
-        (subst (λ (x : Stamps). AreInTurn done (after (last_papers (leaver (marking_of m a)) m) a) x) (sym marks)
-        (kept-after (last_turns (leaver (marking_of m a)) t) (last_papers (leaver (marking_of m a)) m) (last_stamps (leaver (marking_of m a)) stamps) kept-ready a allowed)))
+        (subst (λ (x : Stamps). AreInTurn done (after (last_papers (position_of_leaver (marking_of m a)) m) a) x) (sym marks)
+        (kept-after (last_turns (position_of_leaver (marking_of m a)) t) (last_papers (position_of_leaver (marking_of m a)) m) (last_stamps (position_of_leaver (marking_of m a)) stamps) kept-ready a allowed)))
 
-    pub made-in_turn : (u : TurnsOfEntry) (n : Market) (others : Stamps) → verdict (last_papers (leaver (marking_of m a)) m) a ≡ None
-        → n ≡ after (last_papers (leaver (marking_of m a)) m) a → others ≡ stamps_after (last_papers (leaver (marking_of m a)) m) a (last_stamps (leaver (marking_of m a)) stamps)
-        → u ≡ finished_turns (marking_of m a) (begun_turns (marking_of m a) (last_turns (leaver (marking_of m a)) t))
+    pub made-in_turn : (u : TurnsOfEntry) (n : Market) (others : Stamps) → verdict (last_papers (position_of_leaver (marking_of m a)) m) a ≡ None
+        → n ≡ after (last_papers (position_of_leaver (marking_of m a)) m) a → others ≡ stamps_after (last_papers (position_of_leaver (marking_of m a)) m) a (last_stamps (position_of_leaver (marking_of m a)) stamps)
+        → u ≡ finished_turns (marking_of m a) (begun_turns (marking_of m a) (last_turns (position_of_leaver (marking_of m a)) t))
         → stamped_in_turn u.positions n others ≡ stamped_after (stamped_in_turn t.positions m stamps) a
     made-in_turn u n others allowed papers marks turns =
-        let kinds = turns ∙ same-kind (last_papers (leaver (marking_of m a)) m) (last_turns (leaver (marking_of m a)) t) a in
+        let kinds = turns ∙ same-kind (last_papers (position_of_leaver (marking_of m a)) m) (last_turns (position_of_leaver (marking_of m a)) t) a in
         (λ x. stamped_in_turn (kinds x).positions (papers x) (marks x))
-        ∙ after-in_turn (last_turns (leaver (marking_of m a)) t) (last_papers (leaver (marking_of m a)) m) (last_stamps (leaver (marking_of m a)) stamps) kept-ready a (leaves-last a) allowed
+        ∙ after-in_turn (last_turns (position_of_leaver (marking_of m a)) t) (last_papers (position_of_leaver (marking_of m a)) m) (last_stamps (position_of_leaver (marking_of m a)) stamps) kept-ready a (leaves-last a) allowed
         ∙ ap (λ (p : StampedPapers). stamped_after p a) same-ready
 
 -- the three, told by equations
@@ -288,14 +288,14 @@ kept-along t u m n stamps others turns papers marks kept =
     subst (λ (x : TurnsOfEntry). AreInTurn x n others) (sym turns) (subst (λ (x : Market). AreInTurn t x others) (sym papers) (subst (λ (x : Stamps). AreInTurn t m x) (sym marks) kept))
 
 module _ (t : TurnsOfEntry) (m : Market) (stamps : Stamps) (kept : AreInTurn t m stamps) (a : Amendment) (place : Option ℕ) (u : TurnsOfEntry) (n : Market) (others : Stamps)
-    (at : place ≡ leaver (marking_of m a)) (turns : u ≡ last_turns place t) (papers : n ≡ last_papers place m) (marks : others ≡ last_stamps place stamps) where
-  place-turns : u ≡ last_turns (leaver (marking_of m a)) t
+    (at : place ≡ position_of_leaver (marking_of m a)) (turns : u ≡ last_turns place t) (papers : n ≡ last_papers place m) (marks : others ≡ last_stamps place stamps) where
+  place-turns : u ≡ last_turns (position_of_leaver (marking_of m a)) t
   place-turns = turns ∙ ap (λ p. last_turns p t) at
 
-  place-papers : n ≡ last_papers (leaver (marking_of m a)) m
+  place-papers : n ≡ last_papers (position_of_leaver (marking_of m a)) m
   place-papers = papers ∙ ap (λ p. last_papers p m) at
 
-  place-stamps : others ≡ last_stamps (leaver (marking_of m a)) stamps
+  place-stamps : others ≡ last_stamps (position_of_leaver (marking_of m a)) stamps
   place-stamps = marks ∙ ap (λ p. last_stamps p stamps) at
 
   pub ready-kept : AreInTurn u n others
@@ -313,16 +313,16 @@ module _ (t : TurnsOfEntry) (m : Market) (stamps : Stamps) (kept : AreInTurn t m
   -- and once the amendment is made
   module _ (v : TurnsOfEntry) (after_it : Market) (with_it : Stamps) (allowed : verdict n a ≡ None) (made : after_it ≡ after n a) (marked : with_it ≡ stamps_after n a others)
       (turned : v ≡ finished_turns (marking_of m a) (begun_turns (marking_of m a) u)) where
-    the-verdict : verdict (last_papers (leaver (marking_of m a)) m) a ≡ None
+    the-verdict : verdict (last_papers (position_of_leaver (marking_of m a)) m) a ≡ None
     the-verdict = ap (λ (p : Market). verdict p a) (sym place-papers) ∙ allowed
 
-    the-papers : after_it ≡ after (last_papers (leaver (marking_of m a)) m) a
+    the-papers : after_it ≡ after (last_papers (position_of_leaver (marking_of m a)) m) a
     the-papers = made ∙ ap (λ (p : Market). after p a) place-papers
 
-    the-stamps : with_it ≡ stamps_after (last_papers (leaver (marking_of m a)) m) a (last_stamps (leaver (marking_of m a)) stamps)
+    the-stamps : with_it ≡ stamps_after (last_papers (position_of_leaver (marking_of m a)) m) a (last_stamps (position_of_leaver (marking_of m a)) stamps)
     the-stamps = marked ∙ (λ x. stamps_after (place-papers x) a (place-stamps x))
 
-    the-turns : v ≡ finished_turns (marking_of m a) (begun_turns (marking_of m a) (last_turns (leaver (marking_of m a)) t))
+    the-turns : v ≡ finished_turns (marking_of m a) (begun_turns (marking_of m a) (last_turns (position_of_leaver (marking_of m a)) t))
     the-turns = turned ∙ ap (λ (x : TurnsOfEntry). finished_turns (marking_of m a) (begun_turns (marking_of m a) x)) place-turns
 
     pub done-kept : AreInTurn v after_it with_it

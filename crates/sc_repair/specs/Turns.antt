@@ -73,11 +73,11 @@ finished_turns (StudentStays place) t = t
 finished_turns (School place) t = t
 
 -- the position of a student who leaves, if there is one
-abbrev pub leaver : Marking → Option ℕ
-leaver Newcomer = None
-leaver (StudentLeaves place) = place
-leaver (StudentStays place) = None
-leaver (School place) = None
+abbrev pub position_of_leaver : Marking → Option ℕ
+position_of_leaver Newcomer = None
+position_of_leaver (StudentLeaves place) = place
+position_of_leaver (StudentStays place) = None
+position_of_leaver (School place) = None
 
 -- each student of the papers has a stamp and a turn
 pub record AreInTurn (t : TurnsOfEntry) (m : Market) (stamps : Stamps) : Type 0 where

@@ -262,7 +262,7 @@ impl Clearing {
                 Ok(())
             }
             Err(refused) => {
-                self.stamps.give_up(marking);
+                self.stamps.take_back(marking);
                 Err(refused)
             }
         }

@@ -6,7 +6,7 @@ ghost use Rattle.sc_region.specs.Districts.{AreDistricts};
 ghost use Rattle.sc_region.specs.Telling.{MarkRegion};
 
 use sc_papers::{Amendment, Papers};
-use sc_region::{Districts, RegionMarks};
+use sc_region::{Districts, RegionPositions};
 use std::alloc::{AllocError, Global};
 
 /// These districts, or where there are none, those of the papers.
@@ -31,7 +31,7 @@ pub(crate) fn region_of(
     districts: &mut Option<Districts>,
     papers: &Papers,
     amendment: &Amendment,
-) -> Result<RegionMarks, AllocError>
+) -> Result<RegionPositions, AllocError>
     requires districts { IfSome districts.old (AreDistricts papers.now) }
     requires allowed { verdict papers.now amendment.now ≡ None }
     ensures region { IfOk result (MarkRegion papers.now amendment.now) }

@@ -5,7 +5,7 @@ ghost use Rattle.sc_papers.specs.EntryOrder.{with_swapped_students};
 ghost use Rattle.sc_papers.specs.Verdict.{after, verdict};
 ghost use Rattle.sc_papers.specs.declared.stamp.TheConstants.Stamp.{GREATEST};
 ghost use Rattle.sc_stamps.specs.Stamps.{stamps_after, with_swapped_stamps};
-ghost use Rattle.sc_repair.specs.Turns.{last_papers, last_stamps, last_turns, leaver, papers_in_turn, stamps_in_turn, swapped, AreInTurn};
+ghost use Rattle.sc_repair.specs.Turns.{last_papers, last_stamps, last_turns, papers_in_turn, position_of_leaver, stamps_in_turn, swapped, AreInTurn};
 
 use crate::turns::Turns;
 use sc_papers::{Amendment, Papers};
@@ -33,7 +33,7 @@ pub(crate) fn make(
             Ok(())
         }
         Err(refused) => {
-            stamps.give_up(marking);
+            stamps.take_back(marking);
             Err(refused)
         }
     }
@@ -57,8 +57,8 @@ fn swap_students(papers: &mut Papers, stamps: &mut Stamps, turns: &mut Turns, a:
 }
 
 /// The position of the student who leaves by an amendment, if there is one.
-pub(crate) fn leaver(marking: Marking) -> Option<usize>
-    ensures { result ≡ leaver marking }
+pub(crate) fn position_of_leaver(marking: Marking) -> Option<usize>
+    ensures { result ≡ position_of_leaver marking }
 {
     match marking {
         Marking::StudentLeaves(position) => position,

@@ -11,11 +11,11 @@ use crate::region_positions::are_all;
 use sc_checkpoint::Segments;
 use sc_engine::Round;
 use sc_papers::Papers;
-use sc_region::RegionMarks;
+use sc_region::RegionPositions;
 use sc_seats::Roll;
 
 /// Where no round is spare, the one in which everybody stands is to lend its memory.
-pub(crate) fn lend<R: Roll>(round: &mut Option<Round<R>>, spare: &mut Option<Round<R>>)
+pub(crate) fn make_spare<R: Roll>(round: &mut Option<Round<R>>, spare: &mut Option<Round<R>>)
     ensures { IsSome round.new → round.new ≡ round.old }
 {
     if spare.is_none() {
@@ -25,10 +25,10 @@ pub(crate) fn lend<R: Roll>(round: &mut Option<Round<R>>, spare: &mut Option<Rou
 
 /// The round in which a region was settled, if everybody stands in it: then a newcomer may go on in it. It is no longer
 /// spare.
-pub(crate) fn kept<R: Roll>(
+pub(crate) fn keep_if_everybody<R: Roll>(
     spare: &mut Option<Round<R>>,
     papers: &Papers,
-    region: &RegionMarks,
+    region: &RegionPositions,
     segments: &Segments,
 ) -> Option<Round<R>>
     requires ready { IfSome spare.old (λ round. is_spent round ≡ false) }

@@ -9,6 +9,7 @@ mod entry_order;
 mod kept_round;
 pub mod laws;
 mod open_refused;
+mod opening;
 mod pair_hints;
 mod part;
 mod places;
@@ -18,7 +19,6 @@ mod renewal;
 mod resettling;
 mod rewind;
 mod settlement;
-mod settling;
 mod turns;
 mod unsettled;
 

@@ -4,7 +4,7 @@ ghost use Rattle.std.specs.Prelude.{◌≡◌, ℕ, ◌<◌, ◌≤◌, true, le
 ghost use Rattle.std.specs.List.Sorted.{IsStrictlyIncreasing};
 ghost use Rattle.sc_repair.specs.Renewed.{marked_before, marked_from};
 
-use sc_region::RegionMarks;
+use sc_region::RegionPositions;
 
 /// How many of these rising positions come before one, by binary search.
 fn count_before(positions: &[usize], from: usize) -> usize
@@ -20,7 +20,7 @@ fn count_before(positions: &[usize], from: usize) -> usize
 }
 
 /// The positions of the region before a point, in order, lent.
-pub(crate) fn positions_before(region: &RegionMarks, point: usize) -> &[usize]
+pub(crate) fn positions_before(region: &RegionPositions, point: usize) -> &[usize]
     ensures { result.now ≡ marked_before region.now point }
 {
     let positions = region.positions();
@@ -28,7 +28,7 @@ pub(crate) fn positions_before(region: &RegionMarks, point: usize) -> &[usize]
 }
 
 /// The positions of the region from one on, in order, lent.
-pub(crate) fn positions_from(region: &RegionMarks, from: usize) -> &[usize]
+pub(crate) fn positions_from(region: &RegionPositions, from: usize) -> &[usize]
     ensures { result.now ≡ marked_from region.now from }
 {
     let positions = region.positions();

@@ -7,14 +7,14 @@ ghost use Rattle.sc_repair.specs.Renewed.{marked_from, renewed_from};
 use crate::region_positions::positions_from;
 use sc_checkpoint::{Segments, Spans};
 use sc_papers::Rejection;
-use sc_region::RegionMarks;
+use sc_region::RegionPositions;
 use std::alloc::AllocError;
 
 /// Puts the renewed chains, which are those of the log, into the place of the region's old ones, and takes out that of who leaves, if one does.
 /// A refused growth changes nothing.
 pub(crate) fn renew(
     segments: &mut Segments,
-    region: &RegionMarks,
+    region: &RegionPositions,
     point: usize,
     gap: usize,
     renewed: &Spans,

@@ -10,7 +10,7 @@ ghost use Rattle.sc_region.specs.Telling.{MarkRegion};
 ghost use Rattle.sc_repair.specs.Rewinding.{first_to_list, lists, position_of, rewind_point};
 
 use sc_papers::{Amendment, Papers, Refusal, SchoolNo, StudentNo};
-use sc_region::RegionMarks;
+use sc_region::RegionPositions;
 
 /// Whether the student at the position lists the school.
 fn lists(papers: &Papers, school: SchoolNo, position: usize) -> bool
@@ -52,7 +52,7 @@ fn first_among(papers: &Papers, school: SchoolNo, positions: &[usize]) -> usize
 
 /// The position of the first student who lists the school, where whoever lists it is marked; the number of students
 /// where none does.
-fn first_marked(papers: &Papers, school: SchoolNo, region: &RegionMarks) -> usize
+fn first_marked(papers: &Papers, school: SchoolNo, region: &RegionPositions) -> usize
     requires one_each { length region.now ≡ length papers.now.students }
     requires marked { (p : ℕ) → p < length papers.now.students
         → lists papers.now school (slice_index (students_of papers.now) p) ≡ true
@@ -110,7 +110,7 @@ pub fn rewind_point(papers: &Papers, amendment: &Amendment) -> Result<usize, Ref
 ///
 /// It takes no memory. It takes constant time, and for an `Add` or a `Close` a look at the choices of the region's students up
 /// to that position.
-pub(crate) fn point_in(papers: &Papers, region: &RegionMarks, amendment: &Amendment) -> usize
+pub(crate) fn point_in(papers: &Papers, region: &RegionPositions, amendment: &Amendment) -> usize
     requires { MarkRegion papers.now amendment.now region.now }
     ensures { result ≡ rewind_point papers.now amendment.now }
 {

@@ -11,8 +11,8 @@ mod newcomer;
 mod withdraw;
 
 use crate::open_refused::OpenRefused;
+use crate::opening::settle_all;
 use crate::places::Places;
-use crate::settling::settle_all;
 use sc_checkpoint::Segments;
 use sc_engine::Round;
 use sc_papers::{Assignment, MOST_STUDENTS, Papers, Rejection, SchoolNo, StudentNo};

@@ -110,7 +110,7 @@ impl Turns {
     }
 
     /// Takes back what `begin` made ready. It takes no memory.
-    pub(crate) fn give_up(&mut self, marking: Marking)
+    pub(crate) fn take_back(&mut self, marking: Marking)
         ensures { (before : TurnsOfEntry) → self.old ≡ begun_turns marking before → self.new ≡ before }
     {
         if let Marking::Newcomer = marking {

@@ -1,7 +1,7 @@
 ghost use Rattle.std.specs.Prelude.{◌≡◌};
 
 use crate::clearing::Clearing;
-use crate::entry_order::{leaver, make, put_in_order, put_last};
+use crate::entry_order::{make, position_of_leaver, put_in_order, put_last};
 use crate::open_refused::OpenRefused;
 use crate::turns::Turns;
 use sc_papers::{Amendment, Papers, Refusal, Stamp, Stamped};
@@ -168,7 +168,7 @@ impl Unsettled {
             &mut self.papers,
             &mut self.stamps,
             &mut self.turns,
-            leaver(marking),
+            position_of_leaver(marking),
         );
         self.turns.begin(marking)?;
         match make(&mut self.papers, &mut self.stamps, amendment) {
@@ -177,7 +177,7 @@ impl Unsettled {
                 Ok(())
             }
             Err(refused) => {
-                self.turns.give_up(marking);
+                self.turns.take_back(marking);
                 Err(refused)
             }
         }

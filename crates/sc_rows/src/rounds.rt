@@ -8,7 +8,7 @@ ghost use Rattle.sc_engine.specs.RoundView.{Fits, has_entered, SettlesFirst};
 
 use crate::given::{papers_of, school, student};
 use sc_checkpoint::Standing;
-use sc_engine::{Outcome, Round, Settled, settle, settle_by_first_keys};
+use sc_engine::{Round, Settled, SettledPlaces, settle, settle_by_first_keys};
 use sc_markets::{
     FIVE_STUDENTS, Files, MARKET_A, MARKET_B, MARKET_B_AND_NEWCOMER, TWO_STUDENTS, log_text,
 };
@@ -29,7 +29,11 @@ fn outcome_text(alloc: Global, settled: &Settled) -> Result<String, AllocError> 
 }
 
 /// How many proposals there were by an outcome without a log, and who has which school, in order of entry, as a text.
-fn placed_text(alloc: Global, papers: &Papers, outcome: &Outcome) -> Result<String, AllocError> {
+fn placed_text(
+    alloc: Global,
+    papers: &Papers,
+    outcome: &SettledPlaces,
+) -> Result<String, AllocError> {
     let mut text = format!(in alloc; "{}:", outcome.proposals)?;
     for (position, place) in outcome.places.as_slice().iter().enumerate() {
         if let (Some(student), Some(school)) = (papers.student_at(position), place) {

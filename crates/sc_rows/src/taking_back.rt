@@ -36,7 +36,7 @@ fn there_and_back(rt: &impl Abort, alloc: Global, papers: &mut Papers, record: &
     papers
         .check(&amendment)
         .expect(rt, "an amendment that is allowed");
-    let back = papers.exchange(amendment).expect(rt, "memory");
+    let back = papers.apply_reversibly(amendment).expect(rt, "memory");
     papers.take_back(back);
     expect_market_b(rt, papers);
 }

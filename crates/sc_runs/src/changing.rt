@@ -18,7 +18,7 @@ ghost use Rattle.sc_runs.specs.Steps.{papers_held, ArePlacesAfter, IsChangeFrom}
 
 use crate::fault::RunFault;
 use crate::inputs::{Opening, OpeningSlices, read_inputs};
-use crate::standing::stand;
+use crate::standing::clearing_after;
 use crate::writing::write_text;
 use sc_decimal::read_number;
 use sc_intake::Source;
@@ -76,7 +76,7 @@ fn places_after(
     ensures places { IfOk result (λ places. ArePlacesAfter (papers_held seed.now texts.entry) lines.now places.items) }
     ensures refused { IfErr result (IsStandingFault (papers_held seed.now texts.entry) lines.now) }
 {
-    match stand(alloc, seed, texts, lines) {
+    match clearing_after(alloc, seed, texts, lines) {
         Ok((clearing, _)) => {
             let places = standing_places(alloc, &clearing);
             drop(clearing);
@@ -121,7 +121,7 @@ fn change_from<W: Write>(
         (W.contents (device_of out.old)) (W.contents (device_of out.new)) result }
     ensures failed { OutputFailsAsTold out.old out.new result }
 {
-    match stand(alloc, seed, texts, journal) {
+    match clearing_after(alloc, seed, texts, journal) {
         Ok((clearing, tail)) => {
             let written = write_changes(alloc, before, &clearing, out);
             drop(clearing);
@@ -175,7 +175,7 @@ fn answer_no_line(
         bytes bytes result }
     ensures failed { is_output_fault result ≡ false }
 {
-    match stand(alloc, seed, texts, journal) {
+    match clearing_after(alloc, seed, texts, journal) {
         Ok((clearing, _)) => {
             drop(clearing);
             Ok(Changed::NoLine { line })

@@ -13,7 +13,7 @@ ghost use Rattle.sc_runs.specs.Steps.{papers_held};
 
 use crate::fault::RunFault;
 use crate::inputs::{Opening, OpeningSlices, read_opening_and};
-use crate::standing::stand;
+use crate::standing::clearing_after;
 use crate::writing::write_text;
 use sc_intake::Source;
 use sc_journal::Tail;
@@ -137,7 +137,7 @@ fn notice_texts<S: Subject, W: Write>(
         (W.contents (device_of out.old)) (W.contents (device_of out.new)) result }
     ensures failed { OutputFailsAsTold out.old out.new result }
 {
-    match stand(alloc, seed, texts, journal) {
+    match clearing_after(alloc, seed, texts, journal) {
         Ok((clearing, tail)) => {
             let told = notice_standing(alloc, &clearing, asked, tail, out);
             drop(clearing);

@@ -16,7 +16,7 @@ use std::alloc::Global;
 /// Opens the papers that the texts hold, and makes the amendments of a journal in turn. It answers what then stands,
 /// and whether bytes follow the journal's last newline, which are left unread. An opening alone stands as after a
 /// journal without a line.
-pub fn stand(
+pub fn clearing_after(
     alloc: Global,
     seed: &Seed,
     texts: OpeningSlices<'_>,

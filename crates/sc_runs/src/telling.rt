@@ -11,7 +11,7 @@ ghost use Rattle.sc_runs.specs.Steps.{papers_held, standing_text, IsStandingText
 
 use crate::fault::RunFault;
 use crate::inputs::{Opening, OpeningSlices, read_opening_and};
-use crate::standing::stand;
+use crate::standing::clearing_after;
 use crate::writing::write_text;
 use sc_intake::Source;
 use sc_journal::Tail;
@@ -76,7 +76,7 @@ fn tell_texts<W: Write>(
         (W.contents (device_of out.old)) (W.contents (device_of out.new)) result }
     ensures failed { OutputFailsAsTold out.old out.new result }
 {
-    match stand(alloc, seed, texts, journal) {
+    match clearing_after(alloc, seed, texts, journal) {
         Ok((clearing, tail)) => {
             let written = write_standing_text(alloc, &clearing, which, out);
             drop(clearing);

@@ -66,11 +66,11 @@ begun (StudentStays k) stamps = stamps
 begun (School k) stamps = stamps
 
 -- the stamps when nobody enters after all: the last student's goes
-abbrev pub given_up : Marking → Stamps → Stamps
-given_up Newcomer stamps = record stamps { students = take (length stamps.students - 1) stamps.students }
-given_up (StudentLeaves k) stamps = stamps
-given_up (StudentStays k) stamps = stamps
-given_up (School k) stamps = stamps
+abbrev pub taken_back : Marking → Stamps → Stamps
+taken_back Newcomer stamps = record stamps { students = take (length stamps.students - 1) stamps.students }
+taken_back (StudentLeaves k) stamps = stamps
+taken_back (StudentStays k) stamps = stamps
+taken_back (School k) stamps = stamps
 
 -- the stamps once the amendment is accepted: it is counted, and its record has its number, unless it is gone
 abbrev pub finished : Marking → Stamps → Stamps

@@ -48,7 +48,7 @@ impl Stamps {
     ghost use Rattle.sc_papers.specs.Verdict.{unless_refused};
     ghost use Rattle.sc_papers.specs.declared.stamp.TheConstants.Stamp.{GREATEST};
     ghost use Rattle.sc_stamps.specs.Record.{record_of};
-    ghost use Rattle.sc_stamps.specs.Stamps.{Stamps as AllStamps, begun, finished, given_up, no_stamps, stamp_of, with_swapped_stamps};
+    ghost use Rattle.sc_stamps.specs.Stamps.{Stamps as AllStamps, begun, finished, taken_back, no_stamps, stamp_of, with_swapped_stamps};
     ghost use Rattle.sc_stamps.specs.Verdict.{stamped_verdict};
     ghost use Rattle.sc_stamps.specs.declared.record.Record.TheVariants.{OfStudent, OfSchool};
 
@@ -129,8 +129,8 @@ impl Stamps {
 
     /// Takes back what `begin` made ready: of a newcomer the last student's stamp goes, if there is one. So
     /// after `begin` the stamps are as before it. It takes no memory.
-    pub fn give_up(&mut self, marking: Marking)
-        ensures taken_back { self.new ≡ given_up marking self.old }
+    pub fn take_back(&mut self, marking: Marking)
+        ensures taken_back { self.new ≡ taken_back marking self.old }
         ensures as_before { (before : AllStamps) → self.old ≡ begun marking before → self.new ≡ before }
     {
         if let Marking::Newcomer = marking {

@@ -134,7 +134,7 @@ impl<R: Roll> Round<R> {
         requires { CanResume papers.now next_choices.now }
         ensures { IfOk result (IsResumed R.keys R.seats papers.now next_choices.now) }
     {
-        Round::with_room(alloc, papers, expected)?.stand(papers, next_choices, near, ranks)
+        Round::with_room(alloc, papers, expected)?.put_all(papers, next_choices, near, ranks)
     }
 
     /// Does what `resume_near` does, in the memory of a round that is done with, whatever papers it was of and whether or
@@ -155,11 +155,11 @@ impl<R: Roll> Round<R> {
         ensures { IfOk result (IsResumed R.keys R.seats papers.now next_choices.now) }
     {
         self.again(papers, expected)?
-            .stand(papers, next_choices, near, ranks)
+            .put_all(papers, next_choices, near, ranks)
     }
 
     /// Puts each student of these next choices at theirs, in a round in which nobody has entered.
-    fn stand(
+    fn put_all(
         self,
         papers: &Papers,
         next_choices: &[Standing],

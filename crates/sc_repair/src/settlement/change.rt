@@ -9,7 +9,7 @@ ghost use Rattle.sc_repair.specs.Standing.{CountsRegion, IsCertified, KeepsOther
 
 use super::Settlement;
 use crate::districts::region_of;
-use crate::kept_round::{kept, lend};
+use crate::kept_round::{keep_if_everybody, make_spare};
 use crate::part::Part;
 use crate::resettling::resettle;
 use crate::rewind::point_in;
@@ -35,11 +35,11 @@ impl Settlement {
         let region = region_of(self.alloc, &mut self.districts, &self.papers, &amendment)?;
         let point = point_in(&self.papers, &region, &amendment);
         // Only an entry takes memory.
-        let Ok(back) = self.papers.exchange(amendment) else {
+        let Ok(back) = self.papers.apply_reversibly(amendment) else {
             unreachable!()
         };
         let end = self.papers.students_len();
-        lend(&mut self.round, &mut self.spare);
+        make_spare(&mut self.round, &mut self.spare);
         let part = Part {
             papers: &self.papers,
             region: &region,
@@ -57,7 +57,12 @@ impl Settlement {
             Ok(proposals) => {
                 drop(back);
                 self.proposals = proposals;
-                self.round = kept(&mut self.spare, &self.papers, &region, &self.segments);
+                self.round = keep_if_everybody(
+                    &mut self.spare,
+                    &self.papers,
+                    &region,
+                    &self.segments,
+                );
                 Ok(())
             }
             Err(refused) => {

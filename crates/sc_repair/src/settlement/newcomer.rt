@@ -33,7 +33,7 @@ impl Settlement {
         ensures unchanged { OnErr result (self.new ≡ self.old) }
     {
         follow(&mut self.districts, &self.papers, &amendment);
-        let back = match self.papers.exchange(amendment) {
+        let back = match self.papers.apply_reversibly(amendment) {
             Ok(back) => back,
             Err(refused) => {
                 self.districts = None;

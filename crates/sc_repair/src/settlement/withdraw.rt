@@ -8,7 +8,7 @@ ghost use Rattle.sc_repair.specs.Standing.{CountsRegion, IsCertified, KeepsOther
 
 use super::Settlement;
 use crate::districts::region_of;
-use crate::kept_round::lend;
+use crate::kept_round::make_spare;
 use crate::part::Part;
 use crate::resettling::resettle;
 use crate::rewind::point_in;
@@ -35,7 +35,7 @@ impl Settlement {
         let point = point_in(&self.papers, &region, &amendment);
         let last = self.papers.students_len() - 1;
         self.papers.move_student(point, last);
-        lend(&mut self.round, &mut self.spare);
+        make_spare(&mut self.round, &mut self.spare);
         // All but the last student are settled.
         let part = Part {
             papers: &self.papers,

@@ -8,7 +8,7 @@ use Rattle.sc_engine.proofs.batches.first_position.Goals as goal
 pub returns : goal.returns
 returns c =
     let m = c.args.papers.now in
-    let entrant = c.args.entrant.now in
-    first-position m (choices_of m (student_at m entrant.position)) c.choice_positions_at-positions.result.now (Some c.from.result)
+    let applicant = c.args.applicant.now in
+    first-position m (choices_of m (student_at m applicant.position)) c.choice_positions_at-positions.result.now (Some c.from.result)
     (ap Some c.from.ensures ∙ c.in_ok-first.ensures.value) c.choice_positions_at-positions.ensures
-    ∙ ap (λ j. option_map (λ s. position (nat_eq s) (schools_of m)) (slice_get (choices_of m j) 0)) (hand-is m entrant.position entrant.student c.requires)
+    ∙ ap (λ j. option_map (λ s. position (nat_eq s) (schools_of m)) (slice_get (choices_of m j) 0)) (hand-is m applicant.position applicant.student c.requires)

@@ -1,9 +1,9 @@
 use Rattle.std.proofs.Common.{◌≡◌, ◌<◌, ℕ, List, ap, sym, subst, ◌∙◌, length, get_or, Some, Contains}
 use Rattle.std.proofs.lemmas.List.{get_or_read}
 use Rattle.std.proofs.lemmas.Option.{same_Some}
-use Rattle.sc_region.specs.Districts.{comer, firsts_at, lists_in, new_first}
+use Rattle.sc_region.specs.Districts.{listed_by, firsts_at, lists_in, new_first}
 use Rattle.sc_region.specs.Groups.{new_choices, position_of}
-use Rattle.sc_region.proofs.Following.{comer-some}
+use Rattle.sc_region.proofs.Following.{listed_by-some}
 use Rattle.sc_region.proofs.districts.let_come.Goals as goal
 
 first-read : (xs ys : List ℕ) (r : ℕ) → 0 < length ys → r ≡ get_or xs 0 r → xs ≡ ys → r ≡ get_or ys 0 0
@@ -13,10 +13,10 @@ pub returns-in_ok-put-clause-moved : goal.returns-in_ok-put-clause-moved
 returns-in_ok-put-clause-moved c i own =
     let m = c.args.papers.now in
     let a = c.args.amendment.now in
-    let came : comer a ≡ Some c.in-Some.student = sym c.comer.ensures ∙ c.in-Some.is in
+    let came : listed_by a ≡ Some c.in-Some.student = sym c.listed_by.ensures ∙ c.in-Some.is in
     let one : c.in-Some.student ≡ i = same_Some c.in-Some.student i (sym came ∙ own) in
     let listed : c.new.result.student ≡ i = c.new.ensures ∙ one in
     let first : c.index-new_choices-0.result ≡ new_first a =
-    first-read c.new_choices.result.now (new_choices a) c.index-new_choices-0.result (comer-some m a c.requires.allowed i own) c.index-new_choices-0.is c.new_choices.ensures in
+    first-read c.new_choices.result.now (new_choices a) c.index-new_choices-0.result (listed_by-some m a c.requires.allowed i own) c.index-new_choices-0.is c.new_choices.ensures in
     subst (λ q. Contains (firsts_at (lists_in c.put.new.firsts.items) q) i) (c.position_of.ensures.position ∙ ap (position_of m) first)
     (subst (Contains (firsts_at (lists_in c.put.new.firsts.items) c.position_of.result)) listed c.in_ok-put.ensures.has)

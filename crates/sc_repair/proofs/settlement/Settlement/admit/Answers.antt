@@ -11,19 +11,19 @@ use Rattle.sc_repair.proofs.settlement.Settlement.admit.Goals as goal
 
 pub enter_newcomer-entered-requires-clause-next : goal.enter_newcomer-entered-requires-clause-next
 enter_newcomer-entered-requires-clause-next c =
-    admitted-next c.self.inside.papers c.exchange.new.self c.args.amendment c.args.student c.self.inside.segments c.self.inside.places c.self.inside.proposals
+    admitted-next c.self.inside.papers c.apply_reversibly.new.self c.args.amendment c.args.student c.self.inside.segments c.self.inside.places c.self.inside.proposals
     c.requires.newcomer (ap (λ (s : Standing). verdict s.papers c.args.amendment) c.self.view_is ∙ c.requires.allowed) c.in-Ok.ensures.accepted c.self.invariant.certified c.self.invariant.theirs
 
 pub enter_newcomer-entered-requires-clause-stands : goal.enter_newcomer-entered-requires-clause-stands
 enter_newcomer-entered-requires-clause-stands c =
-    kept-grown c.self.inside.papers c.exchange.new.self c.args.amendment c.args.student c.self.inside.segments c.self.inside.places c.self.inside.proposals
+    kept-grown c.self.inside.papers c.apply_reversibly.new.self c.args.amendment c.args.student c.self.inside.segments c.self.inside.places c.self.inside.proposals
     c.requires.newcomer (ap (λ (s : Standing). verdict s.papers c.args.amendment) c.self.view_is ∙ c.requires.allowed) c.in-Ok.ensures.accepted c.self.invariant.certified c.self.invariant.theirs
     c.self.inside.round c.self.invariant.round
 
 pub invariant_of-self-in-Ok-entered : goal.invariant_of-self-in-Ok-entered
 invariant_of-self-in-Ok-entered c =
     let made =
-    admitted c.self.inside.papers c.exchange.new.self c.args.amendment c.args.student c.self.inside.segments c.self.inside.places c.self.inside.proposals
+    admitted c.self.inside.papers c.apply_reversibly.new.self c.args.amendment c.args.student c.self.inside.segments c.self.inside.places c.self.inside.proposals
     c.requires.newcomer (ap (λ (s : Standing). verdict s.papers c.args.amendment) c.self.view_is ∙ c.requires.allowed) c.in-Ok.ensures.accepted c.self.invariant.certified c.self.invariant.theirs
     c.enter_newcomer-entered.new.segments c.enter_newcomer-entered.new.places c.in-Ok-entered.proposals c.enter_newcomer-entered.new.round c.in-Ok-entered.ensures.entered in
     record {
@@ -52,7 +52,7 @@ returns-in-Err-entered-clause-certified c =
 pub returns-in-Ok-entered-clause-certified : goal.returns-in-Ok-entered-clause-certified
 returns-in-Ok-entered-clause-certified c =
     let made =
-    admitted c.self.inside.papers c.exchange.new.self c.args.amendment c.args.student c.self.inside.segments c.self.inside.places c.self.inside.proposals
+    admitted c.self.inside.papers c.apply_reversibly.new.self c.args.amendment c.args.student c.self.inside.segments c.self.inside.places c.self.inside.proposals
     c.requires.newcomer (ap (λ (s : Standing). verdict s.papers c.args.amendment) c.self.view_is ∙ c.requires.allowed) c.in-Ok.ensures.accepted c.self.invariant.certified c.self.invariant.theirs
     c.enter_newcomer-entered.new.segments c.enter_newcomer-entered.new.places c.in-Ok-entered.proposals c.enter_newcomer-entered.new.round c.in-Ok-entered.ensures.entered in
     made.certified
@@ -60,7 +60,7 @@ returns-in-Ok-entered-clause-certified c =
 pub returns-in-Ok-entered-clause-stays : goal.returns-in-Ok-entered-clause-stays
 returns-in-Ok-entered-clause-stays c =
     let made =
-    admitted c.self.inside.papers c.exchange.new.self c.args.amendment c.args.student c.self.inside.segments c.self.inside.places c.self.inside.proposals
+    admitted c.self.inside.papers c.apply_reversibly.new.self c.args.amendment c.args.student c.self.inside.segments c.self.inside.places c.self.inside.proposals
     c.requires.newcomer (ap (λ (s : Standing). verdict s.papers c.args.amendment) c.self.view_is ∙ c.requires.allowed) c.in-Ok.ensures.accepted c.self.invariant.certified c.self.invariant.theirs
     c.enter_newcomer-entered.new.segments c.enter_newcomer-entered.new.places c.in-Ok-entered.proposals c.enter_newcomer-entered.new.round c.in-Ok-entered.ensures.entered in
     subst (λ (s : Standing). take (rewind_point s.papers c.args.amendment) (logs_in c.enter_newcomer-entered.new.segments) ≡ take (rewind_point s.papers c.args.amendment) s.segments) c.self.view_is made.stays
@@ -68,15 +68,15 @@ returns-in-Ok-entered-clause-stays c =
 pub returns-in-Ok-entered-clause-others : goal.returns-in-Ok-entered-clause-others
 returns-in-Ok-entered-clause-others c =
     let made =
-    admitted c.self.inside.papers c.exchange.new.self c.args.amendment c.args.student c.self.inside.segments c.self.inside.places c.self.inside.proposals
+    admitted c.self.inside.papers c.apply_reversibly.new.self c.args.amendment c.args.student c.self.inside.segments c.self.inside.places c.self.inside.proposals
     c.requires.newcomer (ap (λ (s : Standing). verdict s.papers c.args.amendment) c.self.view_is ∙ c.requires.allowed) c.in-Ok.ensures.accepted c.self.invariant.certified c.self.invariant.theirs
     c.enter_newcomer-entered.new.segments c.enter_newcomer-entered.new.places c.in-Ok-entered.proposals c.enter_newcomer-entered.new.round c.in-Ok-entered.ensures.entered in
-    subst (λ (s : Standing). KeepsOthers s c.args.amendment (record { papers = c.exchange.new.self; places = c.enter_newcomer-entered.new.places; segments = logs_in c.enter_newcomer-entered.new.segments; proposals = c.in-Ok-entered.proposals })) c.self.view_is made.others
+    subst (λ (s : Standing). KeepsOthers s c.args.amendment (record { papers = c.apply_reversibly.new.self; places = c.enter_newcomer-entered.new.places; segments = logs_in c.enter_newcomer-entered.new.segments; proposals = c.in-Ok-entered.proposals })) c.self.view_is made.others
 
 pub returns-in-Ok-entered-clause-proposals : goal.returns-in-Ok-entered-clause-proposals
 returns-in-Ok-entered-clause-proposals c =
     let made =
-    admitted c.self.inside.papers c.exchange.new.self c.args.amendment c.args.student c.self.inside.segments c.self.inside.places c.self.inside.proposals
+    admitted c.self.inside.papers c.apply_reversibly.new.self c.args.amendment c.args.student c.self.inside.segments c.self.inside.places c.self.inside.proposals
     c.requires.newcomer (ap (λ (s : Standing). verdict s.papers c.args.amendment) c.self.view_is ∙ c.requires.allowed) c.in-Ok.ensures.accepted c.self.invariant.certified c.self.invariant.theirs
     c.enter_newcomer-entered.new.segments c.enter_newcomer-entered.new.places c.in-Ok-entered.proposals c.enter_newcomer-entered.new.round c.in-Ok-entered.ensures.entered in
-    subst (λ (s : Standing). CountsRegion s.papers c.args.amendment (record { papers = c.exchange.new.self; places = c.enter_newcomer-entered.new.places; segments = logs_in c.enter_newcomer-entered.new.segments; proposals = c.in-Ok-entered.proposals })) c.self.view_is made.counts
+    subst (λ (s : Standing). CountsRegion s.papers c.args.amendment (record { papers = c.apply_reversibly.new.self; places = c.enter_newcomer-entered.new.places; segments = logs_in c.enter_newcomer-entered.new.segments; proposals = c.in-Ok-entered.proposals })) c.self.view_is made.counts

@@ -108,7 +108,7 @@ invariant_of-self-in-Err c =
       certified = still-certified c.self.inside.papers c.move_student-in-Err.new.self c.self.inside.segments c.resettle-settled.new.segments c.self.inside.places c.resettle-settled.new.places c.self.inside.proposals
           papers c.in-Err.ensures.unchanged.0 c.in-Err.ensures.unchanged.1 c.self.invariant.certified;
       theirs = ap students_in c.in-Err.ensures.unchanged.1 ∙ c.self.invariant.theirs ∙ ap students_of (sym papers);
-      round = subst₂ (λ m chains. IfSome c.lend.new.round (IsKept m chains)) (sym papers) (sym c.in-Err.ensures.unchanged.1) (lent-round (IsKept c.self.inside.papers c.self.inside.segments) c.self.inside.round c.lend.new.round c.lend.ensures c.self.invariant.round);
+      round = subst₂ (λ m chains. IfSome c.make_spare.new.round (IsKept m chains)) (sym papers) (sym c.in-Err.ensures.unchanged.1) (lent-round (IsKept c.self.inside.papers c.self.inside.segments) c.self.inside.round c.make_spare.new.round c.make_spare.ensures c.self.invariant.round);
       districts = tt;
     }
 

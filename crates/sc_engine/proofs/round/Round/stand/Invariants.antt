@@ -1,6 +1,0 @@
-use Rattle.sc_engine.specs.Round.{view_of, is_spent}
-use Rattle.sc_engine.proofs.Resuming.{PutFirst}
-use Rattle.sc_engine.proofs.round.Round.stand.Given as goal
-
-abbrev pub invariant-loop-turn : goal.invariant-loop-turn
-invariant-loop-turn g l = PutFirst l.papers l.next_choices (view_of g.R.Roll.keys g.R.Roll.seats l.round) (is_spent l.round) l.turn

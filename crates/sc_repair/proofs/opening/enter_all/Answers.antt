@@ -1,0 +1,36 @@
+use Rattle.std.proofs.Common.{List, [], refl, subst, sym, ◌∙◌, arith}
+use Rattle.sc_papers.specs.Market.{students_of}
+use Rattle.sc_papers.proofs.Choices.{contains-at}
+use Rattle.sc_papers.proofs.Positions.{among-student}
+use Rattle.sc_checkpoint.specs.Chains.{logs_in, students_in, Chain}
+use Rattle.sc_engine.specs.Round.{view_of}
+use Rattle.sc_engine.proofs.Settling.{first-apart}
+use Rattle.sc_repair.specs.Resumption.{GoesOn}
+use Rattle.sc_repair.proofs.Kept.{none-segmented}
+use Rattle.sc_repair.proofs.Resumption.{goes-on-begins, goes-on-next, goes-on-past}
+use Rattle.sc_repair.proofs.opening.enter_all.Goals as goal
+
+pub loop-position-init : goal.loop-position-init
+loop-position-init g c =
+    let m = c.args.papers.now in
+    let fresh = c.requires.fresh in (
+      subst (λ (chains : List Chain). GoesOn m [] (view_of g.R.Roll.keys g.R.Roll.seats c.args.round.now) (students_in chains) (logs_in chains) 0) (sym c.requires.none)
+          (goes-on-begins m (view_of g.R.Roll.keys g.R.Roll.seats c.args.round.now) [] [] 0 refl refl (none-segmented m) fresh.fits fresh.nobody fresh.settled fresh.log fresh.proposals),
+      fresh.ready,
+    )
+
+pub enter_next-requires-clause-student : goal.enter_next-requires-clause-student
+enter_next-requires-clause-student g c = among-student c.args.papers.now c.in-Some.student (contains-at (students_of c.args.papers.now) c.loop-position.position c.in-Some.student (sym c.in-Some.ensures))
+
+pub enter_next-requires-clause-absent : goal.enter_next-requires-clause-absent
+enter_next-requires-clause-absent g c =
+    c.loop-position.invariant.0.entered c.in-Some.student ∙ first-apart (students_of c.args.papers.now) c.loop-position.position c.in-Some.student c.loop-position.invariant.0.fits.well_formed.students_differ (sym c.in-Some.ensures)
+
+pub loop-position-preserved : goal.loop-position-preserved
+loop-position-preserved g c = (
+  goes-on-next c.args.papers.now _ _ _ c.loop-position.segments _ c.loop-position.position c.in-Some.student (sym c.in-Some.ensures) c.loop-position.invariant.0 c.in_ok-enter_next.ensures.enters c.in_ok-enter_next.ensures.chain,
+  c.in_ok-enter_next.ensures.ready,
+)
+
+pub returns-clause-on : goal.returns-clause-on
+returns-clause-on g c = goes-on-past c.args.papers.now _ _ _ _ c.loop-position.position (omega arith) c.loop-position.invariant.0
