@@ -5,7 +5,8 @@ use Rattle.sc_papers.specs.Verdict.{verdict}
 use Rattle.sc_papers.specs.WellFormed.{WellFormed}
 use Rattle.sc_papers.specs.declared.amendment.Stamped.{Stamped}
 use Rattle.sc_papers.proofs.Amending.{WellFormed-after}
-use Rattle.sc_stamps.specs.History.{accepted_among, is_entry}
+use Rattle.sc_papers.specs.TakingBack.{is_entry}
+use Rattle.sc_stamps.specs.History.{accepted_among}
 use Rattle.sc_stamps.specs.Record.{is_record, is_same, record_of}
 use Rattle.sc_stamps.specs.Stamps.{IsInStep, stamp_of}
 use Rattle.sc_stamps.specs.Verdict.{StampedPapers, stamped_after, stamped_verdict}

@@ -16,7 +16,7 @@ use Rattle.sc_papers.specs.declared.amendment.Refusal.TheVariants.{StudentExists
 use Rattle.sc_papers.specs.declared.records.School.{School}
 use Rattle.sc_papers.specs.declared.records.Student.{Student}
 use Rattle.sc_papers.proofs.Objections.{first_of-none, refuse_if-none, unknown_in-none}
-use Rattle.sc_stamps.specs.History.{is_entry}
+use Rattle.sc_papers.specs.TakingBack.{is_entry}
 use Rattle.sc_stamps.specs.Record.{is_record, is_same, record_of}
 use Rattle.sc_stamps.specs.Stamps.{IsInStep, Stamps, stamp_at, stamp_of, stamps_after, with_stamp}
 use Rattle.sc_stamps.specs.declared.record.Record.{Record}

@@ -1,7 +1,9 @@
 -- Stamped amendments in turn, and the stamps after them.
-use Rattle.std.proofs.Common.{◌≡◌, ◌⊎◌, inl, inr, refl, sym, ap, ◌∙◌, ℕ, zero, suc, ◌+◌, true, cond, List, [], ◌∷◌, ◌++◌, length, Option, Some, None, arith}
+use Rattle.std.proofs.Common.{◌≡◌, ◌⊎◌, inl, inr, refl, sym, ap, subst, ◌∙◌, ℕ, zero, suc, ◌+◌, ◌-◌, ◌≤◌, true, false, cond, List, [], ◌∷◌, ◌++◌, length, slice_get, Option, Some, None, arith}
 use Rattle.std.specs.Prelude.{◌==◌, nat_le, not, replicate, slice_index_or}
-use Rattle.std.proofs.lemmas.Bool.{cases_Bool, eqb-true, not-false}
+use Rattle.std.specs.Option.{option_map_or}
+use Rattle.std.proofs.lemmas.Bool.{cases_Bool, cond-false, cond-true, eqb-true, false≢true, not-false}
+use Rattle.std.proofs.lemmas.Option.{none-some}
 use Rattle.std.proofs.lemmas.List.{length-replicate}
 use Rattle.sc_papers.specs.Market.{Market}
 use Rattle.sc_papers.specs.Verdict.{after, refuse_if, verdict}
@@ -12,7 +14,7 @@ use Rattle.sc_papers.specs.declared.amendment.Stamped.{Stamped}
 use Rattle.sc_papers.specs.declared.stamp.TheConstants.Stamp.{GREATEST}
 use Rattle.sc_papers.proofs.Amending.{WellFormed-after}
 use Rattle.sc_papers.proofs.Objections.{first_of-none, refuse_if-none}
-use Rattle.sc_stamps.specs.History.{accepted_among, after_list, after_one, last_from, unless_refused}
+use Rattle.sc_stamps.specs.History.{IsNumberOfLast, accepted_among, after_list, after_one, unless_refused}
 use Rattle.sc_stamps.specs.Record.{is_record, is_same, record_of}
 use Rattle.sc_stamps.specs.Stamps.{IsInStep, no_stamps, stamp_at, stamp_of, stamps_after}
 use Rattle.sc_stamps.specs.Verdict.{StampedPapers, after_stamped_verdict, stamp_verdict, stamped_after, stamped_verdict}
@@ -21,6 +23,65 @@ use Rattle.sc_stamps.specs.declared.record.Record.TheVariants.{OfStudent, OfScho
 use Rattle.sc_stamps.proofs.Given.{given-zeros}
 use Rattle.sc_stamps.proofs.Stamping.{counted-after, known-after, stamp-absent, stamp-new, stamp-old}
 use Rattle.sc_stamps.proofs.Step.{in-step-after}
+
+-- the number of the last amendment that is of the record, where the first of the list has number n; if there
+-- is none, what was found before
+unfoldable pub last_from : ℕ → Record → List Stamped → ℕ → ℕ
+last_from n r [] found = found
+last_from n r (stamped ∷ rest) found = last_from (n + 1) r rest (cond (is_same (record_of stamped.amendment) r) n found)
+
+-- the element of a list at an index is of the record
+abbrev IsOfAt : Record → List Stamped → ℕ → Type 0
+IsOfAt r list j = (stamped : Stamped) × (slice_get list j ≡ Some stamped) × (is_same (record_of stamped.amendment) r ≡ true)
+
+-- what `last_from` answers is what was found before or the number of one of the record, and none behind is of it
+record Ends (n : ℕ) (r : Record) (list : List Stamped) (found last : ℕ) : Type 0 where
+  own : (last ≡ found) ⊎ ((j : ℕ) × (last ≡ n + j) × IsOfAt r list j)
+  greatest : (j : ℕ) → IsOfAt r list j → n + j ≤ last
+  long : found ≤ last
+
+later-of : (r : Record) (stamped : Stamped) (rest : List Stamped) (j : ℕ) → IsOfAt r rest j → IsOfAt r (stamped ∷ rest) (suc j)
+later-of r stamped rest j of = (of.0, of.1, of.2)
+
+ends : (n : ℕ) (r : Record) (list : List Stamped) (found : ℕ) → found ≤ n → Ends n r list found (last_from n r list found)
+unfolding last_from
+ends n r [] found low = record { own = inl refl; greatest = λ j of. absurd (none-some of.0 of.1); long = omega arith }
+ends n r (stamped ∷ rest) found low =
+    elim (cases_Bool (is_same (record_of stamped.amendment) r)) [
+      | inl same ↦
+          let on = ends (n + 1) r rest n (omega arith) in
+          subst (λ f. Ends n r (stamped ∷ rest) found (last_from (n + 1) r rest f)) (sym (cond-true (is_same (record_of stamped.amendment) r) n found same))
+          (record {
+            own = elim on.own [ inl first ↦ inr (0, omega (arith, first), (stamped, refl, same)) | inr (j, at, of) ↦ inr (suc j, omega (arith, at), later-of r stamped rest j of) ];
+            greatest = greatest on.long on.greatest;
+            long = omega (arith, on.long, low);
+          })
+      | inr other ↦
+          let on = ends (n + 1) r rest found (omega (arith, low)) in
+          subst (λ f. Ends n r (stamped ∷ rest) found (last_from (n + 1) r rest f)) (sym (cond-false (is_same (record_of stamped.amendment) r) n found other))
+          (record {
+            own = elim on.own [ inl before ↦ inl before | inr (j, at, of) ↦ inr (suc j, omega (arith, at), later-of r stamped rest j of) ];
+            greatest = λ j of. apart other on.greatest j of;
+            long = on.long;
+          })
+    ]
+  where
+    greatest : {last : ℕ} → n ≤ last → ((j : ℕ) → IsOfAt r rest j → n + 1 + j ≤ last) → (j : ℕ) → IsOfAt r (stamped ∷ rest) j → n + j ≤ last
+    greatest long behind zero of = omega (arith, long)
+    greatest long behind (suc j) of = omega (arith, behind j (of.0, of.1, of.2))
+
+    apart : {last : ℕ} → is_same (record_of stamped.amendment) r ≡ false → ((j : ℕ) → IsOfAt r rest j → n + 1 + j ≤ last) → (j : ℕ) → IsOfAt r (stamped ∷ rest) j → n + j ≤ last
+    apart other behind zero of = absurd (false≢true (sym other ∙ ap (λ o. option_map_or (λ (s : Stamped). is_same (record_of s.amendment) r) o false) of.1 ∙ of.2))
+    apart other behind (suc j) of = omega (arith, behind j (of.0, of.1, of.2))
+
+-- counted from 1 it is the number of the last one of the record
+pub last-of : (r : Record) (list : List Stamped) → IsNumberOfLast r list (last_from 1 r list 0)
+last-of r list =
+    let on = ends 1 r list 0 (omega arith) in
+    record {
+      of_the_record = λ some. elim on.own [ inl none ↦ absurd (omega (arith, some, none)) | inr (j, at, of) ↦ subst (IsOfAt r list) (omega (arith, at)) of ];
+      greatest = λ n some of. omega (arith, some, on.greatest (n - 1) of);
+    }
 
 -- a stamped amendment is accepted or refused
 pub accepted-or-refused : (p : StampedPapers) (stamped : Stamped) → (stamped_verdict p stamped ≡ None) ⊎ ((refusal : Refusal) × (stamped_verdict p stamped ≡ Some refusal))

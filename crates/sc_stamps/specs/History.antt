@@ -1,7 +1,5 @@
 -- Stamped amendments in turn.
-use Rattle.std.specs.Prelude.{ℕ, ◌+◌, Bool, true, false, List, [], ◌∷◌, ◌++◌, Option, None, Some, if◌then◌else◌}
-use Rattle.sc_papers.specs.declared.amendment.Amendment.{Amendment}
-use Rattle.sc_papers.specs.declared.amendment.Amendment.TheVariants.{Enter, Withdraw, Rerank, Add, Close, Correct}
+use Rattle.std.specs.Prelude.{◌≡◌, ℕ, ◌-◌, ◌<◌, ◌≤◌, true, List, [], ◌∷◌, ◌++◌, Option, None, Some, slice_get}
 use Rattle.sc_papers.specs.declared.amendment.Refusal.{Refusal}
 use Rattle.sc_papers.specs.declared.amendment.Stamped.{Stamped}
 use Rattle.sc_stamps.specs.Record.{is_same, record_of}
@@ -27,21 +25,11 @@ unfoldable pub accepted_among : StampedPapers → List Stamped → List Stamped
 accepted_among p [] = []
 accepted_among p (stamped ∷ rest) = unless_refused stamped (stamped_verdict p stamped) ++ accepted_among (after_one p stamped) rest
 
--- the number of the last amendment that is of the record, where the first of the list has number n; if there
--- is none, what was found before
-unfoldable pub last_from : ℕ → Record → List Stamped → ℕ → ℕ
-last_from n r [] found = found
-last_from n r (stamped ∷ rest) found = last_from (n + 1) r rest (if is_same (record_of stamped.amendment) r then n else found)
+-- the amendment with this number, counted from 1, is of the record
+abbrev pub IsOf : Record → List Stamped → ℕ → Type 0
+IsOf r list k = (stamped : Stamped) × (slice_get list (k - 1) ≡ Some stamped) × (is_same (record_of stamped.amendment) r ≡ true)
 
 -- the greatest k for which the k-th amendment is of the record, counted from 1, or 0 if there is none
-abbrev pub last_of : Record → List Stamped → ℕ
-last_of r list = last_from 1 r list 0
-
--- whether a student enters by the amendment
-abbrev pub is_entry : Amendment → Bool
-is_entry (Enter i zone siblings choices continuing) = true
-is_entry (Withdraw i) = false
-is_entry (Rerank i choices) = false
-is_entry (Add s count) = false
-is_entry (Close s count) = false
-is_entry (Correct i zone siblings continuing) = false
+pub record IsNumberOfLast (r : Record) (list : List Stamped) (k : ℕ) : Type 0 where
+  pub of_the_record : 0 < k → IsOf r list k
+  pub greatest : (n : ℕ) → 0 < n → IsOf r list n → n ≤ k

@@ -1,12 +1,13 @@
 //! The laws of stamps. Each function does nothing: its contract is the law.
 ghost use Rattle.std.specs.Prelude.{◌≡◌, ℕ, ◌+◌, ◌<◌, ◌++◌, List, [], ◌∷◌, length, slice_get, None, Some, true, false, if◌then◌else◌};
 ghost use Rattle.sc_papers.specs.Market.{Market};
+ghost use Rattle.sc_papers.specs.TakingBack.{is_entry};
 ghost use Rattle.sc_papers.specs.Verdict.{after, verdict};
 ghost use Rattle.sc_papers.specs.WellFormed.{WellFormed};
 ghost use Rattle.sc_papers.specs.declared.amendment.Amendment.{Amendment};
 ghost use Rattle.sc_papers.specs.declared.amendment.Refusal.{Refusal};
 ghost use Rattle.sc_papers.specs.declared.amendment.Stamped.{Stamped};
-ghost use Rattle.sc_stamps.specs.History.{accepted_among, after_list, is_entry, last_of};
+ghost use Rattle.sc_stamps.specs.History.{accepted_among, after_list, IsNumberOfLast};
 ghost use Rattle.sc_stamps.specs.Record.{is_record, is_same, record_of};
 ghost use Rattle.sc_stamps.specs.Stamps.{Stamps, no_stamps, stamp_of, stamps_after, IsInStep};
 ghost use Rattle.sc_stamps.specs.Verdict.{StampedPapers, stamped_after, stamped_verdict, unamended};
@@ -42,8 +43,13 @@ pub fn accepted_amendment_carries_its_record_s_stamp()
 pub fn stamp_is_the_number_of_the_last_amendment()
     ensures accepted { (m : Market) (list : List Stamped)
         → (after_list (unamended m) list).stamps.accepted ≡ length (accepted_among (unamended m) list) }
-    ensures stamp { (m : Market) (list : List Stamped) (r : Record) → WellFormed m
-        → stamp_of (after_list (unamended m) list).papers (after_list (unamended m) list).stamps r ≡ (if is_record (after_list (unamended m) list).papers r then last_of r (accepted_among (unamended m) list) else 0) }
+    ensures present { (m : Market) (list : List Stamped) (r : Record) → WellFormed m
+        → is_record (after_list (unamended m) list).papers r ≡ true
+        → IsNumberOfLast r (accepted_among (unamended m) list)
+        (stamp_of (after_list (unamended m) list).papers (after_list (unamended m) list).stamps r) }
+    ensures absent { (m : Market) (list : List Stamped) (r : Record) → WellFormed m
+        → is_record (after_list (unamended m) list).papers r ≡ false
+        → stamp_of (after_list (unamended m) list).papers (after_list (unamended m) list).stamps r ≡ 0 }
 {}
 
 /// No two accepted amendments of one record carried the same stamp, entries aside: the later one carried the
