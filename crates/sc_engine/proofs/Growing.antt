@@ -23,6 +23,7 @@ use Rattle.sc_papers.proofs.Rewinding.{key_by, key-by}
 use Rattle.sc_papers.proofs.Students.{how_many-agree}
 use Rattle.sc_papers.proofs.Subsets.{well-cut}
 use Rattle.sc_seats.specs.Roll.{RollView}
+use Rattle.sc_engine.proofs.RollCounts.{counted, fits-counted}
 use Rattle.sc_engine.specs.RoundView.{RoundView, Continues, Fits, RollFits, entered_papers, has_entered, next_of, nobody, rank_of, roll_of, standing_but}
 use Rattle.sc_engine.proofs.Rolls.{on-roll}
 use Rattle.sc_engine.proofs.Tables.{entered-among, length-mapped, next-by, next-entered, next-none, rank-at}
@@ -121,18 +122,18 @@ module _ (m : Market) (test : ℕ → Bool) (ranks : List (Option ℕ))
       stands i (Some s) is holds = next-passes i s is
 
   roll-part : (away : ℕ → Bool) (s : ℕ) (roll : RollView) → RollFits (restricted m test) (next_of (restricted m test) ranks) away s roll → RollFits m (next_of m ranks) away s roll
-  roll-part away s roll fits = record {
+  roll-part away s roll fits = fits-counted m (next_of m ranks) away s roll (record {
     seats = fits.seats ∙ seats-restricted m test s;
     within = fits.within;
     keyed = All-weaker (Contains roll.keys) (λ (key : Key). key ≡ key_of m key.student s) (λ key held.
         let on = on-roll (restricted m test) (next_of (restricted m test) ranks) away s roll key fits held in
         on.own ∙ key-part key.student s (next-passes key.student s (sym (next-part key.student) ∙ on.stands))) roll.keys (All-contains_itself roll.keys);
     exact = λ p.
-        fits.exact p
+        (counted (restricted m test) (next_of (restricted m test) ranks) away s roll fits).exact p
         ∙ how_many-agree (restricted m test) (λ j. p j && (has (next_of (restricted m test) ranks) s j && not (away j))) (λ j. p j && (has (next_of m ranks) s j && not (away j)))
         (λ j. ap (λ o. p j && (option_map_or (λ t. t == s) o false && not (away j))) (next-part j))
         ∙ part-counts (λ j. p j && (has (next_of m ranks) s j && not (away j))) (λ j holds. held p j (has (next_of m ranks) s j) refl holds);
-  }
+  })
     where
       held : (p : ℕ → Bool) (j : ℕ) (b : Bool) → has (next_of m ranks) s j ≡ b → (p j && (has (next_of m ranks) s j && not (away j))) ≡ true → test j ≡ true
       held p j true is holds = next-passes j s (has-true (next_of m ranks) s j is)

@@ -1,5 +1,6 @@
 pub mod Tables
 pub mod Offers
+pub mod RollCounts
 pub mod Rolls
 pub mod Proposals
 pub mod Steps

@@ -20,6 +20,7 @@ use Rattle.sc_papers.proofs.Students.{how_many-agree}
 use Rattle.sc_seats.specs.Roll.{RollView}
 use Rattle.sc_engine.specs.RoundView.{RoundView, next_of, roll_of, roll_at, RollFits, FitsBut, Fits, only, nobody, standing_but, CountsProposals, OffersAt}
 use Rattle.sc_engine.proofs.Tables.{length-mapped, next-among, roll-at, roll-kept}
+use Rattle.sc_engine.proofs.RollCounts.{IsCounted, counted, fits-counted, key-student}
 use Rattle.sc_engine.proofs.Rolls.{on-roll, roll-holds, roll-fits_still, counts-held}
 
 -- who has a school that is not s has not s
@@ -52,14 +53,13 @@ pub record Proposed (m : Market) (r : RoundView) (proposer s at : ℕ) (rolls : 
   pub school : position (nat_eq s) (schools_of m) ≡ Some at
   pub offered : OffersAt r.rolls rolls at (key_of m proposer s) out
 
-pub key-student : (m : Market) (i s : ℕ) → (key_of m i s).student ≡ i
-unfolding key_of
-key-student m i s = refl
-
 module _ {m : Market} {r : RoundView} {proposer s at : ℕ} {rolls : List RollView} {out : Option Key} (done : Proposed m r proposer s at rolls out) where
   -- the school's roll before
   pub roll-before : RollFits m (next_of m r.ranks) (only proposer) s (roll_at r.rolls at)
   roll-before = subst (RollFits m (next_of m r.ranks) (only proposer) s) (roll-at m r.rolls s at done.school) (done.fits.each s)
+
+  pub roll-before_counted : IsCounted m (next_of m r.ranks) (only proposer) s (roll_at r.rolls at)
+  roll-before_counted = counted m (next_of m r.ranks) (only proposer) s (roll_at r.rolls at) roll-before
 
   -- the other schools' rolls stay
   pub roll-after_other : (t : ℕ) → (t ≡ s → ⊥) → roll_of m rolls t ≡ roll_of m r.rolls t
@@ -131,19 +131,19 @@ fits-held m r r' proposer s at done same counted = record {
     next = next_of m r.ranks
 
     here : RollFits m next nobody s (roll_at r'.rolls at)
-    here = record {
+    here = fits-counted m next nobody s (roll_at r'.rolls at) (record {
       seats = done.offered.seats ∙ (roll-before done).seats;
       within = done.offered.within;
       keyed = All-permutation (λ k. k ≡ key_of m k.student s) (key_of m proposer s ∷ (roll_at r.rolls at).keys) (roll_at r'.rolls at).keys done.offered.together
-          (All-cons (λ k. k ≡ key_of m k.student s) (key_of m proposer s) (roll_at r.rolls at).keys (ap (λ i. key_of m i s) (sym (key-student m proposer s))) (roll-before done).keyed);
+          (All-cons (λ k. k ≡ key_of m k.student s) (key_of m proposer s) (roll_at r.rolls at).keys (ap (λ i. key_of m i s) (sym (key-student m proposer s))) (roll-before_counted done).keyed);
       exact = λ p.
           let now : count_by (λ (k : Key). p k.student) (roll_at r'.rolls at).keys ≡ cond (p proposer) 1 0 + count_by (λ (k : Key). p k.student) (roll_at r.rolls at).keys =
           counts-held p (key_of m proposer s) (roll_at r.rolls at).keys (roll_at r'.rolls at).keys done.offered.together ∙ ap (λ i. cond (p i) 1 0 + count_by (λ (k : Key). p k.student) (roll_at r.rolls at).keys) (key-student m proposer s) in
           let split = how_many-split_both m done.fits.well_formed p (has next s) proposer (next-among m r.ranks proposer s done.stands) (has-some next s proposer done.stands) in
           let still : how_many m (λ j. p j && has next s j) ≡ how_many m (λ j. p j && (has next s j && not false)) =
           how_many-agree m (λ j. p j && has next s j) (λ j. p j && (has next s j && not false)) (λ j. ap (λ b. p j && b) (sym (stays (has next s j)))) in
-          omega (arith, now, split, still, (roll-before done).exact p);
-    }
+          omega (arith, now, split, still, (roll-before_counted done).exact p);
+    })
 
 -- the student in hand has no choice left
 pub fits-ended : (m : Market) (r : RoundView) (proposer : ℕ) → FitsBut m r (only proposer) → next_of m r.ranks proposer ≡ None → Fits m r

@@ -12,6 +12,7 @@ use Rattle.sc_papers.specs.declared.records.School.{School}
 use Rattle.sc_papers.proofs.Restriction.{restricted-restricts, next-dropped}
 use Rattle.sc_papers.proofs.Students.{how_many-none}
 use Rattle.sc_seats.specs.Roll.{RollView}
+use Rattle.sc_engine.proofs.RollCounts.{fits-counted}
 use Rattle.sc_engine.specs.RoundView.{RoundView, rank_of, next_of, has_entered, roll_of, roll_at, no_roll, RollFits, Fits, nobody, Continues, AreEmpty, entered_papers, StandNowhere}
 use Rattle.sc_engine.proofs.Tables.{next-none, roll-at, length-mapped}
 use Rattle.sc_papers.proofs.Positions.{position-at, school-position}
@@ -75,13 +76,13 @@ fits-start m r start = record {
   within_limits = start.within_limits;
   ranks = start.within;
   rolls = start.rolls;
-  each = λ s. subst (RollFits m (next_of m r.ranks) nobody s) (sym (roll-empty m r.rolls start.empty s)) (record {
+  each = λ s. subst (RollFits m (next_of m r.ranks) nobody s) (sym (roll-empty m r.rolls start.empty s)) (fits-counted m (next_of m r.ranks) nobody s (record { keys = []; seats = seats_of m s }) (record {
     seats = refl;
     within = omega arith;
     keyed = λ k d low. absurd (omega (arith, low));
     exact = λ p. sym (how_many-none m (λ j. p j && (has (next_of m r.ranks) s j && not false))
         (λ j among. and_right (p j) (has (next_of m r.ranks) s j && not false) (and_left (has (next_of m r.ranks) s j) (not false) (has-none (next_of m r.ranks) s j (nowhere j)))));
-  });
+  }));
   proposals = omega (arith, start.proposals);
 }
   where

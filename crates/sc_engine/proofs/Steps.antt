@@ -24,8 +24,9 @@ use Rattle.sc_papers.proofs.Sums.{sum-bump}
 use Rattle.sc_seats.specs.Roll.{RollView}
 use Rattle.sc_engine.specs.RoundView.{RoundView, rank_of, next_of, has_entered, roll_of, roll_at, RollFits, FitsBut, only, CountsProposals, entered_papers, Midway, Continues, choices_left, left_at}
 use Rattle.sc_engine.proofs.Tables.{rank-written, rank-kept, next-by, next-kept, next-among, next-entered}
+use Rattle.sc_engine.proofs.RollCounts.{fits-counted, key-student}
 use Rattle.sc_engine.proofs.Rolls.{roll-length, roll-fits_still, counts-offered}
-use Rattle.sc_engine.proofs.Proposals.{Proposed, roll-before, roll-after, roll-after_other, has-not, not-there, key-student, Out, put-out, counted-within, standing-split, standing-others}
+use Rattle.sc_engine.proofs.Proposals.{Proposed, roll-before, roll-before_counted, roll-after, roll-after_other, has-not, not-there, Out, put-out, counted-within, standing-split, standing-others}
 
 -- the same students have entered, in the same papers
 pub papers-same : (m : Market) (old new : List (Option ℕ)) → ((j : ℕ) → has_entered m new j ≡ has_entered m old j) → entered_papers m new ≡ entered_papers m old
@@ -123,12 +124,12 @@ fits-put_out m r r' proposer s at out rank_at rank done moved counted = record {
     hand-student = key-student m proposer s
 
     here : RollFits m next' (only i) s new
-    here = record {
+    here = fits-counted m next' (only i) s new (record {
       seats = done.offered.seats ∙ (roll-before done).seats;
       within = done.offered.within;
       keyed = All-tail (λ k. k ≡ key_of m k.student s) out new.keys
           (All-permutation (λ k. k ≡ key_of m k.student s) (key_of m proposer s ∷ old.keys) (out ∷ new.keys) done.offered.together
-          (All-cons (λ k. k ≡ key_of m k.student s) (key_of m proposer s) old.keys (ap (λ j. key_of m j s) (sym hand-student)) (roll-before done).keyed));
+          (All-cons (λ k. k ≡ key_of m k.student s) (key_of m proposer s) old.keys (ap (λ j. key_of m j s) (sym hand-student)) (roll-before_counted done).keyed));
       exact = λ p.
           let now = counts-offered p (key_of m proposer s) out old.keys new.keys done.offered.together in
           let hand_term = ap (λ j. one_if (p j)) hand-student in
@@ -136,8 +137,8 @@ fits-put_out m r r' proposer s at out rank_at rank done moved counted = record {
           let by_out = how_many-split_both m done.fits.well_formed p (has next s) i (next-among m r.ranks i s (next-stood moved)) (has-some next s i (next-stood moved)) in
           let still : how_many m (λ j. p j && (has next' s j && not (j == i))) ≡ how_many m (λ j. p j && (has next s j && not (j == i))) =
           how_many-agree m (λ j. p j && (has next' s j && not (j == i))) (λ j. p j && (has next s j && not (j == i))) (λ j. ap (λ b. p j && b) (stands-after moved s j)) in
-          omega (arith, now, hand_term, by_hand, by_out, still, (roll-before done).exact p);
-    }
+          omega (arith, now, hand_term, by_hand, by_out, still, (roll-before_counted done).exact p);
+    })
 
 -- how many others stand at the school, by the roll
 held-on_roll : (m : Market) (earlier : List Rejection) (r : RoundView) (proposer s : ℕ) (roll : RollView) → Midway m earlier r proposer → RollFits m (next_of m r.ranks) (only proposer) s roll → held_by_others (entered_papers m r.ranks) (earlier ++ r.log) proposer s ≡ length roll.keys

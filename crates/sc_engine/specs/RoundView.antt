@@ -1,5 +1,5 @@
 -- Where the students and the schools of a round stand, as contracts see it.
-use Rattle.std.specs.Prelude.{◌≡◌, ℕ, ◌+◌, ◌-◌, ◌≤◌, ◌<◌, nat_eq, ◌==◌, Bool, true, false, ◌&&◌, not, List, [], ◌∷◌, ◌++◌, length, Option, None, Some, All, IfSome, IsSome, count_by, sum_by, is_some, position, slice_get, slice_index_or, take}
+use Rattle.std.specs.Prelude.{◌≡◌, ℕ, ◌+◌, ◌-◌, ◌≤◌, ◌<◌, nat_eq, ◌==◌, Bool, true, false, ◌&&◌, not, List, [], ◌∷◌, ◌++◌, length, Option, None, Some, All, IfSome, IsSome, filter, map, sum_by, is_some, position, slice_get, slice_index_or, take}
 use Rattle.std.specs.List.{list_any}
 use Rattle.std.specs.List.Sorted.{IsPermutation}
 use Rattle.std.specs.Option.{option_map_or, option_and_then, option_to_list}
@@ -60,8 +60,7 @@ AreEmpty m rolls k = (at s : ℕ) → at < k → slice_get (schools_of m) at ≡
 pub record RollFits (m : Market) (next : Matching) (away : ℕ → Bool) (s : ℕ) (roll : RollView) : Type 0 where
   pub seats : roll.seats ≡ seats_of m s
   pub within : length roll.keys ≤ roll.seats
-  pub keyed : All (λ key. key ≡ key_of m key.student s) roll.keys
-  pub exact : (p : ℕ → Bool) → count_by (λ (key : Key). p key.student) roll.keys ≡ how_many m (λ j. p j && (has next s j && not (away j)))
+  pub holds : IsPermutation roll.keys (map (λ j. key_of m j s) (filter (λ j. has next s j && not (away j)) (students_of m)))
 
 -- how many students stand at a choice, but for those who are away
 unfoldable pub standing_but : Market → List (Option ℕ) → (ℕ → Bool) → ℕ
