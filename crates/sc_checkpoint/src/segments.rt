@@ -68,13 +68,13 @@ impl Segments {
     }
 
     /// How many entries belong to segments.
-    fn kept(&self) -> usize {
+    fn entries_kept(&self) -> usize {
         self.entries.len().saturating_sub(self.gone)
     }
 
     /// Whether so many entries have gone that a copy of the others costs less than what made them go.
     fn is_untidy(&self) -> bool {
-        self.gone / 2 > self.kept().saturating_add(self.spans.len())
+        self.gone / 2 > self.entries_kept().saturating_add(self.spans.len())
     }
 
     /// Puts the student's segment at the end. A refused growth changes nothing. The cost is the
@@ -152,7 +152,7 @@ impl Segments {
         requires { k ≤ length self.now }
         ensures { IfOk result (λ segments. segments ≡ take k self.now) }
     {
-        let mut copy = Segments::with_room(self.alloc, k, self.kept())?;
+        let mut copy = Segments::with_room(self.alloc, k, self.entries_kept())?;
         for position in 0..k {
             copy.push(self.student(position), self.segment(position))?;
         }
@@ -170,9 +170,20 @@ impl Segments {
         ensures { IfOk result (λ next_choices. next_choices.items
             ≡ next_choices_after papers.now (joined (take k (logs_in self.now))) (take k (students_of papers.now))) }
     {
+        let stands = self.standings_at(papers, k)?;
+        Ok(stands.choices)
+    }
+
+    /// What `next_choices_at` tells, and with it at which rank each of them may stand.
+    pub fn standings_at(&self, papers: &Papers, k: usize) -> Result<Standings, AllocError>
+        requires within { k ≤ length self.now }
+        requires students { take k (students_in self.now) ≡ take k (students_of papers.now) }
+        ensures { IfOk result (λ stands. stands.choices.items
+            ≡ next_choices_after papers.now (joined (take k (logs_in self.now))) (take k (students_of papers.now))) }
+    {
         let positions = first_positions(self.alloc, k)?;
         let stands = self.next_choices_of(papers, positions.as_slice())?;
-        Ok(stands.choices)
+        Ok(stands)
     }
 
     /// Where the students at some positions of the papers stand after the log of the segments there alone. The

@@ -31,8 +31,15 @@ fn standing<R: Roll>(
     ensures stands { IfOk result (λ round. StandsAfter papers.now segments.now (view_of R.keys R.seats round)) }
     ensures ready { IfOk result (λ round. is_spent round ≡ false) }
 {
-    let next_choices = segments.next_choices_at(papers, segments.len())?;
-    let round: Round<R> = Round::resume(alloc, papers, next_choices.as_slice())?;
+    let stands = segments.standings_at(papers, segments.len())?;
+    let round: Round<R> = Round::resume_near(
+        alloc,
+        papers,
+        stands.choices.as_slice(),
+        &[],
+        stands.ranks.as_slice(),
+        papers.students_len(),
+    )?;
     Ok(round)
 }
 

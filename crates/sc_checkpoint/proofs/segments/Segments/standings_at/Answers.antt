@@ -6,7 +6,7 @@ use Rattle.sc_checkpoint.specs.Chains.{logs_at, logs_in, students_in, Chain}
 use Rattle.sc_checkpoint.specs.NextChoices.{next_choices_after}
 use Rattle.sc_checkpoint.specs.Positions.{CountUp}
 use Rattle.sc_checkpoint.proofs.Counting.{map-first}
-use Rattle.sc_checkpoint.proofs.segments.Segments.next_choices_at.Goals as goal
+use Rattle.sc_checkpoint.proofs.segments.Segments.standings_at.Goals as goal
 
 pub returns : goal.returns
 returns c =
