@@ -11,6 +11,7 @@ ghost use Rattle.sc_repair.specs.Rewinding.{first_to_list, lists, position_of, r
 
 use sc_papers::{Amendment, Papers, Refusal, SchoolNo, StudentNo};
 use sc_region::RegionPositions;
+use sc_stamps::{Record, record_of};
 
 /// Whether the student at the position lists the school.
 fn lists(papers: &Papers, school: SchoolNo, position: usize) -> bool
@@ -71,18 +72,14 @@ fn position_of(papers: &Papers, student: StudentNo) -> usize
         .unwrap_or(papers.students_len())
 }
 
-/// The position from which on the amendment may change anything, whether or not it is refused.
+/// The position from which on an amendment that the papers allow may change anything. Who enters does not stand in them yet.
 fn first_changed(papers: &Papers, amendment: &Amendment) -> usize
+    requires { verdict papers.now amendment.now ≡ None }
     ensures { result ≡ rewind_point papers.now amendment.now }
 {
-    match amendment {
-        Amendment::Enter { .. } => papers.students_len(),
-        Amendment::Withdraw { student }
-        | Amendment::Rerank { student, .. }
-        | Amendment::Correct { student, .. } => position_of(papers, *student),
-        Amendment::Add { school, .. } | Amendment::Close { school, .. } => {
-            first_to_list(papers, *school)
-        }
+    match record_of(amendment) {
+        Record::OfStudent(student) => position_of(papers, student),
+        Record::OfSchool(school) => first_to_list(papers, school),
     }
 }
 
@@ -106,20 +103,17 @@ pub fn rewind_point(papers: &Papers, amendment: &Amendment) -> Result<usize, Ref
     Ok(first_changed(papers, amendment))
 }
 
-/// What `rewind_point` answers of an amendment whose region is marked.
+/// What `rewind_point` answers of an amendment that is not refused, whose region is marked.
 ///
 /// It takes no memory. It takes constant time, and for an `Add` or a `Close` a look at the choices of the region's students up
 /// to that position.
 pub(crate) fn point_in(papers: &Papers, region: &RegionPositions, amendment: &Amendment) -> usize
-    requires { MarkRegion papers.now amendment.now region.now }
+    requires allowed { verdict papers.now amendment.now ≡ None }
+    requires region { MarkRegion papers.now amendment.now region.now }
     ensures { result ≡ rewind_point papers.now amendment.now }
 {
-    match amendment {
-        Amendment::Add { school, .. } => first_marked(papers, *school, region),
-        Amendment::Close { school, .. } => first_marked(papers, *school, region),
-        Amendment::Enter { .. }
-        | Amendment::Withdraw { .. }
-        | Amendment::Rerank { .. }
-        | Amendment::Correct { .. } => first_changed(papers, amendment),
+    if let Record::OfSchool(school) = record_of(amendment) {
+        return first_marked(papers, school, region);
     }
+    first_changed(papers, amendment)
 }

@@ -1,6 +1,7 @@
 ghost use Rattle.std.specs.Prelude.{◌≡◌};
 ghost use Rattle.sc_stamps.specs.Stamps.{marking_of};
 
+use crate::record::{Record, record_of};
 use sc_papers::{Amendment, Papers};
 
 /// What an accepted amendment does to the stamps, beside that it is counted, by positions in the orders of
@@ -26,11 +27,9 @@ pub fn marking_of(papers: &Papers, amendment: &Amendment) -> Marking
         Amendment::Withdraw { student } => {
             Marking::StudentLeaves(papers.student_position(*student))
         }
-        Amendment::Rerank { student, .. } | Amendment::Correct { student, .. } => {
-            Marking::StudentStays(papers.student_position(*student))
-        }
-        Amendment::Add { school, .. } | Amendment::Close { school, .. } => {
-            Marking::School(papers.school_position(*school))
-        }
+        _ => match record_of(amendment) {
+            Record::OfStudent(student) => Marking::StudentStays(papers.student_position(student)),
+            Record::OfSchool(school) => Marking::School(papers.school_position(school)),
+        },
     }
 }
