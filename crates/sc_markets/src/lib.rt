@@ -11,6 +11,6 @@ pub use readings::{
 };
 pub use texts::{log_text, places_text, standing};
 pub use worked::{
-    FIVE_STUDENTS, Files, MARKET_A, MARKET_B, MARKET_B_AND_NEWCOMER, MARKET_B_CONTINUING,
-    TWO_STUDENTS, market_a, market_b,
+    FIVE_STUDENTS, Files, LISTS_A, MARKET_A, MARKET_B, MARKET_B_AND_NEWCOMER, MARKET_B_CONTINUING,
+    SCHOOLS_A, SCHOOLS_B, STUDENTS_A, TWO_STUDENTS, market_a, market_b,
 };

@@ -23,30 +23,42 @@ impl Files<'_> {
 /// Market A: schools 10 and 20 with a seat each, both in no zone, and two students, each with a sibling
 /// where the other wants to go.
 pub const MARKET_A: Files<'static> = Files {
-    schools: "10,0,1\n20,0,1\n",
-    students: "1,0,20\n2,0,10\n",
-    lists: "1,10 20\n2,20 10\n",
+    schools: SCHOOLS_A,
+    students: STUDENTS_A,
+    lists: LISTS_A,
 };
+
+/// The schools' rows of Market A.
+pub const SCHOOLS_A: &str = "10,0,1\n20,0,1\n";
+
+/// The students' rows of Markets A and B.
+pub const STUDENTS_A: &str = "1,0,20\n2,0,10\n";
+
+/// The lists' rows of Markets A and B.
+pub const LISTS_A: &str = "1,10 20\n2,20 10\n";
 
 /// Market B: Market A with school 10 in zone 1.
 pub const MARKET_B: Files<'static> = Files {
-    schools: "10,1,1\n20,0,1\n",
-    students: "1,0,20\n2,0,10\n",
-    lists: "1,10 20\n2,20 10\n",
+    schools: SCHOOLS_B,
+    students: STUDENTS_A,
+    lists: LISTS_A,
 };
+
+/// The schools' rows of Market B.
+pub const SCHOOLS_B: &str = "10,1,1\n20,0,1\n";
 
 /// Market B after its newcomer, student 3, who puts out student 1, who puts out student 2.
 pub const MARKET_B_AND_NEWCOMER: Files<'static> = Files {
-    schools: "10,1,1\n20,0,1\n",
+    schools: SCHOOLS_B,
     students: "1,0,20\n2,0,10\n3,1,10\n",
     lists: "1,10 20\n2,20 10\n3,10\n",
 };
 
 /// Market B with its student 2 continuing at school 10.
 pub const MARKET_B_CONTINUING: Files<'static> = Files {
-    schools: "10,1,1\n20,0,1\n",
+    schools: SCHOOLS_B,
     students: "1,0,20,\n2,0,10,10\n",
-    lists: "1,10 20\n2,20 10\n",
+    lists: LISTS_A,
 };
 
 /// The market in which a correction of student 1 rewinds to the start.

@@ -7,6 +7,8 @@ mod intake;
 #[cfg(test)]
 mod journal;
 #[cfg(test)]
+mod markets;
+#[cfg(test)]
 mod report;
 #[cfg(test)]
 mod runs;

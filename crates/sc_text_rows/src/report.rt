@@ -1,6 +1,7 @@
 //! The texts of a report, and of a reply and a log.
 mod devices;
 
+use crate::markets::{MARKET_A, MARKET_B, Rows};
 use sc_intake::read_log;
 use sc_markets::{amendment, clearing, seen};
 use sc_papers::{Refusal, SchoolNo, Stamp};
@@ -107,9 +108,6 @@ fn expect_told(
     Ok(())
 }
 
-/// The rows of schools, roster and lists.
-type Rows = (&'static str, &'static str, &'static str);
-
 /// The amendments of these records are accepted, each with the stamp that its record has.
 fn amend(rt: &impl Abort, alloc: Global, clearing: &mut Clearing, records: &str) {
     for record in records.lines() {
@@ -179,9 +177,6 @@ fn zone_before_draw(rt: HostRuntime) -> Result<(), AllocError> {
     )
 }
 
-/// Schools 10 and 20, each the sibling's school of the student who ranks it last.
-const MARKET_A: Rows = ("10,0,1\n20,0,1\n", "1,0,20\n2,0,10\n", "1,10 20\n2,20 10\n");
-
 #[test]
 fn market_a_opening(rt: HostRuntime) -> Result<(), AllocError> {
     expect(
@@ -225,9 +220,6 @@ fn market_a_and_a_seat_closed(rt: HostRuntime) -> Result<(), AllocError> {
         ],
     )
 }
-
-/// Market A with school 10 in a zone.
-const MARKET_B: Rows = ("10,1,1\n20,0,1\n", "1,0,20\n2,0,10\n", "1,10 20\n2,20 10\n");
 
 /// Market A with school 10 in the zone of a third student who has a sibling there, and with schools and
 /// students in another order.

@@ -2,18 +2,12 @@
 mod scripts;
 
 use super::ZEROS;
-use sc_markets::roster_header;
+use crate::markets::{MARKET_A, MARKET_B, Rows};
+use sc_markets::{LISTS_A, SCHOOLS_B, roster_header};
 use sc_report::Watched;
 use sc_runs::{fault_line, run_bundle, status_of};
 use std::alloc::{AllocError, Global};
 use std::process::Abort;
-
-/// The rows of schools, roster and lists.
-type Rows = (&'static str, &'static str, &'static str);
-
-const MARKET_A: Rows = ("10,0,1\n20,0,1\n", "1,0,20\n2,0,10\n", "1,10 20\n2,20 10\n");
-
-const MARKET_B: Rows = ("10,1,1\n20,0,1\n", "1,0,20\n2,0,10\n", "1,10 20\n2,20 10\n");
 
 const TWO_STUDENTS: Rows = ("1,0,1\n", "1,0,\n2,0,\n", "1,1\n2,1\n");
 
@@ -22,11 +16,7 @@ const ZONE_FIRST: Rows = ("1,1,1\n", "1,1,\n2,0,\n", "1,1\n2,1\n");
 const CONTINUING_FIRST: Rows = ("1,1,1\n", "1,1,,\n2,0,,1\n", "1,1\n2,1\n");
 
 /// Market B with its student 2 continuing at school 10.
-const MARKET_B_CONTINUING: Rows = (
-    "10,1,1\n20,0,1\n",
-    "1,0,20,\n2,0,10,10\n",
-    "1,10 20\n2,20 10\n",
-);
+const MARKET_B_CONTINUING: Rows = (SCHOOLS_B, "1,0,20,\n2,0,10,10\n", LISTS_A);
 
 const FREE_SEATS: Rows = ("10,0,2\n", "1,0,\n", "1,10\n");
 

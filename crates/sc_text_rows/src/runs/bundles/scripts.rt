@@ -1,8 +1,9 @@
 //! Scripts in a bundle.
 use super::{
-    CONTINUING_FIRST, FIVE_STUDENTS, FREE_SEATS, MARKET_A, MARKET_B, MARKET_B_CONTINUING, Rows,
-    TWO_STUDENTS, ZONE_FIRST, bundle, told, written,
+    CONTINUING_FIRST, FIVE_STUDENTS, FREE_SEATS, MARKET_B_CONTINUING, TWO_STUDENTS, ZONE_FIRST,
+    bundle, told, written,
 };
+use crate::markets::{MARKET_A, MARKET_B, Rows};
 use std::alloc::{AllocError, Global};
 use std::process::Abort;
 
