@@ -18,6 +18,9 @@ pub mod Renewing
 pub mod Resuming
 pub mod Growing
 pub mod Forgetting
+pub mod Leaving
+pub mod Taking
+pub mod Changing
 pub mod Proposing
 pub mod ApplicationsInTurn
 mod Clearing

@@ -9,7 +9,7 @@ use Rattle.sc_papers.specs.Market.{Market, seats_of, students_of}
 use Rattle.sc_papers.specs.Key.{key_of}
 use Rattle.sc_papers.specs.Matching.{Matching, has, how_many}
 use Rattle.sc_papers.specs.declared.key.Key.{Key}
-use Rattle.sc_papers.proofs.Counting.{contains-head, count-cons_fails, count-cons_passes, count-some, some-counted}
+use Rattle.sc_papers.proofs.Counting.{contains-head, count-cons_fails, count-some, some-counted}
 use Rattle.sc_papers.proofs.Sums.{count-all}
 use Rattle.sc_seats.specs.Roll.{RollView}
 use Rattle.sc_engine.specs.RoundView.{RollFits}

@@ -11,7 +11,7 @@ use Rattle.sc_papers.specs.Matching.{Matching, how_many, has}
 use Rattle.sc_papers.specs.declared.key.Key.{Key}
 use Rattle.sc_papers.proofs.Counting.{count-some, some-counted}
 use Rattle.sc_papers.proofs.Sums.{count-all}
-use Rattle.sc_papers.proofs.Students.{how_many-agree, how_many-some, some-of_many}
+use Rattle.sc_papers.proofs.Students.{how_many-some, some-of_many}
 use Rattle.sc_papers.proofs.Rejections.{has-true, has-some}
 use Rattle.sc_seats.specs.Roll.{RollView}
 use Rattle.sc_engine.specs.RoundView.{RollFits}

@@ -103,7 +103,7 @@ filter-all test (e ∷ es) all =
     cond-true (test e.0) (e ∷ filter (λ f. test f.0) es) (filter (λ f. test f.0) es) (all e.0 (contains-head e.0 (keys_of es)))
     ∙ ap (λ rest. e ∷ rest) (filter-all test es (λ i among. all i (contains-tail e.0 (keys_of es) i among)))
 
-restricted-all : (m : Market) (test : ℕ → Bool) → ((i : ℕ) → Contains (students_of m) i → test i ≡ true) → restricted m test ≡ m
+pub restricted-all : (m : Market) (test : ℕ → Bool) → ((i : ℕ) → Contains (students_of m) i → test i ≡ true) → restricted m test ≡ m
 unfolding restricted
 restricted-all m test all = λ t. record m { students = filter-all test m.students all t }
 

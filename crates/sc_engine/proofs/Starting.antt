@@ -40,7 +40,7 @@ no-rank m ranks nobody i = go (position (nat_eq i) (students_of m))
     go (Some at) = nobody at
 
 -- an unknown school has no seats
-no-seats : (m : Market) (s : ℕ) → is_school m s ≡ false → seats_of m s ≡ 0
+pub no-seats : (m : Market) (s : ℕ) → is_school m s ≡ false → seats_of m s ≡ 0
 unfolding seats_of
 no-seats m s unknown = go (school_of m s) unknown
   where
@@ -48,7 +48,7 @@ no-seats m s unknown = go (school_of m s) unknown
     go None e = refl
     go (Some school) e = absurd (true≢false e)
 
-roll-unknown : (m : Market) (rolls : List RollView) (s : ℕ) → is_school m s ≡ false → roll_of m rolls s ≡ no_roll
+pub roll-unknown : (m : Market) (rolls : List RollView) (s : ℕ) → is_school m s ≡ false → roll_of m rolls s ≡ no_roll
 unfolding roll_of
 roll-unknown m rolls s unknown = go (position (nat_eq s) (schools_of m)) refl
   where

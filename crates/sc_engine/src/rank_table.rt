@@ -65,10 +65,36 @@ fn clear_at(ranks: &mut Vec<Option<u8>>, positions: &[usize])
     ensures gone { (at : ℕ) → Contains positions.now at → slice_index_or ranks.new.items at None ≡ None }
     ensures others { (at rank : ℕ) → slice_index_or ranks.new.items at None ≡ Some rank
         → slice_index_or ranks.old.items at None ≡ Some rank }
+    ensures stay { (at : ℕ) → ¬ Contains positions.now at
+        → slice_index_or ranks.new.items at None ≡ slice_index_or ranks.old.items at None }
     ensures same_length { length ranks.new.items ≡ length ranks.old.items }
 {
     for at in positions {
         clear_one(ranks, *at);
+    }
+}
+
+/// The rank at a position, none past the end.
+fn rank_or_none(ranks: &[Option<u8>], at: usize) -> Option<u8>
+    ensures { result ≡ slice_index_or ranks.now at None }
+{
+    match ranks.get(at) {
+        Some(rank) => *rank,
+        None => None,
+    }
+}
+
+/// Makes whoever stands at these positions stand where they stand in another table.
+fn take_at(ranks: &mut Vec<Option<u8>>, other: &[Option<u8>], positions: &[usize])
+    requires { (at : ℕ) → Contains positions.now at → at < length ranks.old.items }
+    ensures taken { (at : ℕ) → Contains positions.now at
+        → slice_index_or ranks.new.items at None ≡ slice_index_or other.now at None }
+    ensures stay { (at : ℕ) → ¬ Contains positions.now at
+        → slice_index_or ranks.new.items at None ≡ slice_index_or ranks.old.items at None }
+    ensures same_length { length ranks.new.items ≡ length ranks.old.items }
+{
+    for at in positions {
+        ranks[*at] = rank_or_none(other, *at);
     }
 }
 
@@ -85,7 +111,7 @@ fn clear_noted(ranks: &mut Vec<Option<u8>>, noted: &[usize], is_noting: bool)
 }
 
 impl RankTable {
-    ghost use Rattle.std.specs.Prelude.{[]};
+    ghost use Rattle.std.specs.Prelude.{[], remove};
 
     /// Nobody stands anywhere. Memory is taken for so many students. The only error is want of memory.
     pub(crate) fn with_room(alloc: Global, students: usize) -> Result<Self, AllocError>
@@ -144,6 +170,40 @@ impl RankTable {
         if let Some(Some(rank)) = self.ranks.get(at).copied() {
             self.ranks[at] = Some(rank + 1);
         }
+    }
+
+    /// Makes nobody stand at these positions any more. It takes no memory.
+    pub(crate) fn clear_at(&mut self, positions: &[usize])
+        ensures gone { (at : ℕ) → Contains positions.now at → slice_index_or self.new at None ≡ None }
+        ensures stay { (at : ℕ) → ¬ Contains positions.now at
+            → slice_index_or self.new at None ≡ slice_index_or self.old at None }
+        ensures same_length { length self.new ≡ length self.old }
+    {
+        clear_at(&mut self.ranks, positions);
+    }
+
+    /// Makes whoever stands at these positions stand where they stand in another table. It takes no memory; where somebody
+    /// stands is no longer noted.
+    pub(crate) fn take_at(&mut self, other: &[Option<u8>], positions: &[usize])
+        requires { (at : ℕ) → Contains positions.now at → at < length self.old }
+        ensures taken { (at : ℕ) → Contains positions.now at
+            → slice_index_or self.new at None ≡ slice_index_or other.now at None }
+        ensures stay { (at : ℕ) → ¬ Contains positions.now at
+            → slice_index_or self.new at None ≡ slice_index_or self.old at None }
+        ensures same_length { length self.new ≡ length self.old }
+    {
+        self.is_noting = false;
+        take_at(&mut self.ranks, other, positions);
+    }
+
+    /// Takes a position out: whoever stands behind moves up by one. It takes no memory; where somebody stands is no longer
+    /// noted.
+    pub(crate) fn remove(&mut self, at: usize)
+        requires { at < length self.old }
+        ensures { self.new ≡ remove self.old at }
+    {
+        self.is_noting = false;
+        let _ = self.ranks.remove(at);
     }
 
     /// Makes nobody stand at any position, and keeps so many positions at most. The cost is that of the positions at

@@ -7,10 +7,12 @@ ghost use Rattle.sc_engine.specs.Proposals.{IsFirstProposal};
 ghost use Rattle.sc_engine.specs.RoundView.{next_of, Fits, Enters, has_entered, without_log};
 
 mod chains;
+mod leaving;
 mod ranks;
 mod resume;
 mod rolls;
 mod starting;
+mod taking;
 
 use crate::rank_table::RankTable;
 use crate::settled::{Settled, SettledPlaces};

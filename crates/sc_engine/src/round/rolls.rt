@@ -10,7 +10,7 @@ use sc_seats::Roll;
 use std::alloc::{AllocError, Global};
 
 /// The seats of the school at the position.
-fn seats_at(papers: &Papers, position: usize) -> Seats
+pub(super) fn seats_at(papers: &Papers, position: usize) -> Seats
     requires { position < length papers.now.schools }
     ensures { (s : ℕ) → slice_get (schools_of papers.now) position ≡ Some s → result ≡ seats_of papers.now s }
 {
@@ -21,7 +21,7 @@ fn seats_at(papers: &Papers, position: usize) -> Seats
 }
 
 /// Empties a roll in the memory that it has, and gives it these seats. One that is so already stays as it is.
-fn renew_roll<R: Roll>(roll: &mut R, seats: Seats)
+pub(super) fn renew_roll<R: Roll>(roll: &mut R, seats: Seats)
     ensures keys { R.keys roll.new ≡ [] }
     ensures seats { R.seats roll.new ≡ seats }
 {

@@ -1,0 +1,242 @@
+-- Students who come to a round from another one, in which they alone stand.
+use Rattle.std.proofs.Common.{◌≡◌, inl, inr, refl, ap, sym, subst, ◌∙◌, ℕ, ◌+◌, ◌<◌, nat_eq, Bool, true, false, not, ◌&&◌, List, [], ◌∷◌, length, take, get_or, map, set, Option, None, Some, Contains, position, arith, length-set}
+use Rattle.std.specs.Option.{option_map_or}
+use Rattle.std.proofs.lemmas.Bool.{cases_Bool, cases_eq, false≢true}
+use Rattle.std.proofs.lemmas.List.Elements.{Contains-push}
+use Rattle.std.proofs.lemmas.Option.{none-some}
+use Rattle.sc_papers.specs.Key.{key_of}
+use Rattle.sc_papers.specs.Market.{Market, choices_of, schools_of, students_of}
+use Rattle.sc_papers.specs.Matching.{has}
+use Rattle.sc_papers.specs.Restriction.{AreApart}
+use Rattle.sc_papers.specs.WellFormed.{WellFormed}
+use Rattle.sc_papers.specs.declared.key.Key.{Key}
+use Rattle.sc_papers.specs.declared.proposal.Proposal.{Proposal}
+use Rattle.sc_papers.proofs.Positions.{position-one, position-there}
+use Rattle.sc_papers.proofs.Rejections.{has-agree, has-true}
+use Rattle.sc_seats.specs.Roll.{RollView}
+use Rattle.sc_engine.specs.Leaving.{AreTaken, HasRolls, SomeStands, StandAt, StandsThere, TakesOver}
+use Rattle.sc_engine.specs.RoundView.{Fits, RollFits, RoundView, next_of, no_roll, nobody, rank_of, roll_at, roll_of}
+use Rattle.sc_engine.proofs.Leaving.{Tells, earlier, earlier-or_latest, empty-roll, latest, only-one, stander-lists, told-only, told-there}
+use Rattle.sc_engine.proofs.Offers.{roll_at-mapped}
+use Rattle.sc_engine.proofs.Proposals.{has-none}
+use Rattle.sc_engine.proofs.Renewing.{roll-set_other, roll-set_same}
+use Rattle.sc_engine.proofs.Rolls.{on-roll, roll-fits_still, roll-holds}
+use Rattle.sc_engine.proofs.Tables.{length-mapped, next-among, next-kept, next-none, position-of, roll-at, stands-at}
+
+pub taken-none : (m : Market) (ranks : List (Option ℕ)) (rolls others : List RollView) → AreTaken m ranks [] rolls others rolls others
+taken-none m ranks rolls others = record {
+  each = λ k. inl (refl, refl);
+  done = λ p k (j, low, at) there none some. absurd (omega (arith, low));
+  same_length = refl;
+  same_length_left = refl;
+}
+
+-- one more position
+pub taken-more : (m : Market) (ranks : List (Option ℕ)) (positions : List ℕ) (n : ℕ) (old other now between new left : List RollView) → n < length positions
+    → AreTaken m ranks (take n positions) old other now between → AreTaken m ranks (get_or positions n 0 ∷ []) now between new left → AreTaken m ranks (take (n + 1) positions) old other new left
+taken-more m ranks positions n old other now between new left low before one = record {
+  each = λ k. elim (one.each k) [
+    | inl (same, kept) ↦ elim (before.each k) [
+      | inl (stays, there) ↦ inl (same ∙ stays, kept ∙ there)
+      | inr (theirs, ours, full, some) ↦ inr (same ∙ theirs, kept ∙ ours, full, widen k some)
+    ]
+    | inr (theirs, ours, full, some) ↦ elim (before.each k) [
+      | inl (stays, there) ↦ inr (theirs ∙ there, ours ∙ stays, subst (λ (roll : RollView). 0 < length roll.keys) there full, here k some)
+      | inr (taken, given, full_before, first) ↦ inl (theirs ∙ given, ours ∙ taken)
+    ]
+  ];
+  done = λ p k among there none some. elim (earlier-or_latest positions n p low among) [
+    | inl first ↦ elim (one.each k) [
+      | inl (same, kept) ↦ same ∙ before.done p k first there none some
+      | inr (theirs, ours, full, again) ↦ elim (before.each k) [
+        | inl (stays, still) ↦ theirs ∙ still
+        | inr (taken, given, full_before, rest) ↦ absurd (omega (arith, full, ap (λ (roll : RollView). length roll.keys) given, ap length none))
+      ]
+    ]
+    | inr last ↦ elim (before.each k) [
+      | inl (stays, still) ↦
+          one.done p k (subst (λ q. Contains (get_or positions n 0 ∷ []) q) last (Contains-push [] (get_or positions n 0))) there (ap (λ (roll : RollView). roll.keys) stays ∙ none) (subst (λ (roll : RollView). 0 < length roll.keys) (sym still) some)
+          ∙ still
+      | inr (taken, given, full_before, rest) ↦ elim (one.each k) [
+        | inl (same, kept) ↦ same ∙ taken
+        | inr (theirs, ours, full, again) ↦ absurd (omega (arith, full, ap (λ (roll : RollView). length roll.keys) given, ap length none))
+      ]
+    ]
+  ];
+  same_length = one.same_length ∙ before.same_length;
+  same_length_left = one.same_length_left ∙ before.same_length_left;
+}
+  where
+    widen : (k : ℕ) → SomeStands m ranks (take n positions) k → SomeStands m ranks (take (n + 1) positions) k
+    widen k some = record { p = some.p; among = earlier positions n some.p low some.among; there = some.there }
+
+    here : (k : ℕ) → SomeStands m ranks (get_or positions n 0 ∷ []) k → SomeStands m ranks (take (n + 1) positions) k
+    here k some = record { p = some.p; among = subst (Contains (take (n + 1) positions)) (only-one (get_or positions n 0) some.p some.among) (latest positions n low); there = some.there }
+
+-- what was exchanged at a position
+pub taken-one : {R : Type 0} (see : R → RollView) (m : Market) (ranks : List (Option ℕ)) (at : ℕ) (told : Option Proposal) (proposal : Proposal) (rolls others : List R) (mine theirs : R)
+    → WellFormed m → at < length m.students → Tells m ranks at told → told ≡ Some proposal → proposal.position < length rolls → proposal.position < length others
+    → mine ≡ get_or rolls proposal.position mine → theirs ≡ get_or others proposal.position theirs → 0 < length (see theirs).keys
+    → AreTaken m ranks (at ∷ []) (map see rolls) (map see others) (map see (set rolls proposal.position theirs)) (map see (set others proposal.position mine))
+taken-one see m ranks at told proposal rolls others mine theirs well low tells is within within_others was was_theirs full = record {
+  each = λ k. elim (cases_eq k proposal.position) [
+    | inl here ↦ inr (
+      ap (roll_at (map see (set rolls proposal.position theirs))) here ∙ roll-set_same see rolls proposal.position theirs within ∙ sym (roll_at-mapped see others proposal.position theirs within_others was_theirs)
+          ∙ ap (roll_at (map see others)) (sym here),
+      ap (roll_at (map see (set others proposal.position mine))) here ∙ roll-set_same see others proposal.position mine within_others ∙ sym (roll_at-mapped see rolls proposal.position mine within was)
+          ∙ ap (roll_at (map see rolls)) (sym here),
+      subst (λ (roll : RollView). 0 < length roll.keys) (sym (ap (roll_at (map see others)) here ∙ roll_at-mapped see others proposal.position theirs within_others was_theirs)) full,
+      record { p = at; among = Contains-push [] at; there = subst (StandsThere m ranks at) (sym here) (told-there m ranks at told proposal well low tells is) },
+    )
+    | inr apart ↦ inl (roll-set_other see rolls proposal.position theirs k apart, roll-set_other see others proposal.position mine k apart)
+  ];
+  done = λ p k among there none some.
+      let here : k ≡ proposal.position = told-only m ranks at k told proposal tells is (subst (λ q. StandsThere m ranks q k) (sym (only-one at p among)) there) in
+      ap (roll_at (map see (set rolls proposal.position theirs))) here ∙ roll-set_same see rolls proposal.position theirs within ∙ sym (roll_at-mapped see others proposal.position theirs within_others was_theirs)
+      ∙ ap (roll_at (map see others)) (sym here);
+  same_length = length-mapped see (set rolls proposal.position theirs) ∙ length-set rolls proposal.position theirs ∙ sym (length-mapped see rolls);
+  same_length_left = length-mapped see (set others proposal.position mine) ∙ length-set others proposal.position mine ∙ sym (length-mapped see others);
+}
+
+-- where the other's roll is empty nothing is exchanged
+pub taken-not : (m : Market) (ranks : List (Option ℕ)) (at : ℕ) (told : Option Proposal) (proposal : Proposal) (rolls others : List RollView) → Tells m ranks at told → told ≡ Some proposal → length (roll_at others proposal.position).keys ≡ 0
+    → AreTaken m ranks (at ∷ []) rolls others rolls others
+taken-not m ranks at told proposal rolls others tells is empty = record {
+  each = λ k. inl (refl, refl);
+  done = λ p k among there none some.
+      let here : k ≡ proposal.position = told-only m ranks at k told proposal tells is (subst (λ q. StandsThere m ranks q k) (sym (only-one at p among)) there) in
+      absurd (omega (arith, some, ap (λ j. length (roll_at others j).keys) here, empty));
+  same_length = refl;
+  same_length_left = refl;
+}
+
+-- a list that contains nothing is empty
+pub none-contained : (keys : List Key) → ((key : Key) → Contains keys key → ⊥) → keys ≡ []
+none-contained [] none = refl
+none-contained (key ∷ keys) none = absurd (none key (0, omega arith, refl))
+
+module _ (m : Market) (test : ℕ → Bool) (positions : List ℕ) (at : StandAt m test positions) (apart : AreApart m test) (old other new : RoundView) (left : List RollView)
+    (fits : Fits m old) (other_rolls : HasRolls m other) (absent : (i : ℕ) → test i ≡ true → rank_of m old.ranks i ≡ None) (alone : (i : ℕ) → test i ≡ false → rank_of m other.ranks i ≡ None)
+    (quiet : old.proposals ≡ 0) (rolls : AreTaken m other.ranks positions old.rolls other.rolls new.rolls left)
+    (taken : (p : ℕ) → Contains positions p → get_or new.ranks p None ≡ get_or other.ranks p None) (stay : (p : ℕ) → (Contains positions p → ⊥) → get_or new.ranks p None ≡ get_or old.ranks p None)
+    (long : length new.ranks ≡ length old.ranks) (log : new.log ≡ old.log) (proposals : new.proposals ≡ old.proposals) where
+  rank-taken : (i : ℕ) → test i ≡ true → rank_of m new.ranks i ≡ rank_of m other.ranks i
+  unfolding rank_of
+  rank-taken i passes = go (position (nat_eq i) (students_of m)) refl
+    where
+      go : (o : Option ℕ) → position (nat_eq i) (students_of m) ≡ o → option_map_or (λ p. get_or new.ranks p None) o None ≡ option_map_or (λ p. get_or other.ranks p None) o None
+      go None is = refl
+      go (Some p) is = taken p ((at.exact p i (position-there (students_of m) i p is)).1 passes)
+
+  rank-stays : (i : ℕ) → test i ≡ false → rank_of m new.ranks i ≡ rank_of m old.ranks i
+  unfolding rank_of
+  rank-stays i fails = go (position (nat_eq i) (students_of m)) refl
+    where
+      go : (o : Option ℕ) → position (nat_eq i) (students_of m) ≡ o → option_map_or (λ p. get_or new.ranks p None) o None ≡ option_map_or (λ p. get_or old.ranks p None) o None
+      go None is = refl
+      go (Some p) is = stay p (λ among. false≢true (sym fails ∙ (at.exact p i (position-there (students_of m) i p is)).0 among))
+
+  next-old : (i : ℕ) → test i ≡ true → next_of m old.ranks i ≡ None
+  next-old i passes = next-none m old.ranks i (absent i passes)
+
+  next-other : (i : ℕ) → test i ≡ false → next_of m other.ranks i ≡ None
+  next-other i fails = next-none m other.ranks i (alone i fails)
+
+  -- who stands in the other round stands at one of the positions, and passes
+  there : (i s k : ℕ) → next_of m other.ranks i ≡ Some s → position (nat_eq s) (schools_of m) ≡ Some k → test i ≡ true → SomeStands m other.ranks positions k
+  there i s k next school passes =
+      let stood = stands-at m other.ranks i s next in
+      let where_is = position-of m other.ranks i stood.rank stood.entered in
+      record {
+        p = where_is.at;
+        among = (at.exact where_is.at i (position-there (students_of m) i where_is.at where_is.found)).1 passes;
+        there = record { student = i; school = s; found = where_is.found; next = next; at = school };
+      }
+
+  -- a roll that stays fits, where nobody stands at the school in the other round
+  fits-same : (s : ℕ) (roll : RollView) → RollFits m (next_of m old.ranks) nobody s roll → ((j : ℕ) → next_of m other.ranks j ≡ Some s → ⊥) → RollFits m (next_of m new.ranks) nobody s roll
+  fits-same s roll before nobody_stands = roll-fits_still m (next_of m old.ranks) (next_of m new.ranks) nobody nobody s roll alike before
+    where
+      alike : (j : ℕ) → (has (next_of m old.ranks) s j && not false) ≡ (has (next_of m new.ranks) s j && not false)
+      alike j = elim (cases_Bool (test j)) [
+        | inl passes ↦ elim (cases_Bool (has (next_of m new.ranks) s j)) [
+          | inl holds ↦ absurd (nobody_stands j (sym (next-kept m other.ranks new.ranks j (rank-taken j passes)) ∙ has-true (next_of m new.ranks) s j holds))
+          | inr fails_there ↦ ap (λ b. b && not false) (has-none (next_of m old.ranks) s j (next-old j passes) ∙ sym fails_there)
+        ]
+        | inr fails ↦ ap (λ b. b && not false) (has-agree (next_of m old.ranks) (next_of m new.ranks) s j (sym (next-kept m old.ranks new.ranks j (rank-stays j fails))))
+      ]
+
+  -- and one that is taken fits, where somebody who passes stands there
+  fits-taken : (s : ℕ) (roll : RollView) (one : ℕ) → RollFits m (next_of m other.ranks) nobody s roll → test one ≡ true → Contains (choices_of m one) s → RollFits m (next_of m new.ranks) nobody s roll
+  fits-taken s roll one before passes_one listed = roll-fits_still m (next_of m other.ranks) (next_of m new.ranks) nobody nobody s roll alike before
+    where
+      alike : (j : ℕ) → (has (next_of m other.ranks) s j && not false) ≡ (has (next_of m new.ranks) s j && not false)
+      alike j = elim (cases_Bool (test j)) [
+        | inl passes ↦ ap (λ b. b && not false) (has-agree (next_of m other.ranks) (next_of m new.ranks) s j (sym (next-kept m other.ranks new.ranks j (rank-taken j passes))))
+        | inr fails ↦ elim (cases_Bool (has (next_of m new.ranks) s j)) [
+          | inl holds ↦
+              absurd (apart.none_shared one j s passes_one fails listed
+              (stander-lists m old.ranks j s (sym (next-kept m old.ranks new.ranks j (rank-stays j fails)) ∙ has-true (next_of m new.ranks) s j holds)))
+          | inr fails_there ↦ ap (λ b. b && not false) (has-none (next_of m other.ranks) s j (next-other j fails) ∙ sym fails_there)
+        ]
+      ]
+
+  at-school : (next : RoundView) → HasRolls m next → (s k : ℕ) → position (nat_eq s) (schools_of m) ≡ Some k → RollFits m (next_of m next.ranks) nobody s (roll_at next.rolls k)
+  at-school next they_fit s k school = subst (RollFits m (next_of m next.ranks) nobody s) (roll-at m next.rolls s k school) (they_fit.each s)
+
+  passes-there : (j s : ℕ) → next_of m other.ranks j ≡ Some s → test j ≡ true
+  passes-there j s next = elim (cases_Bool (test j)) [ inl passes ↦ passes | inr fails ↦ absurd (none-some s (sym (next-other j fails) ∙ next)) ]
+
+  -- nobody is on the roll of a school that one who passes lists
+  old-empty : (s k one : ℕ) → position (nat_eq s) (schools_of m) ≡ Some k → test one ≡ true → Contains (choices_of m one) s → (roll_at old.rolls k).keys ≡ []
+  old-empty s k one school passes listed = none-contained (roll_at old.rolls k).keys (λ key held.
+      let on = on-roll m (next_of m old.ranks) nobody s (roll_at old.rolls k) key (at-school old (record { rolls = fits.rolls; each = fits.each }) s k school) held in
+      elim (cases_Bool (test key.student)) [
+        | inl also ↦ none-some s (sym (next-old key.student also) ∙ on.stands)
+        | inr fails ↦ apart.none_shared one key.student s passes fails listed (stander-lists m old.ranks key.student s on.stands)
+      ])
+
+  fits-at : (s k : ℕ) → position (nat_eq s) (schools_of m) ≡ Some k → RollFits m (next_of m new.ranks) nobody s (roll_at new.rolls k)
+  fits-at s k school = elim (rolls.each k) [
+    | inl (same, kept) ↦
+        subst (RollFits m (next_of m new.ranks) nobody s) (sym same)
+        (fits-same s (roll_at old.rolls k) (at-school old (record { rolls = fits.rolls; each = fits.each }) s k school) (λ j next.
+        let passes = passes-there j s next in
+        let some = there j s k next school passes in
+        let none = old-empty s k j school passes (stander-lists m other.ranks j s next) in
+        let held : Contains (roll_at other.rolls k).keys (key_of m j s) = roll-holds m (next_of m other.ranks) nobody s (roll_at other.rolls k) j (at-school other other_rolls s k school) (next-among m other.ranks j s next) next refl in
+        let theirs = rolls.done some.p k some.among some.there none (omega (arith, held.1)) in
+        empty-roll (roll_at other.rolls k) (key_of m j s) (ap (λ (roll : RollView). roll.keys) (sym theirs ∙ same) ∙ none) held))
+    | inr (theirs, ours, full, some) ↦
+        let same : some.there.school ≡ s = position-one (schools_of m) s some.there.school k school some.there.at in
+        let next : next_of m other.ranks some.there.student ≡ Some s = some.there.next ∙ ap Some same in
+        subst (RollFits m (next_of m new.ranks) nobody s) (sym theirs)
+        (fits-taken s (roll_at other.rolls k) some.there.student (at-school other other_rolls s k school) (passes-there some.there.student s next) (stander-lists m other.ranks some.there.student s next))
+  ]
+
+  fits-new : (s : ℕ) → RollFits m (next_of m new.ranks) nobody s (roll_of m new.rolls s)
+  unfolding roll_of
+  fits-new s = go (position (nat_eq s) (schools_of m)) refl
+    where
+      go : (o : Option ℕ) → position (nat_eq s) (schools_of m) ≡ o → RollFits m (next_of m new.ranks) nobody s (option_map_or (roll_at new.rolls) o no_roll)
+      go None is =
+          fits-same s no_roll (subst (RollFits m (next_of m old.ranks) nobody s) (ap (λ o. option_map_or (roll_at old.rolls) o no_roll) is) (fits.each s))
+          (λ j next. empty-roll no_roll (key_of m j s) refl
+          (roll-holds m (next_of m other.ranks) nobody s no_roll j (subst (RollFits m (next_of m other.ranks) nobody s) (ap (λ o. option_map_or (roll_at other.rolls) o no_roll) is) (other_rolls.each s)) (next-among m other.ranks j s next) next refl))
+      go (Some k) is = fits-at s k is
+
+  pub takes-over : TakesOver m test old other new
+  takes-over = record {
+    fits = record {
+      well_formed = fits.well_formed;
+      within_limits = fits.within_limits;
+      ranks = omega (arith, fits.ranks, long);
+      rolls = omega (arith, fits.rolls, rolls.same_length);
+      each = fits-new;
+      proposals = omega (arith, proposals, quiet);
+    };
+    taken = rank-taken;
+    others = rank-stays;
+    log = log;
+    proposals = proposals;
+  }

@@ -1,0 +1,19 @@
+use Rattle.std.proofs.Common.{Contains, subst, sym, arith}
+use Rattle.std.proofs.lemmas.List.{take_all}
+use Rattle.std.proofs.lemmas.List.Elements.{Contains-get_or}
+use Rattle.sc_engine.proofs.Clearing.{taken-more}
+use Rattle.sc_engine.proofs.rank_table.take_at.Goals as goal
+
+pub index_mut-requires : goal.index_mut-requires
+index_mut-requires c = omega (arith, c.loop-at.invariant.same_length, c.requires _ (Contains-get_or c.args.positions.now c.loop-at.at-index 0 c.loop-at-test.true))
+
+pub loop-at-preserved : goal.loop-at-preserved
+loop-at-preserved c =
+    taken-more c.args.positions.now c.loop-at.at-index c.loop-at-test.true c.args.other.now c.args.ranks.now.items c.loop-at.ranks.items c.rank_or_none.result
+    (omega (arith, c.loop-at.invariant.same_length, c.requires _ (Contains-get_or c.args.positions.now c.loop-at.at-index 0 c.loop-at-test.true))) c.rank_or_none.ensures c.loop-at.invariant
+
+pub returns-clause-taken : goal.returns-clause-taken
+returns-clause-taken c at among = c.loop-at.invariant.taken at (subst (λ ps. Contains ps at) (sym (take_all c.loop-at.at-index c.args.positions.now c.loop-at-test.false)) among)
+
+pub returns-clause-stay : goal.returns-clause-stay
+returns-clause-stay c at out = c.loop-at.invariant.stay at (λ among. out (subst (λ ps. Contains ps at) (take_all c.loop-at.at-index c.args.positions.now c.loop-at-test.false) among))

@@ -1,0 +1,6 @@
+use Rattle.std.proofs.Common.{take}
+use Rattle.sc_engine.proofs.Clearing.{Taken}
+use Rattle.sc_engine.proofs.rank_table.take_at.Given as goal
+
+abbrev pub invariant-loop-at : goal.invariant-loop-at
+invariant-loop-at l = Taken (take l.at-index l.positions) l.other l.initial.ranks.items l.ranks.items

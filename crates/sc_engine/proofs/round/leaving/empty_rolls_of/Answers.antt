@@ -1,0 +1,24 @@
+use Rattle.std.proofs.Common.{◌∙◌, sym, subst}
+use Rattle.std.proofs.lemmas.List.{take_all}
+use Rattle.std.proofs.lemmas.List.Elements.{Contains-get_or}
+use Rattle.sc_engine.specs.Leaving.{AreEmptied}
+use Rattle.sc_engine.specs.Rolls.{rolls_of}
+use Rattle.sc_engine.proofs.Leaving.{emptied-more}
+use Rattle.sc_engine.proofs.Offers.{seen_by}
+use Rattle.sc_engine.proofs.Tables.{length-mapped}
+use Rattle.sc_engine.proofs.round.leaving.empty_rolls_of.Goals as goal
+
+pub empty_roll_of-requires-clause-student : goal.empty_roll_of-requires-clause-student
+empty_roll_of-requires-clause-student g c = c.requires.within _ (Contains-get_or c.args.positions.now c.loop-at.at-index 0 c.loop-at-test.true)
+
+pub loop-at-preserved : goal.loop-at-preserved
+loop-at-preserved g c = (
+  sym (length-mapped (seen_by g.R.Roll.keys g.R.Roll.seats) c.empty_roll_of.new.rolls.items) ∙ c.empty_roll_of.ensures.same_length ∙ length-mapped (seen_by g.R.Roll.keys g.R.Roll.seats) c.loop-at.rolls.items ∙ c.loop-at.invariant.0,
+  emptied-more c.args.papers.now c.args.ranks.now c.args.positions.now c.loop-at.at-index (rolls_of g.R.Roll.keys g.R.Roll.seats c.args.rolls.now.items) (rolls_of g.R.Roll.keys g.R.Roll.seats c.loop-at.rolls.items)
+      (rolls_of g.R.Roll.keys g.R.Roll.seats c.empty_roll_of.new.rolls.items) c.loop-at-test.true c.loop-at.invariant.1 c.empty_roll_of.ensures,
+)
+
+pub returns : goal.returns
+returns g c =
+    subst (λ positions. AreEmptied c.args.papers.now c.args.ranks.now positions (rolls_of g.R.Roll.keys g.R.Roll.seats c.args.rolls.now.items) (rolls_of g.R.Roll.keys g.R.Roll.seats c.loop-at.rolls.items))
+    (take_all c.loop-at.at-index c.args.positions.now c.loop-at-test.false) c.loop-at.invariant.1

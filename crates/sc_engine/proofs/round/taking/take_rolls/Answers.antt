@@ -1,0 +1,28 @@
+use Rattle.std.proofs.Common.{◌∙◌, sym, subst}
+use Rattle.std.proofs.lemmas.List.{take_all}
+use Rattle.std.proofs.lemmas.List.Elements.{Contains-get_or}
+use Rattle.sc_engine.specs.Leaving.{AreTaken}
+use Rattle.sc_engine.specs.Rolls.{rolls_of}
+use Rattle.sc_engine.proofs.Offers.{seen_by}
+use Rattle.sc_engine.proofs.Tables.{length-mapped}
+use Rattle.sc_engine.proofs.Taking.{taken-more}
+use Rattle.sc_engine.proofs.round.taking.take_rolls.Goals as goal
+
+pub take_roll-requires-clause-student : goal.take_roll-requires-clause-student
+take_roll-requires-clause-student g c = c.requires.within _ (Contains-get_or c.args.positions.now c.loop-at.at-index 0 c.loop-at-test.true)
+
+pub loop-at-preserved : goal.loop-at-preserved
+loop-at-preserved g c =
+    let see = seen_by g.R.Roll.keys g.R.Roll.seats in (
+      sym (length-mapped see c.take_roll.new.rolls.items) ∙ c.take_roll.ensures.same_length ∙ length-mapped see c.loop-at.rolls.items ∙ c.loop-at.invariant.0,
+      sym (length-mapped see c.take_roll.new.others.items) ∙ c.take_roll.ensures.same_length_left ∙ length-mapped see c.loop-at.others.items ∙ c.loop-at.invariant.1,
+      taken-more c.args.papers.now c.args.ranks.now c.args.positions.now c.loop-at.at-index (rolls_of g.R.Roll.keys g.R.Roll.seats c.args.rolls.now.items) (rolls_of g.R.Roll.keys g.R.Roll.seats c.args.others.now.items)
+          (rolls_of g.R.Roll.keys g.R.Roll.seats c.loop-at.rolls.items) (rolls_of g.R.Roll.keys g.R.Roll.seats c.loop-at.others.items) (rolls_of g.R.Roll.keys g.R.Roll.seats c.take_roll.new.rolls.items)
+          (rolls_of g.R.Roll.keys g.R.Roll.seats c.take_roll.new.others.items) c.loop-at-test.true c.loop-at.invariant.2 c.take_roll.ensures,
+    )
+
+pub returns : goal.returns
+returns g c =
+    subst
+    (λ positions. AreTaken c.args.papers.now c.args.ranks.now positions (rolls_of g.R.Roll.keys g.R.Roll.seats c.args.rolls.now.items) (rolls_of g.R.Roll.keys g.R.Roll.seats c.args.others.now.items) (rolls_of g.R.Roll.keys g.R.Roll.seats c.loop-at.rolls.items) (rolls_of g.R.Roll.keys g.R.Roll.seats c.loop-at.others.items))
+    (take_all c.loop-at.at-index c.args.positions.now c.loop-at-test.false) c.loop-at.invariant.2
