@@ -32,5 +32,6 @@ pub mod Picked
 pub mod Regions
 pub mod FirstAmong
 pub mod Reordered
-pub mod KeptRound
+pub mod Rejoining
+pub mod MovingUp
 pub mod Bounded

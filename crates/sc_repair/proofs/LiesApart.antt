@@ -30,7 +30,7 @@ region-apart_after m a test tells = record {
 }
 
 -- the students outside are the same after one who passes is removed, changed or put at the end
-others-removed : {X : Type 0} (test : ℕ → Bool) (i : ℕ) (es : List (ℕ × X)) → test i ≡ true → filter (λ e. outside test e.0) (remove_entry (nat_eq i) es) ≡ filter (λ e. outside test e.0) es
+pub others-removed : {X : Type 0} (test : ℕ → Bool) (i : ℕ) (es : List (ℕ × X)) → test i ≡ true → filter (λ e. outside test e.0) (remove_entry (nat_eq i) es) ≡ filter (λ e. outside test e.0) es
 others-removed test i [] passes = refl
 others-removed test i (e ∷ es) passes =
     elim (cases_Bool (nat_eq i e.0)) [
@@ -63,7 +63,7 @@ others-entered test i es w passes =
     ∙ append-nil (filter (λ e. outside test e.0) es)
 
 -- an amended student passes: the schools stay
-alike-entries : (m n : Market) (test : ℕ → Bool) → n.seed ≡ m.seed → n.schools ≡ m.schools
+pub alike-entries : (m n : Market) (test : ℕ → Bool) → n.seed ≡ m.seed → n.schools ≡ m.schools
     → filter (λ e. outside test e.0) n.students ≡ filter (λ e. outside test e.0) m.students → AlikeOutside test m n
 unfolding seats_of
 alike-entries m n test seed schools students = record {

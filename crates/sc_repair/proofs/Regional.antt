@@ -62,7 +62,7 @@ marks-count m marks chains one_each theirs =
     omega (arith, one_each, ap (λ (is : List ℕ). length is) theirs, length-map chains (λ (c : Chain). c.student), length-students m)
 
 -- a student outside stays in the papers
-student-outside : (m n : Market) (test : ℕ → Bool) (i : ℕ) → AlikeOutside test m n → test i ≡ false → student_of n i ≡ student_of m i
+pub student-outside : (m n : Market) (test : ℕ → Bool) (i : ℕ) → AlikeOutside test m n → test i ≡ false → student_of n i ≡ student_of m i
 unfolding restricted
 student-outside m n test i alike fails =
     sym (cond-true (outside test i) (student_of n i) None (ap not fails))

@@ -27,7 +27,7 @@ use Rattle.sc_repair.proofs.Resumption.{length-students}
 use Rattle.sc_repair.proofs.Rewinding.{segments-rewound}
 
 -- a student before the end of papers that are cut there
-slice-first : (k : ℕ) (xs : List ℕ) (at : ℕ) → at < k → slice_get (take k xs) at ≡ slice_get xs at
+pub slice-first : (k : ℕ) (xs : List ℕ) (at : ℕ) → at < k → slice_get (take k xs) at ≡ slice_get xs at
 slice-first zero xs at low = absurd (omega (arith, low))
 slice-first (suc k) [] at low = refl
 slice-first (suc k) (x ∷ xs) zero low = refl

@@ -8,6 +8,7 @@ pub mod Newcomer
 pub mod Changed
 pub mod Stamped
 pub mod Placing
+pub mod Rejoining
 pub mod Renewed
 pub mod Places
 pub mod Turns

@@ -200,12 +200,13 @@ impl Clearing {
     ///
     /// An `Enter` costs its `check` and an offer for each proposal of the newcomer's chain, however many students
     /// there are, but for a table that grows now and then. It changes what stands in place, and takes that
-    /// back where a growth is refused. The first `Enter` after a withdrawal, after another amendment whose region is not
-    /// everybody, or after a refused growth also costs an offer for each student and a look at each entry of the log, by
-    /// which everybody is put back where they stand.
+    /// back where a growth is refused. The first `Enter` after a withdrawal whose region is everybody, or after
+    /// a refused growth, also costs an offer for each student and a look at each entry of the log, by which everybody is
+    /// put back where they stand.
     ///
     /// Any other amendment costs that of finding the region, the looks of a round at the papers, a look at each
-    /// segment of the region's students before the rewind point, and an offer for each proposal of the others; a
+    /// segment of the region's students before the rewind point, an offer for each proposal of the others, and a few looks
+    /// at the row of each, by which they leave the round in which everybody stands and come back to it; a
     /// withdrawal also moves up whoever stands behind the student in the order of entry. Nothing of those outside the
     /// region is copied or passed over. The region's new segments are made whole beside the old ones before they take their
     /// place, and papers that have changed by then go back where a growth is refused, so nothing is left half done.

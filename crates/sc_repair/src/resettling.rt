@@ -17,6 +17,7 @@ ghost use Rattle.sc_repair.specs.Changed.{standing_of, HaveChanged};
 ghost use Rattle.sc_repair.specs.Course.{GoesOnInside};
 ghost use Rattle.sc_repair.specs.Locality.{chains_of, is_among, marked_in};
 ghost use Rattle.sc_repair.specs.Newcomer.{StandsAfter};
+ghost use Rattle.sc_repair.specs.Rejoining.{StandsInside};
 ghost use Rattle.sc_repair.specs.Standing.{CountsInside, IsCertified};
 ghost use Rattle.sc_repair.specs.Renewed.{marked_from, renewed_from, AreRenewed, CanBeRenewed, HaveTurns};
 
@@ -185,6 +186,9 @@ pub(crate) fn resettle<R: Roll>(
     ensures stands { OnOk result (IfSome spare.new (λ round. ((i : ℕ) → Contains (students_in segments.new) i
         → is_among (marked_in part.entry.region.now segments.old) i ≡ true)
         → StandsAfter part.entry.papers.now segments.new (without_log (view_of R.keys R.seats round)))) }
+    ensures inside { OnOk result (IfSome spare.new (λ round.
+        StandsInside part.entry.papers.now (is_among (marked_in part.entry.region.now segments.old)) places.new
+        part.entry.end (view_of R.keys R.seats round))) }
     ensures unchanged { OnErr result ((places.new ≡ places.old) × (segments.new ≡ segments.old)) }
 {
     // Where a student leaves, the segments of those behind stand one position further back.

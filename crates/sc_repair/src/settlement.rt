@@ -31,10 +31,11 @@ pub(crate) struct Settlement {
     places: Places,
     segments: Segments,
     proposals: u64,
-    // Where there is one, the round in which everybody stands: it is kept from newcomer to newcomer, and where an
-    // amendment settles everybody anew, and made again when it is wanted.
+    // Where there is one, the round in which everybody stands: a newcomer goes on in it, and the students of a region
+    // leave it and come back. It is lost where a growth is refused and where a withdrawal settles everybody, and made
+    // again when it is wanted.
     round: Option<Round<HeapRoll>>,
-    // Where there is one, a round that is done with, whose memory serves the next amendment but an entry.
+    // Where there is one, a round that is done with, in whose memory the next amendment settles its region.
     spare: Option<Round<HeapRoll>>,
     // Where there are some, the districts of the papers, from which the region of an amendment is found: they are
     // kept from amendment to amendment, and made again when they are wanted.

@@ -128,6 +128,26 @@ const TWO_PARTS: Files<'static> = Files {
 };
 
 #[test]
+fn newcomers_and_changes_in_two_parts_in_turn(rt: HostRuntime) {
+    let script = "\
+add,10,1 => ok, 2: 1:10 2:20 3:10 4:0 |(4,20)
+enter,5,0,,20 => ok, 1: 1:10 2:20 3:10 4:0 5:0 |(4,20)(5,20)
+add,20,2 => ok, 3: 1:10 2:20 3:10 4:20 5:20 |
+enter,6,0,10,10 => ok, 1: 1:0 2:20 3:10 4:20 5:20 6:10 |(1,10)
+rerank,1,10 => ok, 3: 1:0 2:20 3:10 4:20 5:20 6:10 |(1,10)
+add,20,1 => ok, 3: 1:0 2:20 3:10 4:20 5:20 6:10 |(1,10)
+enter,7,0,,20 => ok, 1: 1:0 2:20 3:10 4:20 5:20 6:10 7:20 |(1,10)
+";
+    walk(
+        &rt,
+        rt.alloc(),
+        TWO_PARTS,
+        "1:0 2:20 3:10 4:0 |(1,10)(4,20)",
+        script,
+    );
+}
+
+#[test]
 fn an_amendment_settles_its_region_alone(rt: HostRuntime) {
     let script = "\
 withdraw,3 => ok, 0: 1:10 2:20 4:0 |(4,20)

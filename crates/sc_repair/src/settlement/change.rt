@@ -9,17 +9,19 @@ ghost use Rattle.sc_repair.specs.Standing.{CountsRegion, IsCertified, KeepsOther
 
 use super::Settlement;
 use crate::districts::region_of;
-use crate::kept_round::{keep_if_everybody, make_spare};
+use crate::kept_round::{let_leave, rejoin, reseat, round_of_everybody};
 use crate::part::Part;
 use crate::resettling::resettle;
 use crate::rewind::point_in;
 use sc_papers::Amendment;
+use sc_stamps::record_of;
 use std::alloc::AllocError;
 
 impl Settlement {
     /// Makes an amendment by which nobody enters or withdraws, in place, and settles its region anew from its
-    /// rewind point on. The only error is want of memory, which changes nothing: where a growth is refused after the papers have
-    /// changed, the amendment is taken back.
+    /// rewind point on, in a round of its own, from which its students come back to the one in which everybody stands. The
+    /// only error is want of memory, which changes nothing: where a growth is refused after the papers have changed, the
+    /// amendment is taken back.
     pub(super) fn change(&mut self, amendment: Amendment) -> Result<(), AllocError>
         requires allowed { verdict self.old.papers amendment ≡ None }
         requires no_entry { newcomer amendment ≡ None }
@@ -34,12 +36,18 @@ impl Settlement {
     {
         let region = region_of(self.alloc, &mut self.districts, &self.papers, &amendment)?;
         let point = point_in(&self.papers, &region, &amendment);
+        let amended = record_of(&amendment);
+        let_leave(
+            &mut self.round,
+            &mut self.spare,
+            &self.papers,
+            region.positions(),
+        );
         // Only an entry takes memory.
         let Ok(back) = self.papers.apply_reversibly(amendment) else {
             unreachable!()
         };
         let end = self.papers.students_len();
-        make_spare(&mut self.round, &mut self.spare);
         let part = Part {
             papers: &self.papers,
             region: &region,
@@ -57,7 +65,15 @@ impl Settlement {
             Ok(proposals) => {
                 drop(back);
                 self.proposals = proposals;
-                self.round = keep_if_everybody(
+                reseat(&mut self.round, &self.papers, amended);
+                rejoin(
+                    &mut self.round,
+                    &mut self.spare,
+                    &self.papers,
+                    region.positions(),
+                );
+                self.round = round_of_everybody(
+                    self.round.take(),
                     &mut self.spare,
                     &self.papers,
                     &region,
@@ -68,6 +84,7 @@ impl Settlement {
             Err(refused) => {
                 self.papers.take_back(back);
                 self.districts = None;
+                self.round = None;
                 Err(refused)
             }
         }

@@ -1,21 +1,28 @@
-use Rattle.std.proofs.Common.{◌≡◌, ℕ, List, true, Contains, ap, sym, subst, subst₂, ◌∙◌, IfSome, take}
+use Rattle.std.proofs.Common.{◌≡◌, ℕ, List, true, false, Contains, ap, sym, subst, ◌∙◌, IfSome, take, arith}
+use Rattle.std.specs.Option.{IsSomeAnd}
+use Rattle.std.proofs.lemmas.List.{take_all}
+use Rattle.sc_papers.specs.declared.key.Key.{Key}
+use Rattle.sc_seats.specs.Roll.{RollView}
+use Rattle.sc_region.specs.Region.{amended_school}
+use Rattle.sc_repair.specs.Rejoining.{school_in, HasSeats}
 use Rattle.sc_papers.specs.Market.{Market, students_of}
 use Rattle.sc_papers.specs.Verdict.{verdict}
 use Rattle.sc_checkpoint.specs.Chains.{logs_in, students_in, Chain}
-use Rattle.sc_engine.specs.Round.{view_of}
+use Rattle.sc_engine.specs.Round.{is_spent, view_of}
 use Rattle.sc_engine.specs.RoundView.{without_log}
 use Rattle.sc_region.specs.Marks.{marked}
 use Rattle.sc_repair.specs.Changed.{standing_of}
 use Rattle.sc_repair.specs.Locality.{is_among, marked_in, TellsRegion}
 use Rattle.sc_region.specs.Districts.{AreDistricts}
-use Rattle.sc_repair.specs.Representation.{IsKept}
 use Rattle.sc_repair.specs.Newcomer.{StandsAfter}
 use Rattle.sc_repair.specs.Rewinding.{rewind_point}
 use Rattle.sc_repair.specs.Standing.{Standing, CountsInside, CountsRegion, IsCertified, KeepsOthers}
 use Rattle.sc_repair.proofs.Admitted.{still-certified}
 use Rattle.sc_repair.proofs.Changed.{in-place-changed, whole-cut-of}
 use Rattle.sc_repair.proofs.InStep.{students-stay}
-use Rattle.sc_repair.proofs.KeptRound.{kept-round, lent-round}
+use Rattle.sc_repair.proofs.LiesApart.{region-apart}
+use Rattle.sc_repair.proofs.Rejoining.{amended-in, change, gone-some, if-some, region-tells, joins-inside, rejoined, rejoined-some, stand-at, stand-still, waits, waits-some}
+use Rattle.sc_repair.proofs.Resumption.{length-students}
 use Rattle.sc_repair.proofs.Regional.{counts-region, keeps-others, marks-count, marks-tell}
 use Rattle.sc_repair.proofs.settlement.Settlement.change.Goals as goal
 
@@ -37,22 +44,109 @@ resettle-settled-requires c =
       one_each = marks-count m c.in_ok-region.region c.self.inside.segments c.in_ok-region.ensures.region.one_each c.self.invariant.theirs;
     }
 
-pub keep_if_everybody-requires-clause-stands : goal.keep_if_everybody-requires-clause-stands
-keep_if_everybody-requires-clause-stands c =
+abbrev keys : RollView → List Key
+keys roll = roll.keys
+
+abbrev seats : RollView → ℕ
+seats roll = roll.seats
+
+pub let_leave-requires-clause-within : goal.let_leave-requires-clause-within
+let_leave-requires-clause-within c =
+    let m = c.self.inside.papers in
+    let chains = c.self.inside.segments in
+    let marks = c.in_ok-region.region in
+    let test = is_among (marked_in marks chains) in
+    let allowed = ap (λ (s : Standing). verdict s.papers c.args.amendment) c.self.view_is ∙ c.requires.allowed in
+    let tells = region-tells m c.args.amendment marks chains c.self.invariant.certified.well_formed allowed c.requires.no_entry c.in_ok-region.ensures.region c.self.invariant.theirs in
+    (stand-at m c.args.amendment test marks c.positions.result.now c.in_ok-region.ensures.region.one_each tells c.in_ok-region.ensures.region.region c.positions.ensures.marked).within
+
+pub reseat-requires : goal.reseat-requires
+reseat-requires c =
+    let m = c.self.inside.papers in
+    let chains = c.self.inside.segments in
+    let marks = c.in_ok-region.region in
+    let test = is_among (marked_in marks chains) in
+    let allowed = ap (λ (s : Standing). verdict s.papers c.args.amendment) c.self.view_is ∙ c.requires.allowed in
+    let tells = region-tells m c.args.amendment marks chains c.self.invariant.certified.well_formed allowed c.requires.no_entry c.in_ok-region.ensures.region c.self.invariant.theirs in
+    let gone = gone-some keys seats m test chains c.self.inside.round c.let_leave.new.round
+    (c.let_leave.ensures test (stand-at m c.args.amendment test marks c.positions.result.now c.in_ok-region.ensures.region.one_each tells c.in_ok-region.ensures.region.region c.positions.ensures.marked) (region-apart m c.args.amendment test tells)) c.self.invariant.round in
+    let students : students_of c.apply_reversibly.new.self ≡ students_of m = ap students_of c.in-Ok.ensures.accepted ∙ students-stay m c.args.amendment c.requires.no_entry c.requires.no_withdrawal in
+    let changed = change m c.apply_reversibly.new.self c.args.amendment marks c.positions.result.now chains c.self.invariant.certified.well_formed allowed c.requires.no_entry c.in-Ok.ensures.accepted
+    c.students_len-end.ensures.well_formed c.students_len-end.ensures.within_limits c.in_ok-region.ensures.region c.positions.ensures.marked c.self.invariant.theirs in
+    if-some _ _ c.let_leave.new.round (λ r left. left.1.leave.fits.rolls ∙ sym changed.schools_count) gone
+
+pub rejoin-requires : goal.rejoin-requires
+rejoin-requires c =
+    let m = c.self.inside.papers in
+    let chains = c.self.inside.segments in
+    let marks = c.in_ok-region.region in
+    let test = is_among (marked_in marks chains) in
+    let allowed = ap (λ (s : Standing). verdict s.papers c.args.amendment) c.self.view_is ∙ c.requires.allowed in
+    let tells = region-tells m c.args.amendment marks chains c.self.invariant.certified.well_formed allowed c.requires.no_entry c.in_ok-region.ensures.region c.self.invariant.theirs in
+    let gone = gone-some keys seats m test chains c.self.inside.round c.let_leave.new.round
+    (c.let_leave.ensures test (stand-at m c.args.amendment test marks c.positions.result.now c.in_ok-region.ensures.region.one_each tells c.in_ok-region.ensures.region.region c.positions.ensures.marked) (region-apart m c.args.amendment test tells)) c.self.invariant.round in
+    let students : students_of c.apply_reversibly.new.self ≡ students_of m = ap students_of c.in-Ok.ensures.accepted ∙ students-stay m c.args.amendment c.requires.no_entry c.requires.no_withdrawal in
+    let changed = change m c.apply_reversibly.new.self c.args.amendment marks c.positions-in-Ok-settled.result.now chains c.self.invariant.certified.well_formed allowed c.requires.no_entry c.in-Ok.ensures.accepted
+    c.students_len-end.ensures.well_formed c.students_len-end.ensures.within_limits c.in_ok-region.ensures.region c.positions-in-Ok-settled.ensures.marked c.self.invariant.theirs in
+    let waiting = waits-some keys seats m c.apply_reversibly.new.self test chains (amended_school c.args.amendment) c.let_leave.new.round c.reseat.new.round
+    (subst (λ amended. IfSome c.reseat.new.round (λ new. IsSomeAnd c.let_leave.new.round (λ before. HasSeats keys seats c.apply_reversibly.new.self amended before new))) (ap school_in c.record_of-amended.ensures ∙ amended-in c.args.amendment) c.reseat.ensures)
+    gone (λ l r. waits m c.apply_reversibly.new.self c.args.amendment test _ chains l r changed students c.self.invariant.theirs) in
+    let at = stand-still m c.apply_reversibly.new.self test c.positions-in-Ok-settled.result.now students changed.at in
+    record {
+      fits = if-some _ _ c.reseat.new.round (λ r waits. waits.1.fits) waiting;
+      spare_rolls = if-some _ _ c.resettle-settled.new.spare (λ other inside. record { rolls = inside.fits.rolls; each = inside.fits.each }) c.in-Ok-settled.ensures.inside;
+      within = at.within;
+      room = if-some _ _ c.reseat.new.round (λ r waits p among. waits.1.room p (at.within p among)) waiting;
+    }
+
+pub round_of_everybody-requires-clause-kept : goal.round_of_everybody-requires-clause-kept
+round_of_everybody-requires-clause-kept c =
+    let m = c.self.inside.papers in
+    let chains = c.self.inside.segments in
+    let marks = c.in_ok-region.region in
+    let test = is_among (marked_in marks chains) in
+    let allowed = ap (λ (s : Standing). verdict s.papers c.args.amendment) c.self.view_is ∙ c.requires.allowed in
+    let tells = region-tells m c.args.amendment marks chains c.self.invariant.certified.well_formed allowed c.requires.no_entry c.in_ok-region.ensures.region c.self.invariant.theirs in
+    let gone = gone-some keys seats m test chains c.self.inside.round c.let_leave.new.round
+    (c.let_leave.ensures test (stand-at m c.args.amendment test marks c.positions.result.now c.in_ok-region.ensures.region.one_each tells c.in_ok-region.ensures.region.region c.positions.ensures.marked) (region-apart m c.args.amendment test tells)) c.self.invariant.round in
+    let students : students_of c.apply_reversibly.new.self ≡ students_of m = ap students_of c.in-Ok.ensures.accepted ∙ students-stay m c.args.amendment c.requires.no_entry c.requires.no_withdrawal in
+    let changed = change m c.apply_reversibly.new.self c.args.amendment marks c.positions-in-Ok-settled.result.now chains c.self.invariant.certified.well_formed allowed c.requires.no_entry c.in-Ok.ensures.accepted
+    c.students_len-end.ensures.well_formed c.students_len-end.ensures.within_limits c.in_ok-region.ensures.region c.positions-in-Ok-settled.ensures.marked c.self.invariant.theirs in
+    let waiting = waits-some keys seats m c.apply_reversibly.new.self test chains (amended_school c.args.amendment) c.let_leave.new.round c.reseat.new.round
+    (subst (λ amended. IfSome c.reseat.new.round (λ new. IsSomeAnd c.let_leave.new.round (λ before. HasSeats keys seats c.apply_reversibly.new.self amended before new))) (ap school_in c.record_of-amended.ensures ∙ amended-in c.args.amendment) c.reseat.ensures)
+    gone (λ l r. waits m c.apply_reversibly.new.self c.args.amendment test _ chains l r changed students c.self.invariant.theirs) in
+    let n = c.apply_reversibly.new.self in
+    let cut_all = whole-cut-of n c.students_len-end.result c.students_len-end.ensures.count in
+    let certified = subst (λ p. IsCertified (standing_of p c.resettle-settled.new.places c.resettle-settled.new.segments c.in-Ok-settled.proposals)) cut_all c.in-Ok-settled.ensures.certified in
+    subst (λ o. IfSome o (λ r. (is_spent r ≡ false) × StandsAfter n c.resettle-settled.new.segments (view_of keys seats r))) (sym c.take.ensures.value)
+    (rejoined-some keys seats m n test chains c.resettle-settled.new.segments c.resettle-settled.new.places c.reseat.new.round c.resettle-settled.new.spare c.rejoin.new.round
+    (c.rejoin.ensures.joined test (stand-still m n test c.positions-in-Ok-settled.result.now students changed.at) changed.apart) waiting
+    (if-some _ _ c.resettle-settled.new.spare (λ other. joins-inside n test c.resettle-settled.new.places c.students_len-end.result (view_of keys seats other) (take_all c.students_len-end.result (students_of n) (omega (arith, c.students_len-end.ensures.count, length-students n)))) c.in-Ok-settled.ensures.inside)
+    (λ r other r'. rejoined m n test chains c.resettle-settled.new.segments c.self.inside.places c.resettle-settled.new.places r other r' c.self.invariant.theirs (c.in-Ok-settled.ensures.theirs ∙ ap students_of cut_all) changed.same_outside
+    certified.settled certified.matching c.self.invariant.certified.matching c.in-Ok-settled.ensures.others))
+
+pub round_of_everybody-requires-clause-ready : goal.round_of_everybody-requires-clause-ready
+round_of_everybody-requires-clause-ready c none =
+    subst (λ o. IfSome o (λ other. is_spent other ≡ false)) (sym (c.rejoin.ensures.spare_stays (sym c.take.ensures.value ∙ none))) c.in-Ok-settled.ensures.ready
+
+pub round_of_everybody-requires-clause-stands : goal.round_of_everybody-requires-clause-stands
+round_of_everybody-requires-clause-stands c none =
     let new = c.resettle-settled.new.segments in
     let theirs : students_in new ≡ students_in c.self.inside.segments =
     c.in-Ok-settled.ensures.theirs
     ∙ ap students_of (whole-cut-of c.apply_reversibly.new.self c.students_len-end.result c.students_len-end.ensures.count ∙ c.in-Ok.ensures.accepted)
     ∙ students-stay c.self.inside.papers c.args.amendment c.requires.no_entry c.requires.no_withdrawal
     ∙ sym c.self.invariant.theirs in
-    subst (λ (is : List ℕ). IfSome c.resettle-settled.new.spare (λ round. ((i : ℕ) → Contains (students_in new) i → is_among (marked c.in_ok-region.region is) i ≡ true) → StandsAfter c.apply_reversibly.new.self new (without_log (view_of (λ roll. roll.keys) (λ roll. roll.seats) round))))
-    (sym theirs) c.in-Ok-settled.ensures.stands
+    subst (λ o. IfSome o (λ round. ((i : ℕ) → Contains (students_in new) i → is_among (marked_in c.in_ok-region.region new) i ≡ true) → StandsAfter c.apply_reversibly.new.self new (without_log (view_of keys seats round))))
+    (sym (c.rejoin.ensures.spare_stays (sym c.take.ensures.value ∙ none)))
+    (subst (λ (is : List ℕ). IfSome c.resettle-settled.new.spare (λ round. ((i : ℕ) → Contains (students_in new) i → is_among (marked c.in_ok-region.region is) i ≡ true) → StandsAfter c.apply_reversibly.new.self new (without_log (view_of keys seats round))))
+    (sym theirs) c.in-Ok-settled.ensures.stands)
 
 pub invariant_of-self-in-Ok-settled : goal.invariant_of-self-in-Ok-settled
 invariant_of-self-in-Ok-settled c = record {
   certified = subst (λ n. IsCertified (standing_of n c.resettle-settled.new.places c.resettle-settled.new.segments c.in-Ok-settled.proposals)) (whole-cut-of c.apply_reversibly.new.self c.students_len-end.result c.students_len-end.ensures.count) c.in-Ok-settled.ensures.certified;
   theirs = c.in-Ok-settled.ensures.theirs ∙ ap students_of (whole-cut-of c.apply_reversibly.new.self c.students_len-end.result c.students_len-end.ensures.count);
-  round = kept-round (λ roll. roll.keys) (λ roll. roll.seats) c.apply_reversibly.new.self c.resettle-settled.new.segments c.keep_if_everybody.result c.keep_if_everybody.ensures.ready c.keep_if_everybody.ensures.stands;
+  round = c.round_of_everybody.ensures;
   districts = subst (λ m. IfSome c.region_of.new.districts (AreDistricts m)) (sym c.in-Ok.ensures.accepted) c.in_ok-region.ensures.in_step;
 }
 
@@ -63,7 +157,7 @@ invariant_of-self-in-Err c =
       certified = still-certified c.self.inside.papers c.take_back.new.self c.self.inside.segments c.resettle-settled.new.segments c.self.inside.places c.resettle-settled.new.places c.self.inside.proposals
           papers c.in-Err.ensures.unchanged.0 c.in-Err.ensures.unchanged.1 c.self.invariant.certified;
       theirs = ap students_in c.in-Err.ensures.unchanged.1 ∙ c.self.invariant.theirs ∙ ap students_of (sym papers);
-      round = subst₂ (λ m chains. IfSome c.make_spare.new.round (IsKept m chains)) (sym papers) (sym c.in-Err.ensures.unchanged.1) (lent-round (IsKept c.self.inside.papers c.self.inside.segments) c.self.inside.round c.make_spare.new.round c.make_spare.ensures c.self.invariant.round);
+      round = tt;
       districts = tt;
     }
 

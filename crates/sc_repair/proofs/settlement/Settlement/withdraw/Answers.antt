@@ -1,4 +1,7 @@
-use Rattle.std.proofs.Common.{◌≡◌, ◌-◌, ℕ, List, ap, refl, sym, subst, subst₂, ◌∙◌, IfSome}
+use Rattle.std.proofs.Common.{◌≡◌, ◌-◌, ℕ, List, ap, refl, sym, subst, ◌∙◌, IfSome, arith}
+use Rattle.sc_papers.specs.declared.key.Key.{Key}
+use Rattle.sc_seats.specs.Roll.{RollView}
+use Rattle.sc_engine.specs.Round.{view_of}
 use Rattle.sc_papers.specs.Market.{Market, students_of}
 use Rattle.sc_papers.specs.Restriction.{cut}
 use Rattle.sc_papers.specs.Verdict.{after, verdict}
@@ -8,11 +11,11 @@ use Rattle.sc_region.specs.Marks.{marked}
 use Rattle.sc_repair.specs.Changed.{standing_of}
 use Rattle.sc_repair.specs.Locality.{is_among, marked_in, TellsRegion}
 use Rattle.sc_region.specs.Districts.{AreDistricts}
-use Rattle.sc_repair.specs.Representation.{IsKept}
 use Rattle.sc_repair.specs.Standing.{Standing, CountsInside, CountsRegion, IsCertified, KeepsOthers}
 use Rattle.sc_repair.proofs.Admitted.{still-certified}
 use Rattle.sc_repair.proofs.Changed.{leaver-back, leaver-changed, leaver-from, leaver-gone, leaver-others, leaver-within}
-use Rattle.sc_repair.proofs.KeptRound.{lent-round}
+use Rattle.sc_repair.proofs.LiesApart.{region-apart}
+use Rattle.sc_repair.proofs.Rejoining.{change, follows-waits, follows-withdrawn, gone-some, if-some, joins-withdrawn, region-tells, rejoined, rejoined-some, room-stood, stand-at, stand-behind, waits-moved, withdrawn}
 use Rattle.sc_repair.proofs.Regional.{counts-region, keeps-others, marks-count, marks-tell}
 use Rattle.sc_repair.proofs.settlement.Settlement.withdraw.Goals as goal
 
@@ -38,16 +41,104 @@ resettle-settled-requires c =
       one_each = marks-count m c.in_ok-region.region c.self.inside.segments c.in_ok-region.ensures.region.one_each c.self.invariant.theirs;
     }
 
+abbrev keys : RollView → List Key
+keys roll = roll.keys
+
+abbrev seats : RollView → ℕ
+seats roll = roll.seats
+
+pub let_leave-requires-clause-within : goal.let_leave-requires-clause-within
+let_leave-requires-clause-within c =
+    let m = c.self.inside.papers in
+    let chains = c.self.inside.segments in
+    let marks = c.in_ok-region.region in
+    let test = is_among (marked_in marks chains) in
+    let a = Withdraw c.args.student in
+    let allowed = ap (λ (s : Standing). verdict s.papers a) c.self.view_is ∙ c.requires in
+    let tells = region-tells m a marks chains c.self.invariant.certified.well_formed allowed refl c.in_ok-region.ensures.region c.self.invariant.theirs in
+    let at = stand-at m a test marks c.positions.result.now c.in_ok-region.ensures.region.one_each tells c.in_ok-region.ensures.region.region c.positions.ensures.marked in
+    at.within
+
+pub move_up-requires : goal.move_up-requires
+move_up-requires c =
+    let m = c.self.inside.papers in
+    let chains = c.self.inside.segments in
+    let marks = c.in_ok-region.region in
+    let test = is_among (marked_in marks chains) in
+    let a = Withdraw c.args.student in
+    let allowed = ap (λ (s : Standing). verdict s.papers a) c.self.view_is ∙ c.requires in
+    let tells = region-tells m a marks chains c.self.invariant.certified.well_formed allowed refl c.in_ok-region.ensures.region c.self.invariant.theirs in
+    let at = stand-at m a test marks c.positions.result.now c.in_ok-region.ensures.region.one_each tells c.in_ok-region.ensures.region.region c.positions.ensures.marked in
+    let gone = gone-some keys seats m test chains c.self.inside.round c.let_leave.new.round (c.let_leave.ensures test at (region-apart m a test tells)) c.self.invariant.round in
+    let low = leaver-from m m a c.args.student c.point_in-point.result (c.students_len-last.result - 1) c.self.invariant.certified.well_formed allowed refl c.point_in-point.ensures (ap (λ n. n - 1) c.students_len-last.ensures.count) in
+    if-some _ _ c.let_leave.new.round
+    (λ r gone. omega (arith, gone.1.leave.same_length, room-stood m chains gone.1.before c.self.invariant.certified.well_formed c.self.invariant.theirs gone.1.stood c.point_in-point.result low)) gone
+
+pub rejoin_without-requires : goal.rejoin_without-requires
+rejoin_without-requires c =
+    let m = c.self.inside.papers in
+    let chains = c.self.inside.segments in
+    let marks = c.in_ok-region.region in
+    let test = is_among (marked_in marks chains) in
+    let a = Withdraw c.args.student in
+    let allowed = ap (λ (s : Standing). verdict s.papers a) c.self.view_is ∙ c.requires in
+    let tells = region-tells m a marks chains c.self.invariant.certified.well_formed allowed refl c.in_ok-region.ensures.region c.self.invariant.theirs in
+    let at = stand-at m a test marks c.positions.result.now c.in_ok-region.ensures.region.one_each tells c.in_ok-region.ensures.region.region c.positions.ensures.marked in
+    let gone = gone-some keys seats m test chains c.self.inside.round c.let_leave.new.round (c.let_leave.ensures test at (region-apart m a test tells)) c.self.invariant.round in
+    let n = c.withdraw.new.self in
+    let last = c.students_len-last.result - 1 in
+    let accepted : n ≡ after m a =
+    c.withdraw.ensures ∙ leaver-gone m c.move_student.new.self a c.args.student c.point_in-point.result last c.self.invariant.certified.well_formed allowed refl c.point_in-point.ensures (ap (λ n. n - 1) c.students_len-last.ensures.count) c.move_student.ensures in
+    let left = withdrawn m c.move_student.new.self n c.args.student c.point_in-point.result last test c.self.invariant.certified.well_formed allowed c.point_in-point.ensures (ap (λ n. n - 1) c.students_len-last.ensures.count) c.move_student.ensures accepted tells in
+    let changed = change m n a marks c.positions-in-Ok.result.now chains c.self.invariant.certified.well_formed allowed refl accepted c.students_len.ensures.well_formed c.students_len.ensures.within_limits c.in_ok-region.ensures.region c.positions-in-Ok.ensures.marked c.self.invariant.theirs in
+    let waiting = waits-moved keys seats m n test chains c.point_in-point.result c.let_leave.new.round c.move_up.new.round c.move_up.ensures gone
+    (λ l r gone is. follows-waits m n a test c.positions-in-Ok.result.now chains l r changed gone (follows-withdrawn m n c.args.student c.point_in-point.result test c.positions-in-Ok.result.now changed left.inside left.fewer left.low chains l r gone c.self.invariant.theirs is)) in
+    let behind = stand-behind m n c.args.student c.point_in-point.result test c.positions-in-Ok.result.now changed left.inside left.fewer left.low in
+    let joins = if-some _ _ c.resettle-settled.new.spare
+    (λ other. joins-withdrawn m n c.args.student c.point_in-point.result test c.positions-in-Ok.result.now changed left.inside left.fewer left.low c.move_student.new.self last c.resettle-settled.new.places (view_of keys seats other) left.well_moved left.gone left.cut_is left.count)
+    c.in-Ok.ensures.inside in
+    record {
+      fits = if-some _ _ c.move_up.new.round (λ r waits. waits.1.fits) waiting;
+      spare_rolls = if-some _ _ c.resettle-settled.new.spare (λ other joins. joins.rolls) joins;
+      within = behind.within;
+      room = if-some _ _ c.move_up.new.round (λ r waits p among. waits.1.room p (behind.within p among)) waiting;
+    }
+
 pub invariant_of-self-in-Ok : goal.invariant_of-self-in-Ok
 invariant_of-self-in-Ok c =
     let papers : c.withdraw.new.self ≡ after c.self.inside.papers (Withdraw c.args.student) =
     c.withdraw.ensures ∙ leaver-gone c.self.inside.papers c.move_student.new.self (Withdraw c.args.student) c.args.student c.point_in-point.result (c.students_len-last.result - 1) c.self.invariant.certified.well_formed (ap (λ (s : Standing). verdict s.papers (Withdraw c.args.student)) c.self.view_is ∙ c.requires) refl c.point_in-point.ensures (ap (λ n. n - 1) c.students_len-last.ensures.count) c.move_student.ensures in
     let same : cut c.move_student.new.self (c.students_len-last.result - 1) ≡ c.withdraw.new.self =
     leaver-others c.self.inside.papers c.move_student.new.self (Withdraw c.args.student) c.args.student c.point_in-point.result (c.students_len-last.result - 1) c.self.invariant.certified.well_formed (ap (λ (s : Standing). verdict s.papers (Withdraw c.args.student)) c.self.view_is ∙ c.requires) refl c.point_in-point.ensures (ap (λ n. n - 1) c.students_len-last.ensures.count) c.move_student.ensures ∙ sym papers in
+    let m = c.self.inside.papers in
+    let chains = c.self.inside.segments in
+    let marks = c.in_ok-region.region in
+    let test = is_among (marked_in marks chains) in
+    let a = Withdraw c.args.student in
+    let allowed = ap (λ (s : Standing). verdict s.papers a) c.self.view_is ∙ c.requires in
+    let tells = region-tells m a marks chains c.self.invariant.certified.well_formed allowed refl c.in_ok-region.ensures.region c.self.invariant.theirs in
+    let at = stand-at m a test marks c.positions.result.now c.in_ok-region.ensures.region.one_each tells c.in_ok-region.ensures.region.region c.positions.ensures.marked in
+    let gone = gone-some keys seats m test chains c.self.inside.round c.let_leave.new.round (c.let_leave.ensures test at (region-apart m a test tells)) c.self.invariant.round in
+    let n = c.withdraw.new.self in
+    let last = c.students_len-last.result - 1 in
+    let accepted : n ≡ after m a =
+    c.withdraw.ensures ∙ leaver-gone m c.move_student.new.self a c.args.student c.point_in-point.result last c.self.invariant.certified.well_formed allowed refl c.point_in-point.ensures (ap (λ n. n - 1) c.students_len-last.ensures.count) c.move_student.ensures in
+    let left = withdrawn m c.move_student.new.self n c.args.student c.point_in-point.result last test c.self.invariant.certified.well_formed allowed c.point_in-point.ensures (ap (λ n. n - 1) c.students_len-last.ensures.count) c.move_student.ensures accepted tells in
+    let changed = change m n a marks c.positions-in-Ok.result.now chains c.self.invariant.certified.well_formed allowed refl accepted c.students_len.ensures.well_formed c.students_len.ensures.within_limits c.in_ok-region.ensures.region c.positions-in-Ok.ensures.marked c.self.invariant.theirs in
+    let waiting = waits-moved keys seats m n test chains c.point_in-point.result c.let_leave.new.round c.move_up.new.round c.move_up.ensures gone
+    (λ l r gone is. follows-waits m n a test c.positions-in-Ok.result.now chains l r changed gone (follows-withdrawn m n c.args.student c.point_in-point.result test c.positions-in-Ok.result.now changed left.inside left.fewer left.low chains l r gone c.self.invariant.theirs is)) in
+    let behind = stand-behind m n c.args.student c.point_in-point.result test c.positions-in-Ok.result.now changed left.inside left.fewer left.low in
+    let joins = if-some _ _ c.resettle-settled.new.spare
+    (λ other. joins-withdrawn m n c.args.student c.point_in-point.result test c.positions-in-Ok.result.now changed left.inside left.fewer left.low c.move_student.new.self last c.resettle-settled.new.places (view_of keys seats other) left.well_moved left.gone left.cut_is left.count)
+    c.in-Ok.ensures.inside in
+    let certified = subst (λ n. IsCertified (standing_of n c.resettle-settled.new.places c.resettle-settled.new.segments c.in-Ok.proposals)) same c.in-Ok.ensures.certified in
     record {
-      certified = subst (λ n. IsCertified (standing_of n c.resettle-settled.new.places c.resettle-settled.new.segments c.in-Ok.proposals)) same c.in-Ok.ensures.certified;
+      certified = certified;
       theirs = c.in-Ok.ensures.theirs ∙ ap students_of same;
-      round = tt;
+      round = rejoined-some keys seats m n test chains c.resettle-settled.new.segments c.resettle-settled.new.places c.move_up.new.round c.resettle-settled.new.spare c.rejoin_without.new.round
+          (c.rejoin_without.ensures test behind changed.apart) waiting joins
+          (λ r other r'. rejoined m n test chains c.resettle-settled.new.segments c.self.inside.places c.resettle-settled.new.places r other r' c.self.invariant.theirs (c.in-Ok.ensures.theirs ∙ ap students_of same) changed.same_outside
+          certified.settled certified.matching c.self.invariant.certified.matching c.in-Ok.ensures.others);
       districts = subst (λ m. IfSome c.region_of.new.districts (AreDistricts m)) (sym papers) c.in_ok-region.ensures.in_step;
     }
 
@@ -108,7 +199,7 @@ invariant_of-self-in-Err c =
       certified = still-certified c.self.inside.papers c.move_student-in-Err.new.self c.self.inside.segments c.resettle-settled.new.segments c.self.inside.places c.resettle-settled.new.places c.self.inside.proposals
           papers c.in-Err.ensures.unchanged.0 c.in-Err.ensures.unchanged.1 c.self.invariant.certified;
       theirs = ap students_in c.in-Err.ensures.unchanged.1 ∙ c.self.invariant.theirs ∙ ap students_of (sym papers);
-      round = subst₂ (λ m chains. IfSome c.make_spare.new.round (IsKept m chains)) (sym papers) (sym c.in-Err.ensures.unchanged.1) (lent-round (IsKept c.self.inside.papers c.self.inside.segments) c.self.inside.round c.make_spare.new.round c.make_spare.ensures c.self.invariant.round);
+      round = tt;
       districts = tt;
     }
 
