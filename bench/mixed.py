@@ -1,16 +1,19 @@
 #!/usr/bin/env python3
 """Times scripts of mixed amendments: the built program settles after each, in districts that share no school.
 
-    mixed.py [--students N] [--times N] [--folder FOLDER] [--program PATH]
+    mixed.py [--students N] [--times N] [--instructions] [--folder FOLDER] [--program PATH]
 
 A day in an office is mixed. Each line of the table is a script over one market of 200 districts, whose students stand together
 in the roster: reranks alone and newcomers alone, a rerank and a newcomer in turn, a newcomer who withdraws at once, and reranks after
 each district was joined to the next by one list and all these lists were taken back. What an amendment costs is the difference of
-the least processor times of a run with the script and one with what comes before it, divided by the number of amendments.
+the least processor times of a run with the script and one with what comes before it, divided by the number of amendments. With
+--instructions it is that of the instructions, which valgrind counts, so that other work on the machine does not tell.
 """
 import argparse
 import os
 import random
+import re
+import subprocess
 import sys
 import tempfile
 
@@ -82,10 +85,17 @@ def in_and_out(script):
         script.withdraw(script.enter())
 
 
+def instructions(words):
+    """Thousands of instructions of a run."""
+    ran = subprocess.run(["valgrind", "--tool=callgrind", "--callgrind-out-file=/dev/null", *words], stdout=subprocess.DEVNULL, stderr=subprocess.PIPE, text=True, check=True)
+    return int(re.search(r"Collected : (\d+)", ran.stderr)[1]) / 1e3
+
+
 def main():
     words = argparse.ArgumentParser(description=__doc__, formatter_class=argparse.RawDescriptionHelpFormatter)
     words.add_argument("--students", type=int, default=80_000)
     words.add_argument("--times", type=int, default=5)
+    words.add_argument("--instructions", action="store_true")
     words.add_argument("--folder", default=os.path.join(tempfile.gettempdir(), "clearinghouse-amendments"))
     words.add_argument("--program", default=PROGRAM)
     given = words.parse_args()
@@ -100,9 +110,11 @@ def main():
     def run(lines):
         with open(path, "w") as file:
             file.write("".join(f"{line}\n" for line in lines))
-        return min(processor([given.program, "run", *opening, "--script", path, "--journal", journal, "--settle-each"]) for _ in range(given.times))
+        call = [given.program, "run", *opening, "--script", path, "--journal", journal, "--settle-each"]
+        return instructions(call) if given.instructions else min(processor(call) for _ in range(given.times))
 
-    print(f"| {given.students:,} students in {DISTRICTS} districts | an amendment, ms |\n|---|---|")
+    unit = "thousands of instructions" if given.instructions else "ms"
+    print(f"| {given.students:,} students in {DISTRICTS} districts | an amendment, {unit} |\n|---|---|")
     for name, before, after in (
         ("reranks", None, reranks),
         ("newcomers", None, newcomers),
@@ -116,7 +128,7 @@ def main():
         first = list(script.lines)
         after(script)
         cost = (run(script.lines) - run(first)) / (len(script.lines) - len(first))
-        print(f"| {name} | {cost:.3f} |", flush=True)
+        print(f"| {name} | {cost:.{1 if given.instructions else 3}f} |", flush=True)
 
 
 if __name__ == "__main__":
