@@ -4,9 +4,13 @@ use Rattle.sc_papers.specs.Market.{Market, is_school, schools_of, seats_of, stud
 use Rattle.sc_seats.specs.Roll.{RollView}
 use Rattle.sc_engine.specs.RoundView.{Fits, RollFits, RoundView, next_of, nobody, rank_of, roll_at, roll_of}
 
+-- the papers have a student at each of these positions of the order of entry
+abbrev pub AreWithin : Market → List ℕ → Type 0
+AreWithin m positions = (p : ℕ) → Contains positions p → p < length m.students
+
 -- the students who pass a test stand at these positions in the order of entry, and nobody else does
 pub record StandAt (m : Market) (test : ℕ → Bool) (positions : List ℕ) : Type 0 where
-  pub within : (p : ℕ) → Contains positions p → p < length m.students
+  pub within : AreWithin m positions
   pub exact : (p i : ℕ) → slice_get (students_of m) p ≡ Some i → (Contains positions p ↔ IsTrue (test i))
 
 -- the student at a position stands at the school at a position

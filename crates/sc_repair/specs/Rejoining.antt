@@ -56,7 +56,7 @@ pub record HasSeats {R : Type 0} (keys : R → List Key) (seats : R → ℕ) (m 
 -- the students who pass have come from another round, in which they alone stand, to one in which they did not
 pub record HasJoined {R : Type 0} (keys : R → List Key) (seats : R → ℕ) (m : Market) (test : ℕ → Bool) (old other new : Round R) : Type 0 where
   pub spent : is_spent new ≡ is_spent old
-  pub taken : ((i : ℕ) → test i ≡ true → rank_of m old.ranks i ≡ None) → ((i : ℕ) → test i ≡ false → rank_of m other.ranks i ≡ None) → (view_of keys seats old).proposals ≡ 0
+  pub taken : ((i : ℕ) → test i ≡ true → rank_of m (view_of keys seats old).ranks i ≡ None) → ((i : ℕ) → test i ≡ false → rank_of m (view_of keys seats other).ranks i ≡ None) → (view_of keys seats old).proposals ≡ 0
       → TakesOver m test (view_of keys seats old) (view_of keys seats other) (view_of keys seats new)
 
 -- students who are to stand at some positions may come back from a spare round: the round fits the papers, the rolls of the
@@ -65,4 +65,4 @@ pub record CanRejoin {R : Type 0} (keys : R → List Key) (seats : R → ℕ) (m
   pub fits : IfSome old (λ standing. Fits m (view_of keys seats standing))
   pub spare_rolls : IfSome spare (λ other. HasRolls m (view_of keys seats other))
   pub within : (p : ℕ) → is_theirs p → p < length m.students
-  pub room : IfSome old (λ standing. (p : ℕ) → is_theirs p → p < length standing.ranks)
+  pub room : IfSome old (λ standing. (p : ℕ) → is_theirs p → p < length (view_of keys seats standing).ranks)

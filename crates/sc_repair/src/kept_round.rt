@@ -5,7 +5,7 @@ ghost use Rattle.std.specs.Option.{IsSomeAnd};
 ghost use Rattle.sc_papers.specs.Restriction.{AreApart};
 ghost use Rattle.sc_checkpoint.specs.Chains.{students_in};
 ghost use Rattle.sc_engine.specs.Round.{is_spent, view_of};
-ghost use Rattle.sc_engine.specs.Leaving.{StandAt};
+ghost use Rattle.sc_engine.specs.Leaving.{AreWithin, StandAt};
 ghost use Rattle.sc_engine.specs.RoundView.{Fits, without_log};
 ghost use Rattle.sc_repair.specs.Locality.{is_among, marked_in};
 ghost use Rattle.sc_repair.specs.Newcomer.{StandsAfter};
@@ -52,7 +52,7 @@ pub(crate) fn let_leave<R: Roll>(
     positions: &[usize],
 )
     requires fits { IfSome round.old (λ standing. Fits papers.now (view_of R.keys R.seats standing)) }
-    requires within { (p : ℕ) → Contains positions.now p → p < length papers.now.students }
+    requires within { AreWithin papers.now positions.now }
     ensures { (test : ℕ → Bool) → StandAt papers.now test positions.now → AreApart papers.now test
         → IfSome round.new (λ new. IsSomeAnd round.old (λ old. HasLeft R.keys R.seats papers.now test old new)) }
 {
@@ -113,7 +113,7 @@ pub(crate) fn rejoin<R: Roll>(
 
 /// Moves up whoever stands behind a position in a round, if there is one, as in papers from which the student there has gone.
 pub(crate) fn move_up<R: Roll>(round: &mut Option<Round<R>>, at: usize)
-    requires { IfSome round.old (λ standing. at < length standing.ranks) }
+    requires { IfSome round.old (λ standing. at < length (view_of R.keys R.seats standing).ranks) }
     ensures { IfSome round.new (λ new. IsSomeAnd round.old (λ old. HasMovedUp R.keys R.seats at old new)) }
 {
     let Some(mut standing) = round.take() else {

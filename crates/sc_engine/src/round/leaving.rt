@@ -1,9 +1,9 @@
 //! Students who leave a round together, where nobody else stands at a school at which one of them stands.
 
-ghost use Rattle.std.specs.Prelude.{◌≡◌, ℕ, ◌<◌, ◌∷◌, [], Bool, Contains, Some, length};
+ghost use Rattle.std.specs.Prelude.{◌≡◌, ℕ, ◌<◌, ◌∷◌, [], Bool, Some, length};
 ghost use Rattle.sc_papers.specs.Restriction.{AreApart};
 ghost use Rattle.sc_papers.specs.WellFormed.{WellFormed};
-ghost use Rattle.sc_engine.specs.Leaving.{moved_up, AreEmptied, IsReseated, Leave, StandAt};
+ghost use Rattle.sc_engine.specs.Leaving.{moved_up, AreEmptied, AreWithin, IsReseated, Leave, StandAt};
 ghost use Rattle.sc_engine.specs.Rolls.{rolls_of};
 ghost use Rattle.sc_engine.specs.RoundView.{Fits};
 
@@ -37,7 +37,7 @@ fn empty_rolls_of<R: Roll>(
     positions: &[usize],
 )
     requires well_formed { WellFormed papers.now }
-    requires within { (p : ℕ) → Contains positions.now p → p < length papers.now.students }
+    requires within { AreWithin papers.now positions.now }
     requires rolls { length rolls.old.items ≡ length papers.now.schools }
     ensures { AreEmptied papers.now ranks.now positions.now (rolls_of R.keys R.seats rolls.old.items)
         (rolls_of R.keys R.seats rolls.new.items) }
@@ -57,9 +57,9 @@ impl<R: Roll> Round<R> {
     /// It takes no memory. The cost is a look at the row of each of these students.
     pub fn leave(&mut self, papers: &Papers, positions: &[usize])
         requires fits { Fits papers.now (view_of R.keys R.seats self.old) }
-        requires within { (p : ℕ) → Contains positions.now p → p < length papers.now.students }
+        requires within { AreWithin papers.now positions.now }
         ensures left { (test : ℕ → Bool) → StandAt papers.now test positions.now → AreApart papers.now test
-            → self.old.proposals ≡ 0
+            → (view_of R.keys R.seats self.old).proposals ≡ 0
             → Leave papers.now test (view_of R.keys R.seats self.old) (view_of R.keys R.seats self.new) }
         ensures spent { is_spent self.new ≡ is_spent self.old }
     {
@@ -84,7 +84,7 @@ impl<R: Roll> Round<R> {
     /// Whoever stands behind a position of the order of entry moves up by one, as in papers from which the student there has
     /// gone, who left the round before. It takes no memory.
     pub fn move_up(&mut self, at: usize)
-        requires { at < length self.old.ranks }
+        requires { at < length (view_of R.keys R.seats self.old).ranks }
         ensures moved { view_of R.keys R.seats self.new ≡ moved_up (view_of R.keys R.seats self.old) at }
         ensures spent { is_spent self.new ≡ is_spent self.old }
     {

@@ -3,7 +3,7 @@
 ghost use Rattle.std.specs.Prelude.{◌≡◌, ℕ, ◌<◌, ◌∷◌, [], Bool, Contains, None, false, length, true};
 ghost use Rattle.sc_papers.specs.Restriction.{AreApart};
 ghost use Rattle.sc_papers.specs.WellFormed.{WellFormed};
-ghost use Rattle.sc_engine.specs.Leaving.{AreTaken, HasRolls, StandAt, TakesOver};
+ghost use Rattle.sc_engine.specs.Leaving.{AreTaken, AreWithin, HasRolls, StandAt, TakesOver};
 ghost use Rattle.sc_engine.specs.Rolls.{rolls_of};
 ghost use Rattle.sc_engine.specs.RoundView.{Fits, rank_of};
 
@@ -50,7 +50,7 @@ fn take_rolls<R: Roll>(
     positions: &[usize],
 )
     requires well_formed { WellFormed papers.now }
-    requires within { (p : ℕ) → Contains positions.now p → p < length papers.now.students }
+    requires within { AreWithin papers.now positions.now }
     requires rolls { length rolls.old.items ≡ length papers.now.schools }
     requires others { length others.old.items ≡ length papers.now.schools }
     ensures { AreTaken papers.now ranks.now positions.now
@@ -73,12 +73,12 @@ impl<R: Roll> Round<R> {
     pub fn take_over(&mut self, other: &mut Self, papers: &Papers, positions: &[usize])
         requires fits { Fits papers.now (view_of R.keys R.seats self.old) }
         requires other_rolls { HasRolls papers.now (view_of R.keys R.seats other.old) }
-        requires within { (p : ℕ) → Contains positions.now p → p < length papers.now.students }
-        requires room { (p : ℕ) → Contains positions.now p → p < length self.old.ranks }
+        requires within { AreWithin papers.now positions.now }
+        requires room { (p : ℕ) → Contains positions.now p → p < length (view_of R.keys R.seats self.old).ranks }
         ensures taken { (test : ℕ → Bool) → StandAt papers.now test positions.now → AreApart papers.now test
-            → ((i : ℕ) → test i ≡ true → rank_of papers.now self.old.ranks i ≡ None)
-            → ((i : ℕ) → test i ≡ false → rank_of papers.now other.old.ranks i ≡ None)
-            → self.old.proposals ≡ 0
+            → ((i : ℕ) → test i ≡ true → rank_of papers.now (view_of R.keys R.seats self.old).ranks i ≡ None)
+            → ((i : ℕ) → test i ≡ false → rank_of papers.now (view_of R.keys R.seats other.old).ranks i ≡ None)
+            → (view_of R.keys R.seats self.old).proposals ≡ 0
             → TakesOver papers.now test (view_of R.keys R.seats self.old) (view_of R.keys R.seats other.old)
             (view_of R.keys R.seats self.new) }
         ensures spent { is_spent self.new ≡ is_spent self.old }
