@@ -43,14 +43,13 @@ impl From<AllocError> for ReportFault {
 }
 
 /// Writes the report text of papers and of the school that each student has, of which there is one for each student in
-/// order of entry, `None` where they have none. It is built in the memory of a list of bytes, as by `report_text_of`.
+/// order of entry, `None` where they have none.
 ///
 /// The text is built first: after `OutOfMemory` nothing was written, and after `Write` a prefix of
 /// it was.
 pub fn write_report_of<W: Write>(
     alloc: Global,
     matched: Matched<'_>,
-    memory: Vec<u8>,
     to: &mut Watched<W>,
 ) -> Result<(), ReportFault>
     requires { length matched.places.now ≡ length matched.papers.now.students }
@@ -59,7 +58,7 @@ pub fn write_report_of<W: Write>(
         (W.contents (device_of to.old)) (W.contents (device_of to.new)) result }
     ensures failed { has_failed to.new ≡ (has_failed to.old || is_write_fault result) }
 {
-    let text = report_text_of(alloc, matched, memory)?;
+    let text = report_text_of(alloc, matched)?;
     write_whole(to, text.as_slice())?;
     Ok(())
 }

@@ -117,23 +117,17 @@ fn push_report(
 }
 
 /// The report text of papers and of the school that each student has, of which there is one for each student in order of
-/// entry, `None` where they have none: the assignment text, the cutoff text and the reason text. It is made in the memory
-/// of a list of bytes, whatever these are, and takes what is missing; whoever has none to lend gives an empty list. The
-/// only error is want of memory. The cost is one pass over the students for the cutoffs, a sort of the students' and the
-/// schools' numbers, and one pass for the lines.
-pub fn report_text_of(
-    alloc: Global,
-    matched: Matched<'_>,
-    mut memory: Vec<u8>,
-) -> Result<Vec<u8>, AllocError>
+/// entry, `None` where they have none: the assignment text, the cutoff text and the reason text. The only error is want of memory. The cost is one pass over the students for the cutoffs, a sort of the
+/// students' and the schools' numbers, and one pass for the lines.
+pub fn report_text_of(alloc: Global, matched: Matched<'_>) -> Result<Vec<u8>, AllocError>
     requires { length matched.places.now ≡ length matched.papers.now.students }
     ensures { IfOk result (λ text. (a : Matching) → ArePlaces matched.entry.papers.now a matched.entry.places.now
         → IsReportText matched.entry.papers.now a text.items) }
 {
     let rows = rows_in_order(alloc, matched.papers, matched.places)?;
-    memory.clear();
-    push_report(&mut memory, alloc, rows.as_slice(), matched)?;
-    Ok(memory)
+    let mut text = Vec::new(alloc);
+    push_report(&mut text, alloc, rows.as_slice(), matched)?;
+    Ok(text)
 }
 
 /// The report text of the standing assignment, as `report_text_of` makes it.
@@ -148,6 +142,6 @@ pub fn report_text(alloc: Global, clearing: &Clearing) -> Result<Vec<u8>, AllocE
         places: places.as_slice(),
         rejections: clearing.log_len(),
     };
-    let text = report_text_of(alloc, matched, Vec::new(alloc))?;
+    let text = report_text_of(alloc, matched)?;
     Ok(text)
 }

@@ -64,11 +64,10 @@ fn opening_of<'a>(bundle: &Bundle<'a>) -> OpeningSlices<'a>
     }
 }
 
-/// Writes the report of papers that were read, built in this memory, and flushes it, or answers why they were not.
+/// Writes the report of papers that were read, and flushes it, or answers why they were not.
 fn report_read<W: Write>(
     alloc: Global,
     read: Result<Papers, RunFault>,
-    memory: Vec<u8>,
     out: &mut Watched<W>,
 ) -> Result<(), RunFault>
     requires { (reading : Result Market IntakeFault) × IsReadingOf reading read }
@@ -79,7 +78,7 @@ fn report_read<W: Write>(
 {
     match read {
         Ok(papers) => {
-            let written = report_papers(alloc, &papers, memory, out);
+            let written = report_papers(alloc, &papers, out);
             drop(papers);
             written
         }
@@ -97,7 +96,8 @@ fn ending_of(done: Result<(), RunFault>) -> Ending
     }
 }
 
-/// Runs a bundle that was read. Where it has no script, the report is built in the memory of its text.
+/// Runs a bundle that was read. Where it has no script, its text is given up once the papers are read, so that its memory
+/// serves the settling.
 fn run_text<W: Write>(alloc: Global, text: Vec<u8>, out: &mut Watched<W>) -> Ending
     ensures ending { EndsBundle text.items (W.contents (device_of out.old)) (W.contents (device_of out.new)) result }
     ensures failed { has_failed out.new ≡ (has_failed out.old || ends_by_output result) }
@@ -117,5 +117,6 @@ fn run_text<W: Write>(alloc: Global, text: Vec<u8>, out: &mut Watched<W>) -> End
         return ending_of(done);
     }
     let read = read_papers(alloc, &seed, opening);
-    ending_of(report_read(alloc, read, text, out))
+    drop(text);
+    ending_of(report_read(alloc, read, out))
 }

@@ -9,18 +9,17 @@ ghost use Rattle.sc_runs.specs.Steps.{texts_of};
 
 use crate::fault::RunFault;
 use crate::inputs::{Opening, OpeningTexts, read_opening};
-use crate::opening::read_for_report;
+use crate::opening::read_owned;
 use crate::settled::{log_papers, report_papers};
 use sc_papers::{Papers, Seed};
 use sc_report::Watched;
 use std::alloc::Global;
 use std::io::{Read, Write};
 
-/// Settles papers and writes their report, built in this memory, or their log, and flushes it.
+/// Settles papers and writes their report, or their log, and flushes it.
 fn match_papers<W: Write>(
     alloc: Global,
     papers: &Papers,
-    memory: Vec<u8>,
     show_log: bool,
     out: &mut Watched<W>,
 ) -> Result<(), RunFault>
@@ -29,15 +28,14 @@ fn match_papers<W: Write>(
     ensures failed { OutputFailsAsTold out.old out.new result }
 {
     if show_log {
-        drop(memory);
         log_papers(alloc, papers, out)
     } else {
-        report_papers(alloc, papers, memory, out)
+        report_papers(alloc, papers, out)
     }
 }
 
 /// Writes the report of the papers that the texts hold, or their log, flushes it, and answers the papers. The texts are
-/// given up once the papers are read, so that their memory serves the settling and the report.
+/// given up once the papers are read, so that their memory serves the settling.
 fn match_texts<W: Write>(
     alloc: Global,
     seed: &Seed,
@@ -50,11 +48,11 @@ fn match_texts<W: Write>(
     ensures papers { IfOk result (λ papers. opening_in seed.now (texts_of texts) ≡ Ok papers) }
     ensures failed { OutputFailsAsTold out.old out.new result }
 {
-    let (papers, memory) = match read_for_report(alloc, seed, texts) {
-        Ok(read) => read,
+    let papers = match read_owned(alloc, seed, texts) {
+        Ok(papers) => papers,
         Err(fault) => return Err(fault),
     };
-    match match_papers(alloc, &papers, memory, show_log, out) {
+    match match_papers(alloc, &papers, show_log, out) {
         Ok(()) => Ok(papers),
         Err(fault) => {
             drop(papers);

@@ -30,20 +30,3 @@ pub fn read_owned(alloc: Global, seed: &Seed, texts: OpeningTexts) -> Result<Pap
     drop(texts);
     papers
 }
-
-/// Does what `read_owned` does, and answers beside the papers the text of the lists, in whose memory a report may be built:
-/// mostly it is about as long.
-pub fn read_for_report(
-    alloc: Global,
-    seed: &Seed,
-    texts: OpeningTexts,
-) -> Result<(Papers, Vec<u8>), RunFault>
-    ensures { MatchResult result
-        (λ read. opening_in seed.now (texts_of texts) ≡ Ok read.0)
-        (IsOpeningFault (opening_in seed.now (texts_of texts))) }
-{
-    match read_papers(alloc, seed, texts.as_slices()) {
-        Ok(papers) => Ok((papers, texts.lists)),
-        Err(fault) => Err(fault),
-    }
-}

@@ -109,7 +109,7 @@ fn compare<R: Read>(
         (turn_of R.remaining input.Report report.old report.new) found) }
     ensures ended { IfErr result (EndsComparing (turn_of R.remaining input.Report report.old report.new)) }
 {
-    let text = match report_text_of(alloc, matched, Vec::new(alloc)) {
+    let text = match report_text_of(alloc, matched) {
         Ok(text) => text,
         Err(_) => return Err(RunFault::OutOfMemory),
     };

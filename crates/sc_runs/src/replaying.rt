@@ -11,7 +11,7 @@ ghost use Rattle.sc_runs.specs.Steps.{texts_of, WritesReplayed};
 
 use crate::fault::RunFault;
 use crate::inputs::{Opening, OpeningTexts, read_inputs};
-use crate::opening::read_for_report;
+use crate::opening::read_owned;
 use crate::settled::report_papers;
 use sc_intake::Source;
 use sc_journal::{Tail, replay_papers};
@@ -30,13 +30,12 @@ pub struct Replayed {
     pub tail: Tail,
 }
 
-/// Writes the report of amended papers, built in this memory, and flushes it. A report says nothing of the order of entry,
-/// so they are not put in it.
+/// Writes the report of amended papers, and flushes it. A report says nothing of the order of entry, so they are not put
+/// in it.
 fn report_amended<W: Write>(
     alloc: Global,
     amended: Unsettled,
     tail: Tail,
-    memory: Vec<u8>,
     out: &mut Watched<W>,
 ) -> Result<Replayed, RunFault>
     ensures bytes { WritesReplayed amended.papers tail
@@ -46,7 +45,7 @@ fn report_amended<W: Write>(
     let papers = amended.into_reordered();
     // This call tells that the papers are well-formed.
     prove!(papers.students_len() <= MOST_STUDENTS);
-    match report_papers(alloc, &papers, memory, out) {
+    match report_papers(alloc, &papers, out) {
         Ok(()) => Ok(Replayed { papers, tail }),
         Err(fault) => {
             drop(papers);
@@ -55,12 +54,11 @@ fn report_amended<W: Write>(
     }
 }
 
-/// Replays a journal over papers, and writes the report of the papers as they then stand, built in this memory.
+/// Replays a journal over papers, and writes the report of the papers as they then stand.
 fn report_replayed<W: Write>(
     alloc: Global,
     papers: Papers,
     journal: &[u8],
-    memory: Vec<u8>,
     out: &mut Watched<W>,
 ) -> Result<Replayed, RunFault>
     ensures report { WritesReplay (Ok papers) journal.now
@@ -68,13 +66,12 @@ fn report_replayed<W: Write>(
     ensures failed { OutputFailsAsTold out.old out.new result }
 {
     match replay_papers(alloc, papers, journal) {
-        Ok((amended, tail)) => report_amended(alloc, amended, tail, memory, out),
+        Ok((amended, tail)) => report_amended(alloc, amended, tail, out),
         Err(fault) => Err(RunFault::from(fault)),
     }
 }
 
-/// Replays a journal over the papers that the texts hold. Once these are read, the report is built in the memory of the
-/// text of the lists.
+/// Replays a journal over the papers that the texts hold. The texts are given up once the papers are read.
 fn replay_texts<W: Write>(
     alloc: Global,
     seed: &Seed,
@@ -86,8 +83,8 @@ fn replay_texts<W: Write>(
         (W.contents (device_of out.old)) (W.contents (device_of out.new)) result }
     ensures failed { OutputFailsAsTold out.old out.new result }
 {
-    match read_for_report(alloc, seed, texts) {
-        Ok((papers, memory)) => report_replayed(alloc, papers, journal, memory, out),
+    match read_owned(alloc, seed, texts) {
+        Ok(papers) => report_replayed(alloc, papers, journal, out),
         Err(fault) => Err(fault),
     }
 }

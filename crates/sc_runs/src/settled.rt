@@ -12,12 +12,11 @@ use sc_report::{Matched, Watched};
 use std::alloc::Global;
 use std::io::Write;
 
-/// Settles papers, for a caller that has no amendment to make, writes their report, built in this memory, and flushes it. A
-/// report looks at no log, and costs less where those who are ahead at their first choices enter first.
+/// Settles papers, for a caller that has no amendment to make, writes their report, and flushes it. A report looks at no
+/// log, and costs less where those who are ahead at their first choices enter first.
 pub fn report_papers<W: Write>(
     alloc: Global,
     papers: &Papers,
-    memory: Vec<u8>,
     out: &mut Watched<W>,
 ) -> Result<(), RunFault>
     ensures bytes { WritesText (IsReport papers.now)
@@ -31,7 +30,7 @@ pub fn report_papers<W: Write>(
                 places: outcome.places.as_slice(),
                 rejections: outcome.rejections,
             };
-            let written = write_flushed_report(alloc, matched, memory, out);
+            let written = write_flushed_report(alloc, matched, out);
             drop(outcome);
             written
         }

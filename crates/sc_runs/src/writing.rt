@@ -73,11 +73,10 @@ pub fn write_standing_report<W: Write>(
     }
 }
 
-/// Writes the report of papers and what the students have, built in this memory, and flushes it.
+/// Writes the report of papers and what the students have, and flushes it.
 pub fn write_flushed_report<W: Write>(
     alloc: Global,
     matched: Matched<'_>,
-    memory: Vec<u8>,
     out: &mut Watched<W>,
 ) -> Result<(), RunFault>
     requires { length matched.places.now ≡ length matched.papers.now.students }
@@ -86,7 +85,7 @@ pub fn write_flushed_report<W: Write>(
         (W.contents (device_of out.old)) (W.contents (device_of out.new)) result }
     ensures failed { OutputFailsAsTold out.old out.new result }
 {
-    match write_report_of(alloc, matched, memory, out) {
+    match write_report_of(alloc, matched, out) {
         Ok(()) => flush_output(out),
         Err(ReportFault::Write) => Err(RunFault::WriteOut),
         Err(ReportFault::OutOfMemory) => Err(RunFault::OutOfMemory),
