@@ -16,4 +16,5 @@ pub mod JudgedParts
 pub mod PaperLemmas
 pub mod InStep
 pub mod ReadTogether
+pub mod InAnyOrder
 pub mod JudgingSteps

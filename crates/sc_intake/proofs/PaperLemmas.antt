@@ -48,7 +48,7 @@ none-earlier (list ∷ rest) (suc i) d differ within =
     let other : nat_eq (get_or rest i d).student list.student ≡ false = nat_eq_equiv.symm (get_or rest i d).student list.student ∙ rw at at apart in
     rw other (none-earlier rest i d (IsDistinct-tail nat_eq list.student (map list_number rest) differ) (omega arith))
 
-or-none : {X : Type 0} (o : Option X) → option_or o None ≡ o
+pub or-none : {X : Type 0} (o : Option X) → option_or o None ≡ o
 or-none None = refl
 or-none (Some x) = refl
 
@@ -156,7 +156,7 @@ is_some-push : {X : Type 0} (es : List (ℕ × X)) (e : ℕ × X) (i : ℕ) → 
 is_some-push [] e i = elim (cases_Bool (nat_eq i e.0)) [ inl same ↦ rw same refl | inr other ↦ rw other refl ]
 is_some-push (x ∷ es) e i = elim (cases_Bool (nat_eq i x.0)) [ inl same ↦ rw same refl | inr other ↦ rw other (is_some-push es e i) ]
 
-or-false : (a : Bool) → a ≡ (a || false)
+pub or-false : (a : Bool) → a ≡ (a || false)
 or-false true = refl
 or-false false = refl
 

@@ -31,7 +31,7 @@ use Rattle.sc_intake.proofs.PaperLemmas.{all-students}
 use Rattle.sc_intake.proofs.RowLemmas.{row-step}
 
 -- who enters is not in the papers yet, and there is room
-may-enter : (m n : Market) (row : RosterRow) (list : ListRow) → entered_by m row (Some list) ≡ Ok n
+pub may-enter : (m n : Market) (row : RosterRow) (list : ListRow) → entered_by m row (Some list) ≡ Ok n
     → (is_student m row.student ≡ false) × (nat_le MOST_STUDENTS (length m.students) ≡ false) × (after m (Enter row.student row.zone row.siblings list.choices row.continuing) ≡ n)
 may-enter m n row list entered = by (verdict m (Enter row.student row.zone row.siblings list.choices row.continuing)) refl entered
   where
@@ -70,7 +70,7 @@ list-kept : (lists : List ListRow) (list found : ListRow) (i : ℕ) → list_of 
 list-kept lists list found i is = find-append (λ (l : ListRow). nat_eq i l.student) lists (list ∷ []) ∙ rw is refl
 
 -- and is the list of whoever had none
-list-new : (lists : List ListRow) (list : ListRow) (i : ℕ) → list_of lists i ≡ None → i ≡ list.student → list_of (lists ++ list ∷ []) i ≡ Some list
+pub list-new : (lists : List ListRow) (list : ListRow) (i : ℕ) → list_of lists i ≡ None → i ≡ list.student → list_of (lists ++ list ∷ []) i ≡ Some list
 list-new lists list i none same =
     let equal : nat_eq i list.student ≡ true = grind (arith, nat_tests) in
     find-append (λ (l : ListRow). nat_eq i l.student) lists (list ∷ []) ∙ rw (none, equal) refl
@@ -112,7 +112,7 @@ no-list (list ∷ rest) i none = elim (cases_Bool (nat_eq i list.student)) [
 ]
 
 -- a good record with a new number is one row more
-added-row : {R : Type 0} (most : ℕ) (number : R → ℕ) (read : ℕ → List (List ℕ) → Result R Cause) (width row : ℕ) (earlier : List R) (fields : List (List ℕ)) (found : R)
+pub added-row : {R : Type 0} (most : ℕ) (number : R → ℕ) (read : ℕ → List (List ℕ) → Result R Cause) (width row : ℕ) (earlier : List R) (fields : List (List ℕ)) (found : R)
     → nat_le most (length earlier) ≡ false → row_at read width row fields ≡ Ok found → list_any (nat_eq (number found)) (map number earlier) ≡ false
     → added earlier (next_row_at most number read width row earlier fields) ≡ Ok (earlier ++ found ∷ [])
 added-row most number read width row earlier fields found room is new = rw (room, is, new) refl
@@ -165,7 +165,7 @@ room-left width list_width n fields list_fields k enters =
     omega arith
 
 -- a file whose records are read to their end reads as its rows
-all-read : {R : Type 0} (source : Source) (is_header : List (List ℕ) → Bool) (read : ℕ → List R → List (List ℕ) → Result R Cause) (text : List ℕ) (width : ℕ) (records : List (List (List ℕ))) (rows : List R)
+pub all-read : {R : Type 0} (source : Source) (is_header : List (List ℕ) → Bool) (read : ℕ → List R → List (List ℕ) → Result R Cause) (text : List ℕ) (width : ℕ) (records : List (List (List ℕ))) (rows : List R)
     → records_below source is_header text ≡ Ok (width, records) → rows_after 2 source (read width) [] records ≡ rows_after 2 source (read width) rows [] → rows_in source is_header read text ≡ Ok rows
 unfolding rows_after
 all-read source is_header read text width records rows below to = rw below to

@@ -13,7 +13,7 @@ use Rattle.std.proofs.lemmas.List.Folds.{list_any-append, list_any_at}
 use Rattle.std.proofs.lemmas.List.Sorted.{searched}
 use Rattle.sc_intake.specs.Seen.{AreBelow, Ascend}
 
-same-number : (n : ℕ) → nat_eq n n ≡ true
+pub same-number : (n : ℕ) → nat_eq n n ≡ true
 same-number n = grind arith
 
 -- the list with one more number, and the tree as it was
@@ -105,7 +105,7 @@ tree-more old new n m updates =
     by true false is = cc is
     by false true is = cc is
 
-none-at : (n : ℕ) (ns : List ℕ) → ((k : ℕ) → k < length ns → nat_eq n (get_or ns k 0) ≡ false) → list_any (nat_eq n) ns ≡ false
+pub none-at : (n : ℕ) (ns : List ℕ) → ((k : ℕ) → k < length ns → nat_eq n (get_or ns k 0) ≡ false) → list_any (nat_eq n) ns ≡ false
 none-at n [] differ = refl
 none-at n (m ∷ ns) differ = rw (differ 0 (omega arith), none-at n ns (λ k within. differ (suc k) (omega arith))) refl
 

@@ -13,6 +13,7 @@ pub mod Checking
 pub mod Script
 pub mod Log
 -- what the crate's own functions, its models and their proofs need
+pub mod AnyOrder
 pub mod Cursor
 pub mod Choice
 pub mod Plain

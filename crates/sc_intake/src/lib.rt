@@ -5,6 +5,8 @@
 //! into records is that of the crate `csv`.
 #![tactic(auto)]
 
+mod any_order;
+mod below;
 mod blanks;
 mod byte_count;
 mod byte_order_mark;

@@ -3,43 +3,18 @@
 ghost use Rattle.std.specs.Prelude.{◌≡◌, ◌⊎◌, [], Err, IfErr, IfOk, IfSome, Ok};
 ghost use Rattle.std.specs.Bool.{OnTrue};
 ghost use Rattle.sc_intake.specs.Cursor.{ReadsNext};
-ghost use Rattle.sc_intake.specs.File.{records_below};
 ghost use Rattle.sc_intake.specs.Papers.{papers_in, IsWantOfMemory};
-ghost use Rattle.sc_intake.specs.Rows.{row_at};
 ghost use Rattle.sc_intake.specs.Together.{papers_below, AreReadTo, EntersBoth};
 
-use crate::byte_count::count_of;
+use crate::any_order::papers_in_any_order;
+use crate::below::{Below, below_header, likely_students, row_at};
 use crate::fault::IntakeFault;
-use crate::input::records_in;
 use crate::lists::{ListRow, read_lists};
 use crate::papers::{enter, open_with_room, papers_of};
-use crate::records::Records;
 use crate::roster::{RosterRow, read_roster};
-use crate::rows::{Row, take_header};
 use crate::schools::{SchoolRows, read_schools};
-use sc_papers::{MOST_STUDENTS, Papers, Seed};
+use sc_papers::{Papers, Seed};
 use std::alloc::Global;
-
-/// A file below its header: its records, each of which is to have as many fields as that.
-#[derive(Drop)]
-struct Below<'a> {
-    width: usize,
-    records: Records<'a>,
-}
-
-/// The records of a file below its header. `None` says nothing of the file: `read_rows` tells what is wrong.
-fn below_header<'a, R: Row>(alloc: Global, text: &'a [u8]) -> Option<Below<'a>>
-    ensures { IfSome result (λ below. records_below R.source R.is_header text.now
-        ≡ Ok (below.width, below.records.left)) }
-{
-    let Ok(mut records) = records_in(alloc, R::source(), text) else {
-        return None;
-    };
-    let Ok(width) = take_header::<R>(&mut records) else {
-        return None;
-    };
-    Some(Below { width, records })
-}
 
 /// Reads the next record of both files, and says whether there was one of each or of neither. `None` says nothing:
 /// one of them is longer, or memory is wanting.
@@ -53,20 +28,6 @@ fn advance_both(roster: &mut Below<'_>, lists: &mut Below<'_>) -> Option<bool>
         (Ok(true), Ok(true)) => Some(true),
         (Ok(false), Ok(false)) => Some(false),
         _ => None,
-    }
-}
-
-/// The row that the record of a file that was read last is, in this row. `None` says nothing: it is none, or memory is
-/// wanting.
-fn row_at<R: Row>(alloc: Global, row: u64, below: &Below<'_>) -> Option<R>
-    ensures { IfSome result (λ found. row_at R.reading below.now.width row below.now.records.current ≡ Ok found) }
-{
-    if below.records.len() != below.width {
-        return None;
-    }
-    match R::read(alloc, row, &below.records) {
-        Ok(found) => Some(found),
-        Err(_) => None,
     }
 }
 
@@ -111,11 +72,6 @@ fn enter_together(
     }
 }
 
-/// How many students a roster may have, by its line ends: a guess, for which room is made at once.
-fn likely_students(roster: &[u8]) -> usize {
-    count_of(b'\n', roster).min(MOST_STUDENTS)
-}
-
 /// The papers of a roster and lists that have no fault and whose rows are of the same students, row by row. `None` says
 /// nothing of them.
 fn papers_together(
@@ -143,10 +99,12 @@ fn papers_together(
 /// lists, and then of what they say together, as `papers_of` tells it. Beside that the only error is want of memory, of
 /// row 0 and the file in whose reading it was wanted, or of the roster where it was in making the papers.
 ///
-/// Where the lists stand in the order of the roster, row by row, and nothing is wrong, both are read together: no row is
-/// kept, no list is copied and none is looked up. Then the cost is the length of the texts, a look-up for each school
-/// named, and a draw of the lottery for each student. Otherwise the roster and the lists are read again, each alone, and
-/// what is more than reading is the cost of `papers_of`.
+/// There are three ways, each tried where the one before gave up. Where the lists stand in the order of the roster, row
+/// by row, and nothing is wrong, both are read together: no row is kept, no list is copied and none is looked up. Then
+/// the cost is the length of the texts, a look-up for each school named, and a draw of the lottery for each student.
+/// Where they stand in any other order and nothing is wrong, the rows of both are kept and their numbers sorted, and no
+/// list is copied. Where something is wrong, the roster and the lists are read once more, each alone, which finds the
+/// first fault, and what is more than reading is the cost of `papers_of`.
 pub fn read_papers(
     alloc: Global,
     seed: Seed,
@@ -160,6 +118,9 @@ pub fn read_papers(
 {
     let schools = read_schools(alloc, schools)?;
     if let Some(papers) = papers_together(alloc, seed, &schools, roster, lists) {
+        return Ok(papers);
+    }
+    if let Some(papers) = papers_in_any_order(alloc, seed, &schools, roster, lists) {
         return Ok(papers);
     }
     let roster = read_roster(alloc, roster)?;

@@ -1,0 +1,52 @@
+//! A file below its header: its records, and the row that the one read last is.
+
+ghost use Rattle.std.specs.Prelude.{◌≡◌, IfSome, Ok};
+ghost use Rattle.sc_intake.specs.File.{records_below};
+ghost use Rattle.sc_intake.specs.Rows.{row_at};
+
+use crate::byte_count::count_of;
+use crate::input::records_in;
+use crate::records::Records;
+use crate::rows::{Row, take_header};
+use sc_papers::MOST_STUDENTS;
+use std::alloc::Global;
+
+/// A file below its header: its records, each of which is to have as many fields as that.
+#[derive(Drop)]
+pub(crate) struct Below<'a> {
+    pub(crate) width: usize,
+    pub(crate) records: Records<'a>,
+}
+
+/// The records of a file below its header. `None` says nothing of the file: `read_rows` tells what is wrong.
+pub(crate) fn below_header<'a, R: Row>(alloc: Global, text: &'a [u8]) -> Option<Below<'a>>
+    ensures { IfSome result (λ below. records_below R.source R.is_header text.now
+        ≡ Ok (below.width, below.records.left)) }
+{
+    let Ok(mut records) = records_in(alloc, R::source(), text) else {
+        return None;
+    };
+    let Ok(width) = take_header::<R>(&mut records) else {
+        return None;
+    };
+    Some(Below { width, records })
+}
+
+/// The row that the record of a file that was read last is, in this row. `None` says nothing: it is none, or memory is
+/// wanting.
+pub(crate) fn row_at<R: Row>(alloc: Global, row: u64, below: &Below<'_>) -> Option<R>
+    ensures { IfSome result (λ found. row_at R.reading below.now.width row below.now.records.current ≡ Ok found) }
+{
+    if below.records.len() != below.width {
+        return None;
+    }
+    match R::read(alloc, row, &below.records) {
+        Ok(found) => Some(found),
+        Err(_) => None,
+    }
+}
+
+/// How many students a roster may have, by its line ends: a guess, for which room is made at once.
+pub(crate) fn likely_students(roster: &[u8]) -> usize {
+    count_of(b'\n', roster).min(MOST_STUDENTS)
+}
