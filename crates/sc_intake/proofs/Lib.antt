@@ -15,6 +15,9 @@ pub mod SeenLemmas
 pub mod JudgedParts
 pub mod PaperLemmas
 pub mod InStep
+pub mod TidyLines
+pub mod TidyFields
+pub mod TidyRows
 pub mod ReadTogether
 pub mod InAnyOrder
 pub mod JudgingSteps

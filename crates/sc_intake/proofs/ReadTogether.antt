@@ -19,7 +19,8 @@ use Rattle.sc_intake.specs.Lists.{choices_of, is_list_header, list_number, lists
 use Rattle.sc_intake.specs.Papers.{all_entered, entered_by, is_in_roster, list_of, opening, unless_refused}
 use Rattle.sc_intake.specs.Roster.{is_roster_header, next_student, roster_in, roster_number, student_of}
 use Rattle.sc_intake.specs.Rows.{added, next_row_at, row_at}
-use Rattle.sc_intake.specs.Together.{papers_below, AreReadTo, EntersBoth}
+use Rattle.sc_intake.specs.Tidy.{TakesRow}
+use Rattle.sc_intake.specs.Together.{papers_below, AreReadTo}
 use Rattle.sc_intake.specs.declared.fault.Cause.{Cause}
 use Rattle.sc_intake.specs.declared.fault.Source.{Source}
 use Rattle.sc_intake.specs.declared.fault.Source.TheVariants.{Roster, Lists}
@@ -119,14 +120,13 @@ added-row most number read width row earlier fields found room is new = rw (room
 
 -- both files were read one row further
 pub AreReadTo-more : (width list_width : ℕ) (roster lists : List (List (List ℕ))) (m : Market) (roster_left lists_left : List (List (List ℕ))) (n : Market)
-    (fields list_fields : List (List ℕ)) (roster_rest lists_rest : List (List (List ℕ))) (k : Market)
+    (roster_rest lists_rest : List (List (List ℕ))) (k : Market) (row : RosterRow) (list : ListRow)
     → m.students ≡ [] → AreReadTo width list_width roster lists m roster_left lists_left n
-    → roster_left ≡ fields ∷ roster_rest → lists_left ≡ list_fields ∷ lists_rest → EntersBoth width list_width n fields list_fields k
+    → TakesRow student_of width (length n.students + 2) roster_left roster_rest row → TakesRow choices_of list_width (length n.students + 2) lists_left lists_rest list
+    → row.student ≡ list.student → entered_by n row (Some list) ≡ Ok k
     → AreReadTo width list_width roster lists m roster_rest lists_rest k
-AreReadTo-more width list_width roster lists m roster_left lists_left n fields list_fields roster_rest lists_rest k fresh to next next_list_is enters =
-    let row = enters.row in
-    let list = enters.list in
-    let may = may-enter n k row list enters.entered in
+AreReadTo-more width list_width roster lists m roster_left lists_left n roster_rest lists_rest k row list fresh to takes takes_list same entered =
+    let may = may-enter n k row list entered in
     let absent : is_student n row.student ≡ false = may.0 in
     let within = may.1 in
     let counted = as-many to.list_rows m n to.roster_rows to.entered in
@@ -136,18 +136,18 @@ AreReadTo-more width list_width roster lists m roster_left lists_left n fields l
     let new : list_any (nat_eq row.student) (map roster_number to.roster_rows) ≡ false =
     sym (in-numbers to.roster_rows row.student) ∙ sym (all-students to.list_rows m n to.roster_rows to.entered row.student ∙ rw fresh refl) ∙ absent in
     let list_new : list_any (nat_eq row.student) (map list_number to.list_rows) ≡ false = rw (← to.step) new in
-    let list_is_new : list_any (nat_eq list.student) (map list_number to.list_rows) ≡ false = rw (← enters.same) list_new in
-    let found = list-new to.list_rows list row.student (no-list to.list_rows row.student list_new) enters.same in
+    let list_is_new : list_any (nat_eq list.student) (map list_number to.list_rows) ≡ false = rw (← same) list_new in
+    let found = list-new to.list_rows list row.student (no-list to.list_rows row.student list_new) same in
     record {
       roster_rows = to.roster_rows ++ row ∷ [];
       list_rows = to.list_rows ++ list ∷ [];
-      roster_read = row-step 2 Roster (next_student width) _ to.roster_rows (to.roster_rows ++ row ∷ []) roster_left roster_rest fields to.roster_read next
-          (added-row MOST_STUDENTS roster_number student_of width (length to.roster_rows + 2) to.roster_rows fields row (rw size at within) (rw size at enters.in_roster) new);
-      lists_read = row-step 2 Lists (next_list list_width) _ to.list_rows (to.list_rows ++ list ∷ []) lists_left lists_rest list_fields to.lists_read next_list_is
-          (added-row MOST_STUDENTS list_number choices_of list_width (length to.list_rows + 2) to.list_rows list_fields list (rw list_size within) (rw list_size enters.in_lists) list_is_new);
-      step = map-append roster_number to.roster_rows (row ∷ []) ∙ ap (λ (numbers : List ℕ). numbers ++ row.student ∷ []) to.step ∙ ap (λ (i : ℕ). map list_number to.list_rows ++ i ∷ []) enters.same
+      roster_read = row-step 2 Roster (next_student width) _ to.roster_rows (to.roster_rows ++ row ∷ []) roster_left roster_rest takes.fields to.roster_read takes.next
+          (added-row MOST_STUDENTS roster_number student_of width (length to.roster_rows + 2) to.roster_rows takes.fields row (rw size at within) (rw size at takes.reads) new);
+      lists_read = row-step 2 Lists (next_list list_width) _ to.list_rows (to.list_rows ++ list ∷ []) lists_left lists_rest takes_list.fields to.lists_read takes_list.next
+          (added-row MOST_STUDENTS list_number choices_of list_width (length to.list_rows + 2) to.list_rows takes_list.fields list (rw list_size within) (rw list_size takes_list.reads) list_is_new);
+      step = map-append roster_number to.roster_rows (row ∷ []) ∙ ap (λ (numbers : List ℕ). numbers ++ row.student ∷ []) to.step ∙ ap (λ (i : ℕ). map list_number to.list_rows ++ i ∷ []) same
           ∙ sym (map-append list_number to.list_rows (list ∷ []));
-      entered = all_entered-push to.list_rows list m n k to.roster_rows row to.entered found enters.entered;
+      entered = all_entered-push to.list_rows list m n k to.roster_rows row to.entered found entered;
     }
 
 -- no row was read
@@ -156,11 +156,10 @@ unfolding all_entered
 AreReadTo-none width list_width roster lists m = record { roster_rows = []; list_rows = []; roster_read = refl; lists_read = refl; step = refl; entered = refl }
 
 -- there is room for fewer students than before
-pub room-left : (width list_width : ℕ) (n : Market) (fields list_fields : List (List ℕ)) (k : Market) → EntersBoth width list_width n fields list_fields k
-    → MOST_STUDENTS - length k.students < MOST_STUDENTS - length n.students
-room-left width list_width n fields list_fields k enters =
-    let more = entered-more n k enters.row (Some enters.list) enters.entered in
-    let room = (may-enter n k enters.row enters.list enters.entered).1 in
+pub room-left : (n k : Market) (row : RosterRow) (list : ListRow) → entered_by n row (Some list) ≡ Ok k → MOST_STUDENTS - length k.students < MOST_STUDENTS - length n.students
+room-left n k row list entered =
+    let more = entered-more n k row (Some list) entered in
+    let room = (may-enter n k row list entered).1 in
     let within : length n.students < MOST_STUDENTS = grind (arith, nat_tests) in
     omega arith
 

@@ -21,4 +21,5 @@ pub mod Reading
 pub mod Representation
 pub mod Seen
 pub mod Sheets
+pub mod Tidy
 pub mod Together

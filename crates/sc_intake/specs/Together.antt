@@ -1,12 +1,11 @@
 -- The roster and the lists read together, row by row. Only the crate's own functions and their proofs need this.
-use Rattle.std.specs.Prelude.{◌≡◌, ℕ, ◌+◌, List, [], length, map, Some, Result, Ok}
+use Rattle.std.specs.Prelude.{◌≡◌, ℕ, List, [], map, Result, Ok}
 use Rattle.sc_papers.specs.Market.{Market}
 use Rattle.sc_intake.specs.Fault.{◌>>=◌}
 use Rattle.sc_intake.specs.File.{rows_after}
-use Rattle.sc_intake.specs.Lists.{choices_of, list_number, lists_in, next_list}
-use Rattle.sc_intake.specs.Papers.{all_entered, entered_by, papers_of}
-use Rattle.sc_intake.specs.Roster.{next_student, roster_in, roster_number, student_of}
-use Rattle.sc_intake.specs.Rows.{row_at}
+use Rattle.sc_intake.specs.Lists.{list_number, lists_in, next_list}
+use Rattle.sc_intake.specs.Papers.{all_entered, papers_of}
+use Rattle.sc_intake.specs.Roster.{next_student, roster_in, roster_number}
 use Rattle.sc_intake.specs.declared.fault.IntakeFault.{IntakeFault}
 use Rattle.sc_intake.specs.declared.fault.Source.TheVariants.{Roster, Lists}
 use Rattle.sc_intake.specs.declared.lists.ListRow.{ListRow}
@@ -19,16 +18,6 @@ papers_below seed schools roster lists = do
   roster_rows ← roster_in roster
   list_rows ← lists_in lists
   papers_of seed schools roster_rows list_rows
-
--- a record of the roster and one of the lists, under headers of so many fields, are rows of one student, who enters:
--- both have the number after those of the students before
-pub record EntersBoth (width list_width : ℕ) (m : Market) (fields list_fields : List (List ℕ)) (n : Market) : Type 0 where
-  pub row : RosterRow
-  pub list : ListRow
-  pub in_roster : row_at student_of width (length m.students + 2) fields ≡ Ok row
-  pub in_lists : row_at choices_of list_width (length m.students + 2) list_fields ≡ Ok list
-  pub same : row.student ≡ list.student
-  pub entered : entered_by m row (Some list) ≡ Ok n
 
 -- both files were read so far: the records from here on go on after rows of the same students, who entered papers `m`
 -- one by one, so that they are now `n`

@@ -8,19 +8,19 @@ ghost use Rattle.std.specs.Prelude.{◌≡◌, [], ◌++◌, ◌∷◌, List, le
 ghost use Rattle.std.specs.Bool.{OnTrue};
 ghost use Rattle.std.specs.List.{IsDistinct};
 ghost use Rattle.sc_intake.specs.AnyOrder.{each_list, AreDifferent, AreInSlots};
-ghost use Rattle.sc_intake.specs.Cursor.{ReadsNext};
 ghost use Rattle.sc_intake.specs.File.{rows_after, rows_in};
 ghost use Rattle.sc_intake.specs.Papers.{all_entered};
 ghost use Rattle.sc_intake.specs.Rows.{next_row};
 ghost use Rattle.sc_intake.specs.Together.{papers_below};
 ghost use Rattle.sc_intake.specs.declared.lists.ListRow.{ListRow as ListedRow};
 
-use crate::below::{Below, below_header, likely_students, row_at};
+use crate::below::{Below, below_header, likely_students, next_row};
 use crate::lists::ListRow;
 use crate::papers::{enter, open_with_room};
 use crate::roster::RosterRow;
-use crate::rows::{Numbered, Row};
+use crate::rows::Numbered;
 use crate::schools::SchoolRows;
+use crate::tidy_rows::TidyRow;
 use sc_papers::{Papers, Seed};
 use std::alloc::Global;
 
@@ -31,34 +31,25 @@ struct Place {
     row: u32,
 }
 
-/// Reads the next record of a file, and says whether there was one. `None` says nothing: memory is wanting.
-fn advance(below: &mut Below<'_>) -> Option<bool>
-    ensures next { IfSome result (ReadsNext below.old.records below.new.records) }
-    ensures width { below.new.width ≡ below.old.width }
-{
-    below.records.read().ok()
-}
-
 /// The rows that are left of a file, if their numbers differ, which is not looked at. `None` says nothing: one of them
 /// has a fault, there are too many, or memory is wanting.
-fn take_rows<R: Row>(alloc: Global, below: &mut Below<'_>, room: usize) -> Option<Vec<R>>
+fn take_rows<R: TidyRow>(alloc: Global, below: &mut Below<'_>, room: usize) -> Option<Vec<R>>
     ensures { IfSome result (λ rows. IsDistinct nat_eq (map R.number rows.items)
         → rows_after 2 R.source (next_row R.MOST R.number R.reading below.old.width) [] below.old.records.left
         ≡ Ok rows.items) }
 {
     let mut rows = Vec::with_capacity(alloc, room).ok()?;
-    'rows: while advance(below)? {
+    'rows: while let Some(row) = next_row::<R>(alloc, rows.len() as u64 + 2, below)? {
         if rows.len() >= R::MOST {
             return None;
         }
-        let row = row_at::<R>(alloc, rows.len() as u64 + 2, below)?;
         rows.push(row).ok()?;
     }
     Some(rows)
 }
 
 /// The rows of the text of a file, if their numbers differ, which is not looked at. `None` says nothing of the text.
-fn rows_of_text<R: Row>(alloc: Global, text: &[u8], room: usize) -> Option<Vec<R>>
+fn rows_of_text<R: TidyRow>(alloc: Global, text: &[u8], room: usize) -> Option<Vec<R>>
     ensures { IfSome result (λ rows. IsDistinct nat_eq (map R.number rows.items)
         → rows_in R.source R.is_header (next_row R.MOST R.number R.reading) text.now ≡ Ok rows.items) }
 {

@@ -1,13 +1,15 @@
-//! A file below its header: its records, and the row that the one read last is.
+//! A file below its header, row by row.
 
-ghost use Rattle.std.specs.Prelude.{◌≡◌, IfSome, Ok};
+ghost use Rattle.std.specs.Prelude.{◌≡◌, IfNone, IfSome, Ok};
 ghost use Rattle.sc_intake.specs.File.{records_below};
 ghost use Rattle.sc_intake.specs.Rows.{row_at};
+ghost use Rattle.sc_intake.specs.Tidy.{IsNextRow, TakesRow};
 
 use crate::byte_count::count_of;
 use crate::input::records_in;
 use crate::records::Records;
 use crate::rows::{Row, take_header};
+use crate::tidy_rows::TidyRow;
 use sc_papers::MOST_STUDENTS;
 use std::alloc::Global;
 
@@ -34,7 +36,7 @@ pub(crate) fn below_header<'a, R: Row>(alloc: Global, text: &'a [u8]) -> Option<
 
 /// The row that the record of a file that was read last is, in this row. `None` says nothing: it is none, or memory is
 /// wanting.
-pub(crate) fn row_at<R: Row>(alloc: Global, row: u64, below: &Below<'_>) -> Option<R>
+fn row_at<R: Row>(alloc: Global, row: u64, below: &Below<'_>) -> Option<R>
     ensures { IfSome result (λ found. row_at R.reading below.now.width row below.now.records.current ≡ Ok found) }
 {
     if below.records.len() != below.width {
@@ -43,6 +45,50 @@ pub(crate) fn row_at<R: Row>(alloc: Global, row: u64, below: &Below<'_>) -> Opti
     match R::read(alloc, row, &below.records) {
         Ok(found) => Some(found),
         Err(_) => None,
+    }
+}
+
+/// The row that the next record of a file is, where that is tidy. `None` says nothing of it, and leaves the records as
+/// they were.
+fn tidy_row<R: TidyRow>(alloc: Global, row: u64, below: &mut Below<'_>) -> Option<R>
+    ensures row { IfSome result (TakesRow R.reading below.old.width row
+        below.old.records.left below.new.records.left) }
+    ensures unchanged { IfNone result (below.new ≡ below.old) }
+    ensures width { below.new.width ≡ below.old.width }
+{
+    let text = below.records.plain_text()?;
+    let (found, rest) = R::take(alloc, row, below.width, text)?;
+    below.records.go_on(alloc, rest);
+    Some(found)
+}
+
+/// The row that the next record of a file is, if there is one, however it is written. `None` says nothing: it is none,
+/// or memory is wanting.
+fn any_row<R: Row>(alloc: Global, row: u64, below: &mut Below<'_>) -> Option<Option<R>>
+    ensures row { IfSome result (IsNextRow R.reading below.old.width row
+        below.old.records.left below.new.records.left) }
+    ensures width { below.new.width ≡ below.old.width }
+{
+    match below.records.read() {
+        Ok(true) => Some(Some(row_at(alloc, row, below)?)),
+        Ok(false) => Some(None),
+        Err(_) => None,
+    }
+}
+
+/// The row that the next record of a file is, if there is one. `None` says nothing: it is none, or memory is wanting.
+pub(crate) fn next_row<R: TidyRow>(
+    alloc: Global,
+    row: u64,
+    below: &mut Below<'_>,
+) -> Option<Option<R>>
+    ensures row { IfSome result (IsNextRow R.reading below.old.width row
+        below.old.records.left below.new.records.left) }
+    ensures width { below.new.width ≡ below.old.width }
+{
+    match tidy_row(alloc, row, below) {
+        Some(found) => Some(Some(found)),
+        None => any_row(alloc, row, below),
     }
 }
 

@@ -31,6 +31,7 @@ mod script_faults;
 mod script_records;
 mod seen;
 mod sheet;
+mod tidy_rows;
 mod together;
 
 pub use blanks::{Blanks, trimmed};

@@ -167,6 +167,20 @@ impl<'a> PlainRecords<'a> {
         Ok(true)
     }
 
+    /// The text of the records that are left, which begins with the first of them.
+    pub(crate) fn text(&self) -> &'a [u8]
+        ensures { self.now.left ≡ plain_records result.now }
+    {
+        without_line_ends(self.rest)
+    }
+
+    /// Goes on with the records of this text.
+    pub(crate) fn go_on(&mut self, text: &'a [u8])
+        ensures { self.new.left ≡ plain_records text.now }
+    {
+        self.rest = text;
+    }
+
     /// How many fields the record read last has.
     pub(crate) fn len(&self) -> usize
         ensures { result ≡ length self.now.current }

@@ -33,13 +33,14 @@ impl<'a> Model for Records<'a> {
 }
 
 impl<'a> Records<'a> {
-    ghost use Rattle.std.specs.Prelude.{◌≡◌, [], length, option_map, IfErr, IfOk};
+    ghost use Rattle.std.specs.Prelude.{◌≡◌, [], length, option_map, IfErr, IfOk, IfSome};
     ghost use Rattle.csv.specs.Reading.{default_config, records, strip_bom};
     ghost use Rattle.csv.specs.Records.{field_at};
     ghost use Rattle.std.specs.Str.{bytes_eq};
     ghost use Rattle.sc_intake.specs.Cursor.{ReadsNext};
     ghost use Rattle.sc_intake.specs.Fault.{no_memory};
     ghost use Rattle.sc_intake.specs.File.{text_at};
+    ghost use Rattle.sc_intake.specs.Plain.{plain_records};
 
     /// The records of a text, whose first byte order mark is passed over; none is read yet.
     pub(crate) fn new(alloc: Global, text: &'a [u8]) -> Self
@@ -73,6 +74,26 @@ impl<'a> Records<'a> {
         match &mut self.cutter {
             Cutter::Plain(records) => records.advance(),
             Cutter::Quoted(records) => records.advance(),
+        }
+    }
+
+    /// The text of the records that are left, which begins with the first of them, where it has no quote.
+    pub(crate) fn plain_text(&self) -> Option<&'a [u8]>
+        ensures { IfSome result (λ text. self.now.left ≡ plain_records text.now) }
+    {
+        match &self.cutter {
+            Cutter::Plain(records) => Some(records.text()),
+            Cutter::Quoted(_) => None,
+        }
+    }
+
+    /// Goes on with the records of this text, which has no quote.
+    pub(crate) fn go_on(&mut self, alloc: Global, text: &'a [u8])
+        ensures { self.new.left ≡ plain_records text.now }
+    {
+        match &mut self.cutter {
+            Cutter::Plain(records) => records.go_on(text),
+            Cutter::Quoted(_) => self.cutter = Cutter::Plain(PlainRecords::new(alloc, text)),
         }
     }
 

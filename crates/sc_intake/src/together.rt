@@ -1,13 +1,12 @@
 //! The papers of the texts of the three files.
 
-ghost use Rattle.std.specs.Prelude.{◌≡◌, ◌⊎◌, [], Err, IfErr, IfOk, IfSome, Ok};
+ghost use Rattle.std.specs.Prelude.{◌≡◌, ◌⊎◌, [], Err, IfErr, IfOk, IfSome, Ok, Some};
 ghost use Rattle.std.specs.Bool.{OnTrue};
-ghost use Rattle.sc_intake.specs.Cursor.{ReadsNext};
-ghost use Rattle.sc_intake.specs.Papers.{papers_in, IsWantOfMemory};
-ghost use Rattle.sc_intake.specs.Together.{papers_below, AreReadTo, EntersBoth};
+ghost use Rattle.sc_intake.specs.Papers.{entered_by, papers_in, IsWantOfMemory};
+ghost use Rattle.sc_intake.specs.Together.{papers_below, AreReadTo};
 
 use crate::any_order::papers_in_any_order;
-use crate::below::{Below, below_header, likely_students, row_at};
+use crate::below::{Below, below_header, likely_students, next_row};
 use crate::fault::IntakeFault;
 use crate::lists::{ListRow, read_lists};
 use crate::papers::{enter, open_with_room, papers_of};
@@ -16,34 +15,11 @@ use crate::schools::{SchoolRows, read_schools};
 use sc_papers::{Papers, Seed};
 use std::alloc::Global;
 
-/// Reads the next record of both files, and says whether there was one of each or of neither. `None` says nothing:
-/// one of them is longer, or memory is wanting.
-fn advance_both(roster: &mut Below<'_>, lists: &mut Below<'_>) -> Option<bool>
-    ensures roster { IfSome result (ReadsNext roster.old.records roster.new.records) }
-    ensures lists { IfSome result (ReadsNext lists.old.records lists.new.records) }
-    ensures width { roster.new.width ≡ roster.old.width }
-    ensures list_width { lists.new.width ≡ lists.old.width }
+/// Enters the student of these rows, and says whether they are of one student who may enter. Otherwise, or where memory
+/// is wanting, the papers are no longer to be used.
+fn enter_both(papers: &mut Papers, row: RosterRow, list: ListRow) -> bool
+    ensures { OnTrue result ((row.student ≡ list.student) × (entered_by papers.old row (Some list) ≡ Ok papers.new)) }
 {
-    match (roster.records.read(), lists.records.read()) {
-        (Ok(true), Ok(true)) => Some(true),
-        (Ok(false), Ok(false)) => Some(false),
-        _ => None,
-    }
-}
-
-/// Enters the student of whom the records read last are, and says whether they are of one student who may enter.
-/// Otherwise, or where memory is wanting, the papers are no longer to be used.
-fn enter_both(alloc: Global, papers: &mut Papers, roster: &Below<'_>, lists: &Below<'_>) -> bool
-    ensures { OnTrue result (EntersBoth roster.now.width lists.now.width papers.old
-        roster.now.records.current lists.now.records.current papers.new) }
-{
-    let number = papers.students_len() as u64 + 2;
-    let Some(row) = row_at::<RosterRow>(alloc, number, roster) else {
-        return false;
-    };
-    let Some(list) = row_at::<ListRow>(alloc, number, lists) else {
-        return false;
-    };
     row.student == list.student && enter(papers, row, list.choices).is_ok()
 }
 
@@ -60,14 +36,21 @@ fn enter_together(
         roster.old.records.left lists.old.records.left papers.old [] [] papers.new) }
 {
     'rows: loop {
-        match advance_both(roster, lists) {
-            Some(true) => {
-                if !enter_both(alloc, papers, roster, lists) {
+        let number = papers.students_len() as u64 + 2;
+        let Some(row) = next_row::<RosterRow>(alloc, number, roster) else {
+            return false;
+        };
+        let Some(list) = next_row::<ListRow>(alloc, number, lists) else {
+            return false;
+        };
+        match (row, list) {
+            (Some(row), Some(list)) => {
+                if !enter_both(papers, row, list) {
                     return false;
                 }
             }
-            Some(false) => return true,
-            None => return false,
+            (None, None) => return true,
+            _ => return false,
         }
     }
 }

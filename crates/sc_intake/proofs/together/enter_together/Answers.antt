@@ -1,4 +1,7 @@
-use Rattle.std.proofs.Common.{refl, ◌∙◌}
+use Rattle.std.proofs.Common.{◌+◌, length, refl, ◌∙◌}
+use Rattle.sc_intake.specs.Lists.{choices_of}
+use Rattle.sc_intake.specs.Roster.{student_of}
+use Rattle.sc_intake.specs.Tidy.{TakesRow}
 use Rattle.sc_intake.proofs.ReadTogether.{AreReadTo-more, AreReadTo-none, room-left}
 use Rattle.sc_intake.proofs.together.enter_together.Goals as goal
 
@@ -6,20 +9,21 @@ pub rows-init : goal.rows-init
 rows-init c = (AreReadTo-none c.args.roster.now.width c.args.lists.now.width c.args.roster.now.records.left c.args.lists.now.records.left c.args.papers.now, refl, refl)
 
 pub rows-smaller : goal.rows-smaller
-rows-smaller c =
-    room-left c.advance_both.new.roster.width c.advance_both.new.lists.width c.rows.papers c.advance_both.new.roster.records.current c.advance_both.new.lists.records.current c.enter_both.new.papers
-    c.if-not-enter_both.ensures
+rows-smaller c = room-left c.rows.papers c.enter_both.new.papers c.in-Some-Some.row c.in-Some-Some.list c.if-not-enter_both.ensures.1
 
 pub rows-preserved : goal.rows-preserved
 rows-preserved c =
     let (so_far, width, list_width) = c.rows.invariant in
-    let next = rw c.in-Some-true.field-0-test at c.in-Some-true.ensures.roster in
-    let list_next = rw c.in-Some-true.field-0-test at c.in-Some-true.ensures.lists in
-    let same = c.in-Some-true.ensures.width in
-    let list_same = c.in-Some-true.ensures.list_width in (
-      AreReadTo-more c.advance_both.new.roster.width c.advance_both.new.lists.width c.args.roster.now.records.left c.args.lists.now.records.left c.args.papers.now c.rows.roster.records.left c.rows.lists.records.left c.rows.papers
-          c.advance_both.new.roster.records.current c.advance_both.new.lists.records.current c.advance_both.new.roster.records.left c.advance_both.new.lists.records.left c.enter_both.new.papers
-          c.requires (rw (same, list_same) so_far) next list_next c.if-not-enter_both.ensures,
+    let same = c.next_row.ensures.width in
+    let list_same = c.next_row-in-rows.ensures.width in
+    let number = c.students_len.ensures.count in
+    let takes : TakesRow student_of c.next_row.new.below.width (length c.rows.papers.students + 2) c.rows.roster.records.left c.next_row.new.below.records.left c.in-Some-Some.row =
+    rw same (rw (c.in-Some-Some.is-0, number) at c.in-Some.ensures.row) in
+    let takes_list : TakesRow choices_of c.next_row-in-rows.new.below.width (length c.rows.papers.students + 2) c.rows.lists.records.left c.next_row-in-rows.new.below.records.left c.in-Some-Some.list =
+    rw list_same (rw (c.in-Some-Some.is-1, number) at c.in-Some-next_row.ensures.row) in (
+      AreReadTo-more c.next_row.new.below.width c.next_row-in-rows.new.below.width c.args.roster.now.records.left c.args.lists.now.records.left c.args.papers.now c.rows.roster.records.left c.rows.lists.records.left c.rows.papers
+          c.next_row.new.below.records.left c.next_row-in-rows.new.below.records.left c.enter_both.new.papers c.in-Some-Some.row c.in-Some-Some.list
+          c.requires (rw (same, list_same) so_far) takes takes_list c.if-not-enter_both.ensures.0 c.if-not-enter_both.ensures.1,
       same ∙ width,
       list_same ∙ list_width,
     )

@@ -1,0 +1,171 @@
+//! Rows of tidy texts: digits alone, one space between two numbers of a list, one comma between two fields.
+//!
+//! Most rows are so. They are read with no look for their fields before, so that each byte is looked at once.
+
+ghost use Rattle.std.specs.Prelude.{◌≡◌, ◌∷◌, IfSome};
+ghost use Rattle.sc_intake.specs.Plain.{plain_records};
+ghost use Rattle.sc_intake.specs.Tidy.{AreSchools, EndsLine, EndsRow, IsSchoolOrNone, TakesField, TakesNumber, TakesRow};
+
+use crate::lists::ListRow;
+use crate::ranges;
+use crate::roster::RosterRow;
+use crate::rows::Row;
+use sc_decimal::number_at_front;
+use sc_papers::{LONGEST_LIST, SchoolList, SchoolNo};
+use std::alloc::Global;
+
+/// A row that is read at the front of a text without a quote.
+pub(crate) trait TidyRow: Row {
+    /// The row that the first record of a text is, under a header of so many fields, and the text after it. `None` says
+    /// nothing of the text: the record is not tidy, or memory is wanting.
+    fn take<'a>(alloc: Global, row: u64, width: usize, text: &'a [u8]) -> Option<(Self, &'a [u8])>
+        ensures { IfSome result (λ taken. TakesRow Self.reading width row (plain_records text.now)
+            (plain_records taken.1.now) taken.0) };
+}
+
+/// The number whose digits a text begins with, and the text after them.
+#[inline(always)]
+fn take_number(text: &[u8]) -> Option<(u32, &[u8])>
+    ensures { IfSome result (λ taken. TakesNumber text.now taken.1.now taken.0) }
+{
+    let (number, digits) = number_at_front(text)?;
+    Some((number, &text[digits..]))
+}
+
+/// The text after the comma that it begins with.
+fn after_comma(text: &[u8]) -> Option<&[u8]>
+    ensures { IfSome result (λ rest. text.now ≡ 44 ∷ rest.now) }
+{
+    match text {
+        [b',', rest @ ..] => Some(rest),
+        _ => None,
+    }
+}
+
+/// The text after the line end that it begins with, where it is not at its own end.
+fn after_line_end(text: &[u8]) -> Option<&[u8]>
+    ensures { IfSome result (λ rest. EndsLine text.now rest.now) }
+{
+    match text {
+        [] => Some(text),
+        [b'\n', rest @ ..] => Some(rest),
+        [b'\r', rest @ ..] => Some(rest),
+        _ => None,
+    }
+}
+
+/// The schools that a text begins with, at least one and no more than a list of the papers may have, and the text after
+/// them.
+///
+/// It is not inlined, so that what its loop uses stays in registers.
+#[inline(never)]
+fn take_schools(alloc: Global, text: &[u8]) -> Option<(SchoolList, &[u8])>
+    ensures { IfSome result (λ taken. TakesField text.now taken.1.now (AreSchools taken.0)) }
+{
+    let filler = SchoolNo::new(1)?;
+    let mut schools = [filler; LONGEST_LIST];
+    let mut rest = text;
+    for count in 0..LONGEST_LIST {
+        let (number, after) = take_number(rest)?;
+        schools[count] = SchoolNo::new(number)?;
+        match after {
+            [b' ', more @ ..] => rest = more,
+            _ => {
+                let Ok(list) = Vec::from_slice(alloc, &schools[..count + 1]) else {
+                    return None;
+                };
+                return Some((SchoolList::from_vec(list), after));
+            }
+        }
+    }
+    None
+}
+
+/// The schools that a text begins with, none where it begins with no digit, and the text after them.
+fn take_siblings(alloc: Global, text: &[u8]) -> Option<(SchoolList, &[u8])>
+    ensures { IfSome result (λ taken. TakesField text.now taken.1.now (AreSchools taken.0)) }
+{
+    match text {
+        [byte, ..] if byte.is_ascii_digit() => take_schools(alloc, text),
+        _ => Some((SchoolList::from_vec(Vec::new(alloc)), text)),
+    }
+}
+
+/// The school that a text begins with, none where it begins with no digit, and the text after it.
+fn take_continuing(text: &[u8]) -> Option<(Option<SchoolNo>, &[u8])>
+    ensures { IfSome result (λ taken. TakesField text.now taken.1.now (IsSchoolOrNone taken.0)) }
+{
+    match text {
+        [byte, ..] if byte.is_ascii_digit() => {
+            let (number, after) = take_number(text)?;
+            Some((Some(SchoolNo::new(number)?), after))
+        }
+        _ => Some((None, text)),
+    }
+}
+
+/// The school at which a student continues, by what stands after the third field of so many, and the text after the
+/// row.
+fn end_row(width: usize, text: &[u8]) -> Option<(Option<SchoolNo>, &[u8])>
+    ensures { IfSome result (λ ended. EndsRow width text.now ended.1.now ended.0) }
+{
+    match width {
+        3 => Some((None, after_line_end(text)?)),
+        4 => {
+            let Some((continuing, after)) = take_continuing(after_comma(text)?) else {
+                return None;
+            };
+            Some((continuing, after_line_end(after)?))
+        }
+        _ => None,
+    }
+}
+
+impl TidyRow for ListRow {
+    fn take<'a>(alloc: Global, row: u64, width: usize, text: &'a [u8]) -> Option<(Self, &'a [u8])> {
+        if width != 2 {
+            return None;
+        }
+        let (number, after) = take_number(text)?;
+        let (choices, after) = take_schools(alloc, after_comma(after)?)?;
+        let rest = after_line_end(after)?;
+        let Ok(student) = ranges::student(number) else {
+            return None;
+        };
+        Some((
+            ListRow {
+                row,
+                student,
+                choices,
+            },
+            rest,
+        ))
+    }
+}
+
+impl TidyRow for RosterRow {
+    fn take<'a>(alloc: Global, row: u64, width: usize, text: &'a [u8]) -> Option<(Self, &'a [u8])> {
+        let (number, after) = take_number(text)?;
+        let (zone, after) = take_number(after_comma(after)?)?;
+        let (siblings, after) = take_siblings(alloc, after_comma(after)?)?;
+        let Some((continuing, rest)) = end_row(width, after) else {
+            return None;
+        };
+        let Ok(student) = ranges::student(number) else {
+            return None;
+        };
+        let Ok(zone) = ranges::zone(zone) else {
+            return None;
+        };
+        Some((
+            RosterRow {
+                row,
+                student,
+                zone,
+                siblings,
+                continuing,
+            },
+            rest,
+        ))
+    }
+}
