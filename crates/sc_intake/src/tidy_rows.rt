@@ -1,6 +1,6 @@
 //! Rows of tidy texts: digits alone, one space between two numbers of a list, one comma between two fields.
 //!
-//! Most rows are so. They are read with no look for their fields before, so that each byte is looked at once.
+//! Most rows are so, and are read where they stand: no end of a field or of a line is looked for before it is come to.
 
 ghost use Rattle.std.specs.Prelude.{◌≡◌, ◌∷◌, IfSome};
 ghost use Rattle.sc_intake.specs.Plain.{plain_records};
