@@ -17,7 +17,7 @@ mod taking;
 use crate::rank_table::RankTable;
 use crate::settled::{Settled, SettledPlaces};
 use ranks::{assignment_of, next_in, next_near, places_of, position_near};
-use sc_papers::{Assignment, Hints, Papers, Proposal, Rejection, SchoolNo, StudentNo};
+use sc_papers::{Assignment, Papers, Proposal, Rejection, SchoolNo, StudentNo};
 use sc_seats::Roll;
 use std::alloc::{AllocError, Global};
 
@@ -36,8 +36,6 @@ pub struct Round<R: Roll> {
     proposals: u64,
     // A growth was refused: the rest is no longer to be trusted.
     spent: bool,
-    // Where those who have entered may stand, by their numbers.
-    hints: Hints,
 }
 
 impl<R: Roll> Round<R> {

@@ -38,7 +38,6 @@ fn standing<R: Roll>(
         stands.choices.as_slice(),
         &[],
         stands.ranks.as_slice(),
-        papers.students_len(),
     )?;
     Ok(round)
 }

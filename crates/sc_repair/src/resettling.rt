@@ -108,20 +108,12 @@ fn resumed<R: Roll>(
     requires { CanResume part.papers.now standings.now.choices.items }
     ensures { IfOk result (IsResumed R.keys R.seats part.entry.papers.now standings.now.choices.items) }
 {
-    let expected = hints_for(part);
     let choices = standings.choices.as_slice();
     let ranks = standings.ranks.as_slice();
     match spare {
-        Some(round) => round.resume_in(part.papers, choices, near, ranks, expected),
-        None => Round::resume_near(alloc, part.papers, choices, near, ranks, expected),
+        Some(round) => round.resume_in(part.papers, choices, near, ranks),
+        None => Round::resume_near(alloc, part.papers, choices, near, ranks),
     }
-}
-
-/// For how many students a round takes room for hints: for several times as many as may stand in it, so that few hints
-/// take the place of others, and for no more than there are.
-fn hints_for(part: Part<'_>) -> usize {
-    let several = part.region.positions().len().saturating_mul(4);
-    several.min(part.papers.students_len())
 }
 
 /// A round in which the students of the region stand settled, of whom those before the point made no proposal:

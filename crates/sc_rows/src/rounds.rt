@@ -180,7 +180,7 @@ fn resume_again_with_the_third<R: Roll>(
     let next_choices = first_two_stand::<R>(alloc, papers, one, two)?;
     let mut done: Round<R> = Round::start(alloc, papers)?;
     done.enter_one(papers, three)?;
-    let mut round = done.resume_in(papers, &next_choices, &[1, 2], &[19, 1], 0)?;
+    let mut round = done.resume_in(papers, &next_choices, &[1, 2], &[19, 1])?;
     round.enter_near(papers, three, 1)?;
     round.into_settled(papers)
 }

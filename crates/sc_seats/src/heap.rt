@@ -3,6 +3,7 @@ ghost use Rattle.std.specs.Option.{option_map_or};
 ghost use Rattle.sc_papers.specs.Key.{is_before};
 
 use crate::held::Held;
+use crate::held_key::HeldKey;
 use crate::roll::Roll;
 use sc_papers::{Key, Seats};
 use std::alloc::{AllocError, Global};
@@ -69,12 +70,12 @@ impl Roll for HeapRoll {
         self.capacity = capacity;
     }
 
-    fn offer(&mut self, key: Key) -> Result<Option<Key>, AllocError> {
+    fn offer_held(&mut self, key: HeldKey) -> Result<Option<HeldKey>, AllocError> {
         if self.held.len() < self.capacity.get() as usize {
             self.held.add(self.alloc, first_room(self.capacity), key)?;
             return Ok(None);
         }
-        if is_ahead_of_last(&self.held.last(), &key) {
+        if is_ahead_of_last(&self.held.last(), &key.key()) {
             return Ok(Some(self.held.replace_last(self.alloc, key)));
         }
         Ok(Some(key))

@@ -4,6 +4,7 @@ ghost use Rattle.sc_papers.specs.Key.{is_before};
 ghost use Rattle.sc_seats.specs.Held.{is_heap, keys_of};
 ghost use Rattle.sc_papers.specs.LastKey.{IsLastOf};
 
+use crate::held_key::HeldKey;
 use crate::key_heap::KeyHeap;
 use crate::key_list::KeyList;
 use crate::key_memory::KeyMemory;
@@ -51,7 +52,7 @@ impl Held {
 
     /// Adds a key to those of which none was put out yet, at the cost of a comparison. The first key takes what is missing
     /// of room for so many. A refused growth changes no key.
-    pub(crate) fn add(&mut self, alloc: Global, room: usize, key: Key) -> Result<(), AllocError>
+    pub(crate) fn add(&mut self, alloc: Global, room: usize, key: HeldKey) -> Result<(), AllocError>
         requires { is_heap self.old ≡ false }
         ensures added { OnOk result (IsPermutation (key ∷ keys_of self.old) (keys_of self.new)) }
         ensures listed { is_heap self.new ≡ false }
@@ -82,7 +83,7 @@ impl Held {
 
     /// Puts a key in the place of the last one, which it answers. It takes no memory. The cost is the logarithm of
     /// their number, and the first time their number.
-    pub(crate) fn replace_last(&mut self, alloc: Global, key: Key) -> Key
+    pub(crate) fn replace_last(&mut self, alloc: Global, key: HeldKey) -> HeldKey
         requires { 0 < length (keys_of self.old) }
         ensures together { IsPermutation (key ∷ keys_of self.old) (result ∷ keys_of self.new) }
         ensures last { All (λ held. is_before result held ≡ false) (keys_of self.old) }

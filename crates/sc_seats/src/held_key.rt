@@ -1,43 +1,50 @@
-ghost use Rattle.std.specs.Prelude.{◌≡◌};
+ghost use Rattle.std.specs.Prelude.{◌≡◌, ◌==◌, ◌&&◌, ◌/◌};
 ghost use Rattle.std.proofs.Common.{rules};
 ghost use Rattle.std.specs.Cmp.{partial_order_from_own_ties};
 ghost use Rattle.std.specs.Cmp.Rules.{comparing};
-ghost use Rattle.std.specs.Ordering.{as_partial_cmp, nat_cmp, on, ordering_then, then_cmp};
-ghost use Rattle.sc_papers.specs.Key.{is_before, key_cmp};
+ghost use Rattle.std.specs.Ordering.{as_partial_cmp, nat_cmp, on, then_cmp};
+ghost use Rattle.sc_papers.specs.declared.key.Key.{Key as Priority};
+ghost use Rattle.sc_seats.specs.declared.held_key.TheConstants.{GUESSES};
 
-use sc_papers::{Key, StudentNo};
+use sc_papers::{Key, MOST_STUDENTS, StudentNo};
 use std::cmp::Ordering;
 use std::marker::Model;
 
-/// A key as a roll holds it: with a class of 32 bits, so that it has no padding and is copied in one piece.
-#[derive(Clone, Copy, PartialEq, Eq)]
-pub(crate) struct HeldKey {
-    class: u32,
+/// How many guesses there are: enough for each student.
+const GUESSES: u32 = 0x100_0000;
+
+const _: () = prove!(MOST_STUDENTS <= GUESSES as usize);
+
+/// A key as a roll holds it, with a guess at the position of the order of entry at which its student stands.
+///
+/// Contracts see the key alone, and nothing is promised of the guess: its reader tests it before it is used. Where it is
+/// right, it spares a look-up.
+#[derive(Clone, Drop)]
+pub struct HeldKey {
+    // The class and the guess in one number: so there is no padding, and a key is copied in one piece.
+    class_and_guess: u32,
     student: StudentNo,
     draw: u64,
 }
 
 impl Model for HeldKey {
-    ghost use Rattle.std.specs.Prelude.{◌<◌};
-    ghost use Rattle.sc_papers.specs.declared.key.Key.{Key as Priority};
-
     ghost Value = { Priority };
 
-    ghost view = { λ held. record { class = held.class; student = held.student; draw = held.draw } };
-
-    ghost invariant = { λ held. held.class < 256 };
-
-    ghost inverse = { λ key. record { class = key.class; student = key.student; draw = key.draw } };
+    ghost view = { λ k. record { class = k.class_and_guess / GUESSES; student = k.student; draw = k.draw } };
 }
 
-/// Compares keys of one class.
-fn compare_draws(one: &HeldKey, other: &HeldKey) -> Ordering
-    ensures { result ≡ ordering_then (nat_cmp one.now.draw other.now.draw) (nat_cmp one.now.student other.now.student) }
-{
-    match one.draw.cmp(&other.draw) {
-        Ordering::Equal => one.student.cmp(&other.student),
-        order => order,
+impl PartialEq for HeldKey {
+    ghost eq = { λ a b. a.class == b.class && (a.draw == b.draw && a.student == b.student) };
+
+    ghost laws = { Prim.search (comparing, rules) };
+
+    fn eq(&self, other: &HeldKey) -> bool {
+        self.key() == other.key()
     }
+}
+
+impl Eq for HeldKey {
+    ghost laws = { Prim.search (comparing, rules) };
 }
 
 impl Ord for HeldKey {
@@ -50,10 +57,7 @@ impl Ord for HeldKey {
     ghost matches_eq = { Prim.search (comparing, rules) };
 
     fn cmp(&self, other: &HeldKey) -> Ordering {
-        match self.class.cmp(&other.class) {
-            Ordering::Equal => compare_draws(self, other),
-            order => order,
-        }
+        self.key().compare(&other.key())
     }
 }
 
@@ -68,32 +72,30 @@ impl PartialOrd for HeldKey {
 }
 
 impl HeldKey {
-    /// The key, to be held.
-    pub(crate) fn of(key: Key) -> Self
+    /// The key, to be held, of a student who may stand at the guess.
+    pub fn of(key: Key, guess: usize) -> Self
         ensures { result ≡ key }
     {
         HeldKey {
-            class: u32::from(key.class),
+            class_and_guess: u32::from(key.class) * GUESSES + (guess % GUESSES as usize) as u32,
             student: key.student,
             draw: key.draw,
         }
     }
 
     /// The key that is held.
-    pub(crate) fn key(&self) -> Key
+    pub fn key(&self) -> Key
         ensures { result ≡ self.now }
     {
         Key {
-            class: self.class as u8,
+            class: (self.class_and_guess / GUESSES) as u8,
             student: self.student,
             draw: self.draw,
         }
     }
 
-    /// Whether this key is ahead of the other one. This is `<`.
-    pub(crate) fn is_ahead_of(&self, other: &HeldKey) -> bool
-        ensures { result ≡ is_before self.now other.now }
-    {
-        self < other
+    /// The position at which the student may stand: any number, also none of a position, which its reader tests.
+    pub fn guess(&self) -> usize {
+        (self.class_and_guess % GUESSES) as usize
     }
 }

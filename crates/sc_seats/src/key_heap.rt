@@ -11,13 +11,14 @@ use sc_papers::Key;
 use std::alloc::{AllocError, Global};
 use std::collections::BinaryHeap;
 use std::marker::Model;
+use std::mem;
 
 /// Keys as a heap with the last of them on top. There is at least one.
 #[derive(Drop)]
 pub(crate) struct KeyHeap {
     keys: BinaryHeap<HeldKey>,
     // The top, so that an offer that is refused reads no heap.
-    last: HeldKey,
+    last: Key,
 }
 
 impl Model for KeyHeap {
@@ -29,13 +30,13 @@ impl Model for KeyHeap {
 }
 
 /// The last key of a heap.
-fn last_of(keys: &BinaryHeap<HeldKey>) -> HeldKey
+fn last_of(keys: &BinaryHeap<HeldKey>) -> Key
     requires some { 0 < length (heap_items keys.now) }
     requires heap { IsHeap key_cmp (heap_items keys.now) }
     ensures { IsLastOf (Some result) (heap_items keys.now) }
 {
     match keys.peek() {
-        Some(last) => *last,
+        Some(last) => last.key(),
         None => unreachable!(),
     }
 }
@@ -51,8 +52,7 @@ fn replace_last(keys: &mut BinaryHeap<HeldKey>, key: HeldKey) -> HeldKey
     let Some(mut top) = keys.peek_mut() else {
         unreachable!()
     };
-    let last = *top;
-    *top = key;
+    let last = mem::replace(&mut *top, key);
     drop(top);
     last
 }
@@ -69,13 +69,13 @@ impl KeyHeap {
     }
 
     /// Puts a key in the place of the last one, which it answers. The cost is the logarithm of their number.
-    pub(crate) fn replace_last(&mut self, key: Key) -> Key
+    pub(crate) fn replace_last(&mut self, key: HeldKey) -> HeldKey
         ensures together { IsPermutation (key ∷ self.old) (result ∷ self.new) }
         ensures last { All (λ held. is_before result held ≡ false) self.old }
     {
-        let out = replace_last(&mut self.keys, HeldKey::of(key));
+        let out = replace_last(&mut self.keys, key);
         self.last = last_of(&self.keys);
-        out.key()
+        out
     }
 
     /// How many keys there are.
@@ -89,7 +89,7 @@ impl KeyHeap {
     pub(crate) fn last(&self) -> Key
         ensures { IsLastOf (Some result) self.now }
     {
-        self.last.key()
+        self.last
     }
 
     /// The memory of the keys, which are let go. In constant time.

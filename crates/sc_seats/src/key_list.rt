@@ -14,7 +14,7 @@ use std::marker::Model;
 #[derive(Drop)]
 pub(crate) struct KeyList {
     keys: Vec<HeldKey>,
-    last: HeldKey,
+    last: Key,
 }
 
 impl Model for KeyList {
@@ -27,24 +27,24 @@ impl Model for KeyList {
 
 impl KeyList {
     /// The list of one key, in this memory and with room for so many, or the error of a refused growth.
-    pub(crate) fn of(memory: KeyMemory, room: usize, key: Key) -> Result<Self, AllocError>
+    pub(crate) fn of(memory: KeyMemory, room: usize, key: HeldKey) -> Result<Self, AllocError>
         ensures { IfOk result (λ list. list ≡ key ∷ []) }
     {
-        let last = HeldKey::of(key);
+        let last = key.key();
         let mut keys = memory.with_room(room)?;
-        keys.push(last)?;
+        keys.push(key)?;
         Ok(KeyList { keys, last })
     }
 
     /// Appends a key, at the cost of one comparison. A refused growth changes nothing.
-    pub(crate) fn append(&mut self, key: Key) -> Result<(), AllocError>
+    pub(crate) fn append(&mut self, key: HeldKey) -> Result<(), AllocError>
         ensures appended { OnOk result (self.new ≡ self.old ++ key ∷ []) }
         ensures unchanged { OnErr result (self.new ≡ self.old) }
     {
-        let key = HeldKey::of(key);
+        let newest = key.key();
         self.keys.push(key)?;
-        if self.last.is_ahead_of(&key) {
-            self.last = key;
+        if self.last.is_ahead_of(&newest) {
+            self.last = newest;
         }
         Ok(())
     }
@@ -60,7 +60,7 @@ impl KeyList {
     pub(crate) fn last(&self) -> Key
         ensures { IsLastOf (Some result) self.now }
     {
-        self.last.key()
+        self.last
     }
 
     /// The keys as a heap, which takes no memory. The cost is their number.

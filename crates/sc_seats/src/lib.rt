@@ -14,5 +14,6 @@ mod roll;
 mod sorted;
 
 pub use heap::HeapRoll;
+pub use held_key::HeldKey;
 pub use roll::Roll;
 pub use sorted::SortedRoll;

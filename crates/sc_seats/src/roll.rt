@@ -5,6 +5,7 @@ ghost use Rattle.sc_papers.specs.Key.{is_before};
 ghost use Rattle.sc_papers.specs.declared.key.Key.{Key as Priority};
 ghost use Rattle.sc_seats.specs.Roll.{IsAscending, Refuses};
 
+use crate::held_key::HeldKey;
 use sc_papers::{Key, Seats};
 use std::alloc::{AllocError, Global};
 
@@ -32,6 +33,23 @@ pub trait Roll: Drop {
     /// and the offered one, and the last of them is put out: at capacity 0 the offered one.
     /// A refused growth changes nothing.
     fn offer(&mut self, key: Key) -> Result<Option<Key>, AllocError>
+        requires { ¬ Contains (keys self.old) key }
+        ensures together { IfOk result (λ out. IsPermutation (key ∷ keys self.old)
+            (option_to_list out ++ keys self.new)) }
+        ensures last { IfOk result
+            (λ out. IfSome out (λ worst. All (λ held. is_before held worst ≡ true) (keys self.new))) }
+        ensures full { IfOk result (λ out. IsSome out → length (keys self.old) ≡ seats self.old) }
+        ensures unchanged { OnErr result (keys self.new ≡ keys self.old) }
+        ensures capacity { seats self.new ≡ seats self.old }
+        ensures within { length (keys self.new) ≤ seats self.new }
+        ensures ascending { IsAscending (keys self.new) }
+    {
+        let out = self.offer_held(HeldKey::of(key, 0))?;
+        Ok(out.map(|out| out.key()))
+    }
+
+    /// Does what `offer` does. Whoever is put out comes with the guess with which they were offered a seat.
+    fn offer_held(&mut self, key: HeldKey) -> Result<Option<HeldKey>, AllocError>
         requires { ¬ Contains (keys self.old) key }
         ensures together { IfOk result (λ out. IsPermutation (key ∷ keys self.old)
             (option_to_list out ++ keys self.new)) }

@@ -3,6 +3,7 @@ ghost use Rattle.std.specs.Option.{option_to_list};
 ghost use Rattle.sc_papers.specs.Key.{is_before};
 ghost use Rattle.sc_seats.specs.Roll.{IsAscending};
 
+use crate::held_key::HeldKey;
 use crate::roll::Roll;
 use sc_papers::{Key, Seats};
 use std::alloc::{AllocError, Global};
@@ -11,7 +12,7 @@ use std::marker::Model;
 /// A roll kept as a sorted list. An offer moves as many keys as are behind the key.
 #[derive(Drop)]
 pub struct SortedRoll {
-    keys: Vec<Key>,
+    keys: Vec<HeldKey>,
     capacity: Seats,
 }
 
@@ -26,7 +27,7 @@ impl Model for SortedRoll {
 }
 
 /// How many of the keys are ahead of one that is not among them.
-fn position_of(keys: &[Key], key: &Key) -> usize
+fn position_of(keys: &[HeldKey], key: &HeldKey) -> usize
     requires ascending { IsAscending keys.now }
     requires new { ¬ Contains keys.now key.now }
     ensures within { result ≤ length keys.now }
@@ -41,7 +42,7 @@ fn position_of(keys: &[Key], key: &Key) -> usize
 }
 
 /// Puts the key in at the position.
-fn put_in(keys: &mut Vec<Key>, position: usize, key: Key) -> Result<(), AllocError>
+fn put_in(keys: &mut Vec<HeldKey>, position: usize, key: HeldKey) -> Result<(), AllocError>
     requires { position ≤ vec_len keys.old }
     ensures put { OnOk result (keys.new.items ≡ insert keys.old.items position key) }
     ensures unchanged { OnErr result (keys.new.items ≡ keys.old.items) }
@@ -51,7 +52,7 @@ fn put_in(keys: &mut Vec<Key>, position: usize, key: Key) -> Result<(), AllocErr
 }
 
 /// Takes the last key out where there is one more than there are seats.
-fn take_excess(keys: &mut Vec<Key>, capacity: usize) -> Option<Key>
+fn take_excess(keys: &mut Vec<HeldKey>, capacity: usize) -> Option<HeldKey>
     requires { vec_len keys.old ≤ capacity + 1 }
     ensures last { keys.old.items ≡ keys.new.items ++ option_to_list result }
     ensures within { vec_len keys.new ≤ capacity }
@@ -65,13 +66,13 @@ fn take_excess(keys: &mut Vec<Key>, capacity: usize) -> Option<Key>
 }
 
 /// Whether all of the keys are ahead of one that is not among them.
-fn are_ahead(keys: &[Key], key: &Key) -> bool
+fn are_ahead(keys: &[HeldKey], key: &Key) -> bool
     requires ascending { IsAscending keys.now }
     requires new { ¬ Contains keys.now key.now }
     ensures { IsTrue result ↔ All (λ held. is_before held key.now ≡ true) keys.now }
 {
-    match keys.last().copied() {
-        Some(last) => last.is_ahead_of(key),
+    match keys.last() {
+        Some(last) => last.key().is_ahead_of(key),
         None => true,
     }
 }
@@ -93,7 +94,7 @@ impl Roll for SortedRoll {
         self.capacity = capacity;
     }
 
-    fn offer(&mut self, key: Key) -> Result<Option<Key>, AllocError> {
+    fn offer_held(&mut self, key: HeldKey) -> Result<Option<HeldKey>, AllocError> {
         let position = position_of(self.keys.as_slice(), &key);
         put_in(&mut self.keys, position, key)?;
         let capacity = self.capacity.get() as usize;
@@ -105,7 +106,7 @@ impl Roll for SortedRoll {
     }
 
     fn worst(&self) -> Option<Key> {
-        self.keys.as_slice().last().copied()
+        self.keys.as_slice().last().map(HeldKey::key)
     }
 
     fn len(&self) -> usize {

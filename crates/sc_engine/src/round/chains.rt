@@ -9,15 +9,15 @@ ghost use Rattle.sc_engine.specs.RoundView.{OffersAt, roll_at, next_of, Fits, Fi
 use super::Round;
 use super::ranks::{position_near, proposal_of};
 use super::rolls::offer_to;
-use sc_papers::{Key, LONGEST_LIST, Papers, Proposal, Rejection, StudentNo};
-use sc_seats::Roll;
+use sc_papers::{LONGEST_LIST, Papers, Proposal, Rejection, StudentNo};
+use sc_seats::{HeldKey, Roll};
 use std::alloc::AllocError;
 
 impl<R: Roll> Round<R> {
     ghost use Rattle.sc_engine.specs.Round.{view_of};
 
     /// Offers a seat of the school at the position to the key, which is one proposal.
-    fn offer(&mut self, at: usize, key: Key) -> Result<Option<Key>, AllocError>
+    fn offer(&mut self, at: usize, key: HeldKey) -> Result<Option<HeldKey>, AllocError>
         requires within { at < length self.old.rolls.items }
         requires count_fits { self.old.proposals + 1 < 2 ^ 64 }
         requires new { ¬ Contains (roll_at (view_of R.keys R.seats self.old).rolls at).keys key }
@@ -80,18 +80,14 @@ impl<R: Roll> Round<R> {
         let Some(proposal) = proposal else {
             return Ok(None);
         };
-        let Some(out) = self.offer(proposal.position, proposal.key)? else {
+        let offered = HeldKey::of(proposal.key, proposer);
+        let Some(out) = self.offer(proposal.position, offered)? else {
             return Ok(None);
         };
         let school = proposal.school;
-        let student = out.student;
-        // Most often the school has no seat for the proposer, whose position is known.
-        let guess = if student == proposal.key.student {
-            proposer
-        } else {
-            self.hints.guess(student)
-        };
-        let next = position_near(papers, student, guess);
+        let student = out.key().student;
+        // Those who withdrew since may have made the guess wrong.
+        let next = position_near(papers, student, out.guess());
         self.reject(next, Rejection { student, school })?;
         Ok(Some(next))
     }
@@ -146,7 +142,6 @@ impl<R: Roll> Round<R> {
         ensures { OnOk result (Enters papers.now (view_of R.keys R.seats self.old)
             (view_of R.keys R.seats self.new) student) }
     {
-        self.hints.note(student, at);
         self.ranks.make_room(at)?;
         self.ranks.put(at, 0)?;
         self.chain_with(papers, at, first)?;

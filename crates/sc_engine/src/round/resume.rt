@@ -11,7 +11,7 @@ use super::ranks::position_near;
 use super::rolls::offer_to;
 use sc_checkpoint::Standing;
 use sc_papers::{Key, LONGEST_LIST, Papers, SchoolNo};
-use sc_seats::Roll;
+use sc_seats::{HeldKey, Roll};
 use std::alloc::{AllocError, Global};
 
 /// The rank of the school among the choices of the student at the position, or a rank after the last where there is no
@@ -84,7 +84,6 @@ impl<R: Roll> Round<R> {
         ensures spent { is_spent self.new ≡ is_spent self.old }
     {
         let at = position_near(papers, choice.student, position_guess);
-        self.hints.note(choice.student, at);
         self.ranks.make_room(at)?;
         let rank = rank_in(papers, at, choice.next, rank_guess);
         self.ranks.put(at, rank as u8)?;
@@ -92,7 +91,7 @@ impl<R: Roll> Round<R> {
             return Ok(());
         };
         let (position, key) = position_and_key(papers, at, rank, school);
-        let out = offer_to(&mut self.rolls, position, key)?;
+        let out = offer_to(&mut self.rolls, position, HeldKey::of(key, at))?;
         if out.is_some() {
             unreachable!()
         }
@@ -114,27 +113,25 @@ impl<R: Roll> Round<R> {
         requires { CanResume papers.now next_choices.now }
         ensures { IfOk result (IsResumed R.keys R.seats papers.now next_choices.now) }
     {
-        Round::resume_near(alloc, papers, next_choices, &[], &[], papers.students_len())
+        Round::resume_near(alloc, papers, next_choices, &[], &[])
     }
 
     /// Does what `resume` does, told where the students and their choices may stand. `near` may tell, for each next choice
     /// in turn, at which position of the order of entry its student stands; where it tells nothing, that is taken to be right
     /// after the student before, and a student who stands elsewhere is looked up by number. `ranks` may tell likewise at which
     /// rank of the student's choices the next choice stands; one that stands elsewhere is looked up, and looked for among them.
-    /// `expected` is how many students are to stand in the round at last; where it is too small, more of them are
-    /// looked up by number. Nothing else depends on any of these.
+    /// Nothing else depends on either.
     pub fn resume_near(
         alloc: Global,
         papers: &Papers,
         next_choices: &[Standing],
         near: &[usize],
         ranks: &[u8],
-        expected: usize,
     ) -> Result<Self, AllocError>
         requires { CanResume papers.now next_choices.now }
         ensures { IfOk result (IsResumed R.keys R.seats papers.now next_choices.now) }
     {
-        Round::with_room(alloc, papers, expected)?.put_all(papers, next_choices, near, ranks)
+        Round::start(alloc, papers)?.put_all(papers, next_choices, near, ranks)
     }
 
     /// Does what `resume_near` does, in the memory of a round that is done with, whatever papers it was of and whether or
@@ -149,12 +146,11 @@ impl<R: Roll> Round<R> {
         next_choices: &[Standing],
         near: &[usize],
         ranks: &[u8],
-        expected: usize,
     ) -> Result<Self, AllocError>
         requires { CanResume papers.now next_choices.now }
         ensures { IfOk result (IsResumed R.keys R.seats papers.now next_choices.now) }
     {
-        self.again(papers, expected)?
+        self.again(papers)?
             .put_all(papers, next_choices, near, ranks)
     }
 

@@ -6,7 +6,7 @@ ghost use Rattle.sc_engine.specs.RoundView.{OffersAt, roll_at, AreEmpty};
 ghost use Rattle.sc_engine.specs.Rolls.{rolls_of};
 
 use sc_papers::{Key, Papers, Seats};
-use sc_seats::Roll;
+use sc_seats::{HeldKey, Roll};
 use std::alloc::{AllocError, Global};
 
 /// The seats of the school at the position.
@@ -91,22 +91,23 @@ fn is_refused<R: Roll>(rolls: &Vec<R>, at: usize, key: &Key) -> bool
     rolls[at].refuses(key)
 }
 
-/// Offers a seat of the school at the position to the key.
+/// Offers a seat of the school at the position to the key. Whoever is put out comes with the guess with which they were
+/// offered a seat.
 pub(super) fn offer_to<R: Roll>(
     rolls: &mut Vec<R>,
     at: usize,
-    key: Key,
-) -> Result<Option<Key>, AllocError>
+    key: HeldKey,
+) -> Result<Option<HeldKey>, AllocError>
     requires within { at < length rolls.old.items }
     requires new { ¬ Contains (roll_at (rolls_of R.keys R.seats rolls.old.items) at).keys key }
     ensures { IfOk result (λ out. OffersAt (rolls_of R.keys R.seats rolls.old.items)
         (rolls_of R.keys R.seats rolls.new.items) at key out) }
 {
     // Most offers are refused, and then nothing is changed or copied.
-    if is_refused(rolls, at, &key) {
+    if is_refused(rolls, at, &key.key()) {
         return Ok(Some(key));
     }
     let roll = &mut rolls[at];
-    let out = roll.offer(key)?;
+    let out = roll.offer_held(key)?;
     Ok(out)
 }

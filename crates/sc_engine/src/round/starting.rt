@@ -7,7 +7,7 @@ ghost use Rattle.sc_engine.specs.Rolls.{rolls_of};
 use super::Round;
 use super::rolls::{empty_rolls, renew_rolls};
 use crate::rank_table::RankTable;
-use sc_papers::{Hints, MOST_STUDENTS, Papers, Rejection};
+use sc_papers::{MOST_STUDENTS, Papers, Rejection};
 use sc_seats::Roll;
 use std::alloc::{AllocError, Global};
 
@@ -21,7 +21,6 @@ impl<R: Roll> Round<R> {
         ranks: RankTable,
         rolls: Vec<R>,
         log: Vec<Rejection>,
-        hints: Hints,
     ) -> Self
         requires within { length ranks ≤ length papers.now.students }
         requires nobody { StandNowhere ranks }
@@ -39,27 +38,22 @@ impl<R: Roll> Round<R> {
             log,
             proposals: 0,
             spent: false,
-            hints,
         }
     }
 
-    /// A round in which nobody has entered, with room for guesses at where so many students stand.
-    pub(crate) fn with_room(
-        alloc: Global,
-        papers: &Papers,
-        students: usize,
-    ) -> Result<Self, AllocError>
+    /// A round in which nobody has entered, or the error of a refused growth. It takes memory for each
+    /// student and each school; the rolls take theirs by the offers.
+    pub fn start(alloc: Global, papers: &Papers) -> Result<Self, AllocError>
         ensures { IfOk result (IsFresh R.keys R.seats papers.now) }
     {
         let ranks = RankTable::with_room(alloc, papers.students_len())?;
         let rolls = empty_rolls(alloc, papers)?;
-        let hints = Hints::with_room(alloc, students)?;
-        Ok(Round::of_parts(papers, alloc, ranks, rolls, Vec::new(alloc), hints))
+        Ok(Round::of_parts(papers, alloc, ranks, rolls, Vec::new(alloc)))
     }
 
-    /// What `with_room` gives, in the memory of a round that is done with, whatever papers it was of and whether or not
+    /// What `start` gives, in the memory of a round that is done with, whatever papers it was of and whether or not
     /// it is spent.
-    pub(crate) fn again(self, papers: &Papers, students: usize) -> Result<Self, AllocError>
+    pub(crate) fn again(self, papers: &Papers) -> Result<Self, AllocError>
         ensures { IfOk result (IsFresh R.keys R.seats papers.now) }
     {
         let mut ranks = self.ranks;
@@ -68,15 +62,6 @@ impl<R: Roll> Round<R> {
         renew_rolls(self.alloc, &mut rolls, papers)?;
         let mut log = self.log;
         log.clear();
-        let hints = Hints::with_room(self.alloc, students)?;
-        Ok(Round::of_parts(papers, self.alloc, ranks, rolls, log, hints))
-    }
-
-    /// A round in which nobody has entered, or the error of a refused growth. It takes memory for each
-    /// student and each school; the rolls take theirs by the offers.
-    pub fn start(alloc: Global, papers: &Papers) -> Result<Self, AllocError>
-        ensures { IfOk result (IsFresh R.keys R.seats papers.now) }
-    {
-        Round::with_room(alloc, papers, papers.students_len())
+        Ok(Round::of_parts(papers, self.alloc, ranks, rolls, log))
     }
 }

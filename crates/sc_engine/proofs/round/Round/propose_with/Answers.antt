@@ -27,7 +27,7 @@ offer-requires-clause-new g c =
     let proposer : ℕ = student_at papers c.args.proposer in
     let old = view_of g.R.Roll.keys g.R.Roll.seats c.args.self.now in
     let made : IsProposal papers proposer (next_of papers old.ranks proposer) (Some c.in-Some.proposal) = subst (IsProposal papers proposer (next_of papers old.ranks proposer)) c.in-Some.is c.requires.next in
-    roll-new papers old proposer c.in-Some.proposal.school c.in-Some.proposal.position c.in-Some.proposal.key c.requires.fits made.position made.key
+    roll-new papers old proposer c.in-Some.proposal.school c.in-Some.proposal.position c.of-offered.result c.requires.fits made.position (c.of-offered.ensures ∙ made.key)
 
 pub offer-requires-clause-count_fits : goal.offer-requires-clause-count_fits
 offer-requires-clause-count_fits g c =
@@ -42,7 +42,7 @@ returns-in_default-2-clause-proposes g c =
     let stands : next_of papers old.ranks proposer ≡ Some c.in-Some.proposal.school = sym made.school in
     let new = view_of g.R.Roll.keys g.R.Roll.seats c.offer.new.self in
     ends-held papers old new proposer c.in-Some.proposal.school c.in-Some.proposal.position
-    (proposed-told papers old proposer c.in-Some.proposal.school c.in-Some.proposal.position c.in-Some.proposal.key new.rolls c.in_ok-out.field-0 None c.requires.fits stands made.position made.key c.in_ok-out.ensures.offered c.in_default-2.is)
+    (proposed-told papers old proposer c.in-Some.proposal.school c.in-Some.proposal.position c.of-offered.result new.rolls c.in_ok-out.field-0 None c.requires.fits stands made.position (c.of-offered.ensures ∙ made.key) c.in_ok-out.ensures.offered c.in_default-2.is)
     c.offer.ensures.ranks c.offer.ensures.log c.in_ok-out.ensures.proposals
 
 pub position_near-next-requires : goal.position_near-next-requires
@@ -53,10 +53,10 @@ position_near-next-requires g c =
     let made : IsProposal papers proposer (next_of papers old.ranks proposer) (Some c.in-Some.proposal) = subst (IsProposal papers proposer (next_of papers old.ranks proposer)) c.in-Some.is c.requires.next in
     let stands : next_of papers old.ranks proposer ≡ Some c.in-Some.proposal.school = sym made.school in
     let rolls = rolls_of g.R.Roll.keys g.R.Roll.seats c.offer.new.self.rolls.items in
-    let out : ℕ = c.in-Some-2.out.student in
-    let proposed : Proposed papers old proposer c.in-Some.proposal.school c.in-Some.proposal.position rolls (Some c.in-Some-2.out) =
-    proposed-told papers old proposer c.in-Some.proposal.school c.in-Some.proposal.position c.in-Some.proposal.key rolls c.in_ok-out.field-0 (Some c.in-Some-2.out) c.requires.fits stands made.position made.key c.in_ok-out.ensures.offered c.in-Some-2.is in
-    stander-student papers old.ranks out c.in-Some.proposal.school (put-out papers old proposer c.in-Some.proposal.school c.in-Some.proposal.position rolls c.in-Some-2.out proposed).stands
+    let out : ℕ = c.key-student.result.student in
+    let proposed : Proposed papers old proposer c.in-Some.proposal.school c.in-Some.proposal.position rolls (Some c.key-student.result) =
+    proposed-told papers old proposer c.in-Some.proposal.school c.in-Some.proposal.position c.of-offered.result rolls c.in_ok-out.field-0 (Some c.key-student.result) c.requires.fits stands made.position (c.of-offered.ensures ∙ made.key) c.in_ok-out.ensures.offered (c.in-Some-2.is ∙ ap Some (sym c.key-student.ensures)) in
+    stander-student papers old.ranks out c.in-Some.proposal.school (put-out papers old proposer c.in-Some.proposal.school c.in-Some.proposal.position rolls c.key-student.result proposed).stands
 
 pub reject-requires : goal.reject-requires
 reject-requires g c rank is =
@@ -66,11 +66,11 @@ reject-requires g c rank is =
     let made : IsProposal papers proposer (next_of papers old.ranks proposer) (Some c.in-Some.proposal) = subst (IsProposal papers proposer (next_of papers old.ranks proposer)) c.in-Some.is c.requires.next in
     let stands : next_of papers old.ranks proposer ≡ Some c.in-Some.proposal.school = sym made.school in
     let rolls = rolls_of g.R.Roll.keys g.R.Roll.seats c.offer.new.self.rolls.items in
-    let out : ℕ = c.in-Some-2.out.student in
-    let proposed : Proposed papers old proposer c.in-Some.proposal.school c.in-Some.proposal.position rolls (Some c.in-Some-2.out) =
-    proposed-told papers old proposer c.in-Some.proposal.school c.in-Some.proposal.position c.in-Some.proposal.key rolls c.in_ok-out.field-0 (Some c.in-Some-2.out) c.requires.fits stands made.position made.key c.in_ok-out.ensures.offered c.in-Some-2.is in
+    let out : ℕ = c.key-student.result.student in
+    let proposed : Proposed papers old proposer c.in-Some.proposal.school c.in-Some.proposal.position rolls (Some c.key-student.result) =
+    proposed-told papers old proposer c.in-Some.proposal.school c.in-Some.proposal.position c.of-offered.result rolls c.in_ok-out.field-0 (Some c.key-student.result) c.requires.fits stands made.position (c.of-offered.ensures ∙ made.key) c.in_ok-out.ensures.offered (c.in-Some-2.is ∙ ap Some (sym c.key-student.ensures)) in
     let next : ℕ = c.position_near-next.result in
-    stander-short papers old.ranks out c.in-Some.proposal.school rank c.requires.fits.within_limits (put-out papers old proposer c.in-Some.proposal.school c.in-Some.proposal.position rolls c.in-Some-2.out proposed).stands
+    stander-short papers old.ranks out c.in-Some.proposal.school rank c.requires.fits.within_limits (put-out papers old proposer c.in-Some.proposal.school c.in-Some.proposal.position rolls c.key-student.result proposed).stands
     (rank-at papers old.ranks out next c.position_near-next.ensures ∙ ap (λ (ranks : List (Option ℕ)). get_or ranks next None) (sym c.offer.ensures.ranks) ∙ is)
 
 pub returns-clause-proposes : goal.returns-clause-proposes
@@ -81,13 +81,13 @@ returns-clause-proposes g c =
     let made : IsProposal papers proposer (next_of papers old.ranks proposer) (Some c.in-Some.proposal) = subst (IsProposal papers proposer (next_of papers old.ranks proposer)) c.in-Some.is c.requires.next in
     let stands : next_of papers old.ranks proposer ≡ Some c.in-Some.proposal.school = sym made.school in
     let rolls = rolls_of g.R.Roll.keys g.R.Roll.seats c.offer.new.self.rolls.items in
-    let out : ℕ = c.in-Some-2.out.student in
-    let proposed : Proposed papers old proposer c.in-Some.proposal.school c.in-Some.proposal.position rolls (Some c.in-Some-2.out) =
-    proposed-told papers old proposer c.in-Some.proposal.school c.in-Some.proposal.position c.in-Some.proposal.key rolls c.in_ok-out.field-0 (Some c.in-Some-2.out) c.requires.fits stands made.position made.key c.in_ok-out.ensures.offered c.in-Some-2.is in
+    let out : ℕ = c.key-student.result.student in
+    let proposed : Proposed papers old proposer c.in-Some.proposal.school c.in-Some.proposal.position rolls (Some c.key-student.result) =
+    proposed-told papers old proposer c.in-Some.proposal.school c.in-Some.proposal.position c.of-offered.result rolls c.in_ok-out.field-0 (Some c.key-student.result) c.requires.fits stands made.position (c.of-offered.ensures ∙ made.key) c.in_ok-out.ensures.offered (c.in-Some-2.is ∙ ap Some (sym c.key-student.ensures)) in
     let next : ℕ = c.position_near-next.result in
     let new = view_of g.R.Roll.keys g.R.Roll.seats c.reject.new.self in
     subst (λ (i : ℕ). Proposes papers old new proposer (Some i)) (sym (student-there papers out next c.position_near-next.ensures))
-    (goes-on papers old new proposer c.in-Some.proposal.school c.in-Some.proposal.position rolls c.in-Some-2.out proposed
+    (goes-on papers old new proposer c.in-Some.proposal.school c.in-Some.proposal.position rolls c.key-student.result proposed
     (ap (rolls_of g.R.Roll.keys g.R.Roll.seats) c.reject.ensures.rolls)
     (c.in_ok-reject.ensures.log ∙ ap (λ log. log ++ record { student = out; school = c.in-Some.proposal.school } ∷ []) c.offer.ensures.log)
     (λ at rank found is.

@@ -47,8 +47,8 @@ offer_to-requires-clause-new g c =
     let here : slice_get (choices_of papers student) rank ≡ c.args.choice.next =
     ap (λ i. slice_get (choices_of papers i) rank) (sym there) ∙ c.rank_in-rank.ensures.rank in
     let begun : Begun papers old (moved old room at rank) student at rank = begins papers old room student at rank c.requires.fits c.position_near-at.ensures c.requires.absent c.in_ok-make_room.ensures.room c.in_ok-make_room.ensures.same c.in_ok-make_room.ensures.within in
-    let key = c.position_and_key-position.ensures.key ∙ ap (λ i. key_of papers i c.in-Some.school) there in
-    roll-new papers (moved old room at rank) student c.in-Some.school c.position_and_key-position.result.0 c.position_and_key-position.result.1 (fits-begun begun) c.position_and_key-position.ensures.position key
+    let key = c.of.ensures ∙ c.position_and_key-position.ensures.key ∙ ap (λ i. key_of papers i c.in-Some.school) there in
+    roll-new papers (moved old room at rank) student c.in-Some.school c.position_and_key-position.result.0 c.of.result (fits-begun begun) c.position_and_key-position.ensures.position key
 
 pub unreachable-requires : goal.unreachable-requires
 unreachable-requires g c =
@@ -74,11 +74,11 @@ returns-clause-stands g c =
     let here : slice_get (choices_of papers student) rank ≡ c.args.choice.next =
     ap (λ i. slice_get (choices_of papers i) rank) (sym there) ∙ c.rank_in-rank.ensures.rank in
     let begun : Begun papers old (moved old room at rank) student at rank = begins papers old room student at rank c.requires.fits c.position_near-at.ensures c.requires.absent c.in_ok-make_room.ensures.room c.in_ok-make_room.ensures.same c.in_ok-make_room.ensures.within in
-    let key = c.position_and_key-position.ensures.key ∙ ap (λ i. key_of papers i c.in-Some.school) there in
+    let key = c.of.ensures ∙ c.position_and_key-position.ensures.key ∙ ap (λ i. key_of papers i c.in-Some.school) there in
     let rolls = rolls_of g.R.Roll.keys g.R.Roll.seats c.offer_to.new.rolls.items in
     subst (λ (ranks : List (Option ℕ)). StandsToo papers old (record old { ranks = ranks; rolls = rolls }) student c.args.choice.next) (sym c.in_ok-put.ensures)
     (put-on_roll begun (record (moved old room at rank) { rolls = rolls }) c.args.choice.next c.in-Some.school c.position_and_key-position.result.0 here c.in-Some.is
-    (proposed-told papers (moved old room at rank) student c.in-Some.school c.position_and_key-position.result.0 c.position_and_key-position.result.1 rolls c.in_ok-out.out None
+    (proposed-told papers (moved old room at rank) student c.in-Some.school c.position_and_key-position.result.0 c.of.result rolls c.in_ok-out.out None
     (fits-begun begun) (next-begun begun c.args.choice.next here ∙ c.in-Some.is) c.position_and_key-position.ensures.position key c.in_ok-out.ensures
     (is_some-none c.in_ok-out.out (sym c.is_some.ensures ∙ c.if-is_some.false)))
     refl refl refl)

@@ -1,6 +1,6 @@
 use Rattle.std.proofs.Common.{arith}
 use Rattle.sc_seats.proofs.Offers.{Offered-sorted}
-use Rattle.sc_seats.proofs.sorted.SortedRollRoll.offer.Goals as goal
+use Rattle.sc_seats.proofs.sorted.SortedRollRoll.offer_held.Goals as goal
 
 pub invariant_of-self-2 : goal.invariant_of-self-2
 invariant_of-self-2 c =
