@@ -37,12 +37,8 @@ impl Settlement {
         let region = region_of(self.alloc, &mut self.districts, &self.papers, &amendment)?;
         let point = point_in(&self.papers, &region, &amendment);
         let amended = record_of(&amendment);
-        let_leave(
-            &mut self.round,
-            &mut self.spare,
-            &self.papers,
-            region.positions(),
-        );
+        let positions = region.positions();
+        let_leave(&mut self.round, &mut self.spare, &self.papers, positions);
         // Only an entry takes memory.
         let Ok(back) = self.papers.apply_reversibly(amendment) else {
             unreachable!()
@@ -66,12 +62,7 @@ impl Settlement {
                 drop(back);
                 self.proposals = proposals;
                 reseat(&mut self.round, &self.papers, amended);
-                rejoin(
-                    &mut self.round,
-                    &mut self.spare,
-                    &self.papers,
-                    region.positions(),
-                );
+                rejoin(&mut self.round, &mut self.spare, &self.papers, positions);
                 self.round = round_of_everybody(
                     self.round.take(),
                     &mut self.spare,

@@ -58,7 +58,7 @@ let_leave-requires-clause-within c =
     let test = is_among (marked_in marks chains) in
     let allowed = ap (λ (s : Standing). verdict s.papers c.args.amendment) c.self.view_is ∙ c.requires.allowed in
     let tells = region-tells m c.args.amendment marks chains c.self.invariant.certified.well_formed allowed c.requires.no_entry c.in_ok-region.ensures.region c.self.invariant.theirs in
-    (stand-at m c.args.amendment test marks c.positions.result.now c.in_ok-region.ensures.region.one_each tells c.in_ok-region.ensures.region.region c.positions.ensures.marked).within
+    (stand-at m c.args.amendment test marks c.positions-positions.result.now c.in_ok-region.ensures.region.one_each tells c.in_ok-region.ensures.region.region c.positions-positions.ensures.marked).within
 
 pub reseat-requires : goal.reseat-requires
 reseat-requires c =
@@ -69,10 +69,10 @@ reseat-requires c =
     let allowed = ap (λ (s : Standing). verdict s.papers c.args.amendment) c.self.view_is ∙ c.requires.allowed in
     let tells = region-tells m c.args.amendment marks chains c.self.invariant.certified.well_formed allowed c.requires.no_entry c.in_ok-region.ensures.region c.self.invariant.theirs in
     let gone = gone-some keys seats m test chains c.self.inside.round c.let_leave.new.round
-    (c.let_leave.ensures test (stand-at m c.args.amendment test marks c.positions.result.now c.in_ok-region.ensures.region.one_each tells c.in_ok-region.ensures.region.region c.positions.ensures.marked) (region-apart m c.args.amendment test tells)) c.self.invariant.round in
+    (c.let_leave.ensures test (stand-at m c.args.amendment test marks c.positions-positions.result.now c.in_ok-region.ensures.region.one_each tells c.in_ok-region.ensures.region.region c.positions-positions.ensures.marked) (region-apart m c.args.amendment test tells)) c.self.invariant.round in
     let students : students_of c.apply_reversibly.new.self ≡ students_of m = ap students_of c.in-Ok.ensures.accepted ∙ students-stay m c.args.amendment c.requires.no_entry c.requires.no_withdrawal in
-    let changed = change m c.apply_reversibly.new.self c.args.amendment marks c.positions.result.now chains c.self.invariant.certified.well_formed allowed c.requires.no_entry c.in-Ok.ensures.accepted
-    c.students_len-end.ensures.well_formed c.students_len-end.ensures.within_limits c.in_ok-region.ensures.region c.positions.ensures.marked c.self.invariant.theirs in
+    let changed = change m c.apply_reversibly.new.self c.args.amendment marks c.positions-positions.result.now chains c.self.invariant.certified.well_formed allowed c.requires.no_entry c.in-Ok.ensures.accepted
+    c.students_len-end.ensures.well_formed c.students_len-end.ensures.within_limits c.in_ok-region.ensures.region c.positions-positions.ensures.marked c.self.invariant.theirs in
     if-some _ _ c.let_leave.new.round (λ r left. left.1.leave.fits.rolls ∙ sym changed.schools_count) gone
 
 pub rejoin-requires : goal.rejoin-requires
@@ -84,14 +84,14 @@ rejoin-requires c =
     let allowed = ap (λ (s : Standing). verdict s.papers c.args.amendment) c.self.view_is ∙ c.requires.allowed in
     let tells = region-tells m c.args.amendment marks chains c.self.invariant.certified.well_formed allowed c.requires.no_entry c.in_ok-region.ensures.region c.self.invariant.theirs in
     let gone = gone-some keys seats m test chains c.self.inside.round c.let_leave.new.round
-    (c.let_leave.ensures test (stand-at m c.args.amendment test marks c.positions.result.now c.in_ok-region.ensures.region.one_each tells c.in_ok-region.ensures.region.region c.positions.ensures.marked) (region-apart m c.args.amendment test tells)) c.self.invariant.round in
+    (c.let_leave.ensures test (stand-at m c.args.amendment test marks c.positions-positions.result.now c.in_ok-region.ensures.region.one_each tells c.in_ok-region.ensures.region.region c.positions-positions.ensures.marked) (region-apart m c.args.amendment test tells)) c.self.invariant.round in
     let students : students_of c.apply_reversibly.new.self ≡ students_of m = ap students_of c.in-Ok.ensures.accepted ∙ students-stay m c.args.amendment c.requires.no_entry c.requires.no_withdrawal in
-    let changed = change m c.apply_reversibly.new.self c.args.amendment marks c.positions-in-Ok-settled.result.now chains c.self.invariant.certified.well_formed allowed c.requires.no_entry c.in-Ok.ensures.accepted
-    c.students_len-end.ensures.well_formed c.students_len-end.ensures.within_limits c.in_ok-region.ensures.region c.positions-in-Ok-settled.ensures.marked c.self.invariant.theirs in
+    let changed = change m c.apply_reversibly.new.self c.args.amendment marks c.positions-positions.result.now chains c.self.invariant.certified.well_formed allowed c.requires.no_entry c.in-Ok.ensures.accepted
+    c.students_len-end.ensures.well_formed c.students_len-end.ensures.within_limits c.in_ok-region.ensures.region c.positions-positions.ensures.marked c.self.invariant.theirs in
     let waiting = waits-some keys seats m c.apply_reversibly.new.self test chains (amended_school c.args.amendment) c.let_leave.new.round c.reseat.new.round
     (subst (λ amended. IfSome c.reseat.new.round (λ new. IsSomeAnd c.let_leave.new.round (λ before. HasSeats keys seats c.apply_reversibly.new.self amended before new))) (ap school_in c.record_of-amended.ensures ∙ amended-in c.args.amendment) c.reseat.ensures)
     gone (λ l r. waits m c.apply_reversibly.new.self c.args.amendment test _ chains l r changed students c.self.invariant.theirs) in
-    let at = stand-still m c.apply_reversibly.new.self test c.positions-in-Ok-settled.result.now students changed.at in
+    let at = stand-still m c.apply_reversibly.new.self test c.positions-positions.result.now students changed.at in
     record {
       fits = if-some _ _ c.reseat.new.round (λ r waits. waits.1.fits) waiting;
       spare_rolls = if-some _ _ c.resettle-settled.new.spare (λ other inside. record { rolls = inside.fits.rolls; each = inside.fits.each }) c.in-Ok-settled.ensures.inside;
@@ -108,10 +108,10 @@ round_of_everybody-requires-clause-kept c =
     let allowed = ap (λ (s : Standing). verdict s.papers c.args.amendment) c.self.view_is ∙ c.requires.allowed in
     let tells = region-tells m c.args.amendment marks chains c.self.invariant.certified.well_formed allowed c.requires.no_entry c.in_ok-region.ensures.region c.self.invariant.theirs in
     let gone = gone-some keys seats m test chains c.self.inside.round c.let_leave.new.round
-    (c.let_leave.ensures test (stand-at m c.args.amendment test marks c.positions.result.now c.in_ok-region.ensures.region.one_each tells c.in_ok-region.ensures.region.region c.positions.ensures.marked) (region-apart m c.args.amendment test tells)) c.self.invariant.round in
+    (c.let_leave.ensures test (stand-at m c.args.amendment test marks c.positions-positions.result.now c.in_ok-region.ensures.region.one_each tells c.in_ok-region.ensures.region.region c.positions-positions.ensures.marked) (region-apart m c.args.amendment test tells)) c.self.invariant.round in
     let students : students_of c.apply_reversibly.new.self ≡ students_of m = ap students_of c.in-Ok.ensures.accepted ∙ students-stay m c.args.amendment c.requires.no_entry c.requires.no_withdrawal in
-    let changed = change m c.apply_reversibly.new.self c.args.amendment marks c.positions-in-Ok-settled.result.now chains c.self.invariant.certified.well_formed allowed c.requires.no_entry c.in-Ok.ensures.accepted
-    c.students_len-end.ensures.well_formed c.students_len-end.ensures.within_limits c.in_ok-region.ensures.region c.positions-in-Ok-settled.ensures.marked c.self.invariant.theirs in
+    let changed = change m c.apply_reversibly.new.self c.args.amendment marks c.positions-positions.result.now chains c.self.invariant.certified.well_formed allowed c.requires.no_entry c.in-Ok.ensures.accepted
+    c.students_len-end.ensures.well_formed c.students_len-end.ensures.within_limits c.in_ok-region.ensures.region c.positions-positions.ensures.marked c.self.invariant.theirs in
     let waiting = waits-some keys seats m c.apply_reversibly.new.self test chains (amended_school c.args.amendment) c.let_leave.new.round c.reseat.new.round
     (subst (λ amended. IfSome c.reseat.new.round (λ new. IsSomeAnd c.let_leave.new.round (λ before. HasSeats keys seats c.apply_reversibly.new.self amended before new))) (ap school_in c.record_of-amended.ensures ∙ amended-in c.args.amendment) c.reseat.ensures)
     gone (λ l r. waits m c.apply_reversibly.new.self c.args.amendment test _ chains l r changed students c.self.invariant.theirs) in
@@ -120,7 +120,7 @@ round_of_everybody-requires-clause-kept c =
     let certified = subst (λ p. IsCertified (standing_of p c.resettle-settled.new.places c.resettle-settled.new.segments c.in-Ok-settled.proposals)) cut_all c.in-Ok-settled.ensures.certified in
     subst (λ o. IfSome o (λ r. (is_spent r ≡ false) × StandsAfter n c.resettle-settled.new.segments (view_of keys seats r))) (sym c.take.ensures.value)
     (rejoined-some keys seats m n test chains c.resettle-settled.new.segments c.resettle-settled.new.places c.reseat.new.round c.resettle-settled.new.spare c.rejoin.new.round
-    (c.rejoin.ensures.joined test (stand-still m n test c.positions-in-Ok-settled.result.now students changed.at) changed.apart) waiting
+    (c.rejoin.ensures.joined test (stand-still m n test c.positions-positions.result.now students changed.at) changed.apart) waiting
     (if-some _ _ c.resettle-settled.new.spare (λ other. joins-inside n test c.resettle-settled.new.places c.students_len-end.result (view_of keys seats other) (take_all c.students_len-end.result (students_of n) (omega (arith, c.students_len-end.ensures.count, length-students n)))) c.in-Ok-settled.ensures.inside)
     (λ r other r'. rejoined m n test chains c.resettle-settled.new.segments c.self.inside.places c.resettle-settled.new.places r other r' c.self.invariant.theirs (c.in-Ok-settled.ensures.theirs ∙ ap students_of cut_all) changed.same_outside
     certified.settled certified.matching c.self.invariant.certified.matching c.in-Ok-settled.ensures.others))
