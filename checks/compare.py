@@ -3,8 +3,8 @@
 
     compare.py SEED CASES [--program PATH] [--jobs N]
 
-A case is a bundle, or a subcommand with its files, or a command line that may be wrong. Its inputs are random markets, tidy or
-untidy, often with faults; scripts, journals and logs, right or with changes. The same SEED makes the same cases. Where the two
+A case is a bundle, or a subcommand with its files, or a command line that may be wrong. Its inputs are random markets, tidy,
+untidy or tidy but for one thing, often with faults; scripts, journals and logs, right or with changes. The same SEED makes the same cases. Where the two
 differ, the inputs are made as small as they can be while they still differ, and printed. The last line counts the cases and the
 differences; the status is 1 where there is one.
 """
@@ -14,6 +14,7 @@ import multiprocessing
 import os
 import pathlib
 import random
+import re
 import shutil
 import subprocess
 import sys
@@ -52,7 +53,9 @@ def market(rng):
         for row in roster:
             row.append(rng.choice([rng.choice(some), ""]))
     lists = [(student, rng.sample(some, rng.randint(1, len(some)))) for student in students]
-    rng.shuffle(lists)
+    if rng.random() < 0.5:
+        # Else they stand in the roster's order, and both files are read together.
+        rng.shuffle(lists)
     return rows, roster, lists
 
 
@@ -76,6 +79,19 @@ def rendered(rng, header, rows, untidy):
     end = rng.choice(["\n", "\r\n", "\r"]) if untidy else "\n"
     text = end.join(lines) + (end if lines and not (untidy and rng.random() < 0.3) else "")
     return (reference.MARK if untidy and rng.random() < 0.2 else b"") + text.encode()
+
+
+def almost_tidy(rng, text):
+    """A tidy text with one odd thing at any place, which the reader of tidy rows has to leave to the other one, or to a fault."""
+    if rng.random() < 0.3:
+        numbers = list(re.finditer(rb"[0-9]+", text))
+        if numbers:
+            number = rng.choice(numbers)
+            longer = rng.choice([number[0].rjust(9, b"0"), number[0].rjust(10, b"0"), b"1000000000", b"999999999", b"0"])
+            return text[:number.start()] + longer + text[number.end():]
+    place = rng.randint(0, len(text))
+    odd = rng.choice([b'"', b'""', b" ", b"  ", b"\t", b"\r", b"\r\n", b"\n", b"\n\n", b",", b",1", b" 1", b"1", b"x", b"\x00", b"\xc2\xa0"])
+    return text[:place] + odd + text[place:]
 
 
 def changed(rng, text):
@@ -186,6 +202,9 @@ def make_case(seed, at):
     texts = {"schools": rendered(rng, ["school", "zone", "seats"], [list(row) for row in rows], untidy),
              "roster": rendered(rng, roster_header(rng, roster), roster, untidy),
              "lists": rendered(rng, ["student", "choices"], [list(row) for row in lists], untidy)}
+    if not untidy and rng.random() < 0.4:
+        name = rng.choice(["schools", "roster", "lists"])
+        texts[name] = almost_tidy(rng, texts[name])
     kind = rng.choice(["bundle", "bundle", "check", "check", "match", "run", "run", "audit", "replay", "summary", "explain", "admissions", "changes", "export", "words"])
     script = rendered(rng, None, list(stamped(rng, texts, amendments(rng, rows, roster, rng.randint(0, 12)))), untidy)
     key = b"0" * 32
