@@ -5,7 +5,7 @@ ghost use Rattle.std.specs.Option.{option_to_list};
 
 use crate::given::student;
 use sc_papers::{Key, Seats, StudentNo};
-use sc_seats::{HeapRoll, Roll, SortedRoll};
+use sc_seats::{HeapRoll, HeldKey, Roll, SortedRoll};
 use std::alloc::{AllocError, Global};
 use std::process::Abort;
 
@@ -107,6 +107,14 @@ fn renewed<R: Roll>(rt: &impl Abort, alloc: Global, roll: R) -> Result<(), Alloc
     assert_eq!(rt; offer(rt, &mut roll, &mut seen, key(rt, 3, 5, 7))?, None);
     assert_eq!(rt; roll.len(), 1);
     Ok(())
+}
+
+#[test]
+fn a_held_key_keeps_its_guess(rt: HostRuntime) {
+    let one = key(&rt, 4, 0xe56a5d4028bd8653, 1);
+    let held = HeldKey::of(one, 199_999);
+    assert_eq!(&rt; held.guess(), 199_999);
+    assert_eq!(&rt; held.key(), one);
 }
 
 #[test]
