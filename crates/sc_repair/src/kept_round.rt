@@ -72,7 +72,8 @@ pub(crate) fn let_leave<R: Roll>(
 
 /// Gives the roll of an amended school its seats, where there is a round and the record is a school's.
 pub(crate) fn reseat<R: Roll>(round: &mut Option<Round<R>>, papers: &Papers, amended: Record)
-    requires { IfSome round.old (λ standing. length (view_of R.keys R.seats standing).rolls ≡ length papers.now.schools) }
+    requires { IfSome round.old
+        (λ standing. length (view_of R.keys R.seats standing).rolls ≡ length papers.now.schools) }
     ensures { IfSome round.new
         (λ new. IsSomeAnd round.old (λ old. HasSeats R.keys R.seats papers.now (school_in amended) old new)) }
 {
