@@ -1,14 +1,20 @@
 -- The moves of a chain, as the code makes them.
-use Rattle.std.proofs.Common.{◌≡◌, refl, ap, sym, subst, ◌∙◌, ℕ, ◌+◌, ◌<◌, nat_eq, List, [], ◌∷◌, ◌++◌, length, set, Option, Some, None, Contains, position, is_some, append-nil, arith}
-use Rattle.sc_papers.specs.Market.{Market, students_of, schools_of}
+use Rattle.std.proofs.Common.{◌≡◌, refl, ap, sym, subst, ◌∙◌, ℕ, ◌+◌, ◌<◌, nat_eq, Bool, List, [], ◌∷◌, ◌++◌, length, get_or, set, Option, Some, None, Contains, position, is_some, append_assoc, append-nil, arith}
+use Rattle.std.proofs.lemmas.Option.{same_Some}
+use Rattle.sc_papers.specs.Market.{Market, student_at, students_of, schools_of}
 use Rattle.sc_papers.specs.Key.{key_of}
+use Rattle.sc_papers.specs.WellFormed.{WellFormed}
+use Rattle.sc_papers.proofs.Hands.{hand-position}
 use Rattle.sc_papers.specs.declared.key.Key.{Key}
 use Rattle.sc_papers.specs.declared.rejection.Rejection.{Rejection}
 use Rattle.sc_seats.specs.Roll.{RollView}
-use Rattle.sc_engine.specs.RoundView.{RoundView, rank_of, next_of, FitsBut, only, OffersAt, RollFits, roll_at, ChainEnds, Extends, Proposes}
+use Rattle.sc_papers.specs.declared.proposal.Proposal.{Proposal}
+use Rattle.sc_engine.specs.Proposals.{IsProposal}
+use Rattle.sc_engine.specs.RoundView.{RoundView, rank_of, next_of, choices_left, FitsBut, only, OffersAt, RollFits, roll_at, ChainEnds, ChainGoesOn, CountsProposals, nobody, Extends, PassedOver, Proposes}
 use Rattle.std.proofs.lemmas.Bool.{eq-eqb}
 use Rattle.sc_engine.proofs.Rolls.{away-off}
-use Rattle.sc_engine.proofs.Tables.{rank-low, roll-at, stands-at, StandsAt, position-of, PositionOf}
+use Rattle.sc_engine.proofs.RollCounts.{key-student}
+use Rattle.sc_engine.proofs.Tables.{rank-at, rank-low, roll-at, stands-at, StandsAt, position-of, PositionOf}
 use Rattle.sc_engine.proofs.Proposals.{Proposed, put-out, Out, fits-held, fits-ended, counted-ended, counted-held}
 use Rattle.sc_engine.proofs.Steps.{Rejected, entry_of, entered-stays, fits-put_out, counted-put_out, midway-put_out, continues-held, continues-ended, left-put_out}
 
@@ -82,3 +88,73 @@ pub roll-new : (m : Market) (r : RoundView) (proposer s at : ℕ) (key : Key) �
 roll-new m r proposer s at key fits school is held =
     away-off m (next_of m r.ranks) (only proposer) s (roll_at r.rolls at) proposer (subst (RollFits m (next_of m r.ranks) (only proposer) s) (roll-at m r.rolls s at school) (fits.each s)) (eq-eqb proposer proposer refl)
     (subst (Contains (roll_at r.rolls at).keys) is held)
+
+-- one after the other
+extends-more : (old mid new : List Rejection) → Extends old mid → Extends mid new → Extends old new
+extends-more old mid new first second = (first.0 ++ second.0, second.1 ∙ ap (λ l. l ++ second.0) first.1 ∙ append_assoc old first.0 second.0)
+
+counted-more : (m : Market) (old mid new : RoundView) (before between after : ℕ → Bool) → CountsProposals m old before mid between → CountsProposals m mid between new after → CountsProposals m old before new after
+counted-more m old mid new before between after first second = omega (arith, first, second)
+
+goes-on_after : (m : Market) (old mid new : RoundView) (proposer out : ℕ) → ChainGoesOn m old mid proposer proposer → ChainGoesOn m mid new proposer out → ChainGoesOn m old new proposer out
+goes-on_after m old mid new proposer out first second = record {
+  fits = second.fits;
+  entered = λ i. second.entered i ∙ first.entered i;
+  continues = λ earlier midway. second.continues earlier (first.continues earlier midway);
+  extends = extends-more old.log mid.log new.log first.extends second.extends;
+  counted = counted-more m old mid new (only proposer) (only proposer) (only out) first.counted second.counted;
+}
+
+ends-after : (m : Market) (old mid new : RoundView) (proposer : ℕ) → ChainGoesOn m old mid proposer proposer → ChainEnds m mid new proposer → ChainEnds m old new proposer
+ends-after m old mid new proposer first second = record {
+  fits = second.fits;
+  entered = λ i. second.entered i ∙ first.entered i;
+  continues = λ earlier midway. second.continues earlier (first.continues earlier midway);
+  extends = extends-more old.log mid.log new.log first.extends second.extends;
+  counted = counted-more m old mid new (only proposer) (only proposer) nobody first.counted second.counted;
+}
+
+-- a proposal after those that were refused at once
+pub proposes-after : (m : Market) (old mid new : RoundView) (proposer : ℕ) (out : Option ℕ) → PassedOver m old mid proposer → Proposes m mid new proposer out → Proposes m old new proposer out
+proposes-after m old mid new proposer None passed ends = ends-after m old mid new proposer passed.goes_on ends
+proposes-after m old mid new proposer (Some out) passed goes = (goes-on_after m old mid new proposer out passed.goes_on goes.0, omega (arith, passed.left, goes.1))
+
+-- nobody has refused yet
+pub none-passed : (m : Market) (r : RoundView) (proposer : ℕ) → FitsBut m r (only proposer) → PassedOver m r r proposer
+none-passed m r proposer fits = record {
+  goes_on = record {
+    fits = fits;
+    entered = λ i. refl;
+    continues = λ earlier midway. midway;
+    extends = extends-same r.log r.log refl;
+    counted = refl;
+  };
+  left = omega arith;
+}
+
+-- what the papers say of whoever stands at a place is said of the student there
+pub proposes-at : (m : Market) (ranks : List (Option ℕ)) (place : ℕ) (told : Option Proposal) → WellFormed m → place < length m.students
+    → ((i : ℕ) → position (nat_eq i) (students_of m) ≡ Some place → IsProposal m i (next_of m ranks i) told) → (r : List (Option ℕ)) (made : Option Proposal) → ranks ≡ r → told ≡ made
+    → IsProposal m (student_at m place) (next_of m r (student_at m place)) made
+proposes-at m ranks place told well low says r made same is =
+    subst (λ (rs : List (Option ℕ)). IsProposal m (student_at m place) (next_of m rs (student_at m place)) made) same
+    (subst (IsProposal m (student_at m place) (next_of m ranks (student_at m place))) is (says (student_at m place) (hand-position m well place low)))
+
+-- a proposal whose school refuses it at once
+pub proposed-refused : (m : Market) (r : RoundView) (proposer : ℕ) (made : Proposal) → FitsBut m r (only proposer) → IsProposal m proposer (next_of m r.ranks proposer) (Some made) → OffersAt r.rolls r.rolls made.position made.key (Some made.key) → Proposed m r proposer made.school made.position r.rolls (Some made.key)
+proposed-refused m r proposer made fits is offered = proposed-from m r proposer made.school made.position made.key r.rolls (Some made.key) fits (sym is.school) is.position is.key offered
+
+-- one more has refused, and the student moves on
+pub passed-more : (m : Market) (first r r' : RoundView) (proposer place : ℕ) (made : Proposal) → PassedOver m first r proposer → Proposed m r proposer made.school made.position r.rolls (Some made.key) → made.key ≡ key_of m proposer made.school
+    → position (nat_eq proposer) (students_of m) ≡ Some place → r'.rolls ≡ r.rolls → r'.log ≡ r.log ++ entry_of made.key.student made.school ∷ []
+    → ((rank : ℕ) → get_or r.ranks place None ≡ Some rank → r'.ranks ≡ set r.ranks place (Some (rank + 1)))
+    → r'.proposals ≡ r.proposals + 1 → PassedOver m first r' proposer × (choices_left m r'.ranks < choices_left m r.ranks)
+passed-more m first r r' proposer place made before done keyed there rolls log moved one_more =
+    let own : made.key.student ≡ proposer = ap (λ (k : Key). k.student) keyed ∙ key-student m proposer made.school in
+    let step : Proposes m r r' proposer (Some proposer) = subst (λ i. Proposes m r r' proposer (Some i)) own
+    (goes-on m r r' proposer made.school made.position r.rolls made.key done rolls log
+    (λ k rank found is.
+    let same : place ≡ k = same_Some place k (sym there ∙ ap (λ i. position (nat_eq i) (students_of m)) (sym own) ∙ found) in
+    moved rank (sym (rank-at m r.ranks proposer place there) ∙ ap (rank_of m r.ranks) (sym own) ∙ is) ∙ ap (λ at. set r.ranks at (Some (rank + 1))) same)
+    one_more) in
+    (record { goes_on = goes-on_after m first r r' proposer proposer before.goes_on step.0; left = omega (arith, before.left, step.1) }, step.1)

@@ -155,6 +155,11 @@ pub record ChainGoesOn (m : Market) (old new : RoundView) (proposer out : ℕ) :
   pub extends : Extends old.log new.log
   pub counted : CountsProposals m old (only proposer) new (only out)
 
+-- schools have refused the student who proposes, who is to propose still
+pub record PassedOver (m : Market) (old new : RoundView) (proposer : ℕ) : Type 0 where
+  pub goes_on : ChainGoesOn m old new proposer proposer
+  pub left : choices_left m new.ranks ≤ choices_left m old.ranks
+
 -- what one proposal does: whoever is put out proposes next
 abbrev pub Proposes : Market → RoundView → RoundView → ℕ → Option ℕ → Type 0
 Proposes m old new proposer None = ChainEnds m old new proposer

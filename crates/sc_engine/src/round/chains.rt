@@ -4,11 +4,11 @@ ghost use Rattle.std.specs.Prelude.{◌≡◌, ℕ, ◌+◌, ◌^◌, ◌<◌, f
 ghost use Rattle.std.specs.Option.{option_map};
 ghost use Rattle.sc_papers.specs.Market.{students_of, student_at};
 ghost use Rattle.sc_engine.specs.Proposals.{IsFirstProposal, IsProposal};
-ghost use Rattle.sc_engine.specs.RoundView.{OffersAt, roll_at, next_of, Fits, FitsBut, only, Proposes, ChainEnds, Enters, has_entered};
+ghost use Rattle.sc_engine.specs.RoundView.{OffersAt, roll_at, next_of, Fits, FitsBut, only, PassedOver, Proposes, ChainEnds, Enters, has_entered};
 
 use super::Round;
 use super::ranks::{position_near, proposal_of};
-use super::rolls::offer_to;
+use super::rolls::{is_refused, offer_to};
 use sc_papers::{LONGEST_LIST, Papers, Proposal, Rejection, StudentNo};
 use sc_seats::{HeldKey, Roll};
 use std::alloc::AllocError;
@@ -27,12 +27,13 @@ impl<R: Roll> Round<R> {
         ensures log { self.new.log.items ≡ self.old.log.items }
         ensures proposals { OnOk result (self.new.proposals ≡ self.old.proposals + 1) }
     {
-        let out = offer_to(&mut self.rolls, at, key)?;
+        let put_out = offer_to(&mut self.rolls, at, key)?;
         self.proposals += 1;
-        Ok(out)
+        Ok(put_out)
     }
 
     /// Notes that the school rejects the student at the position, who moves on to the next choice.
+    #[inline]
     fn reject(&mut self, at: usize, entry: Rejection) -> Result<(), AllocError>
         requires { (rank : ℕ) → slice_index_or self.old.ranks at None ≡ Some rank → rank < LONGEST_LIST }
         ensures log { OnOk result (self.new.log.items ≡ self.old.log.items ++ entry ∷ []) }
@@ -46,8 +47,35 @@ impl<R: Roll> Round<R> {
         Ok(())
     }
 
-    /// The student at the position proposes to their next choice, if they have one: the position
-    /// of whoever is put out, if anybody.
+    /// The first proposal of the student at the position, from their next choice on, that its school does not refuse at
+    /// once, if there is one. Those that it does are made: each is counted and noted, and no roll changes. The student's
+    /// row is at hand after the first of them.
+    fn next_open(
+        &mut self,
+        papers: &Papers,
+        proposer: usize,
+    ) -> Result<Option<Proposal>, AllocError>
+        requires within { proposer < length papers.now.students }
+        requires fits { FitsBut papers.now (view_of R.keys R.seats self.old) (only (student_at papers.now proposer)) }
+        ensures passed { OnOk result (PassedOver papers.now (view_of R.keys R.seats self.old)
+            (view_of R.keys R.seats self.new) (student_at papers.now proposer)) }
+        ensures next { IfOk result (IsProposal papers.now (student_at papers.now proposer)
+            (next_of papers.now self.new.ranks (student_at papers.now proposer))) }
+    {
+        'passed: while let Some(proposal) = proposal_of(self.ranks.as_slice(), papers, proposer) {
+            if !is_refused(&self.rolls, proposal.position, &proposal.key) {
+                return Ok(Some(proposal));
+            }
+            self.proposals += 1;
+            let student = proposal.key.student;
+            let school = proposal.school;
+            self.reject(proposer, Rejection { student, school })?;
+        }
+        Ok(None)
+    }
+
+    /// The student at the position proposes, from their next choice on, until a school does not refuse them at once: the
+    /// position of whoever is put out there, if anybody.
     fn propose(&mut self, papers: &Papers, proposer: usize) -> Result<Option<usize>, AllocError>
         requires within { proposer < length papers.now.students }
         requires fits { FitsBut papers.now (view_of R.keys R.seats self.old) (only (student_at papers.now proposer)) }
@@ -56,12 +84,13 @@ impl<R: Roll> Round<R> {
             (view_of R.keys R.seats self.new) (student_at papers.now proposer)
             (option_map (student_at papers.now) out)) }
     {
-        let proposal = proposal_of(self.ranks.as_slice(), papers, proposer);
+        let proposal = self.next_open(papers, proposer)?;
         let out = self.propose_with(papers, proposer, proposal)?;
         Ok(out)
     }
 
-    /// Does what `propose` does, where the proposal that the student is to make is known, or that there is none.
+    /// The student at the position makes this proposal, if there is one, to their next choice: the position of whoever is
+    /// put out, if anybody.
     fn propose_with(
         &mut self,
         papers: &Papers,

@@ -81,8 +81,10 @@ pub(super) fn empty_rolls<R: Roll>(alloc: Global, papers: &Papers) -> Result<Vec
     Ok(rolls)
 }
 
-/// Whether an offer of a seat of the school at the position would put out the key itself.
-fn is_refused<R: Roll>(rolls: &Vec<R>, at: usize, key: &Key) -> bool
+/// Whether an offer of a seat of the school at the position would put out the key itself. Most would, and then nothing
+/// has to be changed or copied.
+#[inline]
+pub(super) fn is_refused<R: Roll>(rolls: &Vec<R>, at: usize, key: &Key) -> bool
     requires within { at < length rolls.now.items }
     requires new { ¬ Contains (roll_at (rolls_of R.keys R.seats rolls.now.items) at).keys key.now }
     ensures { result ≡ true → OffersAt (rolls_of R.keys R.seats rolls.now.items)
@@ -103,10 +105,6 @@ pub(super) fn offer_to<R: Roll>(
     ensures { IfOk result (λ out. OffersAt (rolls_of R.keys R.seats rolls.old.items)
         (rolls_of R.keys R.seats rolls.new.items) at key out) }
 {
-    // Most offers are refused, and then nothing is changed or copied.
-    if is_refused(rolls, at, &key.key()) {
-        return Ok(Some(key));
-    }
     let roll = &mut rolls[at];
     let out = roll.offer_held(key)?;
     Ok(out)
