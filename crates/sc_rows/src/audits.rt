@@ -1,10 +1,10 @@
 //! What the auditor says of logs and assignments. Both are written as pairs of a student and a school,
 //! with the answer that is wanted after `=>`, one a line.
-use crate::given::{amend, papers_of};
+use crate::given::{amend, expect_said, papers_of};
 use sc_audit::{Stability, Verdict, audit, check_stable};
 use sc_intake::read_log;
 use sc_markets::{FIVE_STUDENTS, Files, MARKET_A, MARKET_B_AND_NEWCOMER, assignment};
-use sc_papers::Papers;
+use sc_papers::{Assignment, Papers};
 use std::alloc::{AllocError, Global};
 use std::process::Abort;
 
@@ -41,8 +41,7 @@ fn verdict_on(
 fn expect_verdicts(rt: &impl Abort, alloc: Global, papers: &Papers, lines: &str) {
     for line in lines.lines() {
         let (log, want) = line.split_once("=> ").expect(rt, "a log and a verdict");
-        let verdict = verdict_on(rt, alloc, papers, log).expect(rt, "memory");
-        assert_eq!(rt; verdict.as_str(), want, "{log}");
+        expect_said(rt, log, verdict_on(rt, alloc, papers, log), want);
     }
 }
 
@@ -90,6 +89,12 @@ fn stability_text(alloc: Global, stability: Stability) -> Result<String, AllocEr
     }
 }
 
+/// The assignment of these pairs.
+fn assignment_of(rt: &impl Abort, alloc: Global, pairs: &str) -> Result<Assignment, AllocError> {
+    let rows = rows(alloc, pairs)?;
+    Ok(assignment(alloc, rows.as_str()).expect(rt, "pairs"))
+}
+
 /// What the auditor finds of an assignment.
 fn stability_of(
     rt: &impl Abort,
@@ -97,25 +102,29 @@ fn stability_of(
     papers: &Papers,
     pairs: &str,
 ) -> Result<String, AllocError> {
-    let assignment = assignment(alloc, rows(alloc, pairs)?.as_str()).expect(rt, "pairs");
+    let assignment = assignment_of(rt, alloc, pairs)?;
     stability_text(alloc, check_stable(alloc, papers, &assignment)?)
 }
 
-/// The assignments under the papers of a market have the wanted stability verdicts.
-fn expect_stabilities(rt: &impl Abort, alloc: Global, files: Files<'_>, lines: &str) {
-    let papers = papers_of(rt, alloc, files);
+/// The assignments under these papers have the wanted stability verdicts.
+fn expect_stabilities(rt: &impl Abort, alloc: Global, papers: &Papers, lines: &str) {
     for line in lines.lines() {
         let (pairs, want) = line.split_once("=> ").expect(rt, "pairs and a verdict");
-        let stability = stability_of(rt, alloc, &papers, pairs).expect(rt, "memory");
-        assert_eq!(rt; stability.as_str(), want, "{pairs}");
+        expect_said(rt, pairs, stability_of(rt, alloc, papers, pairs), want);
     }
+}
+
+/// So have they under the papers of a market.
+fn expect_stabilities_of(rt: &impl Abort, alloc: Global, files: Files<'_>, lines: &str) {
+    let papers = papers_of(rt, alloc, files);
+    expect_stabilities(rt, alloc, &papers, lines);
     drop(papers);
 }
 
 #[test]
 fn stability_verdicts_of_market_a(rt: HostRuntime) {
     let lines = "1,10 2,20 => stable\n1,20 2,10 => stable\n";
-    expect_stabilities(&rt, rt.alloc(), MARKET_A, lines);
+    expect_stabilities_of(&rt, rt.alloc(), MARKET_A, lines);
 }
 
 #[test]
@@ -127,5 +136,5 @@ fn stability_verdicts(rt: HostRuntime) {
 3,20 => not a matching
 9,10 => not a matching
 ";
-    expect_stabilities(&rt, rt.alloc(), MARKET_B_AND_NEWCOMER, lines);
+    expect_stabilities_of(&rt, rt.alloc(), MARKET_B_AND_NEWCOMER, lines);
 }

@@ -3,7 +3,7 @@
 //!
 //! Each line of a script is a record and, after `=>`, what is wanted: the answer, how many proposals the
 //! last settling then made, and the standing that is left.
-use crate::given::{papers_of, school, student};
+use crate::given::{answered, expect_answered, expect_said, papers_of, school, student, wanted_of};
 use sc_markets::{
     FIVE_STUDENTS, Files, MARKET_A, MARKET_B, MARKET_B_CONTINUING, TWO_STUDENTS, amendment,
     places_text, seen, standing,
@@ -14,15 +14,14 @@ use std::alloc::{AllocError, Global};
 use std::process::Abort;
 
 /// The clearing of a market.
-fn open(rt: &impl Abort, alloc: Global, files: Files<'_>) -> Clearing {
+pub(super) fn open(rt: &impl Abort, alloc: Global, files: Files<'_>) -> Clearing {
     let papers = papers_of(rt, alloc, files);
     Clearing::open(alloc, papers).ok().expect(rt, "memory")
 }
 
 /// The clearing has this standing.
 fn expect_standing(rt: &impl Abort, alloc: Global, clearing: &Clearing, want: &str) {
-    let text = standing(alloc, clearing).expect(rt, "memory");
-    assert_eq!(rt; text.as_str(), want);
+    expect_said(rt, "the standing", standing(alloc, clearing), want);
 }
 
 /// What the clearing answers to an amendment with the stamp that its record has, its refusal or `ok`, which is what
@@ -34,13 +33,7 @@ fn answer(
     record: &str,
 ) -> Result<String, Refusal> {
     let stamped = seen(clearing, amendment(alloc, record)?);
-    let checked = clearing.check(&stamped);
-    let answered = clearing.amend(stamped);
-    assert!(rt; checked == answered, "{record}");
-    match answered {
-        Ok(()) => Ok(String::from_str(alloc, "ok")?),
-        Err(refusal) => Ok(refusal.to_string(alloc)?),
-    }
+    Ok(answered(rt, alloc, clearing, stamped, record)?)
 }
 
 /// What an amendment leaves, with the answer to it.
@@ -58,8 +51,8 @@ fn left_by(
 
 /// The record leaves what is wanted.
 fn expect_left(rt: &impl Abort, alloc: Global, clearing: &mut Clearing, record: &str, want: &str) {
-    let left = left_by(rt, alloc, clearing, record).expect(rt, "memory");
-    assert_eq!(rt; left.as_str(), want, "{record}");
+    let left = left_by(rt, alloc, clearing, record);
+    expect_answered(rt, record, left, want);
 }
 
 /// The clearing of the market has this standing, and the records leave what is wanted, one after another.
@@ -67,7 +60,7 @@ fn walk(rt: &impl Abort, alloc: Global, files: Files<'_>, opening: &str, script:
     let mut clearing = open(rt, alloc, files);
     expect_standing(rt, alloc, &clearing, opening);
     for line in script.lines() {
-        let (record, want) = line.split_once(" => ").expect(rt, "a record and an answer");
+        let (record, want) = wanted_of(rt, line);
         expect_left(rt, alloc, &mut clearing, record, want);
     }
     drop(clearing);
@@ -178,23 +171,27 @@ fn numbers_text(alloc: Global, region: &RegionList) -> Result<String, AllocError
 }
 
 /// The region of an amendment of the papers, before it is made.
-fn region_text(alloc: Global, papers: &Papers, record: &str) -> Result<String, Refusal> {
+fn region_of(alloc: Global, papers: &Papers, record: &str) -> Result<RegionList, Refusal> {
     let amendment = amendment(alloc, record)?;
-    let region = region(alloc, papers, &amendment)?;
+    region(alloc, papers, &amendment)
+}
+
+/// The numbers of its students.
+fn region_text(alloc: Global, papers: &Papers, record: &str) -> Result<String, Refusal> {
+    let region = region_of(alloc, papers, record)?;
     let text = numbers_text(alloc, &region)?;
     Ok(text)
 }
 
 /// The amendment has a region of these students.
 fn expect_region(rt: &impl Abort, alloc: Global, clearing: &Clearing, record: &str, want: &str) {
-    let region = region_text(alloc, clearing.papers(), record).expect(rt, "memory");
-    assert_eq!(rt; region.as_str(), want, "{record}");
+    let region = region_text(alloc, clearing.papers(), record);
+    expect_answered(rt, record, region, want);
 }
 
 /// The students have these places, in order of entry.
 fn expect_places(rt: &impl Abort, alloc: Global, clearing: &Clearing, want: &str) {
-    let places = places_text(alloc, clearing).expect(rt, "memory");
-    assert_eq!(rt; places.as_str(), want);
+    expect_said(rt, "the places", places_text(alloc, clearing), want);
 }
 
 /// Student 3 enters beside a region apart, whose students keep what they have. From scratch the chains make seven
@@ -202,8 +199,8 @@ fn expect_places(rt: &impl Abort, alloc: Global, clearing: &Clearing, want: &str
 fn expect_newcomer_beside_a_region(rt: &impl Abort, alloc: Global, clearing: &mut Clearing) {
     let record = "enter,3,1,10,10";
     expect_region(rt, alloc, clearing, record, "1 2 3 ");
-    let answer = answer(rt, alloc, clearing, record).expect(rt, "memory");
-    assert_eq!(rt; answer.as_str(), "ok");
+    let answer = answer(rt, alloc, clearing, record);
+    expect_answered(rt, record, answer, "ok");
     expect_places(rt, alloc, clearing, "1:20 2:0 6:0 7:30 3:10 ");
     assert!(rt; clearing.proposals_last() <= 5);
 }
@@ -322,22 +319,36 @@ add,77,1 => UnknownSchool 77, 3: 1:20 2:0 3:10 |(1,10)(2,20)(2,10)
     walk(&rt, rt.alloc(), MARKET_B, "1:10 2:20 |", script);
 }
 
+fn expect_assignment(rt: &impl Abort, clearing: &Clearing) {
+    assert!(rt; clearing.places().at(0) == Some((student(rt, 2), school(rt, 1))));
+    let places = clearing.assignment().expect(rt, "memory");
+    assert!(rt; places.at(0) == clearing.places().at(0));
+    drop(places);
+}
+
+fn expect_rejected(rt: &impl Abort, log: &[Rejection]) {
+    let rejected = Rejection {
+        student: student(rt, 1),
+        school: school(rt, 1),
+    };
+    assert_eq!(rt; log, [rejected].as_slice());
+}
+
+fn expect_log(rt: &impl Abort, clearing: &Clearing) {
+    let log = clearing.log().expect(rt, "memory");
+    assert!(rt; log.len() == clearing.log_len());
+    expect_rejected(rt, log.as_slice());
+    drop(log);
+}
+
 fn expect_read_back(rt: &impl Abort, clearing: &Clearing) {
     assert!(rt; clearing.place_of(student(rt, 1)) == Some(None));
     assert!(rt; clearing.place_of(student(rt, 3)).is_none());
     assert!(rt; clearing.held(school(rt, 1)) == Some(1));
     assert!(rt; clearing.held(school(rt, 2)).is_none());
     assert!(rt; clearing.proposals_last() == 2);
-    assert!(rt; clearing.places().at(0) == Some((student(rt, 2), school(rt, 1))));
-    let places = clearing.assignment().expect(rt, "memory");
-    assert!(rt; places.at(0) == clearing.places().at(0));
-    let log = clearing.log().expect(rt, "memory");
-    assert!(rt; log.len() == clearing.log_len());
-    let rejected = Rejection {
-        student: student(rt, 1),
-        school: school(rt, 1),
-    };
-    assert_eq!(rt; log.as_slice(), [rejected].as_slice());
+    expect_assignment(rt, clearing);
+    expect_log(rt, clearing);
 }
 
 #[test]

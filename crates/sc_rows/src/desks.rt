@@ -3,7 +3,8 @@
 //! Each line of a script is a record with its stamp and, after `=>`, what is wanted: the answer, how many
 //! amendments were accepted, each student's place and stamp in order of entry, and each school's stamp:
 //! `ok, 1: 1:10 2:20 |1 0 |0 0`.
-use crate::given::papers_of;
+use crate::clearings::open;
+use crate::given::{answered, expect_answered, wanted_of};
 use sc_markets::{MARKET_B, places_text, stamped};
 use sc_papers::Refusal;
 use sc_repair::Clearing;
@@ -28,48 +29,47 @@ fn stamps_text(alloc: Global, clearing: &Clearing) -> Result<String, AllocError>
     Ok(text)
 }
 
-/// What the clearing answers to a record, its refusal or `ok`, which is what `check` says beforehand.
+/// What the clearing answers to a record. One that is no amendment is answered `Shape`.
 fn answer(
     rt: &impl Abort,
     alloc: Global,
     clearing: &mut Clearing,
     record: &str,
 ) -> Result<String, Refusal> {
-    let stamped = stamped(alloc, record)?;
-    let checked = clearing.check(&stamped);
-    let answered = clearing.amend(stamped);
-    assert!(rt; checked == answered);
-    match answered {
-        Ok(()) => Ok(String::from_str(alloc, "ok")?),
-        Err(refusal) => Ok(refusal.to_string(alloc)?),
+    match stamped(alloc, record) {
+        Ok(stamped) => Ok(answered(rt, alloc, clearing, stamped, record)?),
+        Err(Refusal::Shape) => Ok(String::from_str(alloc, "Shape")?),
+        Err(refusal) => Err(refusal),
     }
 }
 
-/// What a record leaves, with the answer to it. A record that is no amendment is answered `Shape`.
+/// The answer, and what the clearing then is.
+fn left_text(alloc: Global, clearing: &Clearing, answer: &str) -> Result<String, AllocError> {
+    let places = places_text(alloc, clearing)?;
+    let stamps = stamps_text(alloc, clearing)?;
+    let accepted = clearing.accepted().get();
+    format!(in alloc; "{answer}, {accepted}: {places}|{stamps}")
+}
+
+/// What a record leaves, with the answer to it.
 fn left_by(
     rt: &impl Abort,
     alloc: Global,
     clearing: &mut Clearing,
     record: &str,
 ) -> Result<String, Refusal> {
-    let answer = match answer(rt, alloc, clearing, record) {
-        Err(Refusal::Shape) => String::from_str(alloc, "Shape")?,
-        answer => answer?,
-    };
-    let places = places_text(alloc, clearing)?;
-    let stamps = stamps_text(alloc, clearing)?;
-    let accepted = clearing.accepted().get();
-    Ok(format!(in alloc; "{answer}, {accepted}: {places}|{stamps}")?)
+    let answer = answer(rt, alloc, clearing, record)?;
+    let left = left_text(alloc, clearing, answer.as_str())?;
+    Ok(left)
 }
 
 /// The records over Market B leave what is wanted, one after another.
 fn walk(rt: &impl Abort, alloc: Global, script: &str) {
-    let papers = papers_of(rt, alloc, MARKET_B);
-    let mut clearing = Clearing::open(alloc, papers).ok().expect(rt, "memory");
+    let mut clearing = open(rt, alloc, MARKET_B);
     for line in script.lines() {
-        let (record, want) = line.split_once(" => ").expect(rt, "a record and an answer");
-        let left = left_by(rt, alloc, &mut clearing, record).expect(rt, "memory");
-        assert_eq!(rt; left.as_str(), want, "{record}");
+        let (record, want) = wanted_of(rt, line);
+        let left = left_by(rt, alloc, &mut clearing, record);
+        expect_answered(rt, record, left, want);
     }
     drop(clearing);
 }

@@ -2,8 +2,9 @@
 ghost use Rattle.std.specs.Prelude.{◌≡◌};
 
 use sc_markets::{Files, amendment};
-use sc_papers::{Amendment, Papers, SchoolNo, StudentNo};
-use std::alloc::Global;
+use sc_papers::{Amendment, Papers, Refusal, SchoolNo, Stamped, StudentNo};
+use sc_repair::Clearing;
+use std::alloc::{AllocError, Global};
 use std::process::Abort;
 
 pub fn student(rt: &impl Abort, number: u32) -> StudentNo
@@ -16,6 +17,53 @@ pub fn school(rt: &impl Abort, number: u32) -> SchoolNo
     ensures { result ≡ number }
 {
     SchoolNo::new(number).expect(rt, "a school's number")
+}
+
+/// A record of a script, and what is wanted of it, which stands after `=>`.
+pub fn wanted_of<'a>(rt: &impl Abort, line: &'a str) -> (&'a str, &'a str) {
+    line.split_once(" => ").expect(rt, "a record and an answer")
+}
+
+/// What was said of the record is what is wanted.
+fn expect_same(rt: &impl Abort, record: &str, said: &str, want: &str) {
+    assert_eq!(rt; said, want, "{record}");
+}
+
+/// What there was memory to say of the record is what is wanted. It takes the text, so that those who ask hold none:
+/// each holder of a text is dear to prove.
+pub fn expect_said(rt: &impl Abort, record: &str, said: Result<String, AllocError>, want: &str) {
+    let said = said.expect(rt, "memory");
+    expect_same(rt, record, said.as_str(), want);
+    drop(said);
+}
+
+/// The same of a text that may be refused otherwise.
+pub fn expect_answered(rt: &impl Abort, record: &str, said: Result<String, Refusal>, want: &str) {
+    let said = said.expect(rt, "memory");
+    expect_same(rt, record, said.as_str(), want);
+    drop(said);
+}
+
+/// An answer as a text: its refusal, or `ok`.
+pub fn answer_text(alloc: Global, answer: Result<(), Refusal>) -> Result<String, AllocError> {
+    match answer {
+        Ok(()) => String::from_str(alloc, "ok"),
+        Err(refusal) => refusal.to_string(alloc),
+    }
+}
+
+/// What the clearing answers to a stamped amendment, which is what `check` says beforehand.
+pub fn answered(
+    rt: &impl Abort,
+    alloc: Global,
+    clearing: &mut Clearing,
+    stamped: Stamped,
+    record: &str,
+) -> Result<String, AllocError> {
+    let checked = clearing.check(&stamped);
+    let answered = clearing.amend(stamped);
+    assert!(rt; checked == answered, "{record}");
+    answer_text(alloc, answered)
 }
 
 /// Makes an amendment that the papers allow.

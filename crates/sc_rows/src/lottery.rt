@@ -1,6 +1,6 @@
 //! The lottery: draws under known seeds, by the vectors of RFC 8439's cipher with a counter of 64 bits, and
 //! what is no seed and no student.
-use crate::given::student;
+use crate::given::{expect_said, student};
 use sc_lottery::{Draws, Seed, SeedError, StudentNumber, draw};
 use std::process::Abort;
 
@@ -11,21 +11,28 @@ fn seed(rt: &impl Abort, digits: &[u8]) -> Seed {
     Seed::from_hex(digits).ok().expect(rt, "a seed")
 }
 
+/// Students' numbers, and their draws under the seed of zeros.
+const DRAWS_OF_ZEROS: [(u32, u64); 8] = [
+    (1, 0xe56a5d4028bd8653),
+    (2, 0xb819d2bd1aed8da0),
+    (3, 0xccef36a8c70d778b),
+    (4, 0x7c5941da8d485751),
+    (5, 0x3fe02477374ad8b8),
+    (6, 0xf4b8436a1ca11815),
+    (7, 0x69b687c38665eeb2),
+    (999_999_999, 0xca78c135d87c7d89),
+];
+
+fn expect_draw(rt: &impl Abort, seed: &Seed, number: u32, want: u64) {
+    let draw = draw(seed, student(rt, number));
+    assert_eq!(rt; draw, want, "student {number}");
+}
+
 #[test]
 fn draws_of_the_zero_seed(rt: HostRuntime) {
     let seed = seed(&rt, &ZEROS);
-    for (number, want) in &[
-        (1, 0xe56a5d4028bd8653),
-        (2, 0xb819d2bd1aed8da0),
-        (3, 0xccef36a8c70d778b),
-        (4, 0x7c5941da8d485751),
-        (5, 0x3fe02477374ad8b8),
-        (6, 0xf4b8436a1ca11815),
-        (7, 0x69b687c38665eeb2),
-        (999_999_999, 0xca78c135d87c7d89),
-    ] {
-        let draw = draw(&seed, student(&rt, *number));
-        assert_eq!(rt; draw, *want, "student {number}");
+    for (number, want) in &DRAWS_OF_ZEROS {
+        expect_draw(&rt, &seed, *number, *want);
     }
 }
 
@@ -45,16 +52,21 @@ fn both_cases_of_letters_read_alike(rt: HostRuntime) {
     assert_eq!(rt; draw(&seeds.0, student(&rt, 1)), 0xec209e20502a894d);
 }
 
+/// The digits write no seed, by this fault.
+fn expect_fault(rt: &impl Abort, digits: &[u8], fault: SeedError) {
+    assert_eq!(rt; Seed::from_hex(digits), Err(fault));
+}
+
 #[test]
 fn texts_that_are_no_seed(rt: HostRuntime) {
-    assert_eq!(rt; Seed::from_hex(&ZEROS[..63]), Err(SeedError::Length));
-    assert_eq!(rt; Seed::from_hex(&[b'0'; 66]), Err(SeedError::Length));
-    assert_eq!(rt; Seed::from_hex(b""), Err(SeedError::Length));
+    expect_fault(&rt, &ZEROS[..63], SeedError::Length);
+    expect_fault(&rt, &[b'0'; 66], SeedError::Length);
+    expect_fault(&rt, b"", SeedError::Length);
     for index in 0..64 {
         let mut text = ZEROS;
         text[index] = b'g';
         text[63] = b'g';
-        assert_eq!(rt; Seed::from_hex(&text), Err(SeedError::Digit { index }));
+        expect_fault(&rt, &text, SeedError::Digit { index });
     }
 }
 
@@ -68,13 +80,16 @@ fn numbers_of_students(rt: HostRuntime) {
 
 #[test]
 fn refusals_in_words(rt: HostRuntime) {
-    let length = SeedError::Length
-        .to_string(rt.alloc())
-        .expect(&rt, "memory");
-    assert_eq!(rt; length.as_str(), "Length");
-    let digit = SeedError::Digit { index: 5 };
-    let digit = digit.to_string(rt.alloc()).expect(&rt, "memory");
-    assert_eq!(rt; digit.as_str(), "Digit 5");
+    let length = SeedError::Length.to_string(rt.alloc());
+    expect_said(&rt, "no seed", length, "Length");
+    let digit = SeedError::Digit { index: 5 }.to_string(rt.alloc());
+    expect_said(&rt, "no seed", digit, "Digit 5");
+}
+
+/// The student's draw is the same one as under the seed by itself.
+fn expect_the_same(rt: &impl Abort, draws: &mut Draws, seed: &Seed, number: u32) {
+    let student = student(rt, number);
+    assert_eq!(rt; draws.draw(student), draw(seed, student), "{number}");
 }
 
 // Forwards by steps within one block and past it, back, far on, and the same one again.
@@ -83,8 +98,7 @@ fn draws_are_read_in_any_order(rt: HostRuntime) {
     let seed = seed(&rt, &ZEROS);
     let mut draws = Draws::new(seed);
     assert!(rt; draws.seed() == seed);
-    for number in [1, 2, 3, 9, 34, 35, 80, 5, 999_999_999, 1, 1] {
-        let student = student(&rt, number);
-        assert_eq!(rt; draws.draw(student), draw(&seed, student), "{number}");
+    for number in &[1, 2, 3, 9, 34, 35, 80, 5, 999_999_999, 1, 1] {
+        expect_the_same(&rt, &mut draws, &seed, *number);
     }
 }

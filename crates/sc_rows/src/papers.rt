@@ -1,7 +1,7 @@
 //! Papers: what they hold, the keys, and what each amendment changes.
 use crate::given::{amend, amendment_of, papers_of, school, student};
 use sc_markets::{Files, MARKET_B, assignment};
-use sc_papers::{Assignment, Key, Papers, Refusal, Seed};
+use sc_papers::{Assignment, Key, Papers, Refusal, Seed, Student};
 use std::alloc::Global;
 use std::process::Abort;
 
@@ -17,13 +17,23 @@ fn expect_schools(rt: &impl Abort, papers: &Papers) {
     assert!(rt; Seed::from_hex(&[b'0'; 64]) == Ok(papers.seed()));
 }
 
+/// The student chooses 20 before 10.
+fn expect_choices(rt: &impl Abort, student: &Student) {
+    assert!(rt; student.choices.as_slice() == [school(rt, 20), school(rt, 10)].as_slice());
+}
+
+fn expect_student_copied(rt: &impl Abort, alloc: Global, student: &Student) {
+    let again = student.copy(alloc).expect(rt, "memory");
+    expect_choices(rt, &again);
+    drop(again);
+}
+
 fn expect_students(rt: &impl Abort, alloc: Global, papers: &Papers) {
     assert!(rt; papers.students_len() == 2);
     assert!(rt; papers.student_at(0) == Some(student(rt, 1)));
     assert!(rt; papers.student_position(student(rt, 2)) == Some(1));
     let two = papers.student(student(rt, 2)).expect(rt, "student 2");
-    let again = two.copy(alloc).expect(rt, "memory");
-    assert!(rt; again.choices.as_slice() == [school(rt, 20), school(rt, 10)].as_slice());
+    expect_student_copied(rt, alloc, two);
     let second = papers.record_at(1).expect(rt, "the second student");
     assert!(rt; second.choices.as_slice() == two.choices.as_slice());
     assert!(rt; papers.record_at(2).is_none());
@@ -119,23 +129,40 @@ fn expect_assigned(rt: &impl Abort, copy: &Assignment) {
     assert!(rt; copy.at(2).is_none());
 }
 
+fn expect_assigned_in_a_copy(rt: &impl Abort, assignment: &Assignment) {
+    let copy = assignment.copy().expect(rt, "memory");
+    expect_assigned(rt, &copy);
+    drop(copy);
+}
+
 #[test]
 fn an_assignment_is_a_map(rt: HostRuntime) {
     let assignment = assignment(rt.alloc(), "2,10\n1,20\n2,30\n").expect(&rt, "pairs");
-    expect_assigned(&rt, &assignment.copy().expect(&rt, "memory"));
+    expect_assigned_in_a_copy(&rt, &assignment);
+    drop(assignment);
 }
 
-/// Makes amendments for which memory may be refused: if it is, the papers stay as they were, and the same
+/// The papers have so many students, and make the amendment.
+fn expect_kept(rt: &impl Abort, alloc: Global, papers: &mut Papers, before: usize, record: &str) {
+    assert!(rt; papers.students_len() == before);
+    let again = amendment_of(rt, alloc, record);
+    assert!(rt; papers.apply(again) == Ok(()), "{record}");
+}
+
+/// Makes an amendment for which memory may be refused: if it is, the papers stay as they were, and the same
 /// amendment then succeeds.
-fn amend_or_keep(rt: &impl Abort, alloc: Global, papers: &mut Papers, script: &str) {
+fn amend_or_keep(rt: &impl Abort, alloc: Global, papers: &mut Papers, record: &str) {
+    let before = papers.students_len();
+    let first = amendment_of(rt, alloc, record);
+    if papers.apply(first) == Err(Refusal::OutOfMemory) {
+        expect_kept(rt, alloc, papers, before, record);
+    }
+}
+
+/// Makes each amendment of a script so.
+fn amend_each_or_keep(rt: &impl Abort, alloc: Global, papers: &mut Papers, script: &str) {
     for record in script.lines() {
-        let before = papers.students_len();
-        let first = amendment_of(rt, alloc, record);
-        let again = amendment_of(rt, alloc, record);
-        if papers.apply(first) == Err(Refusal::OutOfMemory) {
-            assert!(rt; papers.students_len() == before);
-            assert!(rt; papers.apply(again) == Ok(()), "{record}");
-        }
+        amend_or_keep(rt, alloc, papers, record);
     }
 }
 
@@ -145,6 +172,6 @@ fn amend_or_keep(rt: &impl Abort, alloc: Global, papers: &mut Papers, script: &s
 fn each_growth_refused(rt: HostRuntime) {
     let mut papers = papers_of(&rt, rt.alloc(), MARKET_B);
     let script = "enter,3,1,10,10\nrerank,1,20\ncorrect,2,1,20\nwithdraw,1\nadd,10,1\nclose,10,1\n";
-    amend_or_keep(&rt, rt.alloc(), &mut papers, script);
+    amend_each_or_keep(&rt, rt.alloc(), &mut papers, script);
     drop(papers);
 }

@@ -1,6 +1,6 @@
 //! What the papers refuse, and in which order it is tested. Each line of a script is a record and, after
 //! `=>`, the answer that is wanted.
-use crate::given::{amend, papers_of, school, student};
+use crate::given::{amend, expect_said, papers_of, school, student, wanted_of};
 use sc_markets::{MARKET_B, amendment};
 use sc_papers::{
     Amendment, Papers, Refusal, SchoolList, SchoolNo, SchoolRefusal, Seats, Seed, Stamp, Student,
@@ -20,17 +20,31 @@ fn add_school(rt: &impl Abort, papers: &mut Papers, number: u32) -> Result<(), S
     papers.add_school(school(rt, number), zone, seats)
 }
 
+/// The papers answer so to one more school.
+fn expect_school(
+    rt: &impl Abort,
+    papers: &mut Papers,
+    number: u32,
+    want: Result<(), SchoolRefusal>,
+) {
+    assert!(rt; add_school(rt, papers, number) == want);
+}
+
+fn fill_with_schools(rt: &impl Abort, papers: &mut Papers) {
+    for number in 1..5001 {
+        expect_school(rt, papers, number, Ok(()));
+    }
+    expect_school(rt, papers, 7, Err(SchoolRefusal::SchoolExists));
+    expect_school(rt, papers, 5001, Err(SchoolRefusal::TooManySchools));
+}
+
 #[test]
 fn refusals_of_schools(rt: HostRuntime) {
     let mut papers = zero_papers(&rt, rt.alloc());
-    for number in 1..5001 {
-        assert!(rt; add_school(&rt, &mut papers, number) == Ok(()));
-    }
-    assert!(rt; add_school(&rt, &mut papers, 7) == Err(SchoolRefusal::SchoolExists));
-    assert!(rt; add_school(&rt, &mut papers, 5001) == Err(SchoolRefusal::TooManySchools));
+    fill_with_schools(&rt, &mut papers);
     drop(papers);
     let mut closed = papers_of(&rt, rt.alloc(), MARKET_B);
-    assert!(rt; add_school(&rt, &mut closed, 30) == Err(SchoolRefusal::SchoolsClosed));
+    expect_school(&rt, &mut closed, 30, Err(SchoolRefusal::SchoolsClosed));
     drop(closed);
 }
 
@@ -67,7 +81,7 @@ fn fill_with_students(rt: &impl Abort, alloc: Global, papers: &mut Papers) {
 #[test]
 fn the_roster_is_full(rt: HostRuntime) {
     let mut papers = zero_papers(&rt, rt.alloc());
-    assert!(rt; add_school(&rt, &mut papers, 10) == Ok(()));
+    expect_school(&rt, &mut papers, 10, Ok(()));
     fill_with_students(&rt, rt.alloc(), &mut papers);
     drop(papers);
 }
@@ -95,19 +109,23 @@ fn seats(rt: &impl Abort, papers: &Papers, number: u32) -> u32 {
 /// The papers give the wanted answers, one after another.
 fn expect_answers(rt: &impl Abort, alloc: Global, papers: &mut Papers, script: &str) {
     for line in script.lines() {
-        let (record, want) = line.split_once(" => ").expect(rt, "a record and an answer");
-        let answer = answer(rt, alloc, papers, record).expect(rt, "memory");
-        assert_eq!(rt; answer.as_str(), want, "{record}");
+        let (record, want) = wanted_of(rt, line);
+        expect_said(rt, record, answer(rt, alloc, papers, record), want);
     }
+}
+
+/// The papers have two students, and so many seats in school 10.
+fn expect_two_students(rt: &impl Abort, papers: &Papers, left: u32) {
+    assert!(rt; papers.students_len() == 2);
+    assert!(rt; seats(rt, papers, 10) == left);
+    assert!(rt; seats(rt, papers, 20) == 1);
 }
 
 /// Market B gives the wanted answers, and then has two students, and so many seats in school 10.
 fn expect_of_market_b(rt: &impl Abort, alloc: Global, script: &str, left: u32) {
     let mut papers = papers_of(rt, alloc, MARKET_B);
     expect_answers(rt, alloc, &mut papers, script);
-    assert!(rt; papers.students_len() == 2);
-    assert!(rt; seats(rt, &papers, 10) == left);
-    assert!(rt; seats(rt, &papers, 20) == 1);
+    expect_two_students(rt, &papers, left);
     drop(papers);
 }
 
@@ -145,11 +163,8 @@ fn students_text(alloc: Global, papers: &Papers) -> Result<String, AllocError> {
 
 /// The papers are those of Market B with its newcomer.
 fn expect_unchanged(rt: &impl Abort, alloc: Global, papers: &Papers) {
-    let students = students_text(alloc, papers).expect(rt, "memory");
-    assert_eq!(rt;
-        students.as_str(),
-        "1,0,20 ,10 20 ,0\n2,0,10 ,20 10 ,0\n3,1,10 ,10 ,0\n"
-    );
+    let want = "1,0,20 ,10 20 ,0\n2,0,10 ,20 10 ,0\n3,1,10 ,10 ,0\n";
+    expect_said(rt, "the students", students_text(alloc, papers), want);
     assert!(rt; papers.schools_len() == 2);
     assert!(rt; seats(rt, papers, 10) == 1);
     assert!(rt; seats(rt, papers, 20) == 1);
@@ -179,62 +194,59 @@ add,77,1 => UnknownSchool 77
 }
 
 /// The refusal has this text.
-fn expect_text(
-    rt: &impl Abort,
-    alloc: Global,
-    refusal: Refusal,
-    want: &str,
-) -> Result<(), AllocError> {
-    let text = refusal.to_string(alloc)?;
-    assert_eq!(rt; text.as_str(), want);
-    Ok(())
+fn expect_text(rt: &impl Abort, alloc: Global, refusal: Refusal, want: &str) {
+    expect_said(rt, want, refusal.to_string(alloc), want);
+}
+
+/// Those that name no number.
+fn expect_texts(rt: &impl Abort, alloc: Global) {
+    expect_text(rt, alloc, Refusal::Shape, "Shape");
+    expect_text(rt, alloc, Refusal::UnknownStudent, "UnknownStudent");
+    expect_text(rt, alloc, Refusal::StudentExists, "StudentExists");
+    expect_text(rt, alloc, Refusal::EmptyList, "EmptyList");
+    expect_text(rt, alloc, Refusal::ListTooLong, "ListTooLong");
+    expect_text(rt, alloc, Refusal::RosterFull, "RosterFull");
+    expect_text(rt, alloc, Refusal::TooManySeats, "TooManySeats");
+    expect_text(rt, alloc, Refusal::TooFewSeats, "TooFewSeats");
+    expect_text(rt, alloc, Refusal::OutOfMemory, "OutOfMemory");
+    expect_text(rt, alloc, Refusal::Spent, "Spent");
 }
 
 #[test]
-fn texts_of_refusals(rt: HostRuntime) -> Result<(), AllocError> {
+fn texts_of_refusals(rt: HostRuntime) {
+    expect_texts(&rt, rt.alloc());
     let school = school(&rt, 99_999);
+    let unknown = Refusal::UnknownSchool { school };
+    expect_text(&rt, rt.alloc(), unknown, "UnknownSchool 99999");
+    let twice = Refusal::SchoolTwice { school };
+    expect_text(&rt, rt.alloc(), twice, "SchoolTwice 99999");
     let stamp = Stamp::new(999_999_999).expect(&rt, "a stamp");
-    for (refusal, want) in [
-        (Refusal::Shape, "Shape"),
-        (Refusal::UnknownStudent, "UnknownStudent"),
-        (Refusal::StudentExists, "StudentExists"),
-        (Refusal::EmptyList, "EmptyList"),
-        (Refusal::ListTooLong, "ListTooLong"),
-        (Refusal::UnknownSchool { school }, "UnknownSchool 99999"),
-        (Refusal::SchoolTwice { school }, "SchoolTwice 99999"),
-        (Refusal::RosterFull, "RosterFull"),
-        (Refusal::TooManySeats, "TooManySeats"),
-        (Refusal::TooFewSeats, "TooFewSeats"),
-        (Refusal::OutOfMemory, "OutOfMemory"),
-        (Refusal::Stale { stamp }, "Stale 999999999"),
-        (Refusal::Spent, "Spent"),
-    ] {
-        expect_text(&rt, rt.alloc(), refusal, want)?;
-    }
-    Ok(())
+    let stale = Refusal::Stale { stamp };
+    expect_text(&rt, rt.alloc(), stale, "Stale 999999999");
 }
 
+/// What may keep a school out, and its text.
+const TEXTS_OF_SCHOOLS: &[(SchoolRefusal, &str)] = &[
+    (
+        SchoolRefusal::SchoolExists,
+        "the school is already in the papers",
+    ),
+    (
+        SchoolRefusal::TooManySchools,
+        "there are as many schools as there may be",
+    ),
+    (
+        SchoolRefusal::SchoolsClosed,
+        "no school is added once a student has entered",
+    ),
+    (SchoolRefusal::OutOfMemory, "out of memory"),
+];
+
 #[test]
-fn texts_of_refusals_of_schools(rt: HostRuntime) -> Result<(), AllocError> {
-    for (refusal, want) in [
-        (
-            SchoolRefusal::SchoolExists,
-            "the school is already in the papers",
-        ),
-        (
-            SchoolRefusal::TooManySchools,
-            "there are as many schools as there may be",
-        ),
-        (
-            SchoolRefusal::SchoolsClosed,
-            "no school is added once a student has entered",
-        ),
-        (SchoolRefusal::OutOfMemory, "out of memory"),
-    ] {
-        let text = refusal.to_string(rt.alloc())?;
-        assert_eq!(rt; text.as_str(), want);
+fn texts_of_refusals_of_schools(rt: HostRuntime) {
+    for (refusal, want) in TEXTS_OF_SCHOOLS {
+        expect_said(&rt, want, refusal.to_string(rt.alloc()), want);
     }
-    Ok(())
 }
 
 // A list of 21 schools has an unknown one, too: its length comes first. A list of 20 is not too long.

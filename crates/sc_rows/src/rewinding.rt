@@ -1,26 +1,32 @@
 //! From where on an amendment settles anew.
-use crate::given::papers_of;
+use crate::given::{expect_answered, papers_of, wanted_of};
 use sc_markets::{Files, MARKET_B_CONTINUING, amendment};
 use sc_papers::{Papers, Refusal};
 use sc_repair::rewind_point;
-use std::alloc::Global;
+use std::alloc::{AllocError, Global};
 use std::process::Abort;
+
+/// A rewind point, or a refusal, as a text.
+fn point_text(alloc: Global, point: Result<usize, Refusal>) -> Result<String, AllocError> {
+    match point {
+        Ok(point) => format!(in alloc; "{point}"),
+        Err(refusal) => refusal.to_string(alloc),
+    }
+}
 
 /// The rewind point of an amendment, or its refusal.
 fn point(alloc: Global, papers: &Papers, record: &str) -> Result<String, Refusal> {
     let amendment = amendment(alloc, record)?;
-    match rewind_point(papers, &amendment) {
-        Ok(point) => Ok(format!(in alloc; "{point}")?),
-        Err(refusal) => Ok(refusal.to_string(alloc)?),
-    }
+    let point = rewind_point(papers, &amendment);
+    drop(amendment);
+    Ok(point_text(alloc, point)?)
 }
 
 /// The amendments have the wanted rewind points, which stand after `=>`.
 fn expect_points(rt: &impl Abort, alloc: Global, papers: &Papers, script: &str) {
     for line in script.lines() {
-        let (record, want) = line.split_once(" => ").expect(rt, "a record and a point");
-        let point = point(alloc, papers, record).expect(rt, "an amendment");
-        assert_eq!(rt; point.as_str(), want, "{record}");
+        let (record, want) = wanted_of(rt, line);
+        expect_answered(rt, record, point(alloc, papers, record), want);
     }
 }
 

@@ -21,6 +21,10 @@ fn seats(rt: &impl Abort, number: u32) -> Seats {
     Seats::new(number).expect(rt, "a number of seats")
 }
 
+fn expect_same(rt: &impl Abort, key: Option<Key>, want: Option<&Key>) {
+    assert_eq!(rt; key.as_ref(), want);
+}
+
 /// Offers the key, and sees that the roll told beforehand whether it would be refused. Where a growth is refused the
 /// roll is as it was, and the key is offered again.
 fn offer_again<R: Roll>(rt: &impl Abort, roll: &mut R, key: &Key) -> Result<Option<Key>, AllocError>
@@ -38,7 +42,7 @@ fn offer_again<R: Roll>(rt: &impl Abort, roll: &mut R, key: &Key) -> Result<Opti
         return Ok(out);
     }
     assert_eq!(rt; roll.len(), held);
-    assert_eq!(rt; roll.worst(), worst);
+    expect_same(rt, roll.worst(), worst.as_ref());
     let out = roll.offer(*key)?;
     Ok(out)
 }
@@ -63,48 +67,113 @@ fn offer<R: Roll>(
     Ok(out)
 }
 
-/// Who stays on a roll of two seats.
-fn two_seats<R: Roll>(rt: &impl Abort, alloc: Global) -> Result<(), AllocError> {
-    let one = key(rt, 3, 0xe56a5d4028bd8653, 1);
-    let two = key(rt, 3, 0xb819d2bd1aed8da0, 2);
-    let three = key(rt, 3, 0xccef36a8c70d778b, 3);
-    let four = key(rt, 3, 0x7c5941da8d485751, 4);
-    let mut seen = Vec::new(alloc);
-    let mut roll = R::with_capacity(alloc, seats(rt, 2));
-    assert_eq!(rt; offer(rt, &mut roll, &mut seen, three)?, None);
-    assert_eq!(rt; offer(rt, &mut roll, &mut seen, two)?, None);
-    assert_eq!(rt; offer(rt, &mut roll, &mut seen, four)?, Some(three));
-    assert_eq!(rt; roll.worst(), Some(two));
-    assert_eq!(rt; offer(rt, &mut roll, &mut seen, one)?, Some(one));
-    let copy = roll.copy()?;
-    assert_eq!(rt; copy.len(), 2);
-    assert_eq!(rt; copy.worst(), Some(two));
-    assert_eq!(rt; copy.capacity(), roll.capacity());
+/// Offers the key of a student who has not been offered, and sees who goes.
+fn expect_out<R: Roll>(
+    rt: &impl Abort,
+    roll: &mut R,
+    seen: &mut Vec<StudentNo>,
+    key: &Key,
+    want: Option<&Key>,
+) -> Result<(), AllocError>
+    requires within { length (R.keys roll.old) ≤ R.seats roll.old }
+    requires known { All (λ held. Contains seen.old.items held.student) (R.keys roll.old) }
+    ensures within { OnOk result (length (R.keys roll.new) ≤ R.seats roll.new) }
+    ensures known { OnOk result (All (λ held. Contains seen.new.items held.student) (R.keys roll.new)) }
+{
+    let out = offer(rt, roll, seen, *key)?;
+    expect_same(rt, out, want);
     Ok(())
 }
 
-/// Without a seat nobody stays, and with one the number settles equal draws.
-fn few_seats<R: Roll>(rt: &impl Abort, alloc: Global) -> Result<(), AllocError> {
+/// A roll's copy holds so many, and the same worst, with as many seats.
+fn expect_copied<R: Roll>(rt: &impl Abort, roll: &R, copy: &R, held: usize, worst: Option<&Key>) {
+    assert_eq!(rt; copy.len(), held);
+    expect_same(rt, copy.worst(), worst);
+    assert_eq!(rt; copy.capacity(), roll.capacity());
+}
+
+/// One who stands behind the worst of two is put out, and a copy then holds the same two.
+fn expect_behind<R: Roll>(
+    rt: &impl Abort,
+    roll: &mut R,
+    seen: &mut Vec<StudentNo>,
+    worst: &Key,
+) -> Result<(), AllocError>
+    requires within { length (R.keys roll.old) ≤ R.seats roll.old }
+    requires known { All (λ held. Contains seen.old.items held.student) (R.keys roll.old) }
+{
+    let one = key(rt, 3, 0xe56a5d4028bd8653, 1);
+    expect_out(rt, roll, seen, &one, Some(&one))?;
+    let copy = roll.copy()?;
+    expect_copied(rt, roll, &copy, 2, Some(worst));
+    drop(copy);
+    Ok(())
+}
+
+/// Who stays on a roll of two seats.
+fn expect_two<R: Roll>(
+    rt: &impl Abort,
+    roll: &mut R,
+    seen: &mut Vec<StudentNo>,
+    two: &Key,
+) -> Result<(), AllocError>
+    requires within { length (R.keys roll.old) ≤ R.seats roll.old }
+    requires known { All (λ held. Contains seen.old.items held.student) (R.keys roll.old) }
+{
+    let three = key(rt, 3, 0xccef36a8c70d778b, 3);
+    expect_out(rt, roll, seen, &three, None)?;
+    expect_out(rt, roll, seen, two, None)?;
+    let four = key(rt, 3, 0x7c5941da8d485751, 4);
+    expect_out(rt, roll, seen, &four, Some(&three))?;
+    expect_same(rt, roll.worst(), Some(two));
+    expect_behind(rt, roll, seen, two)
+}
+
+fn two_seats<R: Roll>(rt: &impl Abort, alloc: Global) -> Result<(), AllocError> {
+    let mut seen = Vec::new(alloc);
+    let mut roll = R::with_capacity(alloc, seats(rt, 2));
+    let two = key(rt, 3, 0xb819d2bd1aed8da0, 2);
+    expect_two(rt, &mut roll, &mut seen, &two)
+}
+
+/// Without a seat nobody stays.
+fn no_seat<R: Roll>(rt: &impl Abort, alloc: Global) -> Result<(), AllocError> {
     let seven = key(rt, 3, 5, 7);
-    let eight = key(rt, 3, 5, 8);
     let mut seen = Vec::new(alloc);
     let mut none = R::with_capacity(alloc, seats(rt, 0));
-    assert_eq!(rt; offer(rt, &mut none, &mut seen, seven)?, Some(seven));
+    expect_out(rt, &mut none, &mut seen, &seven, Some(&seven))
+}
+
+/// With one seat the number settles equal draws.
+fn expect_one<R: Roll>(
+    rt: &impl Abort,
+    roll: &mut R,
+    seen: &mut Vec<StudentNo>,
+) -> Result<(), AllocError>
+    requires within { length (R.keys roll.old) ≤ R.seats roll.old }
+    requires known { All (λ held. Contains seen.old.items held.student) (R.keys roll.old) }
+{
+    let seven = key(rt, 3, 5, 7);
+    let eight = key(rt, 3, 5, 8);
+    expect_out(rt, roll, seen, &eight, None)?;
+    expect_out(rt, roll, seen, &seven, Some(&eight))
+}
+
+fn few_seats<R: Roll>(rt: &impl Abort, alloc: Global) -> Result<(), AllocError> {
+    no_seat::<R>(rt, alloc)?;
     let mut seen = Vec::new(alloc);
     let mut roll = R::with_capacity(alloc, seats(rt, 1));
-    assert_eq!(rt; offer(rt, &mut roll, &mut seen, eight)?, None);
-    assert_eq!(rt; offer(rt, &mut roll, &mut seen, seven)?, Some(eight));
-    renewed(rt, alloc, roll)
+    expect_one(rt, &mut roll, &mut seen)?;
+    renewed(rt, alloc, &mut roll)
 }
 
 /// A roll that is renewed holds nobody, and has the seats that it is given.
-fn renewed<R: Roll>(rt: &impl Abort, alloc: Global, roll: R) -> Result<(), AllocError> {
-    let mut roll = roll;
+fn renewed<R: Roll>(rt: &impl Abort, alloc: Global, roll: &mut R) -> Result<(), AllocError> {
     roll.renew(seats(rt, 2));
     assert_eq!(rt; roll.len(), 0);
     assert_eq!(rt; roll.capacity(), seats(rt, 2));
     let mut seen = Vec::new(alloc);
-    assert_eq!(rt; offer(rt, &mut roll, &mut seen, key(rt, 3, 5, 7))?, None);
+    expect_out(rt, roll, &mut seen, &key(rt, 3, 5, 7), None)?;
     assert_eq!(rt; roll.len(), 1);
     Ok(())
 }
@@ -129,6 +198,37 @@ fn heap_rolls(rt: HostRuntime) {
     few_seats::<HeapRoll>(&rt, rt.alloc()).expect(&rt, "memory");
 }
 
+/// Offers the key to two rolls, and tells whether they answer alike and then hold alike.
+fn offer_both<A: Roll, B: Roll>(
+    rt: &impl Abort,
+    one: &mut A,
+    in_one: &mut Vec<StudentNo>,
+    other: &mut B,
+    in_other: &mut Vec<StudentNo>,
+    key: Key,
+) -> Result<bool, AllocError>
+    requires within_one { length (A.keys one.old) ≤ A.seats one.old }
+    requires within_other { length (B.keys other.old) ≤ B.seats other.old }
+    requires known_one { All (λ held. Contains in_one.old.items held.student) (A.keys one.old) }
+    requires known_other { All (λ held. Contains in_other.old.items held.student) (B.keys other.old) }
+    ensures within_one { OnOk result (length (A.keys one.new) ≤ A.seats one.new) }
+    ensures within_other { OnOk result (length (B.keys other.new) ≤ B.seats other.new) }
+    ensures known_one { OnOk result (All (λ held. Contains in_one.new.items held.student) (A.keys one.new)) }
+    ensures known_other { OnOk result (All (λ held. Contains in_other.new.items held.student) (B.keys other.new)) }
+{
+    let from_one = offer(rt, one, in_one, key)?;
+    let from_other = offer(rt, other, in_other, key)?;
+    Ok(from_one == from_other && one.worst() == other.worst() && one.len() == other.len())
+}
+
+/// The key that a state of the generator makes.
+fn drawn_key(rt: &impl Abort, state: u64) -> Key {
+    let class = (state >> 62) as u8;
+    let draw = (state >> 56) % 8;
+    let number = ((state >> 33) % 1_000) as u32 + 1;
+    key(rt, class, draw, number)
+}
+
 /// Whether both kinds of roll answer alike to keys drawn at random, by Knuth's linear congruential
 /// generator. Few draws are different, so that the number often decides.
 fn agree(rt: &impl Abort, alloc: Global, capacity: u32) -> Result<bool, AllocError> {
@@ -142,18 +242,16 @@ fn agree(rt: &impl Abort, alloc: Global, capacity: u32) -> Result<bool, AllocErr
         state = state
             .wrapping_mul(6_364_136_223_846_793_005)
             .wrapping_add(1_442_695_040_888_963_407);
-        let class = (state >> 62) as u8;
-        let draw = (state >> 56) % 8;
-        let number = ((state >> 33) % 1_000) as u32 + 1;
-        let from_sorted = offer(
+        let drawn = drawn_key(rt, state);
+        let both = offer_both(
             rt,
             &mut sorted,
             &mut in_sorted,
-            key(rt, class, draw, number),
+            &mut heap,
+            &mut in_heap,
+            drawn,
         )?;
-        let from_heap = offer(rt, &mut heap, &mut in_heap, key(rt, class, draw, number))?;
-        alike = alike && from_sorted == from_heap && sorted.worst() == heap.worst();
-        alike = alike && sorted.len() == heap.len();
+        alike = alike && both;
     }
     Ok(alike)
 }
@@ -166,6 +264,18 @@ fn both_rolls_agree_on_random_offers(rt: HostRuntime) {
     }
 }
 
+/// A copy of the roll of eight, made again where memory was refused.
+fn expect_copy<R: Roll>(rt: &impl Abort, roll: &R) -> Result<(), AllocError> {
+    let copy = match roll.copy() {
+        Ok(copy) => copy,
+        Err(_refused) => roll.copy()?,
+    };
+    let worst = roll.worst();
+    expect_copied(rt, roll, &copy, 8, worst.as_ref());
+    drop(copy);
+    Ok(())
+}
+
 /// Nine offers to a roll of eight seats, and a copy of it.
 fn grow<R: Roll>(rt: &impl Abort, alloc: Global) -> Result<(), AllocError> {
     // The test's own list, which may be refused too.
@@ -176,18 +286,12 @@ fn grow<R: Roll>(rt: &impl Abort, alloc: Global) -> Result<(), AllocError> {
     let mut roll = R::with_capacity(alloc, seats(rt, 8));
     for number in 1..=8_u32 {
         let offered = key(rt, 3, 9, number);
-        assert_eq!(rt; offer(rt, &mut roll, &mut seen, offered)?, None);
-        assert_eq!(rt; roll.worst(), Some(offered));
+        expect_out(rt, &mut roll, &mut seen, &offered, None)?;
+        expect_same(rt, roll.worst(), Some(&offered));
     }
     let last = key(rt, 3, 9, 9);
-    assert_eq!(rt; offer(rt, &mut roll, &mut seen, last)?, Some(last));
-    let copy = match roll.copy() {
-        Ok(copy) => copy,
-        Err(_refused) => roll.copy()?,
-    };
-    assert_eq!(rt; copy.len(), 8);
-    assert_eq!(rt; copy.worst(), roll.worst());
-    Ok(())
+    expect_out(rt, &mut roll, &mut seen, &last, Some(&last))?;
+    expect_copy(rt, &roll)
 }
 
 // Run with each allocation refused in turn, this one sees that a refused growth leaves a roll as it was.

@@ -6,13 +6,13 @@ ghost use Rattle.sc_checkpoint.specs.NextChoices.{AreNextChoices};
 ghost use Rattle.sc_engine.specs.Round.{view_of, is_spent};
 ghost use Rattle.sc_engine.specs.RoundView.{Fits, has_entered, SettlesFirst};
 
-use crate::given::{papers_of, school, student};
+use crate::given::{expect_said, papers_of, school, student};
 use sc_checkpoint::Standing;
 use sc_engine::{Round, Settled, SettledPlaces, settle, settle_by_first_keys};
 use sc_markets::{
     FIVE_STUDENTS, Files, MARKET_A, MARKET_B, MARKET_B_AND_NEWCOMER, TWO_STUDENTS, log_text,
 };
-use sc_papers::{Papers, StudentNo};
+use sc_papers::{Papers, SchoolNo, StudentNo};
 use sc_seats::{HeapRoll, Roll, SortedRoll};
 use std::alloc::{AllocError, Global};
 use std::process::Abort;
@@ -58,8 +58,8 @@ fn expect_settled(
     want: &str,
 ) {
     let settled = settled.expect(rt, "memory");
-    let text = settled_text(alloc, &settled).expect(rt, "memory");
-    assert_eq!(rt; text.as_str(), want);
+    expect_said(rt, "a settling", settled_text(alloc, &settled), want);
+    drop(settled);
 }
 
 /// Both kinds of rolls came to what is wanted.
@@ -91,29 +91,37 @@ fn a_newcomer(rt: HostRuntime) {
     drop(papers);
 }
 
-/// Settles a market by the keys at the first choices, which comes to the same outcome as the order of entry.
-fn expect_outcome_by_first_keys(rt: &impl Abort, alloc: Global, papers: &Papers, want: &str) {
+/// The outcome by the keys at the first choices.
+fn expect_placed(rt: &impl Abort, alloc: Global, papers: &Papers, want: &str) {
     let outcome = settle_by_first_keys(alloc, papers).expect(rt, "memory");
-    let text = placed_text(alloc, papers, &outcome).expect(rt, "memory");
-    assert_eq!(rt; text.as_str(), want);
+    expect_said(rt, "places", placed_text(alloc, papers, &outcome), want);
+    drop(outcome);
+}
+
+/// The outcome by the order of entry.
+fn expect_outcome(rt: &impl Abort, alloc: Global, papers: &Papers, want: &str) {
     let settled = settle(alloc, papers).expect(rt, "memory");
-    let outcome = outcome_text(alloc, &settled).expect(rt, "memory");
-    assert_eq!(rt; outcome.as_str(), want);
+    expect_said(rt, "an outcome", outcome_text(alloc, &settled), want);
+    drop(settled);
+}
+
+/// Settles a market by the keys at the first choices, which comes to the same outcome as the order of entry.
+fn expect_by_first_keys(rt: &impl Abort, alloc: Global, files: Files<'_>, want: &str) {
+    let papers = papers_of(rt, alloc, files);
+    expect_placed(rt, alloc, &papers, want);
+    expect_outcome(rt, alloc, &papers, want);
+    drop(papers);
 }
 
 #[test]
 fn entry_by_first_keys(rt: HostRuntime) {
-    for (files, want) in [
-        (TWO_STUDENTS, "2: 2 at 1"),
-        (MARKET_A, "2: 1 at 10 2 at 20"),
-        (MARKET_B, "2: 1 at 10 2 at 20"),
-        (MARKET_B_AND_NEWCOMER, "5: 1 at 20 3 at 10"),
-        (FIVE_STUDENTS, "6: 1 at 10 4 at 20 5 at 20"),
-    ] {
-        let papers = papers_of(&rt, rt.alloc(), files);
-        expect_outcome_by_first_keys(&rt, rt.alloc(), &papers, want);
-        drop(papers);
-    }
+    expect_by_first_keys(&rt, rt.alloc(), TWO_STUDENTS, "2: 2 at 1");
+    expect_by_first_keys(&rt, rt.alloc(), MARKET_A, "2: 1 at 10 2 at 20");
+    expect_by_first_keys(&rt, rt.alloc(), MARKET_B, "2: 1 at 10 2 at 20");
+    let with_newcomer = "5: 1 at 20 3 at 10";
+    expect_by_first_keys(&rt, rt.alloc(), MARKET_B_AND_NEWCOMER, with_newcomer);
+    let of_five = "6: 1 at 10 4 at 20 5 at 20";
+    expect_by_first_keys(&rt, rt.alloc(), FIVE_STUDENTS, of_five);
 }
 
 /// Where the first two students stand once they alone have entered.
@@ -254,6 +262,46 @@ fn entry_in_reverse(rt: HostRuntime) {
     drop(papers);
 }
 
+/// A spent round stays spent.
+fn expect_spent<R: Roll>(rt: &impl Abort, papers: &Papers, round: &mut Round<R>, one: StudentNo)
+    requires { is_spent round.old ≡ true }
+    ensures { is_spent round.new ≡ true }
+{
+    assert!(rt; round.is_spent());
+    let entered = round.enter_one(papers, one);
+    assert!(rt; entered.is_err());
+    assert!(rt; round.assignment(papers).is_err());
+}
+
+fn expect_unsettled<R: Roll>(rt: &impl Abort, papers: &Papers, round: Round<R>)
+    requires { is_spent round ≡ true }
+{
+    assert!(rt; round.into_settled(papers).is_err());
+}
+
+fn expect_first_school(rt: &impl Abort, place: Option<SchoolNo>) {
+    assert_eq!(rt; place, Some(school(rt, 1)));
+}
+
+/// The student has entered at school 1.
+fn expect_entered<R: Roll>(
+    rt: &impl Abort,
+    papers: &Papers,
+    round: &Round<R>,
+    one: StudentNo,
+) -> Result<(), AllocError>
+    requires { Fits papers.now (view_of R.keys R.seats round.now) }
+{
+    assert!(rt; !round.is_spent());
+    expect_first_school(rt, round.next_choice(papers, one));
+    assert!(rt; round.log().is_empty());
+    assert_eq!(rt; round.proposals(), 1);
+    let assignment = round.assignment(papers)?;
+    expect_first_school(rt, assignment.get(one));
+    drop(assignment);
+    Ok(())
+}
+
 /// Where a growth is refused within `enter_one`, the round stays spent.
 fn spend(
     rt: &impl Abort,
@@ -268,18 +316,13 @@ fn spend(
         (⟦<SortedRoll as Roll>⟧.seats) round).ranks one ≡ false }
 {
     if round.enter_one(papers, one).is_err() {
-        assert!(rt; round.is_spent());
-        assert!(rt; round.enter_one(papers, one).is_err());
-        assert!(rt; round.assignment(papers).is_err());
-        assert!(rt; round.into_settled(papers).is_err());
+        expect_spent(rt, papers, &mut round, one);
+        expect_unsettled(rt, papers, round);
         return Err(AllocError);
     }
-    assert!(rt; !round.is_spent());
-    assert_eq!(rt; round.next_choice(papers, one), Some(school(rt, 1)));
-    assert_eq!(rt; round.assignment(papers)?.get(one), Some(school(rt, 1)));
-    assert!(rt; round.log().is_empty());
-    assert_eq!(rt; round.proposals(), 1);
-    Ok(())
+    let answer = expect_entered(rt, papers, &round, one);
+    drop(round);
+    answer
 }
 
 /// Spends a round of these papers, if the student is in them.

@@ -62,15 +62,38 @@ fn enter(
     })
 }
 
+fn enter_three(rt: &impl Abort, alloc: Global, papers: &mut Papers) -> Result<(), Refusal>
+    requires { students_of papers.old ≡ [] }
+    ensures { OnOk result (students_of papers.new ≡ 1 ∷ 2 ∷ 3 ∷ []) }
+{
+    enter(rt, alloc, papers, (1, 0, &[20], &[10, 20]))?;
+    enter(rt, alloc, papers, (2, 0, &[10], &[20, 10]))?;
+    enter(rt, alloc, papers, (3, 1, &[10], &[10]))
+}
+
+fn add_two_schools(rt: &impl Abort, papers: &mut Papers) -> Result<(), SchoolRefusal>
+    ensures { OnOk result (students_of papers.new ≡ students_of papers.old) }
+{
+    add_school(rt, papers, 10, 1)?;
+    add_school(rt, papers, 20, 0)
+}
+
+fn fill(rt: &impl Abort, alloc: Global, papers: &mut Papers) -> Result<(), Refusal>
+    requires { students_of papers.old ≡ [] }
+    ensures { OnOk result (students_of papers.new ≡ 1 ∷ 2 ∷ 3 ∷ []) }
+{
+    if let Err(_refused) = add_two_schools(rt, papers) {
+        return Err(Refusal::OutOfMemory);
+    }
+    enter_three(rt, alloc, papers)
+}
+
 fn worked_papers(rt: &impl Abort, alloc: Global) -> Option<Papers>
     ensures { IfSome result (λ papers. students_of papers ≡ 1 ∷ 2 ∷ 3 ∷ []) }
 {
-    let mut papers = Papers::new(alloc, Seed::from_hex(&[b'0'; 64]).ok()?);
-    add_school(rt, &mut papers, 10, 1).ok()?;
-    add_school(rt, &mut papers, 20, 0).ok()?;
-    enter(rt, alloc, &mut papers, (1, 0, &[20], &[10, 20])).ok()?;
-    enter(rt, alloc, &mut papers, (2, 0, &[10], &[20, 10])).ok()?;
-    enter(rt, alloc, &mut papers, (3, 1, &[10], &[10])).ok()?;
+    let seed = Seed::from_hex(&[b'0'; 64]).ok()?;
+    let mut papers = Papers::new(alloc, seed);
+    fill(rt, alloc, &mut papers).ok()?;
     Some(papers)
 }
 
