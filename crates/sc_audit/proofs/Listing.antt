@@ -1,16 +1,20 @@
 -- Whether the pairs of an assignment are a matching.
-use Rattle.std.proofs.Common.{◌≡◌, inl, inr, ap, sym, subst, ◌∙◌, ℕ, zero, suc, ◌+◌, ◌<◌, ◌≤◌, ◌==◌, nat_eq, true, false, List, [], ◌∷◌, length, Some, Contains, slice_get, arith}
-use Rattle.std.specs.List.{IsDistinct, list_any}
+use Rattle.std.proofs.Common.{◌≡◌, refl, inl, inr, ap, sym, subst, ◌∙◌, ℕ, zero, suc, ◌+◌, ◌<◌, ◌≤◌, ◌==◌, nat_eq, nat_lt, Bool, true, false, List, [], ◌∷◌, get_or, length, Option, Some, None, Contains, is_some, position, slice_get, arith}
+use Rattle.std.specs.List.{IsDistinct, list_any, position_or_len}
 use Rattle.std.specs.Map.{keys_of, lookup}
 use Rattle.std.specs.Option.{option_map_or}
-use Rattle.std.proofs.lemmas.Bool.{cases_Bool, cases_lt, cond-true, cond-false, eqb-true, eq-eqb, false≢true, or_left, or_right, or_cases}
+use Rattle.std.proofs.lemmas.Bool.{cases_Bool, cases_lt, cond-true, cond-false, eqb-true, eq-eqb, lt-ltb, false≢true, or_left, or_right, or_cases}
 use Rattle.std.proofs.lemmas.List.Elements.{All-contains, All-from_recursion}
+use Rattle.std.proofs.lemmas.List.Quantifiers.{position-Some}
+use Rattle.std.proofs.lemmas.List.Sums.{fails_before_first}
 use Rattle.std.proofs.lemmas.Map.Keys.{IsDistinct-head, IsDistinct-tail}
 use Rattle.std.proofs.lemmas.Option.{none-some, slice_get_within}
 use Rattle.sc_papers.specs.Assignment.{assigned}
-use Rattle.sc_papers.specs.Market.{Market, choices_of}
+use Rattle.sc_papers.specs.Market.{Market, choices_of, student_of, students_of}
 use Rattle.sc_papers.specs.Matching.{IsMatching}
 use Rattle.sc_papers.proofs.Counting.{contains-cons, contains-tail}
+use Rattle.sc_papers.proofs.Entering.{is_some-false}
+use Rattle.sc_papers.proofs.Keys.{found-by_position}
 
 pair-one : (x y : ℕ × ℕ) → Some x ≡ Some y → x ≡ y
 pair-one x y same = ap (λ o. option_map_or (λ (z : ℕ × ℕ). z) o x) same
@@ -87,3 +91,24 @@ listed-all m pairs k all found = λ i s given.
 
 pub unlisted : (m : Market) (pairs : List (ℕ × ℕ)) (k i s : ℕ) → IsDistinct nat_eq (keys_of pairs) → slice_get pairs k ≡ Some (i, s) → list_any (λ t. t == s) (choices_of m i) ≡ false → IsMatching m (assigned pairs) → ⊥
 unlisted m pairs k i s distinct here fails matching = false≢true (sym fails ∙ contains-any (choices_of m i) s (matching i s (place-lookup pairs k i s distinct here)))
+
+-- a number has a place in a list just where the list contains it
+pub ranked-any : (xs : List ℕ) (s : ℕ) (rank : Option ℕ) → position (λ t. t == s) xs ≡ rank → is_some rank ≡ list_any (λ t. t == s) xs
+ranked-any xs s (Some rank) found =
+    let (low, passes, first) = position-Some (λ t. t == s) xs rank s found in
+    sym (contains-any xs s (rank, low, eqb-true (get_or xs rank s) s passes))
+ranked-any xs s None none =
+    let p : ℕ → Bool = λ t. t == s in
+    let past : length xs ≤ position_or_len p xs = elim (cases_lt (position_or_len p xs) (length xs)) [
+      | inl low ↦ absurd (none-some (position_or_len p xs) (sym none ∙ cond-true (nat_lt (position_or_len p xs) (length xs)) (Some (position_or_len p xs)) None (lt-ltb (position_or_len p xs) (length xs) low)))
+      | inr over ↦ over
+    ] in
+    elim (cases_Bool (list_any p xs)) [
+      | inl some ↦ let (k, low, at) = any-contains xs s some in absurd (false≢true (sym (fails_before_first p xs k s (omega (arith, past, low))) ∙ eq-eqb (get_or xs k s) s at))
+      | inr none_is ↦ sym none_is
+    ]
+
+-- an unknown student lists nothing
+pub unknown-lists : (m : Market) (i s : ℕ) → position (nat_eq i) (students_of m) ≡ None → false ≡ list_any (λ t. t == s) (choices_of m i)
+unfolding choices_of
+unknown-lists m i s none = rw (is_some-false (student_of m i) (found-by_position m.students i None none)) refl

@@ -11,7 +11,7 @@ ghost use Rattle.sc_tallies.specs.Places.{ArePlaces};
 use crate::best_keys::BestKeys;
 use crate::least::lesser;
 use crate::waiting::Waiting;
-use sc_papers::{Hints, Papers, Rejection, SchoolNo, Seats};
+use sc_papers::{FlatPapers, Hints, Rejection, SchoolNo, Seats};
 use std::alloc::{AllocError, Global};
 
 /// Who stands where after the entries so far, and the best keys of each school, as many as it has
@@ -27,7 +27,7 @@ pub(crate) struct AuditState {
 }
 
 /// The seats of the school at the position.
-fn seats_at(papers: &Papers, position: usize) -> Seats
+fn seats_at(papers: &FlatPapers, position: usize) -> Seats
     requires { position < length papers.now.schools }
     ensures { (s : ℕ) → slice_get (schools_of papers.now) position ≡ Some s → result ≡ seats_of papers.now s }
 {
@@ -38,7 +38,7 @@ fn seats_at(papers: &Papers, position: usize) -> Seats
 }
 
 /// Each school with its seats, before anything is offered.
-fn no_keys(alloc: Global, papers: &Papers) -> Result<Vec<BestKeys>, AllocError>
+fn no_keys(alloc: Global, papers: &FlatPapers) -> Result<Vec<BestKeys>, AllocError>
     ensures seats { IfOk result (λ schools. map (λ (best : BestView). best.seats) schools.items
         ≡ map (seats_of papers.now) (schools_of papers.now)) }
     ensures empty { IfOk result (λ schools. All (λ (best : BestView). best.keys ≡ []) schools.items) }
@@ -51,7 +51,7 @@ fn no_keys(alloc: Global, papers: &Papers) -> Result<Vec<BestKeys>, AllocError>
 }
 
 /// A hint for each student of the papers. The only error is want of memory; the cost is a pass over the students.
-fn hints_of(alloc: Global, papers: &Papers) -> Result<Hints, AllocError> {
+fn hints_of(alloc: Global, papers: &FlatPapers) -> Result<Hints, AllocError> {
     let students = papers.students_len();
     let mut hints = Hints::with_room(alloc, students)?;
     for position in 0..students {
@@ -69,7 +69,7 @@ impl AuditState {
     ghost use Rattle.std.specs.Prelude.{◌≡◌, ℕ, ◌<◌, List, [], length, nat_eq, position, Some, None, IfOk, OnOk, IfSome, IfNone};
 
     /// The student at the position moves to the choice of a rank, if there is one of it.
-    fn move_to(&mut self, papers: &Papers, student: usize, rank: u8) -> Result<(), AllocError>
+    fn move_to(&mut self, papers: &FlatPapers, student: usize, rank: u8) -> Result<(), AllocError>
         requires fits { Fits papers.now (view_of self.old) }
         requires within { student < length papers.now.students }
         requires nowhere { next_of papers.now self.old.stands.items (student_at papers.now student) ≡ None }
@@ -86,7 +86,7 @@ impl AuditState {
 
     /// The state before the first entry: each student stands at the first choice. The cost is an offer
     /// for each student, and memory is taken for each student and each school.
-    pub(crate) fn start(alloc: Global, papers: &Papers) -> Result<Self, AllocError>
+    pub(crate) fn start(alloc: Global, papers: &FlatPapers) -> Result<Self, AllocError>
         ensures { IfOk result (λ state. Follows papers.now [] (view_of state)) }
     {
         let mut state = AuditState {
@@ -99,7 +99,7 @@ impl AuditState {
     }
 
     /// All students, who stand nowhere, move to their first choices.
-    fn start_all(&mut self, papers: &Papers) -> Result<(), AllocError>
+    fn start_all(&mut self, papers: &FlatPapers) -> Result<(), AllocError>
         requires fits { Fits papers.now (view_of self.old) }
         requires nowhere { (i : ℕ) → next_of papers.now self.old.stands.items i ≡ None }
         ensures { OnOk result (Follows papers.now [] (view_of self.new)) }
@@ -113,7 +113,7 @@ impl AuditState {
     /// Takes one more entry of a log, if it is valid after those before: the student leaves the school
     /// and moves to the next choice. The cost is an offer, and a look-up of the student by number where the guess
     /// at where they stand is wrong.
-    pub(crate) fn take(&mut self, papers: &Papers, entry: Rejection) -> Result<bool, AllocError>
+    pub(crate) fn take(&mut self, papers: &FlatPapers, entry: Rejection) -> Result<bool, AllocError>
         requires fits { Fits papers.now (view_of self.old) }
         ensures { IfOk result (λ valid. (log : List Rejected) → IsValidLog papers.now log
             → Follows papers.now log (view_of self.old) → Finds papers.now log entry valid (view_of self.new)) }
@@ -128,7 +128,7 @@ impl AuditState {
 
     /// The student's position, and the rank in their choices at which they stand at the entry's school
     /// without being kept there.
-    fn waiting_rank(&self, papers: &Papers, entry: Rejection) -> Option<(usize, u8)>
+    fn waiting_rank(&self, papers: &FlatPapers, entry: Rejection) -> Option<(usize, u8)>
         requires { Fits papers.now (view_of self.now) }
         ensures position { IfSome result (λ found. position (nat_eq entry.student) (students_of papers.now)
             ≡ Some found.0) }
@@ -146,7 +146,7 @@ impl AuditState {
     }
 
     /// The least number of a school at which a student stands without being kept there.
-    pub(crate) fn least_over(&self, papers: &Papers) -> Option<SchoolNo>
+    pub(crate) fn least_over(&self, papers: &FlatPapers) -> Option<SchoolNo>
         requires { Fits papers.now (view_of self.now) }
         ensures over { IfSome result (IsFirstOver papers.now (next_of papers.now self.now.stands.items)) }
         ensures within { IfNone result (WithinSeats papers.now (next_of papers.now self.now.stands.items)) }
@@ -159,7 +159,7 @@ impl AuditState {
     }
 
     /// The school at which the student at the position stands without being kept there.
-    fn waiting_school(&self, papers: &Papers, student: usize) -> Option<SchoolNo>
+    fn waiting_school(&self, papers: &FlatPapers, student: usize) -> Option<SchoolNo>
         requires fits { Fits papers.now (view_of self.now) }
         requires within { student < length papers.now.students }
         ensures { result ≡ waiting_school papers.now (view_of self.now) (student_at papers.now student) }
@@ -169,7 +169,7 @@ impl AuditState {
     }
 
     /// The school at which the student at the position stands, if they stand anywhere.
-    fn school_at(&self, papers: &Papers, student: usize) -> Option<SchoolNo>
+    fn school_at(&self, papers: &FlatPapers, student: usize) -> Option<SchoolNo>
         requires fits { Fits papers.now (view_of self.now) }
         requires within { student < length papers.now.students }
         ensures { result ≡ next_of papers.now self.now.stands.items (student_at papers.now student) }
@@ -183,7 +183,7 @@ impl AuditState {
     pub(crate) fn places(
         &self,
         alloc: Global,
-        papers: &Papers,
+        papers: &FlatPapers,
     ) -> Result<Vec<Option<SchoolNo>>, AllocError>
         requires { Fits papers.now (view_of self.now) }
         ensures { IfOk result (λ places. ArePlaces papers.now (next_of papers.now self.now.stands.items) places.items) }
@@ -196,7 +196,7 @@ impl AuditState {
     }
 
     /// Where the student at the position stands without being kept there: all keys that are kept are ahead.
-    fn waiting_at(&self, papers: &Papers, student: usize) -> Option<Waiting>
+    fn waiting_at(&self, papers: &FlatPapers, student: usize) -> Option<Waiting>
         requires fits { Fits papers.now (view_of self.now) }
         requires within { student < length papers.now.students }
         ensures { result ≡ waiting_at papers.now (view_of self.now) (student_at papers.now student) }

@@ -9,7 +9,7 @@ ghost use Rattle.sc_tallies.specs.Places.{ArePlaces};
 
 use crate::audit_state::AuditState;
 use crate::verdict::Verdict;
-use sc_papers::{Papers, Rejection, SchoolNo};
+use sc_papers::{FlatPapers, Rejection, SchoolNo};
 use std::alloc::{AllocError, Global};
 
 /// What an audit finds of a log, and what the log gives each student.
@@ -29,7 +29,7 @@ pub struct AuditedLog {
 /// The only error is want of memory, and says nothing of the log. The cost is an offer, which takes
 /// the logarithm of a school's seats, for each student and each entry, and memory is taken in
 /// proportion to the students and the schools.
-pub fn audit(alloc: Global, papers: &Papers, log: &[Rejection]) -> Result<Verdict, AllocError>
+pub fn audit(alloc: Global, papers: &FlatPapers, log: &[Rejection]) -> Result<Verdict, AllocError>
     ensures verdict { IfOk result (IsVerdict papers.now log.now) }
     ensures optimal { IfOk result (λ verdict. verdict ≡ Certified
         → IsStudentOptimal papers.now (matching_of papers.now log.now)) }
@@ -45,7 +45,7 @@ pub fn audit(alloc: Global, papers: &Papers, log: &[Rejection]) -> Result<Verdic
 /// students.
 pub fn audit_and_place(
     alloc: Global,
-    papers: &Papers,
+    papers: &FlatPapers,
     log: &[Rejection],
 ) -> Result<AuditedLog, AllocError>
     ensures verdict { IfOk result (λ audit. IsVerdict papers.now log.now audit.verdict) }
@@ -67,7 +67,11 @@ pub fn audit_and_place(
 }
 
 /// Reads a log from the state before the first entry on.
-fn read(state: &mut AuditState, papers: &Papers, log: &[Rejection]) -> Result<Verdict, AllocError>
+fn read(
+    state: &mut AuditState,
+    papers: &FlatPapers,
+    log: &[Rejection],
+) -> Result<Verdict, AllocError>
     requires { Follows papers.now [] (view_of state.old) }
     ensures verdict { IfOk result (IsVerdict papers.now log.now) }
     ensures follows { IfOk result (λ verdict. verdict ≡ Certified → Follows papers.now log.now (view_of state.new)) }

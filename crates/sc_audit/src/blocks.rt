@@ -10,7 +10,7 @@ ghost use Rattle.sc_tallies.specs.Tally.{AreTallies};
 ghost use Rattle.sc_audit.specs.Tallies.{earlier_of, end_at};
 
 use crate::tallies::would_take;
-use sc_papers::{Assignment, Papers, SchoolNo, StudentNo};
+use sc_papers::{Assignment, FlatPapers, LONGEST_LIST, SchoolNo, StudentNo};
 use sc_tallies::Tally;
 
 /// Whether what is given is this school.
@@ -21,7 +21,7 @@ fn is_given(given: Option<SchoolNo>, school: SchoolNo) -> bool
 }
 
 /// What the student at the position has.
-fn given_at(papers: &Papers, assignment: &Assignment, position: usize) -> Option<SchoolNo>
+fn given_at(papers: &FlatPapers, assignment: &Assignment, position: usize) -> Option<SchoolNo>
     requires { position < length papers.now.students }
     ensures { result ≡ assigned assignment.now (student_at papers.now position) }
 {
@@ -35,7 +35,7 @@ fn given_at(papers: &Papers, assignment: &Assignment, position: usize) -> Option
 /// the student would be taken there.
 fn end_at(
     tallies: &[Tally],
-    papers: &Papers,
+    papers: &FlatPapers,
     assignment: &Assignment,
     position: usize,
     school: SchoolNo,
@@ -58,7 +58,7 @@ fn end_at(
 /// be taken.
 fn earliest_block(
     tallies: &[Tally],
-    papers: &Papers,
+    papers: &FlatPapers,
     assignment: &Assignment,
     position: usize,
 ) -> Option<SchoolNo>
@@ -71,9 +71,13 @@ fn earliest_block(
     ensures none { IfNone result ((s : ℕ) → ¬ Blocks papers.now (assigned assignment.now)
         (student_at papers.now position) s) }
 {
-    let choices = papers.choices_at(position);
-    for rank in 0..choices.len() {
-        if let Some(end) = end_at(tallies, papers, assignment, position, choices[rank]) {
+    // This call tells that the papers are within their limits, and so are their lists.
+    prove!(position < papers.students_len());
+    for rank in 0..LONGEST_LIST {
+        let Some(school) = papers.choice_at(position, rank) else {
+            return None;
+        };
+        if let Some(end) = end_at(tallies, papers, assignment, position, school) {
             return end;
         }
     }
@@ -105,7 +109,7 @@ fn earlier(
 /// The student of the least number who blocks, and their earliest choice at which they do.
 pub(crate) fn first_block(
     tallies: &[Tally],
-    papers: &Papers,
+    papers: &FlatPapers,
     assignment: &Assignment,
 ) -> Option<(StudentNo, SchoolNo)>
     requires matching { IsMatching papers.now (assigned assignment.now) }

@@ -9,7 +9,7 @@ use crate::blocks::first_block;
 use crate::membership::is_matching;
 use crate::stability::Stability;
 use crate::tallies::least_over;
-use sc_papers::{Assignment, Papers};
+use sc_papers::{Assignment, FlatPapers};
 use sc_tallies::{Tally, places_of, tallies};
 use std::alloc::{AllocError, Global};
 
@@ -22,7 +22,7 @@ use std::alloc::{AllocError, Global};
 /// have. Memory is taken in proportion to the schools and the students.
 pub fn check_stable(
     alloc: Global,
-    papers: &Papers,
+    papers: &FlatPapers,
     assignment: &Assignment,
 ) -> Result<Stability, AllocError>
     ensures { IfOk result (IsStability papers.now (assigned assignment.now)) }
@@ -36,7 +36,7 @@ pub fn check_stable(
 }
 
 /// What is wrong with a matching, by the tallies of the schools.
-fn judge(tallies: &[Tally], papers: &Papers, assignment: &Assignment) -> Stability
+fn judge(tallies: &[Tally], papers: &FlatPapers, assignment: &Assignment) -> Stability
     requires well_formed { WellFormed papers.now }
     requires matching { IsMatching papers.now (assigned assignment.now) }
     requires tallies { AreTallies papers.now (assigned assignment.now) tallies.now }

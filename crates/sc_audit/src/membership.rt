@@ -6,21 +6,20 @@ ghost use Rattle.sc_papers.specs.Assignment.{assigned};
 ghost use Rattle.sc_papers.specs.Market.{choices_of};
 ghost use Rattle.sc_papers.specs.Matching.{IsMatching};
 
-use sc_papers::{Assignment, Papers, SchoolNo, StudentNo};
+use sc_papers::{Assignment, FlatPapers, SchoolNo, StudentNo};
 
 /// Whether the student is in the papers and lists the school.
-#[tactic(auto, unfolding(sc_papers::specs::Market::choices_of))]
-fn lists(papers: &Papers, student: StudentNo, school: SchoolNo) -> bool
+fn lists(papers: &FlatPapers, student: StudentNo, school: SchoolNo) -> bool
     ensures { result ≡ list_any (λ t. t == school) (choices_of papers.now student) }
 {
-    match papers.student(student) {
-        Some(record) => record.choices.as_slice().contains(&school),
+    match papers.student_position(student) {
+        Some(position) => papers.choice_rank_at(position, school).is_some(),
         None => false,
     }
 }
 
 /// Whether every student who has a school is in the papers and lists it.
-pub(crate) fn is_matching(papers: &Papers, assignment: &Assignment) -> bool
+pub(crate) fn is_matching(papers: &FlatPapers, assignment: &Assignment) -> bool
     ensures matching { OnTrue result (IsMatching papers.now (assigned assignment.now)) }
     ensures fault { OnFalse result (¬ IsMatching papers.now (assigned assignment.now)) }
 {

@@ -7,11 +7,11 @@ ghost use Rattle.sc_audit.specs.Least.{LeastOf};
 ghost use Rattle.sc_audit.specs.Tallies.{over_at, would_take};
 
 use crate::least::lesser;
-use sc_papers::{Papers, SchoolNo};
+use sc_papers::{FlatPapers, SchoolNo};
 use sc_tallies::Tally;
 
 /// The school at the position, if more students have it than it has seats.
-fn over_at(tallies: &[Tally], papers: &Papers, position: usize) -> Option<SchoolNo>
+fn over_at(tallies: &[Tally], papers: &FlatPapers, position: usize) -> Option<SchoolNo>
     requires within { position < length papers.now.schools }
     requires tallies { length tallies.now ≡ length papers.now.schools }
     ensures { (a : Matching) (s : ℕ) → AreTallies papers.now a tallies.now
@@ -28,7 +28,7 @@ fn over_at(tallies: &[Tally], papers: &Papers, position: usize) -> Option<School
 }
 
 /// The least number of a school that more students have than it has seats.
-pub(crate) fn least_over(tallies: &[Tally], papers: &Papers) -> Option<SchoolNo>
+pub(crate) fn least_over(tallies: &[Tally], papers: &FlatPapers) -> Option<SchoolNo>
     requires { length tallies.now ≡ length papers.now.schools }
     ensures { (a : Matching) → AreTallies papers.now a tallies.now
         → LeastOf (schools_of papers.now) (over_at papers.now a) (length papers.now.schools) result }
@@ -44,7 +44,7 @@ pub(crate) fn least_over(tallies: &[Tally], papers: &Papers) -> Option<SchoolNo>
 /// it.
 pub(crate) fn would_take(
     tallies: &[Tally],
-    papers: &Papers,
+    papers: &FlatPapers,
     student: usize,
     school: SchoolNo,
 ) -> bool

@@ -12,14 +12,14 @@ ghost use Rattle.sc_checkpoint.specs.Ranks.{AreTabled, IsFirstOutside, MarksEntr
 use crate::rank_set::RankSet;
 use crate::segments::Segments;
 use crate::standing::{Standing, Standings};
-use sc_papers::{Hints, LONGEST_LIST, MOST_STUDENTS, Papers, Rejection, SchoolNo, StudentNo};
+use sc_papers::{FlatPapers, Hints, LONGEST_LIST, MOST_STUDENTS, Rejection, SchoolNo, StudentNo};
 use std::alloc::{AllocError, Global};
 
 /// How many hints there is room for, for each student: so few of them take the place of others.
 const ROOM: usize = 4;
 
 /// Whether the student stands at the position with this turn among the positions.
-fn is_at(papers: &Papers, positions: &[usize], student: StudentNo, turn: usize) -> bool
+fn is_at(papers: &FlatPapers, positions: &[usize], student: StudentNo, turn: usize) -> bool
     ensures { result ≡ true → slice_get (map (student_at papers.now) positions.now) turn ≡ Some student }
 {
     let Some(position) = positions.get(turn) else {
@@ -31,7 +31,7 @@ fn is_at(papers: &Papers, positions: &[usize], student: StudentNo, turn: usize) 
 /// The turn, among the positions, of that at which the student stands, or `None` where they stand at none. One who
 /// stands at the guessed turn is not looked up by number.
 fn turn_near(
-    papers: &Papers,
+    papers: &FlatPapers,
     positions: &[usize],
     student: StudentNo,
     guess: usize,
@@ -59,7 +59,7 @@ fn turn_near(
 /// Puts the entry's school among the ranks of the entry's student, where the student stands at one of the
 /// positions and lists the school. A student who stands at the guessed turn among them is not looked up by number.
 fn mark_at(
-    papers: &Papers,
+    papers: &FlatPapers,
     positions: &[usize],
     table: &mut Vec<RankSet>,
     guess: usize,
@@ -105,7 +105,7 @@ impl Owner {
 /// Puts each entry's school among the ranks of the entry's student, where the student stands at one of the
 /// positions. The segment's owner and whoever the hints find are not looked up by number.
 fn mark_all_at(
-    papers: &Papers,
+    papers: &FlatPapers,
     positions: &[usize],
     table: &mut Vec<RankSet>,
     hints: &Hints,
@@ -140,7 +140,7 @@ fn hints_of(alloc: Global, segments: &Segments, positions: &[usize]) -> Result<H
 /// positions.
 fn rejected_ranks_at(
     alloc: Global,
-    papers: &Papers,
+    papers: &FlatPapers,
     segments: &Segments,
     positions: &[usize],
 ) -> Result<Vec<RankSet>, AllocError>
@@ -172,7 +172,7 @@ fn rejected_ranks_at(
 
 /// The first choice, of the student at a position of the papers, whose rank is not in the set. It costs a look at
 /// the set, and at one choice in the student's row.
-fn first_outside(papers: &Papers, position: usize, ranks: RankSet) -> Option<SchoolNo>
+fn first_outside(papers: &FlatPapers, position: usize, ranks: RankSet) -> Option<SchoolNo>
     requires { position < length papers.now.students }
     ensures { IsFirstOutside (choices_of papers.now (student_at papers.now position)) ranks result }
 {
@@ -202,7 +202,7 @@ pub(crate) fn first_positions(alloc: Global, count: usize) -> Result<Vec<usize>,
 /// growth.
 pub(crate) fn next_choices_at_positions(
     alloc: Global,
-    papers: &Papers,
+    papers: &FlatPapers,
     segments: &Segments,
     positions: &[usize],
 ) -> Result<Standings, AllocError>

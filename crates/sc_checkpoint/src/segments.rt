@@ -1,7 +1,7 @@
 use crate::next_choices::{first_positions, next_choices_at_positions};
 use crate::span::{Span, Spans, push_span, replace_spans};
 use crate::standing::{Standing, Standings};
-use sc_papers::{Papers, Rejection, StudentNo};
+use sc_papers::{FlatPapers, Rejection, StudentNo};
 use std::alloc::{AllocError, Global};
 use std::marker::Model;
 
@@ -164,7 +164,11 @@ impl Segments {
     /// refused growth.
     ///
     /// The cost is that of `next_choices_of` for the first `k` positions.
-    pub fn next_choices_at(&self, papers: &Papers, k: usize) -> Result<Vec<Standing>, AllocError>
+    pub fn next_choices_at(
+        &self,
+        papers: &FlatPapers,
+        k: usize,
+    ) -> Result<Vec<Standing>, AllocError>
         requires within { k ≤ length self.now }
         requires students { take k (students_in self.now) ≡ take k (students_of papers.now) }
         ensures { IfOk result (λ next_choices. next_choices.items
@@ -175,7 +179,7 @@ impl Segments {
     }
 
     /// What `next_choices_at` tells, and with it at which rank each of them may stand.
-    pub fn standings_at(&self, papers: &Papers, k: usize) -> Result<Standings, AllocError>
+    pub fn standings_at(&self, papers: &FlatPapers, k: usize) -> Result<Standings, AllocError>
         requires within { k ≤ length self.now }
         requires students { take k (students_in self.now) ≡ take k (students_of papers.now) }
         ensures { IfOk result (λ stands. stands.choices.items
@@ -194,7 +198,7 @@ impl Segments {
     /// a look at one row for each position. Memory is taken for the positions alone.
     pub fn next_choices_of(
         &self,
-        papers: &Papers,
+        papers: &FlatPapers,
         positions: &[usize],
     ) -> Result<Standings, AllocError>
         requires rising { IsStrictlyIncreasing positions.now }

@@ -10,7 +10,7 @@ ghost use Rattle.sc_engine.specs.RoundView.{SettlesThese};
 
 use crate::applicants::Applicant;
 use crate::round::Round;
-use sc_papers::{Papers, Proposal};
+use sc_papers::{FlatPapers, Proposal};
 use sc_seats::Roll;
 use std::alloc::{AllocError, Global};
 
@@ -26,7 +26,7 @@ struct Application {
 }
 
 /// The position of the school of an applicant's first choice, if they have one.
-fn first_position(papers: &Papers, applicant: &Applicant) -> Option<usize>
+fn first_position(papers: &FlatPapers, applicant: &Applicant) -> Option<usize>
     requires { StandsAt papers.now applicant.now }
     ensures { IsFirstPosition papers.now applicant.now.student result }
 {
@@ -35,7 +35,11 @@ fn first_position(papers: &Papers, applicant: &Applicant) -> Option<usize>
 }
 
 /// What an applicant proposes first, whose first choice's school stands at this position, if they have a choice.
-fn first_proposal(papers: &Papers, applicant: &Applicant, first: Option<usize>) -> Option<Proposal>
+fn first_proposal(
+    papers: &FlatPapers,
+    applicant: &Applicant,
+    first: Option<usize>,
+) -> Option<Proposal>
     requires stands { StandsAt papers.now applicant.now }
     requires first { IsFirstPosition papers.now applicant.now.student first }
     ensures { IsFirstProposal papers.now applicant.now.student result }
@@ -57,7 +61,7 @@ fn first_proposal(papers: &Papers, applicant: &Applicant, first: Option<usize>) 
 /// Makes the applications of a batch's applicants, in place of those of the batch before. The only error is want of memory,
 /// and none is taken where there is room for the batch. The cost is the read of a row for each applicant.
 fn read_batch(
-    papers: &Papers,
+    papers: &FlatPapers,
     batch: &[Applicant],
     applications: &mut Vec<Application>,
 ) -> Result<(), AllocError>
@@ -81,7 +85,7 @@ fn read_batch(
 /// Enters the applicants, each with their first proposal, into a round in which others have entered before.
 fn enter_batch<R: Roll>(
     round: &mut Round<R>,
-    papers: &Papers,
+    papers: &FlatPapers,
     applications: &[Application],
 ) -> Result<(), AllocError>
     requires next { (before : List Applicant) × (after : List Applicant)
@@ -113,7 +117,7 @@ fn enter_batch<R: Roll>(
 pub(crate) fn enter_in_batches<R: Roll>(
     alloc: Global,
     round: &mut Round<R>,
-    papers: &Papers,
+    papers: &FlatPapers,
     applicants: &[Applicant],
 ) -> Result<(), AllocError>
     requires first { SettlesThese papers.now (view_of R.keys R.seats round.old) [] }

@@ -17,7 +17,7 @@ mod taking;
 use crate::rank_table::RankTable;
 use crate::settled::{Settled, SettledPlaces};
 use ranks::{assignment_of, next_in, next_near, places_of, position_near};
-use sc_papers::{Assignment, Papers, Proposal, Rejection, SchoolNo, StudentNo};
+use sc_papers::{Assignment, FlatPapers, Proposal, Rejection, SchoolNo, StudentNo};
 use sc_seats::Roll;
 use std::alloc::{AllocError, Global};
 
@@ -49,7 +49,7 @@ impl<R: Roll> Round<R> {
     /// A refused growth leaves the round spent, and a spent round answers the error to every student.
     /// No memory is taken for a proposal but by the log and the rolls, nor for a student but where they
     /// came to the papers after the round began.
-    pub fn enter_one(&mut self, papers: &Papers, student: StudentNo) -> Result<(), AllocError>
+    pub fn enter_one(&mut self, papers: &FlatPapers, student: StudentNo) -> Result<(), AllocError>
         // Of a round that is not spent: it fits the papers, and the student is in them and has not
         // entered.
         requires fits { is_spent self.old ≡ false → Fits papers.now (view_of R.keys R.seats self.old) }
@@ -71,7 +71,7 @@ impl<R: Roll> Round<R> {
     /// by number.
     pub fn enter_near(
         &mut self,
-        papers: &Papers,
+        papers: &FlatPapers,
         student: StudentNo,
         guess: usize,
     ) -> Result<(), AllocError>
@@ -96,7 +96,7 @@ impl<R: Roll> Round<R> {
     /// and what they propose first.
     pub(crate) fn enter_with(
         &mut self,
-        papers: &Papers,
+        papers: &FlatPapers,
         student: StudentNo,
         at: usize,
         first: Option<Proposal>,
@@ -122,7 +122,7 @@ impl<R: Roll> Round<R> {
 
     /// The first of the student's choices that has not rejected them, or `None` where there is none or
     /// the student has not entered. In constant time. Of a spent round nothing is said.
-    pub fn next_choice(&self, papers: &Papers, student: StudentNo) -> Option<SchoolNo>
+    pub fn next_choice(&self, papers: &FlatPapers, student: StudentNo) -> Option<SchoolNo>
         requires { is_spent self.now ≡ false → Fits papers.now (view_of R.keys R.seats self.now) }
         ensures { is_spent self.now ≡ false → result ≡ next_of papers.now
             (view_of R.keys R.seats self.now).ranks student }
@@ -137,7 +137,7 @@ impl<R: Roll> Round<R> {
     /// by number. In constant time. Of a spent round nothing is said.
     pub fn next_choice_near(
         &self,
-        papers: &Papers,
+        papers: &FlatPapers,
         student: StudentNo,
         guess: usize,
     ) -> Option<SchoolNo>
@@ -184,7 +184,7 @@ impl<R: Roll> Round<R> {
 
     /// The choices at which the students of the round stand. A spent round answers the error, and so
     /// does want of memory. The cost is a look at each student of the papers.
-    pub fn assignment(&self, papers: &Papers) -> Result<Assignment, AllocError>
+    pub fn assignment(&self, papers: &FlatPapers) -> Result<Assignment, AllocError>
         requires { is_spent self.now ≡ false → Fits papers.now (view_of R.keys R.seats self.now) }
         ensures was_ready { OnOk result (is_spent self.now ≡ false) }
         ensures given { IfOk result (λ assignment. (i : ℕ)
@@ -200,7 +200,7 @@ impl<R: Roll> Round<R> {
     /// The choices at which the students of the round stand, in the papers' order of entry, and how many rejections and
     /// proposals led there. A spent round answers the error, and so does want of memory. On an error the round is given
     /// up. The cost is a look at each student of the papers.
-    pub(crate) fn into_places(self, papers: &Papers) -> Result<SettledPlaces, AllocError>
+    pub(crate) fn into_places(self, papers: &FlatPapers) -> Result<SettledPlaces, AllocError>
         requires { is_spent self ≡ false → Fits papers.now (view_of R.keys R.seats self) }
         ensures was_ready { OnOk result (is_spent self ≡ false) }
         ensures places { IfOk result (λ settled. settled.places.items
@@ -221,7 +221,7 @@ impl<R: Roll> Round<R> {
 
     /// The log and the count of proposals of the round, and the choices at which its students stand. A
     /// spent round answers the error. On an error the round is given up.
-    pub fn into_settled(self, papers: &Papers) -> Result<Settled, AllocError>
+    pub fn into_settled(self, papers: &FlatPapers) -> Result<Settled, AllocError>
         requires { is_spent self ≡ false → Fits papers.now (view_of R.keys R.seats self) }
         ensures was_ready { OnOk result (is_spent self ≡ false) }
         ensures log { IfOk result (λ settled. settled.log.items ≡ (view_of R.keys R.seats self).log) }

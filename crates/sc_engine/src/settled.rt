@@ -14,7 +14,7 @@ ghost use Rattle.sc_engine.specs.RoundView.{Fits, next_of, SettlesFirst, Settles
 use crate::applicants::applicants_by_first_key;
 use crate::batches::enter_in_batches;
 use crate::round::Round;
-use sc_papers::{Assignment, Papers, Rejection, SchoolNo};
+use sc_papers::{Assignment, FlatPapers, Rejection, SchoolNo};
 use sc_seats::{HeapRoll, Roll};
 use std::alloc::{AllocError, Global};
 
@@ -46,7 +46,7 @@ pub struct SettledPlaces {
 /// The only error is want of memory. The cost is two look-ups by number and an offer for each
 /// proposal, which takes the logarithm of a school's seats, and memory is taken in proportion to the
 /// students, the schools and the rejections.
-pub fn settle(alloc: Global, papers: &Papers) -> Result<Settled, AllocError>
+pub fn settle(alloc: Global, papers: &FlatPapers) -> Result<Settled, AllocError>
     ensures settled { IfOk result (λ settled. IsSettled papers.now settled.log.items) }
     ensures matching { IfOk result (λ settled. (i : ℕ)
         → assigned settled.assignment i ≡ next_choice papers.now settled.log.items i) }
@@ -61,7 +61,7 @@ pub fn settle(alloc: Global, papers: &Papers) -> Result<Settled, AllocError>
 /// students enter by their priority class at their first choice, and within a class by the first byte of their draw. So
 /// fewer of them are put out again, and most offers are refused while their rows are at hand. The cost is a sort of numbers
 /// more, and no student is put into a table.
-pub fn settle_by_first_keys(alloc: Global, papers: &Papers) -> Result<SettledPlaces, AllocError>
+pub fn settle_by_first_keys(alloc: Global, papers: &FlatPapers) -> Result<SettledPlaces, AllocError>
     ensures { IfOk result (AreSettledPlaces papers.now) }
 {
     let mut round: Round<HeapRoll> = Round::start(alloc, papers)?;
@@ -73,7 +73,10 @@ pub fn settle_by_first_keys(alloc: Global, papers: &Papers) -> Result<SettledPla
 }
 
 /// The settled places of a round in which all students have entered.
-fn settled_places_of<R: Roll>(round: Round<R>, papers: &Papers) -> Result<SettledPlaces, AllocError>
+fn settled_places_of<R: Roll>(
+    round: Round<R>,
+    papers: &FlatPapers,
+) -> Result<SettledPlaces, AllocError>
     requires all { SettlesThese papers.now (view_of R.keys R.seats round) (students_of papers.now) }
     ensures { IfOk result (AreSettledPlaces papers.now) }
 {
@@ -82,7 +85,10 @@ fn settled_places_of<R: Roll>(round: Round<R>, papers: &Papers) -> Result<Settle
 }
 
 /// As `settle`, over a kind of roll.
-pub(crate) fn settle_over<R: Roll>(alloc: Global, papers: &Papers) -> Result<Settled, AllocError>
+pub(crate) fn settle_over<R: Roll>(
+    alloc: Global,
+    papers: &FlatPapers,
+) -> Result<Settled, AllocError>
     ensures settled { IfOk result (λ settled. IsSettled papers.now settled.log.items) }
     ensures matching { IfOk result (λ settled. (i : ℕ)
         → assigned settled.assignment i ≡ next_choice papers.now settled.log.items i) }
@@ -97,7 +103,7 @@ pub(crate) fn settle_over<R: Roll>(alloc: Global, papers: &Papers) -> Result<Set
 }
 
 /// What a round comes to in which all students have entered.
-fn come_to<R: Roll>(round: Round<R>, papers: &Papers) -> Result<Settled, AllocError>
+fn come_to<R: Roll>(round: Round<R>, papers: &FlatPapers) -> Result<Settled, AllocError>
     requires all { SettlesThese papers.now (view_of R.keys R.seats round) (students_of papers.now) }
     ensures settled { IfOk result (λ settled. IsSettled papers.now settled.log.items) }
     ensures matching { IfOk result (λ settled. (i : ℕ)
@@ -111,7 +117,7 @@ fn come_to<R: Roll>(round: Round<R>, papers: &Papers) -> Result<Settled, AllocEr
 }
 
 /// Enters all students in order of entry into a round in which nobody has entered.
-fn enter_all<R: Roll>(round: &mut Round<R>, papers: &Papers) -> Result<(), AllocError>
+fn enter_all<R: Roll>(round: &mut Round<R>, papers: &FlatPapers) -> Result<(), AllocError>
     requires first { SettlesFirst papers.now (view_of R.keys R.seats round.old) 0 }
     requires ready { is_spent round.old ≡ false }
     ensures all { OnOk result (SettlesThese papers.now (view_of R.keys R.seats round.new) (students_of papers.now)) }

@@ -2,10 +2,10 @@
 ghost use Rattle.std.specs.Prelude.{◌≡◌, slice_get, option_map};
 ghost use Rattle.sc_papers.specs.WellFormed.{WellFormed};
 
-use sc_papers::{Papers, School, SchoolNo, Student, StudentNo};
+use sc_papers::{FlatPapers, Papers, School, SchoolNo, Student, StudentNo};
 
 /// The school at a position, and what the papers hold of it.
-pub(crate) fn school_entry(papers: &Papers, position: usize) -> Option<(SchoolNo, School)>
+pub(crate) fn school_entry(papers: &FlatPapers, position: usize) -> Option<(SchoolNo, School)>
     requires { WellFormed papers.now }
     ensures { result ≡ slice_get papers.now.schools position }
 {

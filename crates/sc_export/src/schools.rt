@@ -6,7 +6,7 @@ ghost use Rattle.sc_export.specs.Ranges.{IsSchoolInRange};
 
 use crate::entries::school_entry;
 use sc_decimal::push_number;
-use sc_papers::{Papers, School, SchoolNo};
+use sc_papers::{FlatPapers, School, SchoolNo};
 use std::alloc::AllocError;
 
 /// Adds a school's row.
@@ -24,7 +24,7 @@ fn push_school(text: &mut Vec<u8>, entry: (SchoolNo, School)) -> Result<(), Allo
 }
 
 /// Adds the file of the schools, in order of entry.
-pub(crate) fn push_schools(text: &mut Vec<u8>, papers: &Papers) -> Result<(), AllocError>
+pub(crate) fn push_schools(text: &mut Vec<u8>, papers: &FlatPapers) -> Result<(), AllocError>
     requires { WellFormed papers.now }
     ensures file { OnOk result (text.new.items ≡ text.old.items ++ schools_text papers.now) }
     ensures in_range { OnOk result (All IsSchoolInRange papers.now.schools) }

@@ -2,7 +2,7 @@
 use Rattle.std.proofs.Common.{◌≡◌, ℕ, suc, zero, ◌+◌, ◌<◌, ◌≤◌, Bool, true, false, cond, nat_eq, List, [], ◌∷◌, ◌++◌, length, map, get_or, take, drop, inl, inr, refl, sym, ap, ◌∙◌, arith, Ok, Err, Option, Some, None}
 use Rattle.std.specs.Prelude.{Result, ◌||◌, nat_le, not, is_some, find, slice_get, option_and_then}
 use Rattle.std.specs.Option.{option_or}
-use Rattle.std.specs.List.{IsDistinct}
+use Rattle.std.specs.List.{position, IsDistinct}
 use Rattle.std.proofs.lemmas.Bool.{cases_Bool, cases_eq, cases_lt}
 use Rattle.std.specs.Cmp.{nat_cmp_is}
 use Rattle.std.specs.Ordering.{is_eq, nat_cmp}
@@ -14,7 +14,8 @@ use Rattle.std.proofs.lemmas.Option.{slice_get-get_or}
 use Rattle.std.proofs.lemmas.Bool.Decides.{nat_tests}
 use Rattle.std.proofs.lemmas.Map.Keys.{IsDistinct-tail, apart_from_distinct}
 use Rattle.std.specs.Map.{lookup}
-use Rattle.sc_papers.specs.Market.{Market, is_school, is_student}
+use Rattle.sc_papers.proofs.Keys.{found-by_position}
+use Rattle.sc_papers.specs.Market.{Market, is_school, is_student, students_of}
 use Rattle.sc_papers.specs.Verdict.{IsRefusal, IsSchoolRefusal, after, school_verdict, verdict}
 use Rattle.sc_papers.specs.declared.amendment.Amendment.{Amendment}
 use Rattle.sc_papers.specs.declared.amendment.Amendment.TheVariants.{Enter}
@@ -198,6 +199,10 @@ all-students lists m n (row ∷ rest) entered i = by (entered_by m row (list_of 
 find-same : (p q : ListRow → Bool) → ((list : ListRow) → p list ≡ q list) → (lists : List ListRow) → find p lists ≡ find q lists
 find-same p q same [] = refl
 find-same p q same (list ∷ rest) = rw (same list, find-same p q same rest) refl
+
+-- a student has a position exactly where they are in the papers
+pub known_by_position : (m : Market) (i : ℕ) → is_some (position (nat_eq i) (students_of m)) ≡ is_student m i
+known_by_position m i = sym (found-by_position m.students i (position (nat_eq i) (students_of m)) refl)
 
 -- nobody else is in them
 pub same-unknown : (lists : List ListRow) (m n : Market) (roster : List RosterRow) → m.students ≡ [] → all_entered lists m roster ≡ Ok n

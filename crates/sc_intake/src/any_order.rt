@@ -21,7 +21,7 @@ use crate::roster::RosterRow;
 use crate::rows::Numbered;
 use crate::schools::SchoolRows;
 use crate::tidy_rows::TidyRow;
-use sc_papers::{Papers, Seed};
+use sc_papers::{FlatPapers, Seed};
 use std::alloc::Global;
 
 /// A number of a file, and in which of its rows it stands.
@@ -131,7 +131,7 @@ fn fill_slots(
 
 /// Enters the students of the roster with the lists of their slots, and says whether each of them has one and may
 /// enter. Otherwise, or where memory is wanting, the papers are no longer to be used.
-fn enter_each(papers: &mut Papers, roster: Vec<RosterRow>, slots: Vec<Option<ListRow>>) -> bool
+fn enter_each(papers: &mut FlatPapers, roster: Vec<RosterRow>, slots: Vec<Option<ListRow>>) -> bool
     requires { papers.old.students ≡ [] }
     ensures different { OnTrue result (AreDifferent roster.items) }
     ensures entered { OnTrue result ((lists : List ListedRow) → slots.items ≡ each_list lists roster.items
@@ -156,7 +156,7 @@ pub(crate) fn papers_in_any_order(
     schools: &SchoolRows,
     roster: &[u8],
     lists: &[u8],
-) -> Option<Papers>
+) -> Option<FlatPapers>
     ensures { IfSome result (λ papers. papers_below seed schools.now roster.now lists.now ≡ Ok papers) }
 {
     let students = rows_of_text::<RosterRow>(alloc, roster, likely_students(roster))?;

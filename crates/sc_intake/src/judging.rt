@@ -17,7 +17,7 @@ use crate::roster::{RosterRow, RosterRows};
 use crate::rows::numbers_of;
 use crate::schools::SchoolRows;
 use crate::seen::SeenNumbers;
-use sc_papers::{Papers, Refusal, Seed, StudentNo};
+use sc_papers::{FlatPapers, Refusal, Seed, StudentNo};
 use std::alloc::{AllocError, Global};
 use std::collections::BTreeMap;
 
@@ -43,7 +43,7 @@ fn note(
 /// Judges a student of the roster, who enters or has a fault.
 fn judge_student(
     alloc: Global,
-    papers: &mut Papers,
+    papers: &mut FlatPapers,
     row: &RosterRow,
     list: Option<&ListRow>,
     faults: &mut Vec<IntakeFault>,
@@ -61,7 +61,7 @@ fn judge_student(
 /// Judges the students of the roster, in the order of its rows.
 fn judge_students(
     alloc: Global,
-    papers: &mut Papers,
+    papers: &mut FlatPapers,
     roster: &[RosterRow],
     positions: &BTreeMap<StudentNo, usize>,
     lists: &[ListRow],
@@ -114,7 +114,7 @@ fn judge_students_of_lists(
 /// list is `NoList`, and a refusal is `Refused`, both of the row of the roster; a list whose student is not in the
 /// roster is `NotInRoster`, of the row of the lists. The only error is want of memory.
 ///
-/// The cost is that of `papers_of`, and for each list a look-up among the roster's numbers.
+/// The cost is that of `papers_of` without its records, and for each list a look-up among the roster's numbers.
 pub fn judge_papers(
     alloc: Global,
     seed: Seed,

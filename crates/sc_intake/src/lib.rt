@@ -49,4 +49,4 @@ pub use script::read_script;
 pub use script_faults::{ScriptFaults, judge_script};
 pub use script_records::ScriptRecords;
 pub use sheet::{Sheet, judge_lists, judge_roster, judge_schools};
-pub use together::read_papers;
+pub use together::{read_flat_papers, read_papers};

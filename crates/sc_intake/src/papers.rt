@@ -1,6 +1,6 @@
 //! The papers that the rows of the three files make.
 
-ghost use Rattle.std.specs.Prelude.{◌≡◌, [], IfErr, IfOk, OnErr};
+ghost use Rattle.std.specs.Prelude.{◌≡◌, [], not, IfErr, IfOk, OnErr};
 ghost use Rattle.std.specs.Option.{option_copied};
 ghost use Rattle.sc_intake.specs.Fault.{Gives, no_memory};
 ghost use Rattle.sc_intake.specs.Lists.{list_number};
@@ -9,6 +9,7 @@ ghost use Rattle.sc_intake.specs.Rows.{AreRows};
 ghost use Rattle.sc_intake.specs.Schools.{school_number};
 ghost use Rattle.sc_intake.specs.declared.fault.Cause.TheVariants.{OutOfMemory};
 ghost use Rattle.sc_intake.specs.declared.fault.Source.TheVariants.{Roster};
+ghost use Rattle.sc_papers.specs.Market.{is_student};
 ghost use Rattle.sc_papers.specs.declared.amendment.Amendment.TheVariants.{Enter};
 
 use crate::fault::{Cause, IntakeFault, Source};
@@ -17,8 +18,8 @@ use crate::roster::{RosterRow, RosterRows};
 use crate::school_list::judged_part;
 use crate::schools::{SchoolRow, SchoolRows};
 use sc_papers::{
-    MOST_SCHOOLS, MOST_STUDENTS, Papers, Refusal, SchoolList, SchoolRefusal, Seed, Student,
-    StudentNo,
+    FlatPapers, MOST_SCHOOLS, MOST_STUDENTS, Papers, Refusal, SchoolList, SchoolRefusal, Seed,
+    Student, StudentNo,
 };
 use std::alloc::{AllocError, Global};
 use std::collections::BTreeMap;
@@ -28,12 +29,12 @@ pub(crate) fn open_papers(
     alloc: Global,
     seed: Seed,
     schools: &[SchoolRow],
-) -> Result<Papers, IntakeFault>
+) -> Result<FlatPapers, IntakeFault>
     requires { AreRows school_number MOST_SCHOOLS schools.now }
     ensures opened { IfOk result (λ papers. papers ≡ opening seed schools.now) }
     ensures refused { IfErr result (λ fault. fault ≡ no_memory Roster) }
 {
-    let mut papers = Papers::new(alloc, seed);
+    let mut papers = FlatPapers::new(alloc, seed);
     for row in schools {
         if let Err(refusal) = papers.add_school(row.number, row.zone, row.seats) {
             // The numbers differ and are few enough.
@@ -50,7 +51,7 @@ pub(crate) fn open_with_room(
     seed: Seed,
     schools: &[SchoolRow],
     students: usize,
-) -> Result<Papers, IntakeFault>
+) -> Result<FlatPapers, IntakeFault>
     requires { AreRows school_number MOST_SCHOOLS schools.now }
     ensures opened { IfOk result (λ papers. papers ≡ opening seed schools.now) }
     ensures refused { IfErr result (λ fault. fault ≡ no_memory Roster) }
@@ -104,7 +105,7 @@ fn cause_of(refusal: Refusal) -> Cause
 /// Enters a student of the roster with copies of the student's lists.
 pub(crate) fn enter_copied(
     alloc: Global,
-    papers: &mut Papers,
+    papers: &mut FlatPapers,
     row: &RosterRow,
     list: Option<&ListRow>,
 ) -> Result<(), Cause>
@@ -121,7 +122,11 @@ pub(crate) fn enter_copied(
 }
 
 /// Enters a student of the roster with these choices.
-pub(crate) fn enter(papers: &mut Papers, row: RosterRow, choices: SchoolList) -> Result<(), Cause>
+pub(crate) fn enter(
+    papers: &mut FlatPapers,
+    row: RosterRow,
+    choices: SchoolList,
+) -> Result<(), Cause>
     ensures entered { Gives (λ _. papers.new) OutOfMemory (amended papers.old
         (Enter row.student row.zone row.siblings choices row.continuing)) result }
     ensures unchanged { OnErr result (papers.new ≡ papers.old) }
@@ -132,7 +137,6 @@ pub(crate) fn enter(papers: &mut Papers, row: RosterRow, choices: SchoolList) ->
         choices,
         continuing: row.continuing,
     };
-    // Not by `apply`: it would read an amendment that has only just been written, and wait for it.
     match papers.admit(row.student, student) {
         Ok(()) => Ok(()),
         Err(refusal) => Err(cause_of(refusal)),
@@ -142,7 +146,7 @@ pub(crate) fn enter(papers: &mut Papers, row: RosterRow, choices: SchoolList) ->
 /// Enters the students of the roster, in the order of its rows.
 fn enter_all(
     alloc: Global,
-    papers: &mut Papers,
+    papers: &mut FlatPapers,
     roster: &[RosterRow],
     positions: &BTreeMap<StudentNo, usize>,
     lists: &[ListRow],
@@ -159,19 +163,25 @@ fn enter_all(
     Ok(())
 }
 
+/// Whether a student is not in the papers.
+#[tactic(auto, using(crate::proofs::PaperLemmas::known_by_position))]
+fn is_unknown(papers: &FlatPapers, student: StudentNo) -> bool
+    ensures { result ≡ not (is_student papers.now student) }
+{
+    papers.student_position(student).is_none()
+}
+
 /// The first list of a student who is not in the papers.
-fn find_unknown_list<'a>(papers: &Papers, lists: &'a [ListRow]) -> Option<&'a ListRow>
+fn find_unknown_list<'a>(papers: &FlatPapers, lists: &'a [ListRow]) -> Option<&'a ListRow>
     ensures { option_copied result ≡ unknown_list papers.now lists.now }
 {
-    lists
-        .iter()
-        .find(|list| papers.student(list.student).is_none())
+    lists.iter().find(|list| is_unknown(papers, list.student))
 }
 
 /// Enters the students of the roster, and sees that each list is of one of them.
 fn fill_papers(
     alloc: Global,
-    papers: &mut Papers,
+    papers: &mut FlatPapers,
     roster: &[RosterRow],
     lists: &[ListRow],
 ) -> Result<(), IntakeFault>
@@ -189,6 +199,32 @@ fn fill_papers(
     }
 }
 
+/// The papers that the rows make, or their first fault, as `papers_of` tells it, without a record of each student.
+pub(crate) fn flat_papers_of(
+    alloc: Global,
+    seed: Seed,
+    schools: &SchoolRows,
+    roster: &RosterRows,
+    lists: &ListRows,
+) -> Result<FlatPapers, IntakeFault>
+    ensures { Gives (λ papers. papers) (no_memory Roster) (papers_of seed schools.now roster.now lists.now) result }
+{
+    let mut papers = open_with_room(alloc, seed, schools.as_slice(), roster.len())?;
+    fill_papers(alloc, &mut papers, roster.as_slice(), lists.as_slice())?;
+    Ok(papers)
+}
+
+/// The same papers with a record of each student, or want of memory.
+pub(crate) fn with_records(flat: FlatPapers) -> Result<Papers, IntakeFault>
+    ensures kept { IfOk result (λ papers. papers ≡ flat) }
+    ensures refused { IfErr result (λ fault. fault ≡ no_memory Roster) }
+{
+    match Papers::from_flat(flat) {
+        Ok(papers) => Ok(papers),
+        Err(_refused) => Err(IntakeFault::no_memory(Source::Roster)),
+    }
+}
+
 /// The papers that the rows make, or their first fault.
 ///
 /// The schools are added in the order of their rows, and then the students of the roster enter in
@@ -197,8 +233,9 @@ fn fill_papers(
 /// student is not in the roster is `NotInRoster`, of the row of the lists. Want of memory is of the
 /// roster, row 0.
 ///
-/// The cost is that of the rows and of copying their lists as far as the papers look at them, a draw of the lottery for each student, and
-/// for each list a look-up in a tree of their numbers. `read_papers` copies no list.
+/// The cost is that of the rows and of copying their lists as far as the papers look at them, a draw of the lottery and a
+/// record for each student, and for each list a look-up in a tree of their numbers. `read_papers` copies no list of the
+/// rows.
 pub fn papers_of(
     alloc: Global,
     seed: Seed,
@@ -208,7 +245,6 @@ pub fn papers_of(
 ) -> Result<Papers, IntakeFault>
     ensures { Gives (λ papers. papers) (no_memory Roster) (papers_of seed schools.now roster.now lists.now) result }
 {
-    let mut papers = open_with_room(alloc, seed, schools.as_slice(), roster.len())?;
-    fill_papers(alloc, &mut papers, roster.as_slice(), lists.as_slice())?;
-    Ok(papers)
+    let papers = flat_papers_of(alloc, seed, schools, roster, lists)?;
+    with_records(papers)
 }

@@ -9,15 +9,15 @@ use crate::any_order::papers_in_any_order;
 use crate::below::{Below, below_header, likely_students, next_row};
 use crate::fault::IntakeFault;
 use crate::lists::{ListRow, read_lists};
-use crate::papers::{enter, open_with_room, papers_of};
+use crate::papers::{enter, flat_papers_of, open_with_room, with_records};
 use crate::roster::{RosterRow, read_roster};
 use crate::schools::{SchoolRows, read_schools};
-use sc_papers::{Papers, Seed};
+use sc_papers::{FlatPapers, Papers, Seed};
 use std::alloc::Global;
 
 /// Enters the student of these rows, and says whether they are of one student who may enter. Otherwise, or where memory
 /// is wanting, the papers are no longer to be used.
-fn enter_both(papers: &mut Papers, row: RosterRow, list: ListRow) -> bool
+fn enter_both(papers: &mut FlatPapers, row: RosterRow, list: ListRow) -> bool
     ensures { OnTrue result ((row.student ≡ list.student) × (entered_by papers.old row (Some list) ≡ Ok papers.new)) }
 {
     row.student == list.student && enter(papers, row, list.choices).is_ok()
@@ -27,7 +27,7 @@ fn enter_both(papers: &mut Papers, row: RosterRow, list: ListRow) -> bool
 /// other, and each of them may enter. Otherwise, or where memory is wanting, the papers are no longer to be used.
 fn enter_together(
     alloc: Global,
-    papers: &mut Papers,
+    papers: &mut FlatPapers,
     roster: &mut Below<'_>,
     lists: &mut Below<'_>,
 ) -> bool
@@ -63,7 +63,7 @@ fn papers_together(
     schools: &SchoolRows,
     roster: &[u8],
     lists: &[u8],
-) -> Option<Papers>
+) -> Option<FlatPapers>
     ensures { IfSome result (λ papers. papers_below seed schools.now roster.now lists.now ≡ Ok papers) }
 {
     let room = likely_students(roster);
@@ -87,14 +87,14 @@ fn papers_together(
 /// the cost is the length of the texts, a look-up for each school named, and a draw of the lottery for each student.
 /// Where they stand in any other order and nothing is wrong, the rows of both are kept and their numbers sorted, and no
 /// list is copied. Where something is wrong, the roster and the lists are read once more, each alone, which finds the
-/// first fault, and what is more than reading is the cost of `papers_of`.
-pub fn read_papers(
+/// first fault, and what is more than reading is the cost of `papers_of` without its records.
+pub fn read_flat_papers(
     alloc: Global,
     seed: Seed,
     schools: &[u8],
     roster: &[u8],
     lists: &[u8],
-) -> Result<Papers, IntakeFault>
+) -> Result<FlatPapers, IntakeFault>
     ensures read { IfOk result (λ papers. papers_in seed schools.now roster.now lists.now ≡ Ok papers) }
     ensures fault { IfErr result (λ fault. (papers_in seed schools.now roster.now lists.now ≡ Err fault)
         ⊎ IsWantOfMemory fault) }
@@ -108,5 +108,24 @@ pub fn read_papers(
     }
     let roster = read_roster(alloc, roster)?;
     let lists = read_lists(alloc, lists)?;
-    papers_of(alloc, seed, &schools, &roster, &lists)
+    flat_papers_of(alloc, seed, &schools, &roster, &lists)
+}
+
+/// The papers that the texts of the three files make under a seed, with a record of each student, or the first fault,
+/// as `read_flat_papers` finds them. Want of memory for the records is of the roster, row 0.
+///
+/// The cost is that of `read_flat_papers`, and that of making the records.
+pub fn read_papers(
+    alloc: Global,
+    seed: Seed,
+    schools: &[u8],
+    roster: &[u8],
+    lists: &[u8],
+) -> Result<Papers, IntakeFault>
+    ensures read { IfOk result (λ papers. papers_in seed schools.now roster.now lists.now ≡ Ok papers) }
+    ensures fault { IfErr result (λ fault. (papers_in seed schools.now roster.now lists.now ≡ Err fault)
+        ⊎ IsWantOfMemory fault) }
+{
+    let papers = read_flat_papers(alloc, seed, schools, roster, lists)?;
+    with_records(papers)
 }

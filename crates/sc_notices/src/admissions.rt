@@ -13,7 +13,7 @@ use crate::fields::push_field;
 use crate::key_lists::sorted_keys;
 use crate::status::{Status, push_status};
 use sc_decimal::push_number;
-use sc_papers::{Key, Papers, SchoolNo};
+use sc_papers::{FlatPapers, Key, SchoolNo};
 use sc_repair::Clearing;
 use std::alloc::{AllocError, Global};
 
@@ -62,7 +62,7 @@ fn push_list(
 fn push_school(
     text: &mut Vec<u8>,
     alloc: Global,
-    papers: &Papers,
+    papers: &FlatPapers,
     candidates: &Candidates,
     school: SchoolNo,
 ) -> Result<(), AllocError>
@@ -87,7 +87,7 @@ fn push_school(
 fn push_admissions(
     text: &mut Vec<u8>,
     alloc: Global,
-    papers: &Papers,
+    papers: &FlatPapers,
     candidates: &Candidates,
     schools: &[SchoolNo],
 ) -> Result<(), AllocError>
@@ -107,7 +107,7 @@ fn push_admissions(
 }
 
 /// The schools of the papers by rising number.
-fn rising_schools(alloc: Global, papers: &Papers) -> Result<Vec<SchoolNo>, AllocError>
+fn rising_schools(alloc: Global, papers: &FlatPapers) -> Result<Vec<SchoolNo>, AllocError>
     ensures { IfOk result (λ schools. schools.items ≡ rising (schools_of papers.now)) }
 {
     let mut schools = Vec::with_capacity(alloc, papers.schools_len())?;
@@ -140,8 +140,8 @@ pub fn admissions_text(alloc: Global, clearing: &Clearing) -> Result<Vec<u8>, Al
     ensures { IfOk result (λ text. text.items
         ≡ admissions_text clearing.now.standing.papers (matching_of clearing.now.standing)) }
 {
-    let papers = clearing.papers();
-    let candidates = find_candidates(alloc, papers, clearing.places())?;
+    let papers: &FlatPapers = clearing.papers();
+    let candidates = find_candidates(alloc, clearing.papers(), clearing.places())?;
     let schools = rising_schools(alloc, papers)?;
     let mut text = Vec::with_capacity(alloc, room_for_admissions(&candidates))?;
     push_admissions(&mut text, alloc, papers, &candidates, schools.as_slice())?;
@@ -160,11 +160,11 @@ pub fn admissions_of(
     ensures text { IfOk result (λ found. IfSome found
         (λ text. text.items ≡ admissions_of clearing.now.standing.papers (matching_of clearing.now.standing) school)) }
 {
-    let papers = clearing.papers();
+    let papers: &FlatPapers = clearing.papers();
     if papers.school_position(school).is_none() {
         return Ok(None);
     }
-    let candidates = find_candidates(alloc, papers, clearing.places())?;
+    let candidates = find_candidates(alloc, clearing.papers(), clearing.places())?;
     let mut text = Vec::new(alloc);
     push_admissions(&mut text, alloc, papers, &candidates, &[school])?;
     Ok(Some(text))

@@ -9,7 +9,7 @@ ghost use Rattle.sc_notices.specs.KeyLists.{AddsKeys, AreCandidates};
 
 use crate::key_lists::KeyLists;
 use crate::ranks::rank_among;
-use sc_papers::{Assignment, Papers, SchoolNo};
+use sc_papers::{Assignment, FlatPapers, Papers, SchoolNo};
 use std::alloc::{AllocError, Global};
 
 /// The keys of those who have each school, and of those who wait for it, by the school's position in the order of entry.
@@ -22,7 +22,7 @@ pub(crate) struct Candidates {
 /// Adds the key of the student at a position of the order of entry to the list of the school that they have, if any.
 fn add_holder(
     admitted: &mut KeyLists,
-    papers: &Papers,
+    papers: &FlatPapers,
     student: usize,
     held: Option<SchoolNo>,
 ) -> Result<(), AllocError>
@@ -56,7 +56,7 @@ fn preferred_count(choices: &[SchoolNo], held: Option<SchoolNo>) -> usize
 /// Adds the key of the student at a position of the order of entry to the lists of their first choices, so many of them.
 fn add_choices(
     waiting: &mut KeyLists,
-    papers: &Papers,
+    papers: &FlatPapers,
     student: usize,
     count: usize,
 ) -> Result<(), AllocError>

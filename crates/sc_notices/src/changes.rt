@@ -10,7 +10,7 @@ ghost use Rattle.sc_notices.specs.ChangesText.{change_line, changes_text, place_
 
 use crate::fields::push_field;
 use sc_decimal::push_number;
-use sc_papers::{Papers, SchoolNo, StudentNo};
+use sc_papers::{FlatPapers, SchoolNo, StudentNo};
 use sc_repair::Clearing;
 use sc_report::{Entrant, rising_entrants};
 use sc_tallies::places_of;
@@ -26,7 +26,7 @@ pub fn standing_places(alloc: Global, clearing: &Clearing) -> Result<Vec<Entrant
     ensures students { IfOk result (λ places. AreRising clearing.now.standing.papers places.items) }
     ensures places { IfOk result (λ places. All (Holds (matching_of clearing.now.standing)) places.items) }
 {
-    let papers = clearing.papers();
+    let papers: &FlatPapers = clearing.papers();
     let places = places_of(alloc, papers, clearing.places())?;
     let rising = rising_entrants(alloc, papers, places.as_slice())?;
     Ok(rising)
@@ -83,7 +83,7 @@ fn push_unknown(
 fn push_newcomers(
     students: &mut Vec<StudentNo>,
     numbers: &[StudentNo],
-    papers: &Papers,
+    papers: &FlatPapers,
 ) -> Result<(), AllocError>
     ensures { OnOk result ((m : Market) → numbers.now ≡ rising (students_of m)
         → students.new.items ≡ students.old.items ++ filter (λ i. not (is_student m i)) (students_of papers.now)) }
@@ -101,7 +101,7 @@ fn push_newcomers(
 fn rising_of_either(
     alloc: Global,
     numbers: &[StudentNo],
-    papers: &Papers,
+    papers: &FlatPapers,
 ) -> Result<Vec<StudentNo>, AllocError>
     ensures { IfOk result (λ students. (m : Market) → numbers.now ≡ rising (students_of m)
         → students.items ≡ rising (students_of_either m papers.now)) }

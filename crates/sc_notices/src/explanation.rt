@@ -16,7 +16,7 @@ use crate::fields::push_field;
 use crate::lottery::Lottery;
 use crate::outcome::{outcome_of, push_outcome};
 use sc_decimal::push_number;
-use sc_papers::{Key, LONGEST_LIST, MOST_STUDENTS, Papers, Proposal, SchoolNo, StudentNo};
+use sc_papers::{FlatPapers, Key, LONGEST_LIST, MOST_STUDENTS, Proposal, SchoolNo, StudentNo};
 use sc_repair::Clearing;
 use sc_report::{
     Cutoff, CutoffRow, Entrant, entrant_at, push_cutoff, push_draw, rising_entrants, rows_in_order,
@@ -133,7 +133,7 @@ fn push_choices(
     text: &mut Vec<u8>,
     number: &[u8],
     rows: &[CutoffRow],
-    papers: &Papers,
+    papers: &FlatPapers,
     lottery: &Lottery,
     entrant: Entrant,
 ) -> Result<(), AllocError>
@@ -173,7 +173,7 @@ fn push_explanations(
     alloc: Global,
     entrants: &[Entrant],
     rows: &[CutoffRow],
-    papers: &Papers,
+    papers: &FlatPapers,
     lottery: &Lottery,
 ) -> Result<(), AllocError>
     requires rows { length rows.now ≡ length papers.now.schools }
@@ -195,7 +195,7 @@ fn push_explanations(
 }
 
 /// How many bytes the explanations of all students take at most.
-fn room_for_explanations(papers: &Papers) -> usize {
+fn room_for_explanations(papers: &FlatPapers) -> usize {
     let mut choices: usize = 0;
     for position in 0..papers.students_len() {
         choices = choices.saturating_add(papers.choice_positions_at(position).len());
@@ -216,7 +216,7 @@ pub fn explanation_text(alloc: Global, clearing: &Clearing) -> Result<Vec<u8>, A
     ensures { IfOk result (λ text. text.items
         ≡ explanation_text clearing.now.standing.papers (matching_of clearing.now.standing)) }
 {
-    let papers = clearing.papers();
+    let papers: &FlatPapers = clearing.papers();
     let places = places_of(alloc, papers, clearing.places())?;
     let entrants = rising_entrants(alloc, papers, places.as_slice())?;
     let in_order = rows_in_order(alloc, papers, places.as_slice())?;
@@ -246,7 +246,7 @@ pub fn explanation_of(
     ensures text { IfOk result (λ found. IfSome found (λ text. text.items
         ≡ explanation_of clearing.now.standing.papers (matching_of clearing.now.standing) student)) }
 {
-    let papers = clearing.papers();
+    let papers: &FlatPapers = clearing.papers();
     let Some(position) = papers.student_position(student) else {
         return Ok(None);
     };

@@ -5,7 +5,7 @@ ghost use Rattle.sc_papers.specs.WellFormed.{WellFormed, WithinLimits};
 ghost use Rattle.sc_notices.specs.Counting.{AreListings};
 ghost use Rattle.sc_notices.specs.Summary.{listed};
 
-use sc_papers::{LONGEST_LIST, MOST_STUDENTS, Papers, SchoolNo};
+use sc_papers::{FlatPapers, LONGEST_LIST, MOST_STUDENTS, SchoolNo};
 use std::alloc::{AllocError, Global};
 
 /// Counts one more at each of the positions.
@@ -22,7 +22,7 @@ fn count_positions(counts: &mut [u32], positions: &[u16])
 }
 
 /// Counts the choices of the student at the position of the order of entry.
-fn count_choices(counts: &mut [u32], papers: &Papers, position: usize)
+fn count_choices(counts: &mut [u32], papers: &FlatPapers, position: usize)
     requires within { position < length papers.now.students }
     requires well_formed { WellFormed papers.now }
     requires within_limits { WithinLimits papers.now }
@@ -43,7 +43,7 @@ fn no_listings(alloc: Global, count: usize) -> Result<Vec<u32>, AllocError>
 
 /// How many students list each school, by the school's position in the order of entry. The only error is want of
 /// memory, which is taken for each school. One pass over the students' choices, without a look-up by number.
-pub(crate) fn listings(alloc: Global, papers: &Papers) -> Result<Vec<u32>, AllocError>
+pub(crate) fn listings(alloc: Global, papers: &FlatPapers) -> Result<Vec<u32>, AllocError>
     ensures counts { IfOk result (λ counts. AreListings papers.now (students_of papers.now) counts.items) }
     ensures well_formed { OnOk result (WellFormed papers.now) }
 {
@@ -55,7 +55,7 @@ pub(crate) fn listings(alloc: Global, papers: &Papers) -> Result<Vec<u32>, Alloc
 }
 
 /// How many students list a school, by the counts of all schools; nobody lists one that is not in the papers.
-pub(crate) fn listings_of(counts: &[u32], papers: &Papers, school: SchoolNo) -> u32
+pub(crate) fn listings_of(counts: &[u32], papers: &FlatPapers, school: SchoolNo) -> u32
     requires counts { AreListings papers.now (students_of papers.now) counts.now }
     requires well_formed { WellFormed papers.now }
     ensures { result ≡ listed papers.now school }

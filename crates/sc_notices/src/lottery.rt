@@ -7,7 +7,7 @@ ghost use Rattle.sc_report.specs.Cutoff.{cutoff as cutoff_of, rows_in_order};
 ghost use Rattle.sc_seats.specs.Roll.{in_order};
 ghost use Rattle.sc_notices.specs.Lottery.{cutoff_rank, lottery_rank, ticket_of};
 
-use sc_papers::{Key, MOST_STUDENTS, Papers};
+use sc_papers::{FlatPapers, Key, MOST_STUDENTS};
 use sc_report::{Cutoff, CutoffRow};
 use std::alloc::{AllocError, Global};
 
@@ -21,7 +21,7 @@ fn ticket_of(key: Key) -> Key
 }
 
 /// The ticket of the student at a position of the order of entry.
-pub(crate) fn ticket_at(papers: &Papers, position: usize) -> Key
+pub(crate) fn ticket_at(papers: &FlatPapers, position: usize) -> Key
     requires { position < length papers.now.students }
     ensures { result ≡ ticket_of papers.now (student_at papers.now position) }
 {
@@ -39,7 +39,7 @@ pub(crate) fn ticket_at(papers: &Papers, position: usize) -> Key
 }
 
 /// The tickets of all students, best first. The only error is want of memory. The cost is a sort of them.
-fn tickets(alloc: Global, papers: &Papers) -> Result<Vec<Key>, AllocError>
+fn tickets(alloc: Global, papers: &FlatPapers) -> Result<Vec<Key>, AllocError>
     ensures { IfOk result (λ tickets. tickets.items ≡ in_order (map (ticket_of papers.now) (students_of papers.now))) }
 {
     let mut tickets = Vec::with_capacity(alloc, papers.students_len())?;
@@ -73,7 +73,7 @@ fn searched_rank(tickets: &[Key], ticket: &Key) -> u32
 }
 
 /// The rank of a ticket, from 1, by those of all students of the papers, which are given best first.
-fn rank_of(papers: &Papers, tickets: &[Key], ticket: &Key) -> u32
+fn rank_of(papers: &FlatPapers, tickets: &[Key], ticket: &Key) -> u32
     requires { tickets.now ≡ in_order (map (ticket_of papers.now) (students_of papers.now)) }
     ensures { (i : ℕ) → ticket.now ≡ ticket_of papers.now i → result ≡ lottery_rank papers.now i }
 {
@@ -83,7 +83,7 @@ fn rank_of(papers: &Papers, tickets: &[Key], ticket: &Key) -> u32
 }
 
 /// The rank of the student of a cutoff, from 1, if it has one.
-fn cutoff_rank(papers: &Papers, tickets: &[Key], cutoff: Cutoff) -> Option<u32>
+fn cutoff_rank(papers: &FlatPapers, tickets: &[Key], cutoff: Cutoff) -> Option<u32>
     requires { tickets.now ≡ in_order (map (ticket_of papers.now) (students_of papers.now)) }
     ensures { (a : Matching) (s : ℕ) → cutoff ≡ cutoff_of papers.now a s → result ≡ cutoff_rank papers.now cutoff }
 {
@@ -96,7 +96,7 @@ fn cutoff_rank(papers: &Papers, tickets: &[Key], cutoff: Cutoff) -> Option<u32>
 /// The ranks of the students of rows' cutoffs, in their order.
 fn cutoff_ranks(
     alloc: Global,
-    papers: &Papers,
+    papers: &FlatPapers,
     tickets: &[Key],
     rows: &[CutoffRow],
 ) -> Result<Vec<Option<u32>>, AllocError>
@@ -131,7 +131,7 @@ impl Lottery {
     /// students' tickets, and a search among them for each school.
     pub(crate) fn new(
         alloc: Global,
-        papers: &Papers,
+        papers: &FlatPapers,
         rows: &[CutoffRow],
     ) -> Result<Self, AllocError>
         ensures { IfOk result (IsLotteryOf papers.now rows.now) }
@@ -145,7 +145,7 @@ impl Lottery {
     }
 
     /// The rank of the student at a position of the order of entry, from 1, by a search.
-    pub(crate) fn rank_at(&self, papers: &Papers, rows: &[CutoffRow], position: usize) -> u32
+    pub(crate) fn rank_at(&self, papers: &FlatPapers, rows: &[CutoffRow], position: usize) -> u32
         requires lottery { IsLotteryOf papers.now rows.now self.now }
         requires position { position < length papers.now.students }
         ensures { result ≡ lottery_rank papers.now (student_at papers.now position) }

@@ -7,7 +7,7 @@ ghost use Rattle.sc_notices.specs.SummaryText.{rank_line, rank_lines, row_line, 
 use crate::fields::{push_field, push_last_field};
 use crate::listings::{listings, listings_of};
 use crate::ranks::rank_counts;
-use sc_papers::{Assignment, LONGEST_LIST, MOST_STUDENTS, Papers};
+use sc_papers::{Assignment, FlatPapers, LONGEST_LIST, MOST_STUDENTS, Papers};
 use sc_repair::Clearing;
 use sc_report::{CutoffRow, cutoffs};
 use std::alloc::{AllocError, Global};
@@ -75,7 +75,7 @@ fn push_schools(text: &mut Vec<u8>, alloc: Global, clearing: &Clearing) -> Resul
     ensures { OnOk result (text.new.items ≡ text.old.items
         ++ school_lines clearing.now.standing.papers (matching_of clearing.now.standing)) }
 {
-    let papers = clearing.papers();
+    let papers: &FlatPapers = clearing.papers();
     let rows = cutoffs(alloc, clearing)?;
     let counts = listings(alloc, papers)?;
     text.extend_from_slice(SCHOOL_HEADER)?;
@@ -90,7 +90,7 @@ fn push_schools(text: &mut Vec<u8>, alloc: Global, clearing: &Clearing) -> Resul
 }
 
 /// How many bytes the summary takes at most.
-fn room_for_summary(papers: &Papers) -> usize {
+fn room_for_summary(papers: &FlatPapers) -> usize {
     // This call tells that the papers are within their limits.
     prove!(papers.students_len() <= MOST_STUDENTS);
     RANK_HEADER.len()

@@ -98,7 +98,7 @@ set-place f i (e ∷ es) w =
     ]
 
 -- the place that a search answers
-place-found : (test : ℕ → Bool) (ks : List ℕ) (p : ℕ) → Some p ≡ position test ks → p ≡ position_or_len test ks
+pub place-found : (test : ℕ → Bool) (ks : List ℕ) (p : ℕ) → Some p ≡ position test ks → p ≡ position_or_len test ks
 place-found test ks p found =
     elim (cases_Bool (nat_lt (position_or_len test ks) (length ks))) [
       | inl within ↦ let same : Some p ≡ Some (position_or_len test ks) = rw within at found in cc

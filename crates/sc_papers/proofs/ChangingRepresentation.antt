@@ -1,84 +1,250 @@
--- The fields of the type `Papers` stay sound where a student goes, or where what they hold of a student or a school changes.
-use Rattle.std.proofs.Common.{◌≡◌, ℕ, ◌≤◌, nat_eq, Some, refl, ap, ◌∙◌}
-use Rattle.std.specs.Prelude.{position, remove, slice_set}
-use Rattle.std.specs.Map.{keys_of, remove_entry, set_value}
-use Rattle.std.proofs.lemmas.Map.{keys-set_value}
+-- The fields of the type `FlatPapers` stay sound where a student goes, or where what they hold of a student or a school changes.
+use Rattle.std.proofs.Common.{◌≡◌, ℕ, ◌≤◌, ◌+◌, nat_eq, Bool, cond, false, true, All, List, [], ◌∷◌, Option, Some, None, length, inl, inr, refl, ap, sym, ◌∙◌, arith}
+use Rattle.std.specs.Prelude.{is_some, nat_lt, position, remove, slice_set}
+use Rattle.std.specs.List.{AllByRecursion, IsDistinct, list_any}
+use Rattle.std.specs.Option.{option_map_or}
+use Rattle.std.specs.Map.{keys_of, lookup, remove_entry, set_value}
+use Rattle.std.proofs.lemmas.Bool.{cases_Bool, cond-false, eqb-true, false≢true}
+use Rattle.std.proofs.lemmas.Cmp.{nat_eq_equiv}
+use Rattle.std.proofs.lemmas.List.Elements.{All-cons, All-head, All-nil, All-tail}
+use Rattle.std.proofs.lemmas.Map.{keys-set_value, lookup-remove_entry}
+use Rattle.std.proofs.lemmas.Map.Made.{is_some-lookup}
+use Rattle.indexmap.specs.IndexMap.{index_map_len, spare}
+use Rattle.indexmap.specs.IndexSet.{remove_key}
 use Rattle.sc_lottery.specs.Draw.{draw}
-use Rattle.sc_papers.specs.Representation.{IsSound, market_of}
-use Rattle.sc_papers.specs.StudentRow.{row_of}
-use Rattle.sc_papers.specs.Verdict.{without_student}
-use Rattle.sc_papers.specs.WellFormed.{IsProper, IsShort}
-use Rattle.sc_papers.specs.declared.papers.Papers.TheInside.{Inside}
+use Rattle.sc_papers.specs.Market.{Market, is_student, student_of, students_of}
+use Rattle.sc_papers.specs.Representation.{IsSound, AreKept, AreOfStudents, market_of}
+use Rattle.sc_papers.specs.StudentRow.{positions_in, row_of}
+use Rattle.sc_papers.specs.Verdict.{changed_student, without_student}
+use Rattle.sc_papers.specs.WellFormed.{IsProper, IsShort, WellFormed}
+use Rattle.sc_papers.specs.declared.flat_papers.FlatPapers.TheInside.{Inside}
 use Rattle.sc_papers.specs.declared.records.School.{School}
 use Rattle.sc_papers.specs.declared.records.Student.{Student}
-use Rattle.sc_papers.proofs.Changing.{put_school, put_student, remove-found, set-found, WellFormed-put_school, WellFormed-put_student, WellFormed-without_student, WithinLimits-put_school, WithinLimits-put_student, WithinLimits-without_student}
+use Rattle.sc_papers.proofs.Changing.{is_some-set_value, put_school, put_student, remove-found, set-found, WellFormed-put_school, WellFormed-put_student, WellFormed-without_student, WithinLimits-put_school, WithinLimits-put_student, WithinLimits-without_student}
+use Rattle.sc_papers.proofs.Keys.{found-by_position}
+use Rattle.sc_papers.proofs.Representation.{IsSound-shown, KeepsOthers, Shows, kept-others, market_of-shown}
 use Rattle.sc_papers.specs.declared.seats.TheConstants.Seats.{GREATEST}
 
--- a student goes, and the row at the student's place
-pub IsSound-withdrawn : (old new : Inside) (i place : ℕ) → IsSound old
-    → new.lottery ≡ old.lottery → new.schools ≡ old.schools → new.positions ≡ old.positions → new.students.entries ≡ remove_entry (nat_eq i) old.students.entries
-    → Some place ≡ position (nat_eq i) (keys_of old.students.entries) → new.rows.items ≡ remove old.rows.items place
-    → IsSound new
-IsSound-withdrawn old new i place sound seed schools positions left found removed =
-    let after : market_of new ≡ without_student (market_of old) i = rw (seed, schools, left) refl in
-    record {
-      well_formed = rw after (WellFormed-without_student (market_of old) i sound.well_formed);
-      within_limits = rw after (WithinLimits-without_student (market_of old) i sound.within_limits);
-      positions = rw (positions, schools) sound.positions;
-      rows =
-          let before = sound.rows in
-          removed ∙ ap (λ rows. remove rows place) before
-          ∙ remove-found (λ e. row_of old.positions e.0 (draw old.lottery e.0) e.1) (nat_eq i) old.students.entries place found
-          ∙ rw (seed, positions, left) refl;
-    }
+-- the keys that a removal leaves
+keys-removed : {X : Type 0} (test : ℕ → Bool) (es : List (ℕ × X)) → remove_key test (keys_of es) ≡ keys_of (remove_entry test es)
+keys-removed test [] = refl
+keys-removed test (e ∷ es) =
+    elim (cases_Bool (test e.0)) [
+      | inl here ↦ rw here refl
+      | inr other ↦ rw other (ap (λ ks. e.0 ∷ ks) (keys-removed test es))
+    ]
+
+-- nobody's number takes nobody out
+removed-nobody : {X : Type 0} (i : ℕ) (es : List (ℕ × X)) → list_any (nat_eq i) (keys_of es) ≡ false → remove_entry (nat_eq i) es ≡ es
+removed-nobody i [] none = refl
+removed-nobody i (e ∷ es) none =
+    elim (cases_Bool (nat_eq i e.0)) [
+      | inl here ↦ let no : true ≡ false = rw here at none in cc
+      | inr other ↦ rw other (ap (λ rest. e ∷ rest) (removed-nobody i es (rw other at none)))
+    ]
+
+pub without-nobody : (m : Market) (i : ℕ) → list_any (nat_eq i) (students_of m) ≡ false → m ≡ without_student m i
+without-nobody m i none = let same = removed-nobody i m.students none in λ t. record m { students = sym same t }
+
+pub without-absent : (m : Market) (i : ℕ) → None ≡ position (nat_eq i) (students_of m) → m ≡ without_student m i
+without-absent m i none = without-nobody m i (sym (is_some-lookup (nat_eq i) m.students) ∙ found-by_position m.students i None (sym none))
+
+-- keys that differ from the first
+keys-apart : {X : Type 0} (i : ℕ) (x : X) (es : List (ℕ × X)) → IsDistinct nat_eq (keys_of ((i, x) ∷ es)) → All (λ e. nat_eq i e.0 ≡ false) es
+unfolding IsDistinct
+keys-apart {X = X} i x es differ = go es differ.0
+  where
+    go : (rest : List (ℕ × X)) → AllByRecursion (λ y. nat_eq i y ≡ false) (keys_of rest) → All (λ e. nat_eq i e.0 ≡ false) rest
+    go [] apart = All-nil (λ e. nat_eq i e.0 ≡ false)
+    go (e ∷ rest) apart = All-cons (λ (e' : ℕ × X). nat_eq i e'.0 ≡ false) e rest apart.0 (go rest apart.1)
+
+keys-rest : {X : Type 0} (e : ℕ × X) (es : List (ℕ × X)) → IsDistinct nat_eq (keys_of (e ∷ es)) → IsDistinct nat_eq (keys_of es)
+unfolding IsDistinct
+keys-rest e es differ = differ.1
+
+-- what is kept of the students who stay
+module _ (table : List (Option ℕ)) (i : ℕ) (old new : List (ℕ × List ℕ)) (others : KeepsOthers i old new) where
+  abbrev Keeps : List (ℕ × List ℕ) → ℕ × Student → Type 0
+  Keeps kept e = nat_lt 1 (length e.1.siblings) ≡ true → lookup (nat_eq e.0) kept ≡ Some (positions_in table e.1.siblings)
+
+  rest-apart : (e : ℕ × Student) (es : List (ℕ × Student)) → nat_eq i e.0 ≡ true → IsDistinct nat_eq (keys_of (e ∷ es)) → All (λ x. nat_eq i x.0 ≡ false) es
+  rest-apart (k, student) es here differ = rw (eqb-true i k here) (keys-apart k student es differ)
+
+  pub kept-removed : (es : List (ℕ × Student)) → IsDistinct nat_eq (keys_of es) → AreKept table old es → AreKept table new (remove_entry (nat_eq i) es)
+  kept-removed [] differ keeps = All-nil (Keeps new)
+  kept-removed (e ∷ es) differ keeps =
+      elim (cases_Bool (nat_eq i e.0)) [
+        | inl here ↦ rw here (kept-others table i old new others es (rest-apart e es here differ) (All-tail (Keeps old) e es keeps))
+        | inr other ↦
+            rw other (All-cons (Keeps new) e (remove_entry (nat_eq i) es) (λ more. others e.0 other ∙ All-head (Keeps old) e es keeps more)
+            (kept-removed es (keys-rest e es differ) (All-tail (Keeps old) e es keeps)))
+      ]
+
+  module _ (student : Student) (own : nat_lt 1 (length student.siblings) ≡ true → lookup (nat_eq i) new ≡ Some (positions_in table student.siblings)) where
+    pub kept-set : (es : List (ℕ × Student)) → IsDistinct nat_eq (keys_of es) → AreKept table old es → AreKept table new (set_value (nat_eq i) es student)
+    kept-set [] differ keeps = All-nil (Keeps new)
+    kept-set (e ∷ es) differ keeps =
+        elim (cases_Bool (nat_eq i e.0)) [
+          | inl here ↦
+              rw here (All-cons (Keeps new) (e.0, student) es (λ more. ap (λ k. lookup (nat_eq k) new) (sym (eqb-true i e.0 here)) ∙ own more)
+              (kept-others table i old new others es (rest-apart e es here differ) (All-tail (Keeps old) e es keeps)))
+          | inr other ↦
+              rw other (All-cons (Keeps new) e (set_value (nat_eq i) es student) (λ more. others e.0 other ∙ All-head (Keeps old) e es keeps more)
+              (kept-set es (keys-rest e es differ) (All-tail (Keeps old) e es keeps)))
+        ]
+
+-- of whom something is kept is a student who stays
+withdrawn-known : (m : Market) (i q : ℕ) → WellFormed m → (old new : List (ℕ × List ℕ)) → KeepsOthers i old new → lookup (nat_eq i) new ≡ None → AreOfStudents m old
+    → is_some (lookup (nat_eq q) new) ≡ true → is_student (without_student m i) q ≡ true
+withdrawn-known m i q well old new others gone of_students known =
+    elim (cases_Bool (nat_eq i q)) [
+      | inl same ↦
+          let none : is_some (lookup (nat_eq q) new) ≡ false = ap (λ k. is_some (lookup (nat_eq k) new)) (sym (eqb-true i q same)) ∙ ap is_some gone in
+          absurd (false≢true (sym none ∙ known))
+      | inr other ↦
+          let before : is_student m q ≡ true = of_students q (sym (ap is_some (others q other)) ∙ known) in
+          let stays : lookup (nat_eq q) (remove_entry (nat_eq i) m.students) ≡ lookup (nat_eq q) m.students =
+          lookup-remove_entry nat_eq_equiv (nat_eq i) (nat_eq_equiv.congr i) q m.students well.students_differ ∙ cond-false (nat_eq i q) None (student_of m q) other in
+          ap is_some stays ∙ before
+    ]
+
+-- and so where what the papers hold of a student changes
+put-known_student : (m : Market) (i at : ℕ) (student : Student) (q : ℕ) → Some at ≡ position (nat_eq i) (students_of m)
+    → (old new : List (ℕ × List ℕ)) → KeepsOthers i old new → AreOfStudents m old
+    → is_some (lookup (nat_eq q) new) ≡ true → is_student (put_student m i student) q ≡ true
+put-known_student m i at student q found old new others of_students known =
+    is_some-set_value q (nat_eq i) student m.students ∙ (elim (cases_Bool (nat_eq i q)) [
+      | inl same ↦ ap (is_student m) (sym (eqb-true i q same)) ∙ found-by_position m.students i (Some at) (sym found)
+      | inr other ↦ of_students q (sym (ap is_some (others q other)) ∙ known)
+    ])
+
+-- there is room for those who are left where there was before one went, and at most one of whom something was kept
+pub room-left : (found : Bool) (rows left kept stay before after : ℕ) → left + 1 ≡ rows → stay + cond found 1 0 ≡ kept → before ≤ after → rows ≤ kept + before → left ≤ stay + after
+room-left true rows left kept stay before after one fewer more room = omega (arith, one, fewer, more, room)
+room-left false rows left kept stay before after one fewer more room = omega (arith, one, fewer, more, room)
+
+-- a student goes, and with them what stands at their position
+module _ (old new : Inside) (i place : ℕ) (sound : IsSound old)
+    (seed : new.lottery ≡ old.lottery) (schools : new.schools ≡ old.schools) (positions : new.positions ≡ old.positions)
+    (left : new.numbers.keys ≡ remove_key (nat_eq i) old.numbers.keys) (found : Some place ≡ position (nat_eq i) old.numbers.keys)
+    (rows : new.rows.items ≡ remove old.rows.items place)
+    (others : KeepsOthers i old.siblings.entries new.siblings.entries) (gone : lookup (nat_eq i) new.siblings.entries ≡ None)
+    (room : length new.rows.items ≤ index_map_len new.siblings + spare new.siblings)
+  where
+    Shows-withdrawn : Shows new (without_student (market_of old) i)
+    Shows-withdrawn =
+        let m = market_of old in
+        let at : Some place ≡ position (nat_eq i) (students_of m) = found ∙ ap (position (nat_eq i)) sound.numbers in
+        record {
+          seed = seed;
+          schools = rw schools refl;
+          positions = rw positions sound.positions;
+          numbers = left ∙ ap (remove_key (nat_eq i)) sound.numbers ∙ keys-removed (nat_eq i) m.students;
+          rows =
+              rows ∙ ap (λ rs. remove rs place) sound.rows
+              ∙ remove-found (λ e. row_of old.positions e.0 (draw old.lottery e.0) e.1) (nat_eq i) m.students place at
+              ∙ rw positions refl;
+          siblings = rw positions (kept-removed old.positions i old.siblings.entries new.siblings.entries others m.students sound.well_formed.students_differ sound.siblings);
+          of_students = λ q known. withdrawn-known m i q sound.well_formed old.siblings.entries new.siblings.entries others gone sound.of_students known;
+          room = room;
+        }
+
+    pub market_of-withdrawn : market_of new ≡ without_student (market_of old) i
+    market_of-withdrawn = market_of-shown new (without_student (market_of old) i) Shows-withdrawn (WellFormed-without_student (market_of old) i sound.well_formed)
+
+    pub IsSound-withdrawn : IsSound new
+    IsSound-withdrawn =
+        IsSound-shown new (without_student (market_of old) i) Shows-withdrawn
+        (WellFormed-without_student (market_of old) i sound.well_formed) (WithinLimits-without_student (market_of old) i sound.within_limits)
+
+-- what the papers hold of a student who is in them is replaced
+pub put-known : (m : Market) (i at : ℕ) (student : Student) → position (nat_eq i) (students_of m) ≡ Some at
+    → put_student m i student ≡ changed_student m i (λ before. student)
+put-known m i at student found = go (student_of m i) refl
+  where
+    go : (o : Option Student) → student_of m i ≡ o → put_student m i student ≡ changed_student m i (λ before. student)
+    go None none = let known = found-by_position m.students i (Some at) found in cc
+    go (Some before) known = sym (ap (λ o. option_map_or (λ (x : Student). put_student m i student) o m) known)
 
 -- what the papers hold of a student changes
-pub IsSound-put_student : (old new : Inside) (i place : ℕ) (student : Student) → IsSound old → IsProper (market_of old) student → IsShort student
-    → new.lottery ≡ old.lottery → new.schools ≡ old.schools → new.positions ≡ old.positions → new.students.entries ≡ set_value (nat_eq i) old.students.entries student
-    → Some place ≡ position (nat_eq i) (keys_of old.students.entries)
-    → new.rows.items ≡ slice_set old.rows.items place (row_of old.positions i (draw old.lottery i) student)
-    → IsSound new
-IsSound-put_student old new i place student sound proper short seed schools positions put found set =
-    let after : market_of new ≡ put_student (market_of old) i student = rw (seed, schools, put) refl in
-    record {
-      well_formed = rw after (WellFormed-put_student (market_of old) i student sound.well_formed proper);
-      within_limits = rw after (WithinLimits-put_student (market_of old) i student sound.within_limits short);
-      positions = rw (positions, schools) sound.positions;
-      rows =
-          let before = sound.rows in
-          set ∙ ap (λ rows. slice_set rows place (row_of old.positions i (draw old.lottery i) student)) before
-          ∙ set-found (λ k w. row_of old.positions k (draw old.lottery k) w) i old.students.entries student place found
-          ∙ rw (seed, positions, put) refl;
-    }
+module _ (old new : Inside) (i place : ℕ) (student : Student) (sound : IsSound old) (proper : IsProper (market_of old) student) (short : IsShort student)
+    (seed : new.lottery ≡ old.lottery) (schools : new.schools ≡ old.schools) (positions : new.positions ≡ old.positions) (numbers : new.numbers ≡ old.numbers)
+    (found : Some place ≡ position (nat_eq i) (students_of (market_of old)))
+    (rows : new.rows.items ≡ slice_set old.rows.items place (row_of old.positions i (draw old.lottery i) student))
+    (others : KeepsOthers i old.siblings.entries new.siblings.entries)
+    (own : nat_lt 1 (length student.siblings) ≡ true → lookup (nat_eq i) new.siblings.entries ≡ Some (positions_in old.positions student.siblings))
+    (room : length new.rows.items ≤ index_map_len new.siblings + spare new.siblings)
+  where
+    Shows-put_student : Shows new (put_student (market_of old) i student)
+    Shows-put_student =
+        let m = market_of old in
+        record {
+          seed = seed;
+          schools = rw schools refl;
+          positions = rw positions sound.positions;
+          numbers = rw numbers (sound.numbers ∙ sym (keys-set_value (nat_eq i) m.students student));
+          rows =
+              rows ∙ ap (λ rs. slice_set rs place (row_of old.positions i (draw old.lottery i) student)) sound.rows
+              ∙ set-found (λ k w. row_of old.positions k (draw old.lottery k) w) i m.students student place found
+              ∙ rw positions refl;
+          siblings = rw positions (kept-set old.positions i old.siblings.entries new.siblings.entries others student own m.students sound.well_formed.students_differ sound.siblings);
+          of_students = λ q known. put-known_student m i place student q found old.siblings.entries new.siblings.entries others sound.of_students known;
+          room = room;
+        }
+
+    pub market_of-put_student : market_of new ≡ put_student (market_of old) i student
+    market_of-put_student = market_of-shown new (put_student (market_of old) i student) Shows-put_student (WellFormed-put_student (market_of old) i student sound.well_formed proper)
+
+    pub IsSound-put_student : IsSound new
+    IsSound-put_student =
+        IsSound-shown new (put_student (market_of old) i student) Shows-put_student
+        (WellFormed-put_student (market_of old) i student sound.well_formed proper) (WithinLimits-put_student (market_of old) i student sound.within_limits short)
 
 -- what the papers hold of a school changes
-pub IsSound-put_school : (old new : Inside) (s : ℕ) (school : School) → IsSound old → school.seats ≤ GREATEST
-    → new.lottery ≡ old.lottery → new.students ≡ old.students → new.positions ≡ old.positions → new.schools.entries ≡ set_value (nat_eq s) old.schools.entries school
-    → new.rows ≡ old.rows
-    → IsSound new
-IsSound-put_school old new s school sound seats seed students positions put rows =
-    let after : market_of new ≡ put_school (market_of old) s school = rw (seed, students, put) refl in
-    record {
-      well_formed = rw after (WellFormed-put_school (market_of old) s school sound.well_formed);
-      within_limits = rw after (WithinLimits-put_school (market_of old) s school sound.within_limits seats);
-      positions = rw (positions, put, keys-set_value (nat_eq s) old.schools.entries school) sound.positions;
-      rows = rw (rows, seed, positions, students) sound.rows;
+module _ (old new : Inside) (s : ℕ) (school : School) (sound : IsSound old) (seats : school.seats ≤ GREATEST)
+    (seed : new.lottery ≡ old.lottery) (positions : new.positions ≡ old.positions) (put : new.schools.entries ≡ set_value (nat_eq s) old.schools.entries school)
+    (numbers : new.numbers ≡ old.numbers) (rows : new.rows ≡ old.rows) (siblings : new.siblings ≡ old.siblings)
+  where
+    Shows-put_school : Shows new (put_school (market_of old) s school)
+    Shows-put_school = record {
+      seed = seed;
+      schools = put;
+      positions = rw (positions, keys-set_value (nat_eq s) old.schools.entries school) sound.positions;
+      numbers = rw numbers sound.numbers;
+      rows = rw (rows, positions) sound.rows;
+      siblings = rw (siblings, positions) sound.siblings;
+      of_students = rw siblings sound.of_students;
+      room = rw (rows, siblings) sound.room;
     }
 
--- copied fields hold the same market
-pub market_of-copied : (old new : Inside) → new.lottery ≡ old.lottery → new.schools.entries ≡ old.schools.entries → new.students.entries ≡ old.students.entries
-    → market_of new ≡ market_of old
-market_of-copied old new seed schools students = rw (seed, schools, students) refl
+    pub market_of-put_school : market_of new ≡ put_school (market_of old) s school
+    market_of-put_school = market_of-shown new (put_school (market_of old) s school) Shows-put_school (WellFormed-put_school (market_of old) s school sound.well_formed)
 
--- and are sound
-pub IsSound-copied : (old new : Inside) → IsSound old → new.lottery ≡ old.lottery → new.schools.entries ≡ old.schools.entries → new.positions ≡ old.positions
-    → new.students.entries ≡ old.students.entries → new.rows.items ≡ old.rows.items
-    → IsSound new
-IsSound-copied old new sound seed schools positions students rows =
-    let after = market_of-copied old new seed schools students in
-    record {
-      well_formed = rw after sound.well_formed;
-      within_limits = rw after sound.within_limits;
-      positions = rw (positions, schools) sound.positions;
-      rows = rw (rows, seed, positions, students) sound.rows;
+    pub IsSound-put_school : IsSound new
+    IsSound-put_school =
+        IsSound-shown new (put_school (market_of old) s school) Shows-put_school
+        (WellFormed-put_school (market_of old) s school sound.well_formed) (WithinLimits-put_school (market_of old) s school sound.within_limits seats)
+
+-- copied fields tell of the same market
+module _ (old new : Inside) (sound : IsSound old)
+    (seed : new.lottery ≡ old.lottery) (schools : new.schools.entries ≡ old.schools.entries) (positions : new.positions ≡ old.positions)
+    (numbers : new.numbers.keys ≡ old.numbers.keys) (rows : new.rows.items ≡ old.rows.items) (siblings : new.siblings.entries ≡ old.siblings.entries)
+    (room : length old.rows.items ≤ spare new.siblings)
+  where
+    Shows-copied : Shows new (market_of old)
+    Shows-copied = record {
+      seed = seed;
+      schools = schools;
+      positions = rw positions sound.positions;
+      numbers = numbers ∙ sound.numbers;
+      rows = rw positions (rows ∙ sound.rows);
+      siblings = rw (positions, siblings) sound.siblings;
+      of_students = rw siblings sound.of_students;
+      room = omega (arith, room, ap length rows);
     }
+
+    pub market_of-copied : market_of new ≡ market_of old
+    market_of-copied = market_of-shown new (market_of old) Shows-copied sound.well_formed
+
+    pub IsSound-copied : IsSound new
+    IsSound-copied = IsSound-shown new (market_of old) Shows-copied sound.well_formed sound.within_limits

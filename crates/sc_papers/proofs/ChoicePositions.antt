@@ -1,17 +1,17 @@
 -- The positions of a student's choices.
-use Rattle.std.proofs.Common.{◌≡◌, inl, inr, refl, ap, sym, ◌∙◌, ℕ, ◌+◌, ◌<◌, ◌==◌, nat_eq, true, not, cond, false, List, [], ◌∷◌, get_or, Option, Some, None, All, length, map, position, slice_get, arith}
+use Rattle.std.proofs.Common.{◌≡◌, inl, inr, refl, ap, sym, subst, ◌∙◌, ℕ, ◌+◌, ◌<◌, ◌==◌, ◌||◌, nat_eq, true, not, cond, false, List, [], ◌∷◌, get_or, Option, Some, None, All, length, map, position, slice_get, arith}
 use Rattle.std.specs.Prelude.{nat_lt, slice_index_or, unwrap_or}
-use Rattle.std.specs.List.{position_or_len}
+use Rattle.std.specs.List.{list_any, position_or_len}
 use Rattle.std.specs.Map.{lookup}
 use Rattle.std.specs.Option.{option_and_then, option_map, option_map_or}
 use Rattle.std.proofs.lemmas.Bool.{cases_eq, cond-false, cond-true, eq-eqb, le-ltb, ltb-true, ne_eqb}
 use Rattle.std.proofs.lemmas.Cmp.{nat_eq_equiv}
 use Rattle.std.proofs.lemmas.List.{length-map}
-use Rattle.std.proofs.lemmas.List.Elements.{All-head, All-tail}
+use Rattle.std.proofs.lemmas.List.Elements.{All-head, All-nil, All-tail}
 use Rattle.std.proofs.lemmas.Map.Entries.{lookup_from_place}
-use Rattle.std.proofs.lemmas.Option.{none-some, same_Some, slice_get-map, slice_get_read}
-use Rattle.sc_papers.specs.Market.{Market, choices_of, is_school, schools_of, student_at, student_of}
-use Rattle.sc_papers.specs.Representation.{rows_of}
+use Rattle.std.proofs.lemmas.Option.{get_or_from_slice_get, none-some, same_Some, slice_get-map, slice_get_read}
+use Rattle.sc_papers.specs.Market.{Market, choices_of, is_school, schools_of, siblings_of, student_at, student_of}
+use Rattle.sc_papers.specs.Representation.{AreKept, rows_of}
 use Rattle.sc_papers.specs.StudentRow.{Row, positions_in}
 use Rattle.sc_papers.specs.WellFormed.{WellFormed, IsProper}
 use Rattle.sc_papers.specs.declared.records.Student.{Student}
@@ -59,6 +59,34 @@ choices-there m table rows at row well tabled are low is =
         ap (λ (r : Row). map Some r.choices) (row-there m.seed table m.students rows at i student row are here is)
         ∙ known-places m table tabled student.choices proper.choices_known
         ∙ ap (λ o. map (place m) (option_map_or (λ (found : Student). found.choices) o [])) (sym theirs)
+
+-- what is kept of a student who has more than one sibling
+pub kept-there : (m : Market) (table : List (Option ℕ)) (kept : List (ℕ × List ℕ)) (at : ℕ) → WellFormed m → AreKept table kept m.students → at < length m.students
+    → nat_lt 1 (length (siblings_of m (student_at m at))) ≡ true → lookup (nat_eq (student_at m at)) kept ≡ Some (positions_in table (siblings_of m (student_at m at)))
+kept-there m table kept at well keeps low more =
+    go (slice_get m.students at) refl (sym (slice_get-map (λ e. e.0) m.students at) ∙ hand-there m at low)
+  where
+    go : (o : Option (ℕ × Student)) → slice_get m.students at ≡ o → option_map (λ e. e.0) o ≡ Some (student_at m at)
+        → lookup (nat_eq (student_at m at)) kept ≡ Some (positions_in table (siblings_of m (student_at m at)))
+    go None here same = cc
+    go (Some (i, student)) here same =
+        let known : lookup (nat_eq i) m.students ≡ Some student = lookup_from_place nat_eq_equiv m.students at i student well.students_differ here in
+        let own : i ≡ student_at m at = same_Some i (student_at m at) same in
+        let theirs : siblings_of m (student_at m at) ≡ student.siblings =
+        ap (λ o. option_map_or (λ (found : Student). found.siblings) o []) (ap (student_of m) (sym own) ∙ known) in
+        let entry : get_or m.students at (i, student) ≡ (i, student) = get_or_from_slice_get m.students at (i, student) (i, student) here in
+        let told = subst (λ (e : ℕ × Student). nat_lt 1 (length e.1.siblings) ≡ true → lookup (nat_eq e.0) kept ≡ Some (positions_in table e.1.siblings)) entry (keeps at (i, student) low) in
+        ap (λ k. lookup (nat_eq k) kept) (sym own) ∙ told (sym (ap (λ (list : List ℕ). nat_lt 1 (length list)) theirs) ∙ more) ∙ ap (λ list. Some (positions_in table list)) (sym theirs)
+
+-- their siblings' schools are schools of the papers
+pub siblings-known : (m : Market) (at : ℕ) → WellFormed m → at < length m.students → All (λ s. is_school m s ≡ true) (siblings_of m (student_at m at))
+siblings-known m at well low = go (student_of m (student_at m at)) refl
+  where
+    go : (o : Option Student) → student_of m (student_at m at) ≡ o → All (λ s. is_school m s ≡ true) (option_map_or (λ (found : Student). found.siblings) (student_of m (student_at m at)) [])
+    go None none = subst (λ o. All (λ s. is_school m s ≡ true) (option_map_or (λ (found : Student). found.siblings) o [])) (sym none) (All-nil (λ s. is_school m s ≡ true))
+    go (Some student) known =
+        subst (λ o. All (λ s. is_school m s ≡ true) (option_map_or (λ (found : Student). found.siblings) o [])) (sym known)
+        (All-found (IsProper m) (student_at m at) m.students student (sym known) well.students_proper).siblings_known
 
 -- the school at the position that stands at a rank is the choice of that rank
 pub choice-there : (m : Market) (choices places : List ℕ) (rank : ℕ) → map Some places ≡ map (place m) choices
@@ -123,6 +151,17 @@ choice-rank m choices places s at are found =
     let first = first-same m choices places s at are found in
     let long : length places ≡ length choices = sym (length-map places Some) ∙ ap length are ∙ length-map choices (place m) in
     λ t. cond (nat_lt (first t) (long t)) (Some (first t)) None
+
+-- so a school is among the choices exactly where its place is among theirs
+pub any-there : (m : Market) (choices places : List ℕ) (s at : ℕ) → map Some places ≡ map (place m) choices → place m s ≡ Some at
+    → list_any (λ p. p == at) places ≡ list_any (λ c. c == s) choices
+any-there m [] [] s at are found = refl
+any-there m [] (p ∷ places) s at are found = cc
+any-there m (c ∷ choices) [] s at are found = cc
+any-there m (c ∷ choices) (p ∷ places) s at are found =
+    let here : Some p ≡ place m c = cc in
+    let rest : map Some places ≡ map (place m) choices = cc in
+    λ t. choice-same m c p s at here found t || any-there m choices places s at rest found t
 
 -- a school without a place is not among the choices
 none-first : (m : Market) (choices places : List ℕ) (s : ℕ) → map Some places ≡ map (place m) choices → place m s ≡ None

@@ -9,7 +9,7 @@ use Rattle.indexmap.proofs.MapLemmas.{some_index}
 use Rattle.sc_papers.specs.Market.{Market, is_school, is_student, schools_of}
 use Rattle.sc_papers.specs.Entry.{ArePlacedOnce, MayEnterAt}
 use Rattle.sc_papers.specs.StudentRow.{positions_in}
-use Rattle.sc_papers.specs.Verdict.{first_of, objections_to_enter, objections_to_list, unknown_school, IsRefusal, unless_refused}
+use Rattle.sc_papers.specs.Verdict.{first_of, objections_to_enter, objections_to_list, unknown_school, unless_refused}
 use Rattle.sc_papers.specs.declared.limits.TheConstants.{MOST_STUDENTS}
 use Rattle.sc_papers.specs.declared.records.Student.{Student}
 use Rattle.sc_papers.specs.declared.amendment.Refusal.{Refusal}
@@ -112,10 +112,10 @@ passed-unrefused None x passed = refl
 passed-unrefused (Some refusal) x passed = cc
 
 -- and the error of one that fails is the refusal
-refused-IsRefusal : (o : Option Refusal) (r : Refusal) → Err r ≡ unless_refused o → IsRefusal o r
-refused-IsRefusal None r same = cc
-refused-IsRefusal (Some refusal) r same = cc
+refused-same : (o : Option Refusal) (r : Refusal) → Err r ≡ unless_refused o → Some r ≡ o
+refused-same None r same = cc
+refused-same (Some refusal) r same = let one : r ≡ refusal = cc in ap Some one
 
-pub failed-IsRefusal : (result : Result (Unit {0}) Refusal) (o : Option Refusal) (r : Refusal) → IsErrAnd result (λ e. e ≡ r) → Err r ≡ unless_refused o → IfErr result (IsRefusal o)
-failed-IsRefusal (Ok x) o r told same = tt
-failed-IsRefusal (Err e) o r told same = subst (IsRefusal o) (sym told) (refused-IsRefusal o r same)
+pub failed-refusal : {T : Type 0} (result : Result T Refusal) (o : Option Refusal) (r : Refusal) → IsErrAnd result (λ e. e ≡ r) → Err r ≡ unless_refused o → IfErr result (λ e. Some e ≡ o)
+failed-refusal (Ok x) o r told same = tt
+failed-refusal (Err e) o r told same = ap Some told ∙ refused-same o r same

@@ -1,42 +1,102 @@
--- What the tables of the type `Papers` hold after a change.
-use Rattle.std.proofs.Common.{◌≡◌, ℕ, nat_eq, List, Option, [], ◌∷◌, ◌++◌, refl, ap, ◌∙◌}
-use Rattle.indexmap.specs.IndexMap.{insert_entry}
-use Rattle.indexmap.proofs.CallerLemmas.{insert_entry-new}
+-- What the fields of the type `FlatPapers` tell of once a student has entered.
+use Rattle.std.proofs.Common.{◌≡◌, ◌⊎◌, ◌≤◌, ◌+◌, ℕ, nat_eq, true, false, List, [], ◌∷◌, ◌++◌, All, Some, None, length, map, take, refl, ap, sym, ◌∙◌, inl, inr}
+use Rattle.std.specs.Prelude.{is_some, nat_lt}
+use Rattle.std.proofs.lemmas.Bool.{cases_Bool, cond-false, eq-eqb, eqb-true, or_left, or_right}
+use Rattle.std.proofs.lemmas.List.Elements.{All-cons, All-nil, All-push}
+use Rattle.std.proofs.lemmas.List.Folds.{list_any-append}
+use Rattle.std.proofs.lemmas.Map.Made.{is_some-lookup}
+use Rattle.std.specs.List.{list_any}
+use Rattle.std.specs.Map.{lookup}
+use Rattle.indexmap.specs.IndexMap.{index_map_len, spare}
+use Rattle.indexmap.specs.IndexSet.{insert_key}
 use Rattle.sc_lottery.specs.Draw.{draw}
-use Rattle.sc_papers.specs.Representation.{IsSound, market_of, rows_of}
-use Rattle.sc_papers.specs.StudentRow.{row_of}
+use Rattle.sc_papers.specs.Entry.{MayEnterAt}
+use Rattle.sc_papers.specs.Market.{Market, is_student, students_of}
+use Rattle.sc_papers.specs.Representation.{IsSound, AreOfStudents, market_of}
+use Rattle.sc_papers.specs.StudentRow.{Row, positions_in, row_at, row_of}
 use Rattle.sc_papers.specs.Verdict.{with_student}
-use Rattle.sc_papers.specs.declared.papers.Papers.TheInside.{Inside}
+use Rattle.sc_papers.specs.declared.flat_papers.FlatPapers.TheInside.{Inside}
 use Rattle.sc_papers.specs.declared.records.Student.{Student}
-use Rattle.sc_papers.proofs.Entering.{MayEnter, WellFormed-with_student, WithinLimits-with_student}
+use Rattle.sc_papers.proofs.Entering.{MayEnter, WellFormed-with_student, WithinLimits-with_student, keys_of-push, list_any-keys}
+use Rattle.sc_papers.proofs.EnteringAt.{row-tabled}
+use Rattle.sc_papers.proofs.Representation.{IsSound-shown, KeepsOthers, Shows, kept-others, market_of-shown}
 
--- the rows of one student more
-rows-push : (seed : List ℕ) (table : List (Option ℕ)) (es : List (ℕ × Student)) (e : ℕ × Student) → rows_of seed table (es ++ e ∷ []) ≡ rows_of seed table es ++ row_of table e.0 (draw seed e.0) e.1 ∷ []
-rows-push seed table [] e = refl
-rows-push seed table (x ∷ es) e = ap (λ rows. row_of table x.0 (draw seed x.0) x.1 ∷ rows) (rows-push seed table es e)
+-- what stands for one student more
+map-push : {X : Type 0} (f : ℕ × Student → X) (es : List (ℕ × Student)) (e : ℕ × Student) → map f (es ++ e ∷ []) ≡ map f es ++ f e ∷ []
+map-push f [] e = refl
+map-push f (x ∷ es) e = ap (λ rest. f x ∷ rest) (map-push f es e)
 
--- a student who is new comes last
-pub market_of-entered : (old new : Inside) (i : ℕ) (student : Student) → MayEnter (market_of old) i student
-    → new.lottery ≡ old.lottery → new.schools ≡ old.schools → new.students.entries ≡ insert_entry nat_eq old.students.entries i student
-    → market_of new ≡ with_student (market_of old) i student
-market_of-entered old new i student may seed schools inserted =
-    let last = inserted ∙ insert_entry-new nat_eq old.students i student may.new in
-    rw (seed, schools, last) refl
+-- the row that is made of a student who may enter
+pub row-made : (old : Inside) (i : ℕ) (student : Student) (positions : List ℕ) → IsSound old → MayEnterAt (market_of old) i student positions
+    → (d : ℕ) (row : Row) → d ≡ draw old.lottery i → row ≡ row_at (take (length student.choices) positions) i d student
+    → row ≡ row_of old.positions i (draw old.lottery i) student
+row-made old i student positions sound may d row drawn is =
+    is ∙ ap (λ (ps : List ℕ). row_at ps i d student) (row-tabled (market_of old) old.positions sound.positions i student positions may)
+    ∙ ap (λ (x : ℕ). row_of old.positions i x student) drawn
 
--- the fields stay sound
-pub IsSound-entered : (old new : Inside) (i : ℕ) (student : Student) → IsSound old → MayEnter (market_of old) i student
-    → new.lottery ≡ old.lottery → new.schools ≡ old.schools → new.positions ≡ old.positions → new.students.entries ≡ insert_entry nat_eq old.students.entries i student
-    → new.rows.items ≡ old.rows.items ++ row_of old.positions i (draw old.lottery i) student ∷ []
-    → IsSound new
-IsSound-entered old new i student sound may seed schools positions inserted pushed =
-    let after = market_of-entered old new i student may seed schools inserted in
-    let last = inserted ∙ insert_entry-new nat_eq old.students i student may.new in
-    record {
-      well_formed = rw after (WellFormed-with_student (market_of old) i student sound.well_formed may);
-      within_limits = rw after (WithinLimits-with_student (market_of old) i student sound.within_limits may);
-      positions = rw (positions, schools) sound.positions;
-      rows =
-          let before = sound.rows in
-          pushed ∙ ap (λ rows. rows ++ row_of old.positions i (draw old.lottery i) student ∷ []) before
-          ∙ rw (seed, positions, last, rows-push old.lottery old.positions old.students.entries (i, student)) refl;
-    }
+-- who is not in the papers is none of the students
+others-differ : (i : ℕ) (es : List (ℕ × Student)) → lookup (nat_eq i) es ≡ None → All (λ e. nat_eq i e.0 ≡ false) es
+others-differ i [] none = All-nil (λ e. nat_eq i e.0 ≡ false)
+others-differ i (e ∷ es) none =
+    elim (cases_Bool (nat_eq i e.0)) [
+      | inl same ↦ let some : Some e.1 ≡ None = rw same at none in cc
+      | inr other ↦ All-cons (λ (x : ℕ × Student). nat_eq i x.0 ≡ false) e es other (others-differ i es (rw other at none))
+    ]
+
+-- of whom something is kept now is the one of whom it is kept anew, or a student of before
+of_student-put : (m : Market) (i q : ℕ) (old new : List (ℕ × List ℕ)) → KeepsOthers i old new → AreOfStudents m old
+    → is_some (lookup (nat_eq q) new) ≡ true → (nat_eq i q ≡ true) ⊎ (is_student m q ≡ true)
+of_student-put m i q old new others of_students known =
+    elim (cases_Bool (nat_eq i q)) [
+      | inl same ↦ inl same
+      | inr other ↦ inr (of_students q (sym (ap is_some (others q other)) ∙ known))
+    ]
+
+entered-known : (m : Market) (i : ℕ) (student : Student) (q : ℕ) → (nat_eq i q ≡ true) ⊎ (is_student m q ≡ true) → is_student (with_student m i student) q ≡ true
+entered-known m i student q known =
+    let among : is_student (with_student m i student) q ≡ list_any (nat_eq q) (students_of m ++ i ∷ []) =
+    is_some-lookup (nat_eq q) (m.students ++ (i, student) ∷ []) ∙ ap (list_any (nat_eq q)) (keys_of-push m.students (i, student)) in
+    among ∙ list_any-append (nat_eq q) (students_of m) (i ∷ []) ∙ (elim known [
+      | inl same ↦ or_right (list_any (nat_eq q) (students_of m)) (list_any (nat_eq q) (i ∷ [])) (or_left (nat_eq q i) false (eq-eqb q i (sym (eqb-true i q same))))
+      | inr before ↦ or_left (list_any (nat_eq q) (students_of m)) (list_any (nat_eq q) (i ∷ [])) (sym (is_some-lookup (nat_eq q) m.students) ∙ before)
+    ])
+
+module _ (old new : Inside) (i : ℕ) (student : Student) (sound : IsSound old) (may : MayEnter (market_of old) i student)
+    (seed : new.lottery ≡ old.lottery) (schools : new.schools ≡ old.schools) (positions : new.positions ≡ old.positions)
+    (inserted : new.numbers.keys ≡ insert_key nat_eq old.numbers.keys i)
+    (row : new.rows.items ≡ old.rows.items ++ row_of old.positions i (draw old.lottery i) student ∷ [])
+    (others : KeepsOthers i old.siblings.entries new.siblings.entries)
+    (own : nat_lt 1 (length student.siblings) ≡ true → lookup (nat_eq i) new.siblings.entries ≡ Some (positions_in old.positions student.siblings))
+    (room : length new.rows.items ≤ index_map_len new.siblings + spare new.siblings)
+  where
+    Shows-entered : Shows new (with_student (market_of old) i student)
+    Shows-entered =
+        let m = market_of old in
+        record {
+          seed = seed;
+          schools = rw schools refl;
+          positions = rw positions sound.positions;
+          numbers =
+              inserted ∙ ap (λ ks. insert_key nat_eq ks i) sound.numbers
+              ∙ cond-false (list_any (nat_eq i) (students_of m)) (students_of m) (students_of m ++ i ∷ []) (list_any-keys i m.students may.new)
+              ∙ sym (keys_of-push m.students (i, student));
+          rows =
+              row ∙ ap (λ rows. rows ++ row_of old.positions i (draw old.lottery i) student ∷ []) sound.rows
+              ∙ rw (positions, map-push (λ e. row_of old.positions e.0 (draw old.lottery e.0) e.1) m.students (i, student)) refl;
+          siblings = rw positions
+              (All-push (λ (e : ℕ × Student). nat_lt 1 (length e.1.siblings) ≡ true → lookup (nat_eq e.0) new.siblings.entries ≡ Some (positions_in old.positions e.1.siblings)) m.students (i, student)
+              (kept-others old.positions i old.siblings.entries new.siblings.entries others m.students (others-differ i m.students may.new) sound.siblings) own);
+          of_students = λ q known. entered-known m i student q (of_student-put m i q old.siblings.entries new.siblings.entries others sound.of_students known);
+          room = room;
+        }
+
+    -- a student who is new comes last
+    pub market_of-entered : market_of new ≡ with_student (market_of old) i student
+    market_of-entered = market_of-shown new (with_student (market_of old) i student) Shows-entered (WellFormed-with_student (market_of old) i student sound.well_formed may)
+
+    -- and the fields stay sound
+    pub IsSound-entered : IsSound new
+    IsSound-entered =
+        IsSound-shown new (with_student (market_of old) i student) Shows-entered
+        (WellFormed-with_student (market_of old) i student sound.well_formed may)
+        (WithinLimits-with_student (market_of old) i student sound.within_limits may)

@@ -1,11 +1,13 @@
 -- A student who moves in the order of entry, and back; and two who change places.
-use Rattle.std.proofs.Common.{◌≡◌, ℕ, zero, suc, ◌+◌, ◌-◌, ◌<◌, ◌≤◌, nat_eq, List, [], ◌∷◌, ◌++◌, length, take, insert, remove, slice_get, swap, Option, Some, None, IsPermutation, refl, sym, ap, subst, ◌∙◌, arith, Bool, Contains, inl, inr}
+use Rattle.std.proofs.Common.{◌≡◌, ℕ, zero, suc, ◌+◌, ◌-◌, ◌<◌, ◌≤◌, nat_eq, List, [], ◌∷◌, ◌++◌, length, take, insert, remove, slice_get, swap, Option, Some, None, IsPermutation, true, refl, sym, ap, subst, ◌∙◌, arith, Bool, Contains, inl, inr}
+use Rattle.std.specs.Prelude.{is_some, nat_lt}
 use Rattle.std.specs.Option.{option_map_or}
 use Rattle.std.specs.Map.{keys_of, lookup, remove_entry}
 use Rattle.std.specs.List.{position_or_len}
 use Rattle.std.proofs.Math.Seq.{take-append_seam}
 use Rattle.std.proofs.lemmas.Bool.{cases_Bool, cond-true, eq-eqb, eqb-true}
 use Rattle.std.proofs.lemmas.Cmp.{nat_eq_equiv}
+use Rattle.std.proofs.lemmas.List.Edits.{length-swap}
 use Rattle.std.proofs.lemmas.List.Sorted.{All-permutation, IsPermutation-insert, IsPermutation-map, IsPermutation-refl, IsPermutation-remove, IsPermutation-swap, IsPermutation-trans, length_permutation}
 use Rattle.std.proofs.lemmas.Map.{lookup-remove_entry}
 use Rattle.std.proofs.lemmas.Map.Keys.{IsDistinct-IsPermutation}
@@ -16,19 +18,20 @@ use Rattle.indexmap.proofs.ReorderLemmas.{map-swap}
 use Rattle.indexmap.proofs.SetLemmas.{map-move}
 use Rattle.sc_lottery.specs.Draw.{draw}
 use Rattle.sc_papers.specs.EntryOrder.{with_moved_student, with_swapped_students}
-use Rattle.sc_papers.specs.Market.{Market, student_of, students_of}
+use Rattle.sc_papers.specs.Market.{Market, is_student, student_of, students_of}
 use Rattle.sc_papers.specs.Reordering.{IsReordering}
 use Rattle.sc_papers.specs.Restriction.{cut, AreApart}
 use Rattle.sc_papers.specs.Representation.{IsSound, market_of}
-use Rattle.sc_papers.specs.StudentRow.{row_of}
+use Rattle.sc_papers.specs.StudentRow.{positions_in, row_of}
 use Rattle.sc_papers.specs.WellFormed.{IsProper, IsShort, WellFormed, WithinLimits}
-use Rattle.sc_papers.specs.declared.papers.Papers.TheInside.{Inside}
+use Rattle.sc_papers.specs.declared.flat_papers.FlatPapers.TheInside.{Inside}
 use Rattle.sc_papers.specs.declared.records.Student.{Student}
 use Rattle.sc_papers.specs.Verdict.{objections_to_withdraw, verdict, without_student}
 use Rattle.sc_papers.specs.declared.amendment.Amendment.TheVariants.{Withdraw}
 use Rattle.sc_papers.proofs.Entering.{IsProper-known}
 use Rattle.sc_papers.proofs.Objections.{first_of-none}
-use Rattle.sc_papers.proofs.Reordering.{choices-moved}
+use Rattle.sc_papers.proofs.Reordering.{choices-moved, lookup-reordered}
+use Rattle.sc_papers.proofs.Representation.{IsSound-shown, Shows, market_of-shown}
 use Rattle.sc_papers.proofs.TakingBack.{known-student, remove-last}
 
 -- what a move makes of an item that is there
@@ -84,47 +87,83 @@ WithinLimits-reordered m students moved within = record {
 pub WithinLimits-moved : (m : Market) (from to : ℕ) → WithinLimits m → WithinLimits (with_moved_student m from to)
 WithinLimits-moved m from to within = WithinLimits-reordered m (move_index m.students from to) (moved-items m.students from to) within
 
--- the fields of the type `Papers` stay sound where a student moves, and the student's row as far
-pub IsSound-moved : (old new : Inside) (from to : ℕ) → IsSound old
-    → new.lottery ≡ old.lottery → new.schools ≡ old.schools → new.positions ≡ old.positions → new.students.entries ≡ move_index old.students.entries from to
-    → new.rows.items ≡ move_index old.rows.items from to
-    → IsSound new
-IsSound-moved old new from to sound seed schools positions students rows =
-    let after : market_of new ≡ with_moved_student (market_of old) from to = rw (seed, schools, students) refl in
-    record {
-      well_formed = rw after (WellFormed-moved (market_of old) from to sound.well_formed);
-      within_limits = rw after (WithinLimits-moved (market_of old) from to sound.within_limits);
-      positions = rw (positions, schools) sound.positions;
-      rows =
-          let before = sound.rows in
-          rows ∙ ap (λ rs. move_index rs from to) before
-          ∙ sym (map-move (λ (e : ℕ × Student). row_of old.positions e.0 (draw old.lottery e.0) e.1) old.students.entries from to)
-          ∙ rw (seed, positions, students) refl;
-    }
+-- what is kept of a student
+abbrev Keeps : Inside → ℕ × Student → Type 0
+Keeps p e = nat_lt 1 (length e.1.siblings) ≡ true → lookup (nat_eq e.0) p.siblings.entries ≡ Some (positions_in p.positions e.1.siblings)
+
+-- the same students are known
+moved-known : (m : Market) (students : List (ℕ × Student)) (q : ℕ) → IsPermutation m.students students → WellFormed m → is_student m q ≡ true → is_student (reordered m students) q ≡ true
+moved-known m students q moved well known =
+    ap is_some (lookup-reordered m.students students moved well.students_differ q) ∙ known
+
+-- the fields of the type `FlatPapers` stay sound where a student moves, and what stands at their position as far
+module _ (old new : Inside) (from to : ℕ) (sound : IsSound old)
+    (seed : new.lottery ≡ old.lottery) (schools : new.schools ≡ old.schools) (positions : new.positions ≡ old.positions)
+    (numbers : new.numbers.keys ≡ move_index old.numbers.keys from to)
+    (rows : new.rows.items ≡ move_index old.rows.items from to) (siblings : new.siblings ≡ old.siblings)
+  where
+    Shows-moved : Shows new (with_moved_student (market_of old) from to)
+    Shows-moved =
+        let m = market_of old in
+        record {
+          seed = seed;
+          schools = rw schools refl;
+          positions = rw positions sound.positions;
+          numbers = numbers ∙ ap (λ ks. move_index ks from to) sound.numbers ∙ sym (map-move (λ (e : ℕ × Student). e.0) m.students from to);
+          rows =
+              rows ∙ ap (λ rs. move_index rs from to) sound.rows
+              ∙ sym (map-move (λ (e : ℕ × Student). row_of old.positions e.0 (draw old.lottery e.0) e.1) m.students from to)
+              ∙ rw positions refl;
+          siblings = rw (positions, siblings) (All-permutation (Keeps old) m.students (move_index m.students from to) (moved-items m.students from to) sound.siblings);
+          of_students = rw siblings (λ q known. moved-known m (move_index m.students from to) q (moved-items m.students from to) sound.well_formed (sound.of_students q known));
+          room = rw (siblings, rows) (let same = length_permutation old.rows.items (move_index old.rows.items from to) (moved-items old.rows.items from to) in let before = sound.room in omega arith);
+        }
+
+    pub market_of-moved : market_of new ≡ with_moved_student (market_of old) from to
+    market_of-moved = market_of-shown new (with_moved_student (market_of old) from to) Shows-moved (WellFormed-moved (market_of old) from to sound.well_formed)
+
+    pub IsSound-moved : IsSound new
+    IsSound-moved =
+        IsSound-shown new (with_moved_student (market_of old) from to) Shows-moved
+        (WellFormed-moved (market_of old) from to sound.well_formed) (WithinLimits-moved (market_of old) from to sound.within_limits)
 
 -- well-formed papers stay so where two students change places
 pub WellFormed-swapped : (m : Market) (a b : ℕ) → a < length m.students → b < length m.students → WellFormed m → WellFormed (with_swapped_students m a b)
 WellFormed-swapped m a b low high formed = WellFormed-reordered m (swap m.students a b) (IsPermutation-swap m.students (swap m.students a b) a b low high refl) formed
 
--- and the fields stay sound where their rows do so too
-pub IsSound-swapped : (old new : Inside) (a b : ℕ) → a < length old.students.entries → b < length old.students.entries → IsSound old
-    → new.lottery ≡ old.lottery → new.schools ≡ old.schools → new.positions ≡ old.positions → new.students.entries ≡ swap old.students.entries a b
-    → new.rows.items ≡ swap old.rows.items a b
-    → IsSound new
-IsSound-swapped old new a b low high sound seed schools positions students rows =
-    let m = market_of old in
-    let after : market_of new ≡ with_swapped_students m a b = rw (seed, schools, students) refl in
-    let moved = IsPermutation-swap m.students (swap m.students a b) a b low high refl in
-    record {
-      well_formed = rw after (WellFormed-swapped m a b low high sound.well_formed);
-      within_limits = rw after (WithinLimits-reordered m (swap m.students a b) moved sound.within_limits);
-      positions = rw (positions, schools) sound.positions;
-      rows =
-          let before = sound.rows in
-          rows ∙ ap (λ rs. swap rs a b) before
-          ∙ sym (map-swap (λ (e : ℕ × Student). row_of old.positions e.0 (draw old.lottery e.0) e.1) old.students.entries a b)
-          ∙ rw (seed, positions, students) refl;
-    }
+-- and the fields stay sound where what stands at their positions does so too
+module _ (old new : Inside) (a b : ℕ) (low : a < length (market_of old).students) (high : b < length (market_of old).students) (sound : IsSound old)
+    (seed : new.lottery ≡ old.lottery) (schools : new.schools ≡ old.schools) (positions : new.positions ≡ old.positions)
+    (numbers : new.numbers.keys ≡ swap old.numbers.keys a b)
+    (rows : new.rows.items ≡ swap old.rows.items a b) (siblings : new.siblings ≡ old.siblings)
+  where
+    Shows-swapped : Shows new (with_swapped_students (market_of old) a b)
+    Shows-swapped =
+        let m = market_of old in
+        let moved = IsPermutation-swap m.students (swap m.students a b) a b low high refl in
+        record {
+          seed = seed;
+          schools = rw schools refl;
+          positions = rw positions sound.positions;
+          numbers = numbers ∙ ap (λ ks. swap ks a b) sound.numbers ∙ sym (map-swap (λ (e : ℕ × Student). e.0) m.students a b);
+          rows =
+              rows ∙ ap (λ rs. swap rs a b) sound.rows
+              ∙ sym (map-swap (λ (e : ℕ × Student). row_of old.positions e.0 (draw old.lottery e.0) e.1) m.students a b)
+              ∙ rw positions refl;
+          siblings = rw (positions, siblings) (All-permutation (Keeps old) m.students (swap m.students a b) moved sound.siblings);
+          of_students = rw siblings (λ q known. moved-known m (swap m.students a b) q moved sound.well_formed (sound.of_students q known));
+          room = rw (siblings, rows) (let same = length-swap old.rows.items a b in let before = sound.room in omega arith);
+        }
+
+    pub market_of-swapped : market_of new ≡ with_swapped_students (market_of old) a b
+    market_of-swapped = market_of-shown new (with_swapped_students (market_of old) a b) Shows-swapped (WellFormed-swapped (market_of old) a b low high sound.well_formed)
+
+    pub IsSound-swapped : IsSound new
+    IsSound-swapped =
+        let m = market_of old in
+        let moved = IsPermutation-swap m.students (swap m.students a b) a b low high refl in
+        IsSound-shown new (with_swapped_students m a b) Shows-swapped
+        (WellFormed-swapped m a b low high sound.well_formed) (WithinLimits-reordered m (swap m.students a b) moved sound.within_limits)
 
 -- as many items as before
 pub length-moved : {X : Type 0} (xs : List X) (from to : ℕ) → length (move_index xs from to) ≡ length xs

@@ -4,7 +4,7 @@ use Rattle.std.specs.Prelude.{◌==◌, ◌&&◌, ◌||◌, nat_lt}
 use Rattle.std.specs.List.{slice_get, list_any}
 use Rattle.sc_lottery.specs.Draw.{draw}
 use Rattle.sc_papers.specs.Key.{class_by, has_sibling_at, same_zone, key_of, key_at}
-use Rattle.sc_papers.specs.Market.{Market, siblings_of, student_at, student_of, students_of, school_of, schools_of, seats_of, is_student, is_school}
+use Rattle.sc_papers.specs.Market.{Market, continuing_of, siblings_of, student_at, student_of, students_of, school_of, schools_of, seats_of, is_student, is_school, zone_of}
 use Rattle.sc_papers.specs.Representation.{rows_of}
 use Rattle.sc_papers.specs.StudentRow.{Row, row_of}
 use Rattle.sc_papers.specs.WellFormed.{WellFormed}
@@ -15,13 +15,14 @@ use Rattle.std.specs.Option.{option_map, option_map_or, option_and_then, option_
 use Rattle.std.proofs.lemmas.Bool.{and_right, cases_Bool, ltb-true}
 use Rattle.std.proofs.lemmas.Bool.Decides.{nat_tests}
 use Rattle.std.proofs.lemmas.Cmp.{nat_eq_equiv}
+use Rattle.std.proofs.lemmas.List.{length-map}
 use Rattle.std.proofs.lemmas.Map.Entries.{lookup_from_place}
 use Rattle.indexmap.proofs.MapLemmas.{some_index}
-use Rattle.std.proofs.lemmas.Option.{same_Some, slice_get-map, slice_get_read, slice_get_within, get_or_from_slice_get}
+use Rattle.std.proofs.lemmas.Option.{same_Some, slice_get-get_or, slice_get-map, slice_get_read, slice_get_within, get_or_from_slice_get}
 use Rattle.sc_papers.proofs.Positions.{position-there}
 
 -- the number of the entry at a place
-key-there : {X : Type 0} (es : List (ℕ × X)) (place k : ℕ) (x : X) → slice_get es place ≡ Some (k, x) → slice_get (keys_of es) place ≡ Some k
+pub key-there : {X : Type 0} (es : List (ℕ × X)) (place k : ℕ) (x : X) → slice_get es place ≡ Some (k, x) → slice_get (keys_of es) place ≡ Some k
 key-there es place k x entry = slice_get-map (λ e. e.0) es place ∙ ap (option_map (λ e. e.0)) entry
 
 -- the row that stands at the place of an entry is its student's row
@@ -92,6 +93,12 @@ number-there m table rows place are =
     go None = refl
     go (Some e) = refl
 
+-- the row of a student of the papers is read at the student's position
+pub row-indexed : (m : Market) (table : List (Option ℕ)) (rows : List Row) (place : ℕ) (row : Row) → rows ≡ rows_of m.seed table m.students
+    → place < length m.students → row ≡ get_or rows place row → slice_get rows place ≡ Some row
+row-indexed m table rows place row are low is =
+    slice_get-get_or rows place row (omega (arith, low, ap length are, length-map m.students (λ e. row_of table e.0 (draw m.seed e.0) e.1))) ∙ ap Some (sym is)
+
 -- a row at a place, and the student whose row it is
 module _ (m : Market) (table : List (Option ℕ)) (rows : List Row) (place : ℕ) (row : Row) (well : WellFormed m) (are : rows ≡ rows_of m.seed table m.students) (here : slice_get rows place ≡ Some row) where
   whose : (e : ℕ × Student) × (slice_get m.students place ≡ Some e) × (row ≡ row_of table e.0 (draw m.seed e.0) e.1)
@@ -111,7 +118,19 @@ module _ (m : Market) (table : List (Option ℕ)) (rows : List Row) (place : ℕ
   pub row-within : place < length m.students
   row-within = slice_get_within m.students place whose.0 whose.1
 
-  -- the row tells the school of the first sibling
+  -- the row tells the number
+  pub row-number : row.number ≡ student_at m place
+  row-number = ap (λ (r : Row). r.number) whose.2 ∙ sym (get_or_from_slice_get (students_of m) place whose.0.0 0 (key-there m.students place whose.0.0 whose.0.1 whose.1))
+
+  -- the zone
+  pub row-zone : row.zone ≡ zone_of m (student_at m place)
+  row-zone = ap (λ (r : Row). r.zone) whose.2 ∙ ap (λ o. option_map_or (λ (student : Student). student.zone) o 0) (sym theirs)
+
+  -- the school at which the student continues
+  pub row-continuing : row.continuing ≡ continuing_of m (student_at m place)
+  row-continuing = ap (λ (r : Row). r.continuing) whose.2 ∙ ap (λ o. option_and_then (λ (student : Student). student.continuing) o) (sym theirs)
+
+  -- the school of the first sibling
   pub row-sibling : row.sibling ≡ slice_get (siblings_of m (student_at m place)) 0
   row-sibling =
       ap (λ (r : Row). r.sibling) whose.2

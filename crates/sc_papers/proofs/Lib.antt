@@ -18,6 +18,7 @@ pub mod Counting
 pub mod Priority
 pub mod Choices
 pub mod Rejections
+pub mod Recorded
 pub mod Students
 pub mod Optimality
 pub mod Uniqueness
@@ -33,6 +34,7 @@ pub mod Existence
 pub mod Standings
 pub mod Cutting
 pub mod Reordering
+pub mod Representation
 pub mod Locality
 pub mod Amending
 pub mod Unobjected

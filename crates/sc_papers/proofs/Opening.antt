@@ -1,5 +1,5 @@
 -- A school that may be added leaves the papers well-formed and within their limits.
-use Rattle.std.proofs.Common.{◌≡◌, ℕ, ◌<◌, ◌≤◌, nat_eq, false, List, Option, [], ◌∷◌, ◌++◌, length, None, Some, cond, position, refl, sym, ap, ◌∙◌, arith, length-append}
+use Rattle.std.proofs.Common.{◌≡◌, Option, ℕ, ◌<◌, ◌≤◌, nat_eq, false, List, [], ◌∷◌, ◌++◌, length, map, None, Some, cond, position, refl, sym, ap, ◌∙◌, arith, length-append}
 use Rattle.std.proofs.lemmas.Map.Entries.{length-keys_of}
 use Rattle.std.specs.Prelude.{nat_lt, nat_le, slice_index_or}
 use Rattle.std.specs.Map.{lookup}
@@ -9,17 +9,20 @@ use Rattle.std.proofs.lemmas.Bool.Decides.{nat_tests}
 use Rattle.std.proofs.lemmas.Cmp.{nat_eq_equiv}
 use Rattle.std.proofs.lemmas.List.Elements.{All-push}
 use Rattle.std.proofs.lemmas.Map.Keys.{IsDistinct-push}
-use Rattle.sc_papers.specs.Representation.{IsSound, market_of, rows_of}
+use Rattle.sc_lottery.specs.Draw.{draw}
+use Rattle.sc_papers.specs.Representation.{IsSound, AreKept, market_of}
+use Rattle.sc_papers.specs.StudentRow.{row_of}
 use Rattle.sc_papers.specs.Market.{Market, is_school, schools_of}
 use Rattle.sc_papers.specs.Verdict.{refuse_if, school_verdict, with_school}
 use Rattle.sc_papers.specs.WellFormed.{WellFormed, WithinLimits}
-use Rattle.sc_papers.specs.declared.papers.Papers.TheInside.{Inside}
+use Rattle.sc_papers.specs.declared.flat_papers.FlatPapers.TheInside.{Inside}
 use Rattle.sc_papers.specs.declared.records.School.{School}
 use Rattle.sc_papers.specs.declared.records.Student.{Student}
 use Rattle.sc_papers.specs.declared.school_refusal.SchoolRefusal.TheVariants.{SchoolExists, TooManySchools, SchoolsClosed}
 use Rattle.sc_papers.proofs.Objections.{first_of-none, refuse_if-none}
 use Rattle.sc_papers.proofs.Entering.{is_some-false, keys_of-push, list_any-keys}
 use Rattle.sc_papers.proofs.Positions.{position-push}
+use Rattle.sc_papers.proofs.Representation.{IsSound-shown, Shows, market_of-shown}
 use Rattle.sc_papers.specs.declared.limits.TheConstants.{MOST_SCHOOLS}
 use Rattle.sc_papers.specs.declared.seats.TheConstants.Seats.{GREATEST}
 
@@ -64,34 +67,46 @@ WithinLimits-with_school m s school within may seats = record {
   lists = within.lists;
 }
 
--- where there are no students there are no rows
-rows-none : (seed : List ℕ) (before after : List (Option ℕ)) (es : List (ℕ × Student)) → length es ≡ 0 → rows_of seed before es ≡ rows_of seed after es
-rows-none seed before after [] none = refl
-rows-none seed before after (e ∷ es) none = absurd (omega (arith, none))
+-- where there are no students nothing stands for any
+none-listed : {X : Type 0} (before after : ℕ × Student → X) (es : List (ℕ × Student)) → length es ≡ 0 → map before es ≡ map after es
+none-listed before after [] none = refl
+none-listed before after (e ∷ es) none = absurd (omega (arith, none))
 
--- a school that is new comes last
-pub market_of-opened : (old new : Inside) (s : ℕ) (school : School) → MayOpen (market_of old) s
-    → new.lottery ≡ old.lottery → new.students ≡ old.students → new.schools.entries ≡ insert_entry nat_eq old.schools.entries s school
-    → market_of new ≡ with_school (market_of old) s school
-market_of-opened old new s school may seed students inserted =
-    let last = inserted ∙ insert_entry-new nat_eq old.schools s school may.new in
-    rw (seed, students, last) refl
+nothing-kept : (kept : List (ℕ × List ℕ)) (table : List (Option ℕ)) (es : List (ℕ × Student)) → length es ≡ 0 → AreKept table kept es
+nothing-kept kept table es none = λ k d low. absurd (omega (arith, none, low))
 
--- the fields stay sound
-pub IsSound-opened : (old new : Inside) (s : ℕ) (school : School) → IsSound old → MayOpen (market_of old) s → school.seats ≤ GREATEST
-    → new.lottery ≡ old.lottery → new.students ≡ old.students → new.schools.entries ≡ insert_entry nat_eq old.schools.entries s school
-    → ((k : ℕ) → slice_index_or new.positions k None ≡ cond (nat_eq k s) (Some (length old.schools.entries)) (slice_index_or old.positions k None))
-    → new.rows ≡ old.rows
-    → IsSound new
-IsSound-opened old new s school sound may seats seed students inserted put rows =
-    let after = market_of-opened old new s school may seed students inserted in
-    let keys : schools_of (market_of new) ≡ schools_of (market_of old) ++ s ∷ [] = ap schools_of after ∙ keys_of-push old.schools.entries (s, school) in
-    record {
-      well_formed = rw after (WellFormed-with_school (market_of old) s school sound.well_formed may);
-      within_limits = rw after (WithinLimits-with_school (market_of old) s school sound.within_limits may seats);
-      positions = λ k.
-          put k ∙ ap (λ (n : ℕ). cond (nat_eq k s) (Some n) (slice_index_or old.positions k None)) (sym (length-keys_of old.schools.entries))
-          ∙ ap (cond (nat_eq k s) (Some (length (schools_of (market_of old))))) (sound.positions k)
-          ∙ sym (ap (position (nat_eq k)) keys ∙ position-push (schools_of (market_of old)) s k (list_any-keys s old.schools.entries may.new));
-      rows = let before = sound.rows in rw (rows, seed, students) (before ∙ rows-none old.lottery old.positions new.positions old.students.entries may.early);
-    }
+module _ (old new : Inside) (s : ℕ) (school : School) (sound : IsSound old) (may : MayOpen (market_of old) s) (seats : school.seats ≤ GREATEST)
+    (seed : new.lottery ≡ old.lottery) (inserted : new.schools.entries ≡ insert_entry nat_eq old.schools.entries s school)
+    (put : (k : ℕ) → slice_index_or new.positions k None ≡ cond (nat_eq k s) (Some (length old.schools.entries)) (slice_index_or old.positions k None))
+    (numbers : new.numbers ≡ old.numbers) (rows : new.rows ≡ old.rows) (siblings : new.siblings ≡ old.siblings)
+  where
+    Shows-opened : Shows new (with_school (market_of old) s school)
+    Shows-opened =
+        let m = market_of old in
+        let keys : schools_of (with_school m s school) ≡ schools_of m ++ s ∷ [] = keys_of-push old.schools.entries (s, school) in
+        record {
+          seed = seed;
+          schools = inserted ∙ insert_entry-new nat_eq old.schools s school may.new;
+          positions = λ k.
+              put k ∙ ap (λ (n : ℕ). cond (nat_eq k s) (Some n) (slice_index_or old.positions k None)) (sym (length-keys_of old.schools.entries))
+              ∙ ap (cond (nat_eq k s) (Some (length (schools_of m)))) (sound.positions k)
+              ∙ sym (ap (position (nat_eq k)) keys ∙ position-push (schools_of m) s k (list_any-keys s old.schools.entries may.new));
+          numbers = rw numbers sound.numbers;
+          rows =
+              ap (λ rs. rs.items) rows ∙ sound.rows
+              ∙ none-listed (λ e. row_of old.positions e.0 (draw old.lottery e.0) e.1) (λ e. row_of new.positions e.0 (draw old.lottery e.0) e.1) m.students may.early;
+          siblings = rw siblings (nothing-kept old.siblings.entries new.positions m.students may.early);
+          of_students = rw siblings sound.of_students;
+          room = rw (rows, siblings) sound.room;
+        }
+
+    -- a school that is new comes last
+    pub market_of-opened : market_of new ≡ with_school (market_of old) s school
+    market_of-opened = market_of-shown new (with_school (market_of old) s school) Shows-opened (WellFormed-with_school (market_of old) s school sound.well_formed may)
+
+    -- and the fields stay sound
+    pub IsSound-opened : IsSound new
+    IsSound-opened =
+        IsSound-shown new (with_school (market_of old) s school) Shows-opened
+        (WellFormed-with_school (market_of old) s school sound.well_formed may)
+        (WithinLimits-with_school (market_of old) s school sound.within_limits may seats)

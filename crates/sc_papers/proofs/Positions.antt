@@ -74,6 +74,11 @@ place-position m well k i here =
     let (at, found) = student-position m i (among-student m i (contains-at (students_of m) k i here)) in
     found ∙ ap Some (one-place (students_of m) at k i well.students_differ (position-there (students_of m) i at found) here)
 
+pub school-place_position : (m : Market) → WellFormed m → (k s : ℕ) → slice_get (schools_of m) k ≡ Some s → position (nat_eq s) (schools_of m) ≡ Some k
+school-place_position m well k s here =
+    let (at, found) = school-position m s (among-school m s (contains-at (schools_of m) k s here)) in
+    found ∙ ap Some (one-place (schools_of m) at k s well.schools_differ (position-there (schools_of m) s at found) here)
+
 -- in a list without the number, no place passes
 position-none : (xs : List ℕ) (s : ℕ) → list_any (nat_eq s) xs ≡ false → position_or_len (nat_eq s) xs ≡ length xs
 position-none [] s none = refl

@@ -57,7 +57,7 @@ optimal-same {m} {n} same a optimal = record {
 }
 
 -- a look-up in entries that change places
-lookup-reordered : {X : Type 0} (es fs : List (ℕ × X)) → IsPermutation es fs → IsDistinct nat_eq (keys_of es) → (i : ℕ) → lookup (nat_eq i) fs ≡ lookup (nat_eq i) es
+pub lookup-reordered : {X : Type 0} (es fs : List (ℕ × X)) → IsPermutation es fs → IsDistinct nat_eq (keys_of es) → (i : ℕ) → lookup (nat_eq i) fs ≡ lookup (nat_eq i) es
 lookup-reordered es fs moved distinct i =
     lookup_permutation nat_eq_equiv es fs moved (IsDistinct-IsPermutation nat_eq nat_eq_equiv.symm (keys_of es) (keys_of fs) (IsPermutation-map (λ e. e.0) es fs moved) distinct) (nat_eq i)
     (λ x y same. ap (λ j. nat_eq j y) (eqb-true i x same))

@@ -15,6 +15,7 @@ pub mod Log
 pub mod Restriction
 pub mod Chain
 pub mod Progress
+pub mod Records
 pub mod Reordering
 pub mod EntryOrder
 pub mod Interleaving

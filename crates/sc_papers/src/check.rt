@@ -2,14 +2,14 @@
 
 ghost use Rattle.std.specs.Prelude.{◌≡◌, [], not, None, find};
 ghost use Rattle.std.specs.Bool.{OnTrue};
-ghost use Rattle.sc_papers.specs.Market.{is_school, seats_of};
+ghost use Rattle.sc_papers.specs.Market.{is_school, is_student, seats_of};
 ghost use Rattle.sc_papers.specs.Verdict.{first_of, first_repeat, no_choices, objections_to_add, objections_to_close, objections_to_correct, objections_to_enter, objections_to_list, objections_to_rerank, objections_to_withdraw, too_long, twice_in, unknown_in, unknown_school, unknown_student, unless_refused, verdict};
 
 use crate::amendment::{Amendment, Refusal};
 use crate::count::Count;
+use crate::flat_papers::FlatPapers;
 use crate::limits::{LONGEST_LIST, MOST_STUDENTS};
 use crate::marks::{MARKS, has_come, mark_of};
-use crate::papers::Papers;
 use crate::school_no::SchoolNo;
 use crate::seats::Seats;
 use sc_lottery::StudentNumber;
@@ -29,14 +29,21 @@ fn find_repeat(list: &[SchoolNo]) -> Option<SchoolNo>
 }
 
 /// Whether the school is in the papers.
-fn is_known(papers: &Papers, school: SchoolNo) -> bool
+fn is_known(papers: &FlatPapers, school: SchoolNo) -> bool
     ensures { result ≡ is_school papers.now school }
 {
     papers.school_position(school).is_some()
 }
 
+/// Whether the student is in the papers.
+pub(crate) fn is_student(papers: &FlatPapers, student: StudentNumber) -> bool
+    ensures { result ≡ is_student papers.now student }
+{
+    papers.student_position(student).is_some()
+}
+
 /// The first school of the list that is not in the papers.
-fn find_unknown(papers: &Papers, list: &[SchoolNo]) -> Option<SchoolNo>
+fn find_unknown(papers: &FlatPapers, list: &[SchoolNo]) -> Option<SchoolNo>
     ensures { result ≡ find (λ s. not (is_school papers.now s)) list.now }
 {
     list.iter()
@@ -62,7 +69,7 @@ fn check_some(choices: &[SchoolNo]) -> Result<(), Refusal>
     Ok(())
 }
 
-fn check_known(papers: &Papers, list: &[SchoolNo]) -> Result<(), Refusal>
+fn check_known(papers: &FlatPapers, list: &[SchoolNo]) -> Result<(), Refusal>
     ensures { result ≡ unless_refused (unknown_in papers.now list.now) }
 {
     match find_unknown(papers, list) {
@@ -72,7 +79,7 @@ fn check_known(papers: &Papers, list: &[SchoolNo]) -> Result<(), Refusal>
 }
 
 /// The test of a school that comes alone, if there is one.
-pub(crate) fn check_school(papers: &Papers, school: Option<SchoolNo>) -> Result<(), Refusal>
+pub(crate) fn check_school(papers: &FlatPapers, school: Option<SchoolNo>) -> Result<(), Refusal>
     ensures { result ≡ unless_refused (unknown_school papers.now school) }
 {
     match school {
@@ -90,17 +97,17 @@ fn check_once(list: &[SchoolNo]) -> Result<(), Refusal>
     }
 }
 
-fn check_student(papers: &Papers, student: StudentNumber) -> Result<(), Refusal>
+fn check_student(papers: &FlatPapers, student: StudentNumber) -> Result<(), Refusal>
     ensures { result ≡ unless_refused (unknown_student papers.now student) }
 {
-    if papers.student(student).is_none() {
+    if !is_student(papers, student) {
         return Err(Refusal::UnknownStudent);
     }
     Ok(())
 }
 
 /// The tests of a list that comes alone, in the order of the refusals' codes.
-fn check_list(papers: &Papers, list: &[SchoolNo]) -> Result<(), Refusal>
+fn check_list(papers: &FlatPapers, list: &[SchoolNo]) -> Result<(), Refusal>
     ensures { result ≡ unless_refused (first_of (objections_to_list papers.now list.now)) }
 {
     check_length(list)?;
@@ -110,7 +117,7 @@ fn check_list(papers: &Papers, list: &[SchoolNo]) -> Result<(), Refusal>
 }
 
 /// Whether nothing can be said against a list that comes alone.
-pub(crate) fn may_be_named(papers: &Papers, list: &[SchoolNo]) -> bool
+pub(crate) fn may_be_named(papers: &FlatPapers, list: &[SchoolNo]) -> bool
     ensures { OnTrue result (first_of (objections_to_list papers.now list.now) ≡ None) }
 {
     list.is_empty() || check_list(papers, list).is_ok()
@@ -118,7 +125,7 @@ pub(crate) fn may_be_named(papers: &Papers, list: &[SchoolNo]) -> bool
 
 /// The tests of an `Enter`, in the order of the refusals' codes.
 pub(crate) fn check_enter(
-    papers: &Papers,
+    papers: &FlatPapers,
     student: StudentNumber,
     siblings: &[SchoolNo],
     choices: &[SchoolNo],
@@ -127,7 +134,7 @@ pub(crate) fn check_enter(
     ensures { result ≡ unless_refused
         (first_of (objections_to_enter papers.now student siblings.now choices.now continuing)) }
 {
-    if papers.student(student).is_some() {
+    if is_student(papers, student) {
         return Err(Refusal::StudentExists);
     }
     check_some(choices)?;
@@ -145,7 +152,7 @@ pub(crate) fn check_enter(
 }
 
 /// The tests of a `Withdraw`.
-pub(crate) fn check_withdraw(papers: &Papers, student: StudentNumber) -> Result<(), Refusal>
+pub(crate) fn check_withdraw(papers: &FlatPapers, student: StudentNumber) -> Result<(), Refusal>
     ensures { result ≡ unless_refused (first_of (objections_to_withdraw papers.now student)) }
 {
     check_student(papers, student)?;
@@ -154,7 +161,7 @@ pub(crate) fn check_withdraw(papers: &Papers, student: StudentNumber) -> Result<
 
 /// The tests of a `Rerank`, in the order of the refusals' codes.
 pub(crate) fn check_rerank(
-    papers: &Papers,
+    papers: &FlatPapers,
     student: StudentNumber,
     choices: &[SchoolNo],
 ) -> Result<(), Refusal>
@@ -168,7 +175,7 @@ pub(crate) fn check_rerank(
 
 /// The tests of an `Add`, in the order of the refusals' codes.
 #[tactic(auto, unfolding(crate::specs::Market::seats_of))]
-pub(crate) fn check_add(papers: &Papers, school: SchoolNo, count: Count) -> Result<(), Refusal>
+pub(crate) fn check_add(papers: &FlatPapers, school: SchoolNo, count: Count) -> Result<(), Refusal>
     ensures { result ≡ unless_refused (first_of (objections_to_add papers.now school count)) }
 {
     let Some(found) = papers.school(school) else {
@@ -182,7 +189,11 @@ pub(crate) fn check_add(papers: &Papers, school: SchoolNo, count: Count) -> Resu
 
 /// The tests of a `Close`, in the order of the refusals' codes.
 #[tactic(auto, unfolding(crate::specs::Market::seats_of))]
-pub(crate) fn check_close(papers: &Papers, school: SchoolNo, count: Count) -> Result<(), Refusal>
+pub(crate) fn check_close(
+    papers: &FlatPapers,
+    school: SchoolNo,
+    count: Count,
+) -> Result<(), Refusal>
     ensures { result ≡ unless_refused (first_of (objections_to_close papers.now school count)) }
 {
     let Some(found) = papers.school(school) else {
@@ -196,7 +207,7 @@ pub(crate) fn check_close(papers: &Papers, school: SchoolNo, count: Count) -> Re
 
 /// The tests of a `Correct`, in the order of the refusals' codes.
 pub(crate) fn check_correct(
-    papers: &Papers,
+    papers: &FlatPapers,
     student: StudentNumber,
     siblings: &[SchoolNo],
     continuing: Option<SchoolNo>,
@@ -211,7 +222,7 @@ pub(crate) fn check_correct(
     Ok(())
 }
 
-impl Papers {
+impl FlatPapers {
     /// Whether the papers allow the amendment: `Ok`, or the first refusal that applies, in the order
     /// of the refusals' codes. It takes no memory, and costs the lengths of the lists, a look-up
     /// for each school named.

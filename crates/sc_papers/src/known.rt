@@ -1,30 +1,14 @@
 //! What the papers hold of students and schools that are known to be in them.
 
-ghost use Rattle.std.specs.Prelude.{◌≡◌, ◌<◌, ◌≤◌, true, length, position, nat_eq, Some};
+ghost use Rattle.std.specs.Prelude.{◌≡◌, ◌<◌, true, length, position, nat_eq, Some};
 ghost use Rattle.sc_papers.specs.Key.{key_of};
-ghost use Rattle.sc_papers.specs.Market.{choices_of, is_school, schools_of, student_at};
+ghost use Rattle.sc_papers.specs.Market.{is_school, schools_of, student_at};
 
+use crate::flat_papers::FlatPapers;
 use crate::key::Key;
-use crate::limits::{LONGEST_LIST, MOST_STUDENTS};
-use crate::papers::Papers;
 use crate::school_no::SchoolNo;
 
-impl Papers {
-    /// The choices, best first, of the student at a position of the order of entry, from 0. In constant
-    /// time, without a look-up by number.
-    pub fn choices_at(&self, student: usize) -> &[SchoolNo]
-        requires { student < length self.now.students }
-        ensures choices { result.now ≡ choices_of self.now (student_at self.now student) }
-        ensures short { length result.now ≤ LONGEST_LIST }
-    {
-        // This call tells that the papers are within their limits, and so are their lists.
-        prove!(self.students_len() <= MOST_STUDENTS);
-        let Some(record) = self.record_at(student) else {
-            unreachable!()
-        };
-        record.choices.as_slice()
-    }
-
+impl FlatPapers {
     /// The position of a school of the papers, and the key at it of the student at a position, both of
     /// the orders of entry and from 0. The student need not list the school. In constant time, with one
     /// look-up by number; no draw is made.

@@ -1,37 +1,39 @@
-//! Papers: the schools, the students and the seed of one school choice.
+//! Papers whose students' records are kept, so that they can be lent and amended.
 
-ghost use Rattle.std.specs.Prelude.{◌≡◌, IfOk};
+ghost use Rattle.std.specs.Prelude.{◌≡◌, ◌+◌, ◌-◌, ◌<◌, ◌≤◌, [], length, slice_get, IfOk, IfErr, OnOk, OnErr, None};
+ghost use Rattle.std.specs.Option.{option_and_then, option_copied};
+ghost use Rattle.sc_papers.specs.Entry.{MayEnterAt};
+ghost use Rattle.sc_papers.specs.Market.{choices_of, continuing_of, seats_of, siblings_of, student_at, student_of, students_of, zone_of};
+ghost use Rattle.sc_papers.specs.Verdict.{first_of, objections_to_add, objections_to_close, objections_to_correct, objections_to_enter, objections_to_rerank, school_verdict, with_choices, with_circumstances, with_school, with_seats, with_student, without_student, IsRefusal, IsSchoolRefusal};
+ghost use Rattle.sc_papers.specs.EntryOrder.{with_moved_student, with_swapped_students};
 
-mod amending;
-mod entering;
-mod keys;
-mod order;
-
-use crate::records::{School, Student};
+use crate::amendment::Refusal;
+use crate::count::Count;
+use crate::flat_papers::FlatPapers;
+use crate::flat_papers::order::{move_item, swap_items};
+use crate::limits::{LONGEST_LIST, MOST_STUDENTS};
+use crate::recording::{records_of, replace_circumstances};
+use crate::records::Student;
+use crate::school_list::SchoolList;
 use crate::school_no::SchoolNo;
-use crate::school_positions::SchoolPositions;
+use crate::school_refusal::SchoolRefusal;
 use crate::seats::Seats;
-use crate::seeded_hash::SeededHash;
-use crate::student_row::StudentRow;
-use indexmap::IndexMap;
-use sc_lottery::{Draws, Seed, StudentNumber};
+use crate::zone::Zone;
+use sc_lottery::{Seed, StudentNumber};
 use std::alloc::{AllocError, Global};
 use std::marker::Model;
+use std::mem;
+use std::ops::Deref;
 
-/// The schools and the students of one school choice, and the seed of its lottery.
+/// The schools and the students of one school choice, and the seed of its lottery, with a record of each student that
+/// can be lent and amended.
 ///
-/// Look-ups by number and by position take constant time.
+/// What needs no record is asked of the flat papers that they hold, which a call on these reaches by itself.
 #[derive(Drop)]
 pub struct Papers {
-    // The seed's draws, read where the last student who entered left them.
-    lottery: Draws,
-    schools: IndexMap<SchoolNo, School, SeededHash>,
-    // Where each school stands in `schools`, so that a look-up by number hashes nothing.
-    positions: SchoolPositions,
-    students: IndexMap<StudentNumber, Student, SeededHash>,
-    // What a proposal reads of each student, in order of entry: so a key costs no block of the cipher, nor a read
-    // of `students` where there is one sibling at most, and a choice no look-up.
-    rows: Vec<StudentRow>,
+    flat: FlatPapers,
+    // In order of entry.
+    records: Vec<Student>,
 }
 
 impl Model for Papers {
@@ -39,42 +41,31 @@ impl Model for Papers {
 
     ghost Value = { Market };
 
-    ghost use Rattle.sc_papers.specs.Representation.{market_of, IsSound};
+    ghost use Rattle.sc_papers.specs.Records.{AreRecords};
 
-    ghost view = { market_of };
+    ghost view = { λ p. p.flat };
 
-    ghost invariant = { IsSound };
+    ghost invariant = { λ p. AreRecords p.flat p.records.items };
 }
 
-fn copy_rows(rows: &Vec<StudentRow>) -> Result<Vec<StudentRow>, AllocError>
-    ensures { IfOk result (λ copy. copy.items ≡ rows.now.items) }
-{
-    rows.clone()
+impl Deref for Papers {
+    type Target = FlatPapers;
+
+    /// The same papers, without their records.
+    fn deref(&self) -> &FlatPapers
+        ensures { result.now ≡ self.now }
+    {
+        &self.flat
+    }
 }
 
-fn copy_schools(
-    schools: &IndexMap<SchoolNo, School, SeededHash>,
-) -> Result<IndexMap<SchoolNo, School, SeededHash>, AllocError>
-    ensures { IfOk result (λ copy. copy.entries ≡ schools.now.entries) }
+fn copy_records(records: &Vec<Student>) -> Result<Vec<Student>, AllocError>
+    ensures { IfOk result (λ copy. copy.items ≡ records.now.items) }
 {
-    schools.clone()
-}
-
-fn copy_students(
-    students: &IndexMap<StudentNumber, Student, SeededHash>,
-) -> Result<IndexMap<StudentNumber, Student, SeededHash>, AllocError>
-    ensures { IfOk result (λ copy. copy.entries ≡ students.now.entries) }
-{
-    students.clone()
+    records.clone()
 }
 
 impl Papers {
-    ghost use Rattle.std.specs.Prelude.{◌≡◌, ◌<◌, [], length, map, slice_get, position, nat_eq, Some, IfOk};
-    ghost use Rattle.std.specs.Option.{option_and_then, option_copied, option_map};
-    ghost use Rattle.sc_lottery.specs.Draw.{draw};
-    ghost use Rattle.sc_papers.specs.Market.{choices_of, school_of, student_at, student_of, schools_of, students_of, seats_of};
-    ghost use Rattle.sc_papers.specs.WellFormed.{WellFormed, WithinLimits};
-
     /// Papers with this seed, no schools and no students. It takes no memory.
     pub fn new(alloc: Global, seed: Seed) -> Self
         ensures seed { result.seed ≡ seed }
@@ -82,11 +73,22 @@ impl Papers {
         ensures students { result.students ≡ [] }
     {
         Papers {
-            lottery: Draws::new(seed),
-            schools: IndexMap::with_hasher(alloc, SeededHash::new(seed)),
-            positions: SchoolPositions::new(alloc),
-            students: IndexMap::with_hasher(alloc, SeededHash::new(seed)),
-            rows: Vec::new(alloc),
+            flat: FlatPapers::new(alloc, seed),
+            records: Vec::new(alloc),
+        }
+    }
+
+    /// Papers that hold a record of each student of flat ones. The only error is want of memory, after which the flat
+    /// papers are given up. The cost is one pass over the students and their lists.
+    pub fn from_flat(flat: FlatPapers) -> Result<Self, AllocError>
+        ensures { IfOk result (λ papers. papers ≡ flat) }
+    {
+        match records_of(&flat) {
+            Ok(records) => Ok(Papers { flat, records }),
+            Err(refused) => {
+                drop(flat);
+                Err(refused)
+            }
         }
     }
 
@@ -95,59 +97,15 @@ impl Papers {
     pub fn copy(&self) -> Result<Self, AllocError>
         ensures { IfOk result (λ copy. copy ≡ self.now) }
     {
-        // The students come last, so that no error has to let them go.
-        let rows = copy_rows(&self.rows)?;
-        let positions = self.positions.copy()?;
-        let schools = copy_schools(&self.schools)?;
-        let students = copy_students(&self.students)?;
-        Ok(Papers {
-            lottery: Draws::new(self.lottery.seed()),
-            schools,
-            positions,
-            students,
-            rows,
-        })
-    }
-
-    /// The seed of the lottery.
-    pub fn seed(&self) -> Seed
-        ensures { result ≡ self.now.seed }
-    {
-        self.lottery.seed()
-    }
-
-    /// How many schools there are.
-    pub fn schools_len(&self) -> usize
-        ensures { result ≡ length self.now.schools }
-    {
-        self.schools.len()
-    }
-
-    /// How many students there are. Papers are always well-formed and within their limits, and this
-    /// call tells its callers so.
-    pub fn students_len(&self) -> usize
-        ensures count { result ≡ length self.now.students }
-        ensures well_formed { WellFormed self.now }
-        ensures within_limits { WithinLimits self.now }
-    {
-        self.students.len()
-    }
-
-    /// What the papers hold of a school, or `None` where it is not in them. In constant time.
-    pub fn school(&self, school: SchoolNo) -> Option<School>
-        ensures { result ≡ school_of self.now school }
-    {
-        let position = self.school_position(school)?;
-        let (_, found) = self.schools.get_index(position)?;
-        Some(*found)
-    }
-
-    /// How many seats a school has: none where it is not in the papers. In constant time.
-    #[tactic(auto, unfolding(crate::specs::Market::seats_of))]
-    pub fn seats_of(&self, school: SchoolNo) -> Seats
-        ensures { result ≡ seats_of self.now school }
-    {
-        self.school(school).map_or(Seats::NONE, |found| found.seats)
+        // The records come last, so that no error has to let them go.
+        let flat = self.flat.copy()?;
+        match copy_records(&self.records) {
+            Ok(records) => Ok(Papers { flat, records }),
+            Err(refused) => {
+                drop(flat);
+                Err(refused)
+            }
+        }
     }
 
     /// What the papers hold of a student, or `None` where the student is not in them. In constant
@@ -155,40 +113,8 @@ impl Papers {
     pub fn student(&self, student: StudentNumber) -> Option<&Student>
         ensures { option_copied result ≡ student_of self.now student }
     {
-        self.students.get(&student)
-    }
-
-    /// The school at a position of the order of entry, from 0. In constant time.
-    pub fn school_at(&self, position: usize) -> Option<SchoolNo>
-        ensures { result ≡ slice_get (schools_of self.now) position }
-    {
-        self.schools.get_index(position).map(|(school, _)| *school)
-    }
-
-    /// The seats of the school at a position of the order of entry, from 0, or `None` past the last one. In constant
-    /// time, without a look-up by number.
-    pub fn seats_at(&self, position: usize) -> Option<Seats>
-        ensures { result ≡ option_map (seats_of self.now) (slice_get (schools_of self.now) position) }
-    {
-        let (_, school) = self.schools.get_index(position)?;
-        Some(school.seats)
-    }
-
-    /// The student at a position of the order of entry, from 0. In constant time.
-    pub fn student_at(&self, position: usize) -> Option<StudentNumber>
-        ensures { result ≡ slice_get (students_of self.now) position }
-    {
-        let row = self.rows.get(position)?;
-        Some(row.number())
-    }
-
-    /// The draw of the student at a position of the order of entry, from 0, or `None` past the last one. In constant
-    /// time, without a look-up by number; no draw is made, since the papers keep it.
-    pub fn draw_at(&self, position: usize) -> Option<u64>
-        ensures { result ≡ option_map (draw self.now.seed) (slice_get (students_of self.now) position) }
-    {
-        let row = self.rows.get(position)?;
-        Some(row.draw())
+        let position = self.flat.student_position(student)?;
+        Some(&self.records[position])
     }
 
     /// What the papers hold of the student at a position of the order of entry, from 0, or `None` past
@@ -197,31 +123,180 @@ impl Papers {
         ensures { option_copied result ≡ option_and_then (student_of self.now)
             (slice_get (students_of self.now) position) }
     {
-        let (_, record) = self.students.get_index(position)?;
+        // This call tells that the papers are well-formed: no number stands twice.
+        prove!(self.flat.students_len() <= MOST_STUDENTS);
+        let record = self.records.get(position)?;
         Some(record)
     }
 
-    /// The positions of the choices' schools in their order of entry, best choice first, of the student at a
-    /// position of the order of entry, each from 0. In constant time, without a look-up by number.
-    pub fn choice_positions_at(&self, student: usize) -> &[u16]
+    /// The choices, best first, of the student at a position of the order of entry, from 0. In constant
+    /// time, without a look-up by number.
+    pub fn choices_at(&self, student: usize) -> &[SchoolNo]
         requires { student < length self.now.students }
-        ensures { map Some result.now ≡ map (λ s. position (nat_eq s) (schools_of self.now))
-            (choices_of self.now (student_at self.now student)) }
+        ensures choices { result.now ≡ choices_of self.now (student_at self.now student) }
+        ensures short { length result.now ≤ LONGEST_LIST }
     {
-        self.rows[student].choices()
+        // This call tells that the papers are within their limits, and so are their lists.
+        prove!(self.flat.students_len() <= MOST_STUDENTS);
+        let Some(record) = self.record_at(student) else {
+            unreachable!()
+        };
+        record.choices.as_slice()
     }
 
-    /// A school's position in the order of entry. In constant time.
-    pub fn school_position(&self, school: SchoolNo) -> Option<usize>
-        ensures { result ≡ position (nat_eq school) (schools_of self.now) }
+    /// Adds a school last, or answers the first refusal that applies: `SchoolExists`,
+    /// `TooManySchools` where there are 5,000, `SchoolsClosed` once a student has entered, and last
+    /// `OutOfMemory`. After a refusal the papers are as before.
+    pub fn add_school(
+        &mut self,
+        school: SchoolNo,
+        zone: Zone,
+        seats: Seats,
+    ) -> Result<(), SchoolRefusal>
+        ensures allowed { OnOk result (school_verdict self.old school ≡ None) }
+        ensures added { OnOk result (self.new ≡ with_school self.old school (record { zone = zone; seats = seats })) }
+        ensures refused { IfErr result (IsSchoolRefusal (school_verdict self.old school)) }
+        ensures unchanged { OnErr result (self.new ≡ self.old) }
     {
-        self.positions.get(school).map(usize::from)
+        self.flat.add_school(school, zone, seats)
     }
 
-    /// A student's position in the order of entry. In constant time.
-    pub fn student_position(&self, student: StudentNumber) -> Option<usize>
-        ensures { result ≡ position (nat_eq student) (students_of self.now) }
+    /// Does what `apply` does with an amendment by which the student enters, without the amendment having to be made:
+    /// puts the student last in the order of entry, or answers the first refusal that applies, as `FlatPapers::admit`
+    /// does. After a refusal the papers are as before; the student is given up.
+    pub fn admit(&mut self, number: StudentNumber, student: Student) -> Result<(), Refusal>
+        ensures allowed { OnOk result
+            (first_of (objections_to_enter self.old number student.siblings student.choices student.continuing) ≡ None) }
+        ensures entered { OnOk result (self.new ≡ with_student self.old number student) }
+        ensures refused { IfErr result (IsRefusal
+            (first_of (objections_to_enter self.old number student.siblings student.choices student.continuing))) }
+        ensures unchanged { OnErr result (self.new ≡ self.old) }
     {
-        self.students.get_index_of(&student)
+        let positions = self.flat.check_entry(number, &student)?;
+        self.put_last(number, student, positions)?;
+        Ok(())
+    }
+
+    /// Puts a student who may enter last in the order of entry. A refused growth leaves the papers as they were.
+    pub(crate) fn enter(
+        &mut self,
+        number: StudentNumber,
+        student: Student,
+    ) -> Result<(), AllocError>
+        requires { first_of (objections_to_enter self.old number student.siblings student.choices student.continuing)
+            ≡ None }
+        ensures entered { OnOk result (self.new ≡ with_student self.old number student) }
+        ensures unchanged { OnErr result (self.new ≡ self.old) }
+    {
+        let positions = self.flat.entry_positions(number, &student);
+        self.put_last(number, student, positions)
+    }
+
+    /// Puts a student who may enter, whose choices' schools stand at the first of these positions, last in the order of
+    /// entry. The growth comes first, so a refused one leaves the papers as they were.
+    fn put_last(
+        &mut self,
+        number: StudentNumber,
+        student: Student,
+        positions: [u16; 20],
+    ) -> Result<(), AllocError>
+        requires { MayEnterAt self.old number student positions }
+        ensures entered { OnOk result (self.new ≡ with_student self.old number student) }
+        ensures unchanged { OnErr result (self.new ≡ self.old) }
+    {
+        self.records.reserve(1)?;
+        self.flat.put_last(number, &student, positions)?;
+        self.records.push_reserved(student);
+        Ok(())
+    }
+
+    /// Replaces a student's choices, and answers the old ones.
+    pub(crate) fn rerank(&mut self, number: StudentNumber, choices: SchoolList) -> SchoolList
+        requires { first_of (objections_to_rerank self.old number choices) ≡ None }
+        ensures new { self.new ≡ with_choices self.old number choices }
+        ensures old { result ≡ choices_of self.old number }
+    {
+        // This call tells that the papers are well-formed and within their limits.
+        prove!(self.flat.students_len() <= MOST_STUDENTS);
+        let Some(position) = self.flat.student_position(number) else {
+            unreachable!()
+        };
+        let record = &mut self.records[position];
+        let before = mem::replace(&mut record.choices, choices);
+        self.flat.put_student(number, position, record);
+        before
+    }
+
+    /// Replaces a student's zone, siblings and the school at which the student continues, and answers the old
+    /// ones.
+    pub(crate) fn correct(
+        &mut self,
+        number: StudentNumber,
+        zone: Zone,
+        siblings: SchoolList,
+        continuing: Option<SchoolNo>,
+    ) -> (Zone, SchoolList, Option<SchoolNo>)
+        requires { first_of (objections_to_correct self.old number siblings continuing) ≡ None }
+        ensures new { self.new ≡ with_circumstances self.old number zone siblings continuing }
+        ensures old { result ≡ (zone_of self.old number, siblings_of self.old number, continuing_of self.old number) }
+    {
+        // This call tells that the papers are well-formed and within their limits.
+        prove!(self.flat.students_len() <= MOST_STUDENTS);
+        let Some(position) = self.flat.student_position(number) else {
+            unreachable!()
+        };
+        let record = &mut self.records[position];
+        let before = replace_circumstances(record, zone, siblings, continuing);
+        self.flat.put_student(number, position, record);
+        before
+    }
+
+    /// Gives a school so many seats more.
+    pub(crate) fn add_seats(&mut self, number: SchoolNo, count: Count)
+        requires { first_of (objections_to_add self.old number count) ≡ None }
+        ensures { self.new ≡ with_seats self.old number (seats_of self.old number + count) }
+    {
+        self.flat.add_seats(number, count)
+    }
+
+    /// Takes so many seats of a school away.
+    pub(crate) fn close_seats(&mut self, number: SchoolNo, count: Count)
+        requires { first_of (objections_to_close self.old number count) ≡ None }
+        ensures { self.new ≡ with_seats self.old number (seats_of self.old number - count) }
+    {
+        self.flat.close_seats(number, count)
+    }
+
+    /// Moves the student at one position of the order of entry to another one, each from 0; those between move
+    /// by one position. It takes no memory and cannot fail. The cost is that of the shift.
+    pub fn move_student(&mut self, from: usize, to: usize)
+        requires from { from < length self.old.students }
+        requires to { to < length self.old.students }
+        ensures { self.new ≡ with_moved_student self.old from to }
+    {
+        self.flat.move_student(from, to);
+        move_item(&mut self.records, from, to);
+    }
+
+    /// Changes the students at two positions of the order of entry for one another, each from 0; all others stay where
+    /// they are. It takes no memory and cannot fail. In constant time.
+    pub fn swap_students(&mut self, a: usize, b: usize)
+        requires a { a < length self.old.students }
+        requires b { b < length self.old.students }
+        ensures { self.new ≡ with_swapped_students self.old a b }
+    {
+        self.flat.swap_students(a, b);
+        swap_items(&mut self.records, a, b);
+    }
+
+    /// Removes a student, and the student's draw; the number of nobody changes nothing. The others keep their
+    /// order and their draws. It takes no memory and cannot fail. The cost is that of the shift behind the
+    /// student, and so none for the last one.
+    pub fn withdraw(&mut self, student: StudentNumber)
+        ensures { self.new ≡ without_student self.old student }
+    {
+        if let Some(position) = self.flat.withdraw(student) {
+            let _ = self.records.remove(position);
+        }
     }
 }

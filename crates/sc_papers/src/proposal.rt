@@ -5,8 +5,8 @@ ghost use Rattle.std.specs.Option.{option_map};
 ghost use Rattle.sc_papers.specs.Key.{key_of};
 ghost use Rattle.sc_papers.specs.Market.{choices_of, schools_of, student_at};
 
+use crate::flat_papers::FlatPapers;
 use crate::key::Key;
-use crate::papers::Papers;
 use crate::school_no::SchoolNo;
 
 /// One choice of a student: the school, its position in the order of entry, and the student's key there.
@@ -17,7 +17,7 @@ pub struct Proposal {
     pub key: Key,
 }
 
-impl Papers {
+impl FlatPapers {
     /// The choice at a rank, from 0, of the student at a position of the order of entry, from 0; `None` past the
     /// last choice. In constant time, without a look-up by number; no draw is made.
     #[inline]

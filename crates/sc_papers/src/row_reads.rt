@@ -3,8 +3,8 @@
 ghost use Rattle.std.specs.Prelude.{◌≡◌, ◌<◌, ◌==◌, length, position, nat_eq, slice_get};
 ghost use Rattle.sc_papers.specs.Market.{choices_of, students_of, student_at};
 
+use crate::flat_papers::FlatPapers;
 use crate::limits::MOST_STUDENTS;
-use crate::papers::Papers;
 use crate::school_no::SchoolNo;
 use sc_lottery::StudentNumber;
 
@@ -15,7 +15,7 @@ fn rank_of(positions: &[u16], at: usize) -> Option<usize>
     positions.iter().position(|other| usize::from(*other) == at)
 }
 
-impl Papers {
+impl FlatPapers {
     /// A student's position in the order of entry, from 0, or `None` where the student is not in the papers. The
     /// guess changes nothing of the answer, and any number may be one. In constant time: where the student stands at
     /// the guess, that row alone is read, and else the number is looked up.

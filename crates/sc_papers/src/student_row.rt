@@ -31,12 +31,13 @@ pub(crate) struct StudentRow {
 impl Model for StudentRow {
     ghost use Rattle.std.specs.Prelude.{◌≤◌};
     ghost use Rattle.sc_papers.specs.StudentRow.{Row, row_in};
+    ghost use Rattle.sc_papers.specs.declared.school_no.TheConstants.SchoolNo.{GREATEST};
 
     ghost Value = { Row };
 
     ghost view = { row_in };
 
-    ghost invariant = { λ r. r.count ≤ 20 };
+    ghost invariant = { λ r. (r.count ≤ 20) × (r.continuing ≤ GREATEST) × (r.sibling ≤ GREATEST) };
 }
 
 /// The positions of the schools, and zeros after the last of them.
@@ -53,7 +54,8 @@ pub(crate) fn fill_positions(table: &SchoolPositions, schools: &[SchoolNo]) -> [
 
 /// The number of a school, or 0 for none.
 fn number_or_zero(school: Option<SchoolNo>) -> u32
-    ensures { school_in result ≡ school }
+    ensures school { school_in result ≡ school }
+    ensures within { result ≤ SchoolNo.GREATEST }
 {
     match school {
         Some(school) => school.get(),
@@ -115,6 +117,20 @@ impl StudentRow {
         ensures { result ≡ self.now.zone }
     {
         self.zone
+    }
+
+    /// The school at which the student continues, if there is one.
+    pub(crate) fn continuing(&self) -> Option<SchoolNo>
+        ensures { result ≡ self.now.continuing }
+    {
+        SchoolNo::new(self.continuing)
+    }
+
+    /// The school of the first sibling, if there is one.
+    pub(crate) fn sibling(&self) -> Option<SchoolNo>
+        ensures { result ≡ self.now.sibling }
+    {
+        SchoolNo::new(self.sibling)
     }
 
     /// Whether the first sibling is at this school.

@@ -13,7 +13,7 @@ use crate::grouping::groups_among;
 use crate::members::is_member;
 use crate::reach::widen;
 use crate::school_groups::SchoolGroups;
-use sc_papers::{Amendment, MOST_STUDENTS, Papers};
+use sc_papers::{Amendment, FlatPapers, MOST_STUDENTS};
 use std::alloc::{AllocError, Global};
 
 // How many lists for each school are tried at first, to see whether they hold all schools together: of lists of twelve choices
@@ -39,7 +39,7 @@ pub(crate) fn schools_of_group(
 
 /// Puts the positions of the students of a list at the end of others; whoever is not in the papers has none.
 fn push_positions(
-    papers: &Papers,
+    papers: &FlatPapers,
     firsts: &[First],
     positions: &mut Vec<usize>,
 ) -> Result<(), AllocError>
@@ -72,7 +72,7 @@ fn rising(mut positions: Vec<usize>) -> Result<Vec<usize>, AllocError>
 /// The positions of the students who are listed at the schools at these places, rising.
 pub(crate) fn listed_at(
     alloc: Global,
-    papers: &Papers,
+    papers: &FlatPapers,
     firsts: &Vec<Vec<First>>,
     places: &[usize],
 ) -> Result<Vec<usize>, AllocError>
@@ -107,7 +107,7 @@ pub(crate) fn count_at(firsts: &Vec<Vec<First>>, places: &[usize]) -> usize
 /// The groups that the lists of the students at these positions join, and with them the new choices.
 pub(crate) fn groups_with(
     alloc: Global,
-    papers: &Papers,
+    papers: &FlatPapers,
     amendment: &Amendment,
     joined: &[usize],
 ) -> Result<Vec<usize>, AllocError>
@@ -150,7 +150,7 @@ fn first_few<'a>(places: &[usize], candidates: &'a [usize]) -> &'a [usize]
 /// the schools of a district, and then whoever has their first choice in it is in the region, and no other lists are joined.
 pub(crate) fn few_hold_together(
     alloc: Global,
-    papers: &Papers,
+    papers: &FlatPapers,
     places: &[usize],
     place: usize,
     candidates: &[usize],
@@ -168,7 +168,7 @@ pub(crate) fn few_hold_together(
 /// Of these positions, those of the students whose first choice is in a group.
 pub(crate) fn positions_in(
     alloc: Global,
-    papers: &Papers,
+    papers: &FlatPapers,
     groups: &[usize],
     group: usize,
     candidates: &[usize],

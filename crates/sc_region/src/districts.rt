@@ -16,7 +16,7 @@ use crate::members::positions_of;
 use crate::reach::{
     are_one, first_choice, groups_of_few, new_choices, region_groups, start_of, widen,
 };
-use sc_papers::{Amendment, MOST_STUDENTS, Papers, StudentNo};
+use sc_papers::{Amendment, FlatPapers, MOST_STUDENTS, StudentNo};
 use std::alloc::{AllocError, Global};
 use std::marker::Model;
 
@@ -69,7 +69,7 @@ fn put(firsts: &mut Vec<Vec<First>>, place: usize, first: First) -> Result<(), A
 }
 
 /// For each school, the students whose first choice it is.
-fn firsts_of(alloc: Global, papers: &Papers) -> Result<Vec<Vec<First>>, AllocError>
+fn firsts_of(alloc: Global, papers: &FlatPapers) -> Result<Vec<Vec<First>>, AllocError>
     ensures one_each { IfOk result (λ firsts. length firsts.items ≡ length (schools_of papers.now)) }
     ensures listed { IfOk result (λ firsts. (i : ℕ) → Contains (students_of papers.now) i
         → Contains (firsts_at (lists_in firsts.items) (position_of papers.now (first_choice papers.now i))) i) }
@@ -126,7 +126,7 @@ fn listed_by(amendment: &Amendment) -> Option<StudentNo>
 }
 
 /// Takes out whoever the amendment takes from their first choice.
-fn let_leave(firsts: &mut Vec<Vec<First>>, papers: &Papers, amendment: &Amendment)
+fn let_leave(firsts: &mut Vec<Vec<First>>, papers: &FlatPapers, amendment: &Amendment)
     requires allowed { verdict papers.now amendment.now ≡ None }
     requires one_each { length firsts.old.items ≡ length (schools_of papers.now) }
     ensures others { (p i : ℕ) → (unlisted_by amendment.now ≡ Some i → ⊥)
@@ -145,7 +145,7 @@ fn let_leave(firsts: &mut Vec<Vec<First>>, papers: &Papers, amendment: &Amendmen
 /// Puts whoever comes with new choices into the list of the first of them.
 fn let_come(
     firsts: &mut Vec<Vec<First>>,
-    papers: &Papers,
+    papers: &FlatPapers,
     amendment: &Amendment,
 ) -> Result<(), AllocError>
     requires allowed { verdict papers.now amendment.now ≡ None }
@@ -183,7 +183,7 @@ impl Districts {
     ///
     /// The cost is one pass over all choices, by their positions. Memory is taken for each school and each
     /// student.
-    pub fn of(alloc: Global, papers: &Papers) -> Result<Self, AllocError>
+    pub fn of(alloc: Global, papers: &FlatPapers) -> Result<Self, AllocError>
         ensures { IfOk result (AreDistricts papers.now) }
     {
         let groups = groups_of(alloc, papers)?.into_numbers();
@@ -194,7 +194,7 @@ impl Districts {
     }
 
     /// Makes one district of those that the new choices join.
-    fn widen(&mut self, papers: &Papers, amendment: &Amendment)
+    fn widen(&mut self, papers: &FlatPapers, amendment: &Amendment)
         requires districts { AreDistricts papers.now self.old }
         requires allowed { verdict papers.now amendment.now ≡ None }
         ensures { AreWidened papers.now amendment.now self.new }
@@ -210,7 +210,7 @@ impl Districts {
     fn positions_among_all(
         &mut self,
         alloc: Global,
-        papers: &Papers,
+        papers: &FlatPapers,
         amendment: &Amendment,
         start: usize,
     ) -> Result<Vec<usize>, AllocError>
@@ -239,7 +239,7 @@ impl Districts {
     fn positions_among_listed(
         &mut self,
         alloc: Global,
-        papers: &Papers,
+        papers: &FlatPapers,
         amendment: &Amendment,
         start: usize,
         schools: &[usize],
@@ -271,7 +271,7 @@ impl Districts {
     fn region_positions(
         &mut self,
         alloc: Global,
-        papers: &Papers,
+        papers: &FlatPapers,
         amendment: &Amendment,
     ) -> Result<Vec<usize>, AllocError>
         requires widened { AreWidened papers.now amendment.now self.old }
@@ -291,7 +291,7 @@ impl Districts {
 
     /// Brings the students who are listed at their first choices in step with an amendment, before it is made, where the new
     /// choices have widened the districts.
-    fn list_anew(self, papers: &Papers, amendment: &Amendment) -> Result<Self, AllocError>
+    fn list_anew(self, papers: &FlatPapers, amendment: &Amendment) -> Result<Self, AllocError>
         requires widened { AreWidened papers.now amendment.now self }
         requires allowed { verdict papers.now amendment.now ≡ None }
         ensures { IfOk result (AreDistricts (after papers.now amendment.now)) }
@@ -318,7 +318,7 @@ impl Districts {
     pub fn region(
         &mut self,
         alloc: Global,
-        papers: &Papers,
+        papers: &FlatPapers,
         amendment: &Amendment,
     ) -> Result<RegionPositions, AllocError>
         requires districts { AreDistricts papers.now self.old }
@@ -336,7 +336,7 @@ impl Districts {
     pub fn amend_with_region(
         self,
         alloc: Global,
-        papers: &Papers,
+        papers: &FlatPapers,
         amendment: &Amendment,
     ) -> Result<(Self, RegionPositions), AllocError>
         requires districts { AreDistricts papers.now self }
@@ -357,7 +357,7 @@ impl Districts {
     ///
     /// The cost is a look at each of the new choices, one at each student who has the first choice of one who
     /// withdraws or comes with other choices, and a pass over the schools for each district that is joined.
-    pub fn amend(self, papers: &Papers, amendment: &Amendment) -> Result<Self, AllocError>
+    pub fn amend(self, papers: &FlatPapers, amendment: &Amendment) -> Result<Self, AllocError>
         requires districts { AreDistricts papers.now self }
         requires allowed { verdict papers.now amendment.now ≡ None }
         ensures { IfOk result (AreDistricts (after papers.now amendment.now)) }

@@ -6,11 +6,11 @@ ghost use Rattle.sc_papers.specs.WellFormed.{WellFormed};
 ghost use Rattle.sc_region.specs.Groups.{first_choice, joined, joined_choices, joined_list, joined_students, moved, position_of, students_at};
 
 use crate::school_groups::SchoolGroups;
-use sc_papers::{Papers, SchoolNo};
+use sc_papers::{FlatPapers, SchoolNo};
 use std::alloc::{AllocError, Global};
 
 /// The position of a school of the papers.
-pub(crate) fn position_of(papers: &Papers, school: SchoolNo) -> usize
+pub(crate) fn position_of(papers: &FlatPapers, school: SchoolNo) -> usize
     requires { is_school papers.now school ≡ true }
     ensures position { result ≡ position_of papers.now school }
     ensures within { result < length (schools_of papers.now) }
@@ -22,7 +22,7 @@ pub(crate) fn position_of(papers: &Papers, school: SchoolNo) -> usize
 }
 
 /// The first choice of the student at a position.
-pub(crate) fn first_choice_at(papers: &Papers, position: usize) -> SchoolNo
+pub(crate) fn first_choice_at(papers: &FlatPapers, position: usize) -> SchoolNo
     requires { position < length (students_of papers.now) }
     ensures first { result ≡ first_choice papers.now (student_at papers.now position) }
     ensures known { is_school papers.now result ≡ true }
@@ -30,7 +30,10 @@ pub(crate) fn first_choice_at(papers: &Papers, position: usize) -> SchoolNo
 {
     // This call tells that the papers are well-formed, so that there are choices.
     prove!(position < papers.students_len());
-    papers.choices_at(position)[0]
+    let Some(school) = papers.choice_at(position, 0) else {
+        unreachable!()
+    };
+    school
 }
 
 /// Puts one number in the place of another.
@@ -60,7 +63,7 @@ fn join(groups: &mut Vec<usize>, a: usize, b: usize)
 /// Joins each school of a list to one school. Each that was in another group costs a pass over the schools: that does for
 /// the few new choices of an amendment, and the lists of many students are joined in `SchoolGroups`.
 pub(crate) fn join_list(
-    papers: &Papers,
+    papers: &FlatPapers,
     groups: &mut Vec<usize>,
     first: SchoolNo,
     list: &[SchoolNo],
@@ -94,7 +97,7 @@ pub(crate) fn regroup(groups: &mut Vec<usize>, group: usize, others: &[usize])
 }
 
 /// The position of the first choice of the student at a position, without a look-up by number.
-pub(crate) fn first_position_at(papers: &Papers, position: usize) -> usize
+pub(crate) fn first_position_at(papers: &FlatPapers, position: usize) -> usize
     requires { position < length (students_of papers.now) }
     ensures position { result ≡ position_of papers.now (first_choice papers.now (student_at papers.now position)) }
     ensures within { result < length (schools_of papers.now) }
@@ -105,7 +108,7 @@ pub(crate) fn first_position_at(papers: &Papers, position: usize) -> usize
 }
 
 /// Joins the choices of the student at a position, by their positions alone.
-fn join_choices(papers: &Papers, groups: &mut SchoolGroups, position: usize)
+fn join_choices(papers: &FlatPapers, groups: &mut SchoolGroups, position: usize)
     requires one_each { length groups.old ≡ length (schools_of papers.now) }
     requires within { position < length (students_of papers.now) }
     ensures joined { groups.new ≡ joined_choices papers.now groups.old (student_at papers.now position) }
@@ -118,7 +121,7 @@ fn join_choices(papers: &Papers, groups: &mut SchoolGroups, position: usize)
 }
 
 /// The groups that the choices of all students join.
-pub(crate) fn groups_of(alloc: Global, papers: &Papers) -> Result<SchoolGroups, AllocError>
+pub(crate) fn groups_of(alloc: Global, papers: &FlatPapers) -> Result<SchoolGroups, AllocError>
     ensures joined { IfOk result (λ groups. groups ≡ joined_students papers.now (students_of papers.now)) }
     ensures one_each { IfOk result (λ groups. length groups ≡ length (schools_of papers.now)) }
 {
@@ -132,7 +135,7 @@ pub(crate) fn groups_of(alloc: Global, papers: &Papers) -> Result<SchoolGroups, 
 /// The groups that the choices of the students at these positions join.
 pub(crate) fn groups_among(
     alloc: Global,
-    papers: &Papers,
+    papers: &FlatPapers,
     positions: &[usize],
 ) -> Result<SchoolGroups, AllocError>
     requires { (p : ℕ) → Contains positions.now p → p < length (students_of papers.now) }

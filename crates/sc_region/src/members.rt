@@ -6,12 +6,17 @@ ghost use Rattle.sc_papers.specs.Market.{schools_of, student_at, students_of};
 ghost use Rattle.sc_region.specs.Groups.{is_member, members_of, positions_in};
 
 use crate::grouping::first_position_at;
-use sc_papers::{Papers, StudentNo};
+use sc_papers::{FlatPapers, StudentNo};
 use std::alloc::{AllocError, Global};
 
 /// Whether the first choice of the student at a position is in a group.
 #[tactic(auto, unfolding(crate::specs::Groups::is_member))]
-pub(crate) fn is_member(papers: &Papers, groups: &[usize], group: usize, position: usize) -> bool
+pub(crate) fn is_member(
+    papers: &FlatPapers,
+    groups: &[usize],
+    group: usize,
+    position: usize,
+) -> bool
     requires one_each { length groups.now ≡ length (schools_of papers.now) }
     requires within { position < length (students_of papers.now) }
     ensures { result ≡ is_member papers.now groups.now group (student_at papers.now position) }
@@ -22,7 +27,7 @@ pub(crate) fn is_member(papers: &Papers, groups: &[usize], group: usize, positio
 /// The students of the papers whose first choice is in a group, in order of entry.
 pub(crate) fn members_of(
     alloc: Global,
-    papers: &Papers,
+    papers: &FlatPapers,
     groups: &[usize],
     group: usize,
 ) -> Result<Vec<StudentNo>, AllocError>
@@ -44,7 +49,7 @@ pub(crate) fn members_of(
 /// The positions of the students of the papers whose first choice is in a group, rising.
 pub(crate) fn positions_of(
     alloc: Global,
-    papers: &Papers,
+    papers: &FlatPapers,
     groups: &[usize],
     group: usize,
 ) -> Result<Vec<usize>, AllocError>

@@ -12,11 +12,11 @@ use crate::candidates::LISTS_FOR_SCHOOL;
 use crate::grouping::{first_choice_at, groups_among, groups_of, join_list, position_of};
 use crate::members::members_of;
 use crate::region_list::RegionList;
-use sc_papers::{Amendment, MOST_STUDENTS, Papers, Refusal, SchoolNo, StudentNo};
+use sc_papers::{Amendment, FlatPapers, MOST_STUDENTS, Refusal, SchoolNo, StudentNo};
 use std::alloc::{AllocError, Global};
 
 /// The first choice of a student of the papers.
-pub(crate) fn first_choice(papers: &Papers, student: StudentNo) -> SchoolNo
+pub(crate) fn first_choice(papers: &FlatPapers, student: StudentNo) -> SchoolNo
     requires { is_student papers.now student ≡ true }
     ensures first { result ≡ first_choice papers.now student }
     ensures known { is_school papers.now result ≡ true }
@@ -28,7 +28,7 @@ pub(crate) fn first_choice(papers: &Papers, student: StudentNo) -> SchoolNo
 }
 
 /// A school that the amendment concerns: the amended one, or a choice of the amended student.
-pub(crate) fn start_of(papers: &Papers, amendment: &Amendment) -> SchoolNo
+pub(crate) fn start_of(papers: &FlatPapers, amendment: &Amendment) -> SchoolNo
     requires { verdict papers.now amendment.now ≡ None }
     ensures start { result ≡ start_of papers.now amendment.now }
     ensures known { is_school papers.now result ≡ true }
@@ -53,7 +53,7 @@ pub(crate) fn new_choices(amendment: &Amendment) -> &[SchoolNo]
 }
 
 /// Joins the new choices to the school to begin with.
-pub(crate) fn widen(papers: &Papers, amendment: &Amendment, groups: &mut Vec<usize>)
+pub(crate) fn widen(papers: &FlatPapers, amendment: &Amendment, groups: &mut Vec<usize>)
     requires allowed { verdict papers.now amendment.now ≡ None }
     requires one_each { length groups.old.items ≡ length (schools_of papers.now) }
     ensures widened { groups.new.items ≡ widened papers.now amendment.now groups.old.items }
@@ -66,7 +66,7 @@ pub(crate) fn widen(papers: &Papers, amendment: &Amendment, groups: &mut Vec<usi
 /// The groups that all lists join, those before the amendment and those after it.
 pub(crate) fn region_groups(
     alloc: Global,
-    papers: &Papers,
+    papers: &FlatPapers,
     amendment: &Amendment,
 ) -> Result<Vec<usize>, AllocError>
     requires { verdict papers.now amendment.now ≡ None }
@@ -81,7 +81,7 @@ pub(crate) fn region_groups(
 /// The region in order of entry.
 fn region_members(
     alloc: Global,
-    papers: &Papers,
+    papers: &FlatPapers,
     amendment: &Amendment,
 ) -> Result<Vec<StudentNo>, AllocError>
     requires { verdict papers.now amendment.now ≡ None }
@@ -100,13 +100,17 @@ fn region_members(
 /// whoever lists the amended school, and then each who lists a school that one of them lists, by the
 /// choices before the amendment or by those after it.
 ///
-/// Answers the first refusal of the amendment that applies, as `Papers::check` does, or else want of
+/// Answers the first refusal of the amendment that applies, as `FlatPapers::check` does, or else want of
 /// memory. The papers are not changed.
 ///
 /// The cost is one pass over all choices, by their positions, with steps to the root of each one's group, one over
 /// the schools for each group that the new choices join, and a sort of the region. Memory is taken for each school
 /// and for each student of the region.
-pub fn region(alloc: Global, papers: &Papers, amendment: &Amendment) -> Result<RegionList, Refusal>
+pub fn region(
+    alloc: Global,
+    papers: &FlatPapers,
+    amendment: &Amendment,
+) -> Result<RegionList, Refusal>
     ensures allowed { OnOk result (verdict papers.now amendment.now ≡ None) }
     ensures rising { IfOk result IsStrictlyIncreasing }
     ensures region { IfOk result (λ region. (i : ℕ) → (Contains region i ↔ InRegion papers.now amendment.now i)) }
@@ -123,7 +127,7 @@ pub fn region(alloc: Global, papers: &Papers, amendment: &Amendment) -> Result<R
 }
 
 /// Positions of students that lie evenly among all, a few for each school.
-fn spread_positions(alloc: Global, papers: &Papers) -> Result<Vec<usize>, AllocError>
+fn spread_positions(alloc: Global, papers: &FlatPapers) -> Result<Vec<usize>, AllocError>
     ensures { IfOk result (λ positions. (p : ℕ) → Contains positions.items p → p < length (students_of papers.now)) }
 {
     let students = papers.students_len();
@@ -152,7 +156,7 @@ pub(crate) fn are_one(groups: &[usize]) -> bool
 }
 
 /// The groups that the lists of a few students join, who lie evenly among all: all schools, where they are those of one city.
-pub(crate) fn groups_of_few(alloc: Global, papers: &Papers) -> Result<Vec<usize>, AllocError>
+pub(crate) fn groups_of_few(alloc: Global, papers: &FlatPapers) -> Result<Vec<usize>, AllocError>
     ensures one_each { IfOk result (λ groups. length groups.items ≡ length (schools_of papers.now)) }
     ensures few { IfOk result (λ groups. AreOfSome papers.now groups.items) }
 {

@@ -5,7 +5,7 @@ ghost use Rattle.sc_papers.specs.Verdict.{after, verdict};
 ghost use Rattle.sc_region.specs.Districts.{AreDistricts};
 ghost use Rattle.sc_region.specs.Telling.{MarkRegion};
 
-use sc_papers::{Amendment, Papers};
+use sc_papers::{Amendment, FlatPapers};
 use sc_region::{Districts, RegionPositions};
 use std::alloc::{AllocError, Global};
 
@@ -13,7 +13,7 @@ use std::alloc::{AllocError, Global};
 fn districts_of(
     alloc: Global,
     districts: Option<Districts>,
-    papers: &Papers,
+    papers: &FlatPapers,
 ) -> Result<Districts, AllocError>
     requires { IfSome districts (AreDistricts papers.now) }
     ensures { IfOk result (AreDistricts papers.now) }
@@ -29,7 +29,7 @@ fn districts_of(
 pub(crate) fn region_of(
     alloc: Global,
     districts: &mut Option<Districts>,
-    papers: &Papers,
+    papers: &FlatPapers,
     amendment: &Amendment,
 ) -> Result<RegionPositions, AllocError>
     requires districts { IfSome districts.old (AreDistricts papers.now) }
@@ -48,7 +48,7 @@ pub(crate) fn region_of(
 /// there are none or no room for them.
 fn amended(
     districts: Option<Districts>,
-    papers: &Papers,
+    papers: &FlatPapers,
     amendment: &Amendment,
 ) -> Option<Districts>
     requires districts { IfSome districts (AreDistricts papers.now) }
@@ -60,7 +60,7 @@ fn amended(
 
 /// Brings districts of the papers in step with an amendment that is not refused, before it is made; where there
 /// is no room for that, they are given up.
-pub(crate) fn follow(districts: &mut Option<Districts>, papers: &Papers, amendment: &Amendment)
+pub(crate) fn follow(districts: &mut Option<Districts>, papers: &FlatPapers, amendment: &Amendment)
     requires districts { IfSome districts.old (AreDistricts papers.now) }
     requires allowed { verdict papers.now amendment.now ≡ None }
     ensures { IfSome districts.new (AreDistricts (after papers.now amendment.now)) }

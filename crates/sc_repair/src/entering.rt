@@ -14,7 +14,7 @@ ghost use Rattle.sc_repair.specs.Newcomer.{is_moved, HasEntered, IsNextToEnter, 
 use crate::places::Places;
 use sc_checkpoint::Segments;
 use sc_engine::Round;
-use sc_papers::{Papers, StudentNo};
+use sc_papers::{FlatPapers, StudentNo};
 use sc_seats::Roll;
 use std::alloc::{AllocError, Global};
 
@@ -22,7 +22,7 @@ use std::alloc::{AllocError, Global};
 /// cost is a look at each entry of the segments and an offer for each student.
 fn standing<R: Roll>(
     alloc: Global,
-    papers: &Papers,
+    papers: &FlatPapers,
     segments: &Segments,
 ) -> Result<Round<R>, AllocError>
     requires well_formed { WellFormed papers.now }
@@ -46,7 +46,7 @@ fn standing<R: Roll>(
 /// their segment. A refused growth changes neither.
 fn note<R: Roll>(
     round: &Round<R>,
-    papers: &Papers,
+    papers: &FlatPapers,
     student: StudentNo,
     places: &mut Places,
     segments: &mut Segments,
@@ -78,7 +78,7 @@ fn note<R: Roll>(
 }
 
 /// Gives each student whom the round's log names the school at which they stand now. It takes no memory.
-fn move_on<R: Roll>(round: &Round<R>, papers: &Papers, places: &mut Places)
+fn move_on<R: Roll>(round: &Round<R>, papers: &FlatPapers, places: &mut Places)
     requires ready { is_spent round.now ≡ false }
     requires fits { Fits papers.now (view_of R.keys R.seats round.now) }
     ensures { (j : ℕ) → assigned places.new j
@@ -98,7 +98,7 @@ fn move_on<R: Roll>(round: &Round<R>, papers: &Papers, places: &mut Places)
 /// that took. A refused growth changes neither places nor segments, and the round is to be given up.
 fn enter<R: Roll>(
     round: &mut Round<R>,
-    papers: &Papers,
+    papers: &FlatPapers,
     student: StudentNo,
     places: &mut Places,
     segments: &mut Segments,
@@ -130,7 +130,7 @@ fn enter<R: Roll>(
 pub(crate) fn enter_newcomer<R: Roll>(
     alloc: Global,
     round: &mut Option<Round<R>>,
-    papers: &Papers,
+    papers: &FlatPapers,
     student: StudentNo,
     places: &mut Places,
     segments: &mut Segments,

@@ -14,7 +14,7 @@ ghost use Rattle.sc_repair.specs.Rejoining.{before_leaving, school_in, CanRejoin
 use crate::region_positions::{are_all, without};
 use sc_checkpoint::Segments;
 use sc_engine::Round;
-use sc_papers::Papers;
+use sc_papers::FlatPapers;
 use sc_region::RegionPositions;
 use sc_seats::Roll;
 use sc_stamps::Record;
@@ -24,7 +24,7 @@ use std::alloc::Global;
 /// spare.
 pub(crate) fn keep_if_everybody<R: Roll>(
     spare: &mut Option<Round<R>>,
-    papers: &Papers,
+    papers: &FlatPapers,
     region: &RegionPositions,
     segments: &Segments,
 ) -> Option<Round<R>>
@@ -48,7 +48,7 @@ pub(crate) fn keep_if_everybody<R: Roll>(
 pub(crate) fn let_leave<R: Roll>(
     round: &mut Option<Round<R>>,
     spare: &mut Option<Round<R>>,
-    papers: &Papers,
+    papers: &FlatPapers,
     positions: &[usize],
 )
     requires fits { IfSome round.old (λ standing. Fits papers.now (view_of R.keys R.seats standing)) }
@@ -71,7 +71,7 @@ pub(crate) fn let_leave<R: Roll>(
 }
 
 /// Gives the roll of an amended school its seats, where there is a round and the record is a school's.
-pub(crate) fn reseat<R: Roll>(round: &mut Option<Round<R>>, papers: &Papers, amended: Record)
+pub(crate) fn reseat<R: Roll>(round: &mut Option<Round<R>>, papers: &FlatPapers, amended: Record)
     requires { IfSome round.old
         (λ standing. length (view_of R.keys R.seats standing).rolls ≡ length papers.now.schools) }
     ensures { IfSome round.new
@@ -92,7 +92,7 @@ pub(crate) fn reseat<R: Roll>(round: &mut Option<Round<R>>, papers: &Papers, ame
 pub(crate) fn rejoin<R: Roll>(
     round: &mut Option<Round<R>>,
     spare: &mut Option<Round<R>>,
-    papers: &Papers,
+    papers: &FlatPapers,
     positions: &[usize],
 )
     requires { CanRejoin R.keys R.seats papers.now (λ p. Contains positions.now p) round.old spare.old }
@@ -130,7 +130,7 @@ pub(crate) fn rejoin_without<R: Roll>(
     alloc: Global,
     round: &mut Option<Round<R>>,
     spare: &mut Option<Round<R>>,
-    papers: &Papers,
+    papers: &FlatPapers,
     positions: &[usize],
     gone: usize,
 )
@@ -155,7 +155,7 @@ pub(crate) fn rejoin_without<R: Roll>(
 pub(crate) fn round_of_everybody<R: Roll>(
     round: Option<Round<R>>,
     spare: &mut Option<Round<R>>,
-    papers: &Papers,
+    papers: &FlatPapers,
     region: &RegionPositions,
     segments: &Segments,
 ) -> Option<Round<R>>

@@ -17,14 +17,14 @@ ghost use Rattle.sc_repair.specs.Resumption.{GoesOn};
 use crate::places::Places;
 use sc_checkpoint::Segments;
 use sc_engine::Round;
-use sc_papers::{Papers, StudentNo};
+use sc_papers::{FlatPapers, StudentNo};
 use sc_seats::Roll;
 use std::alloc::{AllocError, Global};
 
 /// Enters a student, who often stands at the guessed position, into a round, and puts the rejections of its chain at the end of the segments.
 pub(crate) fn enter_next<R: Roll>(
     round: &mut Round<R>,
-    papers: &Papers,
+    papers: &FlatPapers,
     segments: &mut Segments,
     student: StudentNo,
     guess: usize,
@@ -49,7 +49,7 @@ pub(crate) fn enter_next<R: Roll>(
 /// Enters all students, in order of entry, into a round in which nothing has happened, and makes a segment for each.
 fn enter_all<R: Roll>(
     round: &mut Round<R>,
-    papers: &Papers,
+    papers: &FlatPapers,
     segments: &mut Segments,
 ) -> Result<(), AllocError>
     requires fresh { IsFresh R.keys R.seats papers.now round.old }
@@ -79,7 +79,10 @@ pub(crate) struct Opening<R: Roll> {
 /// Settles papers: each student enters, in order of entry. The only error is want of memory.
 ///
 /// The round is kept for whoever enters next. The cost is an offer for each proposal.
-pub(crate) fn settle_all<R: Roll>(alloc: Global, papers: &Papers) -> Result<Opening<R>, AllocError>
+pub(crate) fn settle_all<R: Roll>(
+    alloc: Global,
+    papers: &FlatPapers,
+) -> Result<Opening<R>, AllocError>
     ensures theirs { IfOk result (λ made. students_in made.segments ≡ students_of papers.now) }
     ensures segmented { IfOk result (λ made. IsSegmented papers.now (logs_in made.segments)) }
     ensures matching { IfOk result (λ made. (i : ℕ)

@@ -1,6 +1,6 @@
 //! Guesses at where the pairs of an assignment stand.
 
-use sc_papers::{Assignment, Papers, StudentNo};
+use sc_papers::{Assignment, FlatPapers, StudentNo};
 use std::alloc::{AllocError, Global};
 
 /// By a student's position in the order of entry: where their pair may stand in the order of an assignment.
@@ -34,7 +34,7 @@ impl PairHints {
     /// only error is want of memory.
     pub(crate) fn of(
         alloc: Global,
-        papers: &Papers,
+        papers: &FlatPapers,
         assignment: &Assignment,
     ) -> Result<Self, AllocError> {
         let mut pairs = Vec::with_capacity(alloc, papers.students_len())?;

@@ -8,7 +8,7 @@ ghost use Rattle.sc_papers.specs.declared.school_no.TheConstants.SchoolNo.{GREAT
 ghost use Rattle.sc_repair.specs.Places.{AreCounts};
 
 use crate::pair_hints::PairHints;
-use sc_papers::{Assignment, Papers, SchoolNo, StudentNo};
+use sc_papers::{Assignment, FlatPapers, SchoolNo, StudentNo};
 use std::alloc::{AllocError, Global};
 use std::marker::Model;
 
@@ -97,7 +97,7 @@ impl Places {
     /// students.
     pub(crate) fn of(
         alloc: Global,
-        papers: &Papers,
+        papers: &FlatPapers,
         assignment: Assignment,
     ) -> Result<Self, AllocError>
         ensures { IfOk result (λ places. places ≡ assignment) }

@@ -15,7 +15,7 @@ use crate::places::Places;
 use crate::renewal::renew;
 use sc_checkpoint::{Segments, Spans};
 use sc_engine::Round;
-use sc_papers::{Papers, StudentNo};
+use sc_papers::{FlatPapers, StudentNo};
 use sc_seats::Roll;
 use std::alloc::{AllocError, Global};
 
@@ -59,7 +59,7 @@ pub(crate) struct Mover {
 /// is whether they have a school and stand elsewhere.
 fn put_one<R: Roll>(
     round: &Round<R>,
-    papers: &Papers,
+    papers: &FlatPapers,
     student: StudentNo,
     guess: Guess,
     places: &mut Places,
@@ -170,7 +170,7 @@ fn place_new<R: Roll>(
 }
 
 /// Gives these students who have a school the one at which they stand in its place, or none. It takes no memory.
-fn move_all<R: Roll>(round: &Round<R>, papers: &Papers, movers: &[Mover], places: &mut Places)
+fn move_all<R: Roll>(round: &Round<R>, papers: &FlatPapers, movers: &[Mover], places: &mut Places)
     requires ready { is_spent round.now ≡ false }
     requires fits { Fits papers.now (view_of R.keys R.seats round.now) }
     ensures { (j : ℕ) → assigned places.new j

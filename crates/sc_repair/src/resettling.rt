@@ -27,7 +27,7 @@ use crate::placing::place_inside;
 use crate::region_positions::{positions_before, positions_from};
 use sc_checkpoint::{Segments, Spans, Standings};
 use sc_engine::Round;
-use sc_papers::{Papers, StudentNo};
+use sc_papers::{FlatPapers, StudentNo};
 use sc_seats::Roll;
 use std::alloc::{AllocError, Global};
 
@@ -35,7 +35,7 @@ use std::alloc::{AllocError, Global};
 /// log.
 fn enter_turn<R: Roll>(
     round: &mut Round<R>,
-    papers: &Papers,
+    papers: &FlatPapers,
     spans: &mut Spans,
     student: StudentNo,
     guess: usize,

@@ -9,21 +9,21 @@ ghost use Rattle.sc_papers.specs.declared.rejection.Rejection.{Rejection};
 ghost use Rattle.sc_region.specs.Telling.{MarkRegion};
 ghost use Rattle.sc_repair.specs.Rewinding.{first_to_list, lists, position_of, rewind_point};
 
-use sc_papers::{Amendment, Papers, Refusal, SchoolNo, StudentNo};
+use sc_papers::{Amendment, FlatPapers, Refusal, SchoolNo, StudentNo};
 use sc_region::RegionPositions;
 use sc_stamps::{Record, record_of};
 
 /// Whether the student at the position lists the school.
-fn lists(papers: &Papers, school: SchoolNo, position: usize) -> bool
+fn lists(papers: &FlatPapers, school: SchoolNo, position: usize) -> bool
     requires { position < length papers.now.students }
     ensures { result ≡ lists papers.now school (slice_index (students_of papers.now) position) }
 {
-    papers.choices_at(position).contains(&school)
+    papers.choice_rank_at(position, school).is_some()
 }
 
 /// The position of the first student who lists the school, or the number of students where none
 /// does.
-fn first_to_list(papers: &Papers, school: SchoolNo) -> usize
+fn first_to_list(papers: &FlatPapers, school: SchoolNo) -> usize
     ensures { result ≡ first_to_list papers.now school }
 {
     for position in 0..papers.students_len() {
@@ -36,7 +36,7 @@ fn first_to_list(papers: &Papers, school: SchoolNo) -> usize
 
 /// The first of these rising positions at which a student lists the school, where whoever lists it stands at one of
 /// them; the number of students where none does.
-fn first_among(papers: &Papers, school: SchoolNo, positions: &[usize]) -> usize
+fn first_among(papers: &FlatPapers, school: SchoolNo, positions: &[usize]) -> usize
     requires rising { IsStrictlyIncreasing positions.now }
     requires within { (p : ℕ) → Contains positions.now p → p < length papers.now.students }
     requires all { (p : ℕ) → p < length papers.now.students
@@ -53,7 +53,7 @@ fn first_among(papers: &Papers, school: SchoolNo, positions: &[usize]) -> usize
 
 /// The position of the first student who lists the school, where whoever lists it is marked; the number of students
 /// where none does.
-fn first_marked(papers: &Papers, school: SchoolNo, region: &RegionPositions) -> usize
+fn first_marked(papers: &FlatPapers, school: SchoolNo, region: &RegionPositions) -> usize
     requires one_each { length region.now ≡ length papers.now.students }
     requires marked { (p : ℕ) → p < length papers.now.students
         → lists papers.now school (slice_index (students_of papers.now) p) ≡ true
@@ -64,7 +64,7 @@ fn first_marked(papers: &Papers, school: SchoolNo, region: &RegionPositions) -> 
 }
 
 /// The position of the student, or the number of students for one who is not in the papers.
-fn position_of(papers: &Papers, student: StudentNo) -> usize
+fn position_of(papers: &FlatPapers, student: StudentNo) -> usize
     ensures { result ≡ position_of papers.now student }
 {
     papers
@@ -73,7 +73,7 @@ fn position_of(papers: &Papers, student: StudentNo) -> usize
 }
 
 /// The position from which on an amendment that the papers allow may change anything. Who enters does not stand in them yet.
-fn first_changed(papers: &Papers, amendment: &Amendment) -> usize
+fn first_changed(papers: &FlatPapers, amendment: &Amendment) -> usize
     requires { verdict papers.now amendment.now ≡ None }
     ensures { result ≡ rewind_point papers.now amendment.now }
 {
@@ -87,11 +87,12 @@ fn first_changed(papers: &Papers, amendment: &Amendment) -> usize
 /// that the log of the students before it still stands: for an `Enter` the number of students; for
 /// a `Withdraw`, a `Rerank` or a `Correct` the position of that student; for an `Add` or a `Close`
 /// the position of the first student who lists the school, or the number of students where none
-/// does. An amendment that the papers don't allow is refused as by `Papers::check`.
+/// does. An amendment that the papers don't allow is refused as by `FlatPapers::check`.
 ///
-/// It takes no memory. Beside the cost of `Papers::check` it takes constant time, and for an `Add` or
-/// a `Close` one pass over the choices of the students up to that position.
-pub fn rewind_point(papers: &Papers, amendment: &Amendment) -> Result<usize, Refusal>
+/// It takes no memory. Beside the cost of `FlatPapers::check` it takes constant time, and for an `Add` or
+/// a `Close` one pass over the choices of the students up to that position, with a look-up of the school for
+/// each of them.
+pub fn rewind_point(papers: &FlatPapers, amendment: &Amendment) -> Result<usize, Refusal>
     ensures point { IfOk result (λ k. k ≡ rewind_point papers.now amendment.now) }
     ensures within { IfOk result (λ k. k ≤ length papers.now.students) }
     ensures allowed { OnOk result (verdict papers.now amendment.now ≡ None) }
@@ -106,8 +107,12 @@ pub fn rewind_point(papers: &Papers, amendment: &Amendment) -> Result<usize, Ref
 /// What `rewind_point` answers of an amendment that is not refused, whose region is marked.
 ///
 /// It takes no memory. It takes constant time, and for an `Add` or a `Close` a look at the choices of the region's students up
-/// to that position.
-pub(crate) fn point_in(papers: &Papers, region: &RegionPositions, amendment: &Amendment) -> usize
+/// to that position, with a look-up of the school for each of them.
+pub(crate) fn point_in(
+    papers: &FlatPapers,
+    region: &RegionPositions,
+    amendment: &Amendment,
+) -> usize
     requires allowed { verdict papers.now amendment.now ≡ None }
     requires region { MarkRegion papers.now amendment.now region.now }
     ensures { result ≡ rewind_point papers.now amendment.now }

@@ -7,7 +7,7 @@ ghost use Rattle.sc_repair.specs.Standing.{matching_of};
 ghost use Rattle.sc_report.specs.Cutoff.{cutoff_by, cutoff_rows, rows_in_order};
 ghost use Rattle.sc_tallies.specs.Places.{ArePlaces};
 
-use sc_papers::{Key, Papers, SchoolNo, Seats};
+use sc_papers::{FlatPapers, Key, SchoolNo, Seats};
 use sc_repair::Clearing;
 use sc_tallies::{places_of, tallies};
 use std::alloc::{AllocError, Global};
@@ -49,7 +49,7 @@ pub(crate) fn cutoff_by(seats: u32, held: u32, last: Option<Key>) -> Cutoff
 /// tells its callers so.
 pub fn rows_in_order(
     alloc: Global,
-    papers: &Papers,
+    papers: &FlatPapers,
     places: &[Option<SchoolNo>],
 ) -> Result<Vec<CutoffRow>, AllocError>
     requires { length places.now ≡ length papers.now.students }

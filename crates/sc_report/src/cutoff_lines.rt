@@ -6,7 +6,7 @@ ghost use Rattle.sc_report.specs.CutoffText.{cutoff_field, cutoff_line, cutoff_l
 use crate::cutoff::{Cutoff, CutoffRow, cutoffs};
 use crate::lines::push_draw;
 use sc_decimal::push_number;
-use sc_papers::{Key, MOST_STUDENTS, Papers};
+use sc_papers::{FlatPapers, Key, MOST_STUDENTS};
 use sc_repair::Clearing;
 use std::alloc::{AllocError, Global};
 
@@ -64,7 +64,7 @@ pub(crate) fn push_cutoffs(text: &mut Vec<u8>, rows: &[CutoffRow]) -> Result<(),
 }
 
 /// How many bytes the cutoff text takes at most.
-pub(crate) fn room_for_cutoffs(papers: &Papers) -> usize {
+pub(crate) fn room_for_cutoffs(papers: &FlatPapers) -> usize {
     // This call tells that the papers are within their limits.
     prove!(papers.students_len() <= MOST_STUDENTS);
     HEADER.len() + papers.schools_len() * LONGEST_LINE

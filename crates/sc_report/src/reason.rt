@@ -11,7 +11,7 @@ ghost use Rattle.sc_report.specs.Reason.{reason_by, reason_rows, reasons_of};
 
 use crate::cutoff::{Cutoff, CutoffRow, rows_in_order};
 use crate::entrants::{Entrant, rising_entrants};
-use sc_papers::{Key, Papers, Proposal, SchoolNo, StudentNo};
+use sc_papers::{FlatPapers, Key, Proposal, SchoolNo, StudentNo};
 use sc_repair::Clearing;
 use sc_tallies::places_of;
 use std::alloc::{AllocError, Global};
@@ -75,7 +75,7 @@ pub(crate) struct Missed {
 /// choice there, unless it is what they have. It is made by the rows of all schools in order of entry. In constant time.
 pub(crate) fn row_at_rank(
     rows: &[CutoffRow],
-    papers: &Papers,
+    papers: &FlatPapers,
     entrant: &Entrant,
     rank: usize,
 ) -> Option<Missed>
@@ -116,7 +116,7 @@ pub(crate) fn row_at_rank(
 fn push_reasons(
     reasons: &mut Vec<ReasonRow>,
     rows: &[CutoffRow],
-    papers: &Papers,
+    papers: &FlatPapers,
     entrant: Entrant,
 ) -> Result<(), AllocError>
     requires rows { length rows.now ≡ length papers.now.schools }
@@ -139,7 +139,7 @@ fn reasons_among(
     alloc: Global,
     entrants: &[Entrant],
     rows: &[CutoffRow],
-    papers: &Papers,
+    papers: &FlatPapers,
 ) -> Result<Vec<ReasonRow>, AllocError>
     requires rows { length rows.now ≡ length papers.now.schools }
     requires stand { All (StandsAt papers.now) entrants.now }
@@ -162,7 +162,7 @@ pub fn reasons(alloc: Global, clearing: &Clearing) -> Result<Vec<ReasonRow>, All
     ensures { IfOk result (λ rows. rows.items
         ≡ reason_rows clearing.now.standing.papers (matching_of clearing.now.standing)) }
 {
-    let papers = clearing.papers();
+    let papers: &FlatPapers = clearing.papers();
     let places = places_of(alloc, papers, clearing.places())?;
     let entrants = rising_entrants(alloc, papers, places.as_slice())?;
     let rows = rows_in_order(alloc, papers, places.as_slice())?;

@@ -16,7 +16,7 @@ use crate::entrants::{Entrant, rising_entrants};
 use crate::reason::{Reason, row_at_rank};
 use crate::room::Widths;
 use sc_decimal::push_number;
-use sc_papers::{Papers, StudentNo};
+use sc_papers::{FlatPapers, StudentNo};
 use sc_repair::Clearing;
 use sc_tallies::places_of;
 use std::alloc::{AllocError, Global};
@@ -65,7 +65,7 @@ fn push_student(
     number: &[u8],
     endings: &Endings,
     rows: &[CutoffRow],
-    papers: &Papers,
+    papers: &FlatPapers,
     entrant: Entrant,
 ) -> Result<(), AllocError>
     requires number { number.now ≡ decimal entrant.student ++ codes "," }
@@ -97,7 +97,7 @@ pub(crate) fn push_reason_lines(
     alloc: Global,
     entrants: &[Entrant],
     rows: &[CutoffRow],
-    papers: &Papers,
+    papers: &FlatPapers,
 ) -> Result<(), AllocError>
     requires schools { map (λ row. row.school) rows.now ≡ schools_of papers.now }
     requires stand { All (StandsAt papers.now) entrants.now }
@@ -131,7 +131,7 @@ pub fn reason_text(alloc: Global, clearing: &Clearing) -> Result<Vec<u8>, AllocE
     ensures { IfOk result (λ text. text.items
         ≡ reason_text clearing.now.standing.papers (matching_of clearing.now.standing)) }
 {
-    let papers = clearing.papers();
+    let papers: &FlatPapers = clearing.papers();
     let places = places_of(alloc, papers, clearing.places())?;
     let entrants = rising_entrants(alloc, papers, places.as_slice())?;
     let rows = rows_in_order(alloc, papers, places.as_slice())?;

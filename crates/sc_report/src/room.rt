@@ -1,6 +1,6 @@
 //! How long the lines of a text are at most, so that room for it is taken once.
 use crate::entrants::Entrant;
-use sc_papers::Papers;
+use sc_papers::FlatPapers;
 
 /// The most digits of a student's number and of a school's.
 ///
@@ -25,7 +25,7 @@ fn digits_of(number: u32) -> usize {
 
 impl Widths {
     /// The most digits of the numbers of papers, whose students are given by rising number. One pass over the schools.
-    pub(crate) fn new(entrants: &[Entrant], papers: &Papers) -> Widths {
+    pub(crate) fn new(entrants: &[Entrant], papers: &FlatPapers) -> Widths {
         let mut school = 0;
         for position in 0..papers.schools_len() {
             match papers.school_at(position) {

@@ -15,7 +15,7 @@ use crate::matched::Matched;
 use crate::reason_lines::{push_reason_lines, room_for_reasons};
 use crate::room::Widths;
 use sc_decimal::push_number;
-use sc_papers::{Papers, SchoolNo};
+use sc_papers::{FlatPapers, SchoolNo};
 use sc_repair::Clearing;
 use sc_tallies::places_of;
 use std::alloc::{AllocError, Global};
@@ -60,7 +60,7 @@ fn push_assignments(text: &mut Vec<u8>, entrants: &[Entrant]) -> Result<(), Allo
 }
 
 /// How many bytes the assignment text takes at most.
-fn room_for_assignment(widths: Widths, papers: &Papers) -> usize {
+fn room_for_assignment(widths: Widths, papers: &FlatPapers) -> usize {
     widths
         .room(papers.students_len(), BESIDE)
         .saturating_add(HEADER.len())
@@ -73,7 +73,7 @@ pub fn assignment_text(alloc: Global, clearing: &Clearing) -> Result<Vec<u8>, Al
     ensures { IfOk result (λ text. text.items
         ≡ assignment_text clearing.now.standing.papers (matching_of clearing.now.standing)) }
 {
-    let papers = clearing.papers();
+    let papers: &FlatPapers = clearing.papers();
     let places = places_of(alloc, papers, clearing.places())?;
     let entrants = rising_entrants(alloc, papers, places.as_slice())?;
     let room = room_for_assignment(Widths::new(entrants.as_slice(), papers), papers);
@@ -83,7 +83,7 @@ pub fn assignment_text(alloc: Global, clearing: &Clearing) -> Result<Vec<u8>, Al
 }
 
 /// How many bytes the report text takes at most, where so many rejections led to the assignment.
-fn room_for_report(widths: Widths, papers: &Papers, rejections: usize) -> usize {
+fn room_for_report(widths: Widths, papers: &FlatPapers, rejections: usize) -> usize {
     room_for_assignment(widths, papers)
         .saturating_add(room_for_cutoffs(papers))
         .saturating_add(room_for_reasons(widths, rejections))
@@ -135,7 +135,7 @@ pub fn report_text(alloc: Global, clearing: &Clearing) -> Result<Vec<u8>, AllocE
     ensures { IfOk result (λ text. IsReportText clearing.now.standing.papers
         (matching_of clearing.now.standing) text.items) }
 {
-    let papers = clearing.papers();
+    let papers: &FlatPapers = clearing.papers();
     let places = places_of(alloc, papers, clearing.places())?;
     let matched = Matched {
         papers,

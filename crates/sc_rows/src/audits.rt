@@ -4,7 +4,7 @@ use crate::given::{amend, expect_said, papers_of};
 use sc_audit::{Stability, Verdict, audit, check_stable};
 use sc_intake::read_log;
 use sc_markets::{FIVE_STUDENTS, Files, MARKET_A, MARKET_B_AND_NEWCOMER, assignment};
-use sc_papers::{Assignment, Papers};
+use sc_papers::{Assignment, FlatPapers};
 use std::alloc::{AllocError, Global};
 use std::process::Abort;
 
@@ -30,7 +30,7 @@ fn verdict_text(alloc: Global, verdict: Verdict) -> Result<String, AllocError> {
 fn verdict_on(
     rt: &impl Abort,
     alloc: Global,
-    papers: &Papers,
+    papers: &FlatPapers,
     pairs: &str,
 ) -> Result<String, AllocError> {
     let log = read_log(alloc, rows(alloc, pairs)?.as_bytes()).expect(rt, "a log");
@@ -38,7 +38,7 @@ fn verdict_on(
 }
 
 /// The logs under these papers have the wanted verdicts.
-fn expect_verdicts(rt: &impl Abort, alloc: Global, papers: &Papers, lines: &str) {
+fn expect_verdicts(rt: &impl Abort, alloc: Global, papers: &FlatPapers, lines: &str) {
     for line in lines.lines() {
         let (log, want) = line.split_once("=> ").expect(rt, "a log and a verdict");
         expect_said(rt, log, verdict_on(rt, alloc, papers, log), want);
@@ -99,7 +99,7 @@ fn assignment_of(rt: &impl Abort, alloc: Global, pairs: &str) -> Result<Assignme
 fn stability_of(
     rt: &impl Abort,
     alloc: Global,
-    papers: &Papers,
+    papers: &FlatPapers,
     pairs: &str,
 ) -> Result<String, AllocError> {
     let assignment = assignment_of(rt, alloc, pairs)?;
@@ -107,7 +107,7 @@ fn stability_of(
 }
 
 /// The assignments under these papers have the wanted stability verdicts.
-fn expect_stabilities(rt: &impl Abort, alloc: Global, papers: &Papers, lines: &str) {
+fn expect_stabilities(rt: &impl Abort, alloc: Global, papers: &FlatPapers, lines: &str) {
     for line in lines.lines() {
         let (pairs, want) = line.split_once("=> ").expect(rt, "pairs and a verdict");
         expect_said(rt, pairs, stability_of(rt, alloc, papers, pairs), want);

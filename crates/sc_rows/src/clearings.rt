@@ -8,7 +8,7 @@ use sc_markets::{
     FIVE_STUDENTS, Files, MARKET_A, MARKET_B, MARKET_B_CONTINUING, TWO_STUDENTS, amendment,
     places_text, seen, standing,
 };
-use sc_papers::{Papers, Refusal, Rejection};
+use sc_papers::{FlatPapers, Refusal, Rejection};
 use sc_repair::{Clearing, RegionList, region};
 use std::alloc::{AllocError, Global};
 use std::process::Abort;
@@ -171,13 +171,13 @@ fn numbers_text(alloc: Global, region: &RegionList) -> Result<String, AllocError
 }
 
 /// The region of an amendment of the papers, before it is made.
-fn region_of(alloc: Global, papers: &Papers, record: &str) -> Result<RegionList, Refusal> {
+fn region_of(alloc: Global, papers: &FlatPapers, record: &str) -> Result<RegionList, Refusal> {
     let amendment = amendment(alloc, record)?;
     region(alloc, papers, &amendment)
 }
 
 /// The numbers of its students.
-fn region_text(alloc: Global, papers: &Papers, record: &str) -> Result<String, Refusal> {
+fn region_text(alloc: Global, papers: &FlatPapers, record: &str) -> Result<String, Refusal> {
     let region = region_of(alloc, papers, record)?;
     let text = numbers_text(alloc, &region)?;
     Ok(text)

@@ -6,7 +6,7 @@ ghost use Rattle.sc_region.specs.Districts.{AreDistricts};
 
 use crate::given::{amendment_of, papers_of};
 use sc_markets::Files;
-use sc_papers::{Amendment, Papers, Refusal};
+use sc_papers::{Amendment, FlatPapers, Papers, Refusal};
 use sc_region::Districts;
 use std::alloc::Global;
 use std::process::Abort;
@@ -80,7 +80,7 @@ fn expect_positions(
     rt: &impl Abort,
     alloc: Global,
     districts: &mut Districts,
-    papers: &Papers,
+    papers: &FlatPapers,
     amendment: &Amendment,
     want: &[usize],
 ) -> Result<(), Refusal>
@@ -99,7 +99,7 @@ fn expect_region(
     rt: &impl Abort,
     alloc: Global,
     districts: &mut Districts,
-    papers: &Papers,
+    papers: &FlatPapers,
     record: &str,
     want: &[usize],
 ) -> Result<(), Refusal>

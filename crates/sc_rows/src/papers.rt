@@ -1,11 +1,11 @@
 //! Papers: what they hold, the keys, and what each amendment changes.
 use crate::given::{amend, amendment_of, papers_of, school, student};
 use sc_markets::{Files, MARKET_B, assignment};
-use sc_papers::{Assignment, Key, Papers, Refusal, Seed, Student};
+use sc_papers::{Assignment, FlatPapers, Key, Papers, Refusal, Seed, Student};
 use std::alloc::Global;
 use std::process::Abort;
 
-fn expect_schools(rt: &impl Abort, papers: &Papers) {
+fn expect_schools(rt: &impl Abort, papers: &FlatPapers) {
     assert!(rt; papers.schools_len() == 2);
     assert!(rt; papers.school_at(1) == Some(school(rt, 20)));
     assert!(rt; papers.school_position(school(rt, 20)) == Some(1));
@@ -48,7 +48,7 @@ fn schools_and_students_are_read_back(rt: HostRuntime) {
 }
 
 /// The student at this position has this number, and has at school 10 a key of this class and draw.
-fn expect_key(rt: &impl Abort, papers: &Papers, at: usize, number: u32, class: u8, draw: u64) {
+fn expect_key(rt: &impl Abort, papers: &FlatPapers, at: usize, number: u32, class: u8, draw: u64) {
     let want = Some(Key {
         class,
         draw,
@@ -59,7 +59,7 @@ fn expect_key(rt: &impl Abort, papers: &Papers, at: usize, number: u32, class: u
     assert!(rt; papers.key_at(at, 1).is_none());
 }
 
-fn expect_keys(rt: &impl Abort, papers: &Papers) {
+fn expect_keys(rt: &impl Abort, papers: &FlatPapers) {
     expect_key(rt, papers, 0, 1, 1, 0xe56a5d4028bd8653);
     expect_key(rt, papers, 1, 2, 2, 0xb819d2bd1aed8da0);
     expect_key(rt, papers, 2, 3, 3, 0xccef36a8c70d778b);

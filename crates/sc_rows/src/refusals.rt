@@ -3,8 +3,8 @@
 use crate::given::{amend, expect_said, papers_of, school, student, wanted_of};
 use sc_markets::{MARKET_B, amendment};
 use sc_papers::{
-    Amendment, Papers, Refusal, SchoolList, SchoolNo, SchoolRefusal, Seats, Seed, Stamp, Student,
-    Zone,
+    Amendment, FlatPapers, Papers, Refusal, SchoolList, SchoolNo, SchoolRefusal, Seats, Seed,
+    Stamp, Student, Zone,
 };
 use std::alloc::{AllocError, Global};
 use std::process::Abort;
@@ -101,7 +101,7 @@ fn answer(
 }
 
 /// How many seats a school of the papers has.
-fn seats(rt: &impl Abort, papers: &Papers, number: u32) -> u32 {
+fn seats(rt: &impl Abort, papers: &FlatPapers, number: u32) -> u32 {
     let found = papers.school(school(rt, number)).expect(rt, "a school");
     found.seats.get()
 }
@@ -115,7 +115,7 @@ fn expect_answers(rt: &impl Abort, alloc: Global, papers: &mut Papers, script: &
 }
 
 /// The papers have two students, and so many seats in school 10.
-fn expect_two_students(rt: &impl Abort, papers: &Papers, left: u32) {
+fn expect_two_students(rt: &impl Abort, papers: &FlatPapers, left: u32) {
     assert!(rt; papers.students_len() == 2);
     assert!(rt; seats(rt, papers, 10) == left);
     assert!(rt; seats(rt, papers, 20) == 1);

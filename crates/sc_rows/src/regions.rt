@@ -4,7 +4,7 @@
 
 use crate::given::{amendment_of, papers_of, student};
 use sc_markets::Files;
-use sc_papers::{Amendment, Papers, Refusal};
+use sc_papers::{Amendment, FlatPapers, Refusal};
 use sc_region::{RegionList, region};
 use std::alloc::Global;
 use std::process::Abort;
@@ -28,7 +28,11 @@ fn expect_students(rt: &impl Abort, region: &RegionList, want: &[u32]) {
 }
 
 /// The region of the amendment, asked again where memory was refused.
-fn region_of(alloc: Global, papers: &Papers, amendment: &Amendment) -> Result<RegionList, Refusal> {
+fn region_of(
+    alloc: Global,
+    papers: &FlatPapers,
+    amendment: &Amendment,
+) -> Result<RegionList, Refusal> {
     match region(alloc, papers, amendment) {
         Err(Refusal::OutOfMemory) => region(alloc, papers, amendment),
         answer => answer,
@@ -36,7 +40,7 @@ fn region_of(alloc: Global, papers: &Papers, amendment: &Amendment) -> Result<Re
 }
 
 /// The region of the record's amendment has these students.
-fn expect_region(rt: &impl Abort, alloc: Global, papers: &Papers, record: &str, want: &[u32]) {
+fn expect_region(rt: &impl Abort, alloc: Global, papers: &FlatPapers, record: &str, want: &[u32]) {
     let amendment = amendment_of(rt, alloc, record);
     let reached = region_of(alloc, papers, &amendment)
         .ok()
@@ -55,7 +59,7 @@ fn a_student_enters(rt: HostRuntime) {
 
 // Whoever is corrected names schools that others list, as a sibling's and as the one to continue at: the region is
 // about choices alone.
-fn expect_regions(rt: &impl Abort, alloc: Global, papers: &Papers) {
+fn expect_regions(rt: &impl Abort, alloc: Global, papers: &FlatPapers) {
     expect_region(rt, alloc, papers, "withdraw,1", &[1, 2]);
     expect_region(rt, alloc, papers, "rerank,6,10", &[1, 2, 6, 7]);
     expect_region(rt, alloc, papers, "correct,7,1,10,20", &[6, 7]);
@@ -70,7 +74,7 @@ fn a_student_or_a_school_changes(rt: HostRuntime) {
     drop(papers);
 }
 
-fn expect_refusal(rt: &impl Abort, alloc: Global, papers: &Papers) {
+fn expect_refusal(rt: &impl Abort, alloc: Global, papers: &FlatPapers) {
     let withdrawal = Amendment::Withdraw {
         student: student(rt, 9),
     };

@@ -1,7 +1,7 @@
 //! From where on an amendment settles anew.
 use crate::given::{expect_answered, papers_of, wanted_of};
 use sc_markets::{Files, MARKET_B_CONTINUING, amendment};
-use sc_papers::{Papers, Refusal};
+use sc_papers::{FlatPapers, Refusal};
 use sc_repair::rewind_point;
 use std::alloc::{AllocError, Global};
 use std::process::Abort;
@@ -15,7 +15,7 @@ fn point_text(alloc: Global, point: Result<usize, Refusal>) -> Result<String, Al
 }
 
 /// The rewind point of an amendment, or its refusal.
-fn point(alloc: Global, papers: &Papers, record: &str) -> Result<String, Refusal> {
+fn point(alloc: Global, papers: &FlatPapers, record: &str) -> Result<String, Refusal> {
     let amendment = amendment(alloc, record)?;
     let point = rewind_point(papers, &amendment);
     drop(amendment);
@@ -23,7 +23,7 @@ fn point(alloc: Global, papers: &Papers, record: &str) -> Result<String, Refusal
 }
 
 /// The amendments have the wanted rewind points, which stand after `=>`.
-fn expect_points(rt: &impl Abort, alloc: Global, papers: &Papers, script: &str) {
+fn expect_points(rt: &impl Abort, alloc: Global, papers: &FlatPapers, script: &str) {
     for line in script.lines() {
         let (record, want) = wanted_of(rt, line);
         expect_answered(rt, record, point(alloc, papers, record), want);

@@ -12,7 +12,7 @@ use sc_engine::{Round, Settled, SettledPlaces, settle, settle_by_first_keys};
 use sc_markets::{
     FIVE_STUDENTS, Files, MARKET_A, MARKET_B, MARKET_B_AND_NEWCOMER, TWO_STUDENTS, log_text,
 };
-use sc_papers::{Papers, SchoolNo, StudentNo};
+use sc_papers::{FlatPapers, SchoolNo, StudentNo};
 use sc_seats::{HeapRoll, Roll, SortedRoll};
 use std::alloc::{AllocError, Global};
 use std::process::Abort;
@@ -31,7 +31,7 @@ fn outcome_text(alloc: Global, settled: &Settled) -> Result<String, AllocError> 
 /// How many proposals there were by an outcome without a log, and who has which school, in order of entry, as a text.
 fn placed_text(
     alloc: Global,
-    papers: &Papers,
+    papers: &FlatPapers,
     outcome: &SettledPlaces,
 ) -> Result<String, AllocError> {
     let mut text = format!(in alloc; "{}:", outcome.proposals)?;
@@ -92,14 +92,14 @@ fn a_newcomer(rt: HostRuntime) {
 }
 
 /// The outcome by the keys at the first choices.
-fn expect_placed(rt: &impl Abort, alloc: Global, papers: &Papers, want: &str) {
+fn expect_placed(rt: &impl Abort, alloc: Global, papers: &FlatPapers, want: &str) {
     let outcome = settle_by_first_keys(alloc, papers).expect(rt, "memory");
     expect_said(rt, "places", placed_text(alloc, papers, &outcome), want);
     drop(outcome);
 }
 
 /// The outcome by the order of entry.
-fn expect_outcome(rt: &impl Abort, alloc: Global, papers: &Papers, want: &str) {
+fn expect_outcome(rt: &impl Abort, alloc: Global, papers: &FlatPapers, want: &str) {
     let settled = settle(alloc, papers).expect(rt, "memory");
     expect_said(rt, "an outcome", outcome_text(alloc, &settled), want);
     drop(settled);
@@ -127,7 +127,7 @@ fn entry_by_first_keys(rt: HostRuntime) {
 /// Where the first two students stand once they alone have entered.
 fn first_two_stand<R: Roll>(
     alloc: Global,
-    papers: &Papers,
+    papers: &FlatPapers,
     one: StudentNo,
     two: StudentNo,
 ) -> Result<[Standing; 2], AllocError>
@@ -156,7 +156,7 @@ fn first_two_stand<R: Roll>(
 pub(super) fn resume_with_the_third<R: Roll>(
     rt: &impl Abort,
     alloc: Global,
-    papers: &Papers,
+    papers: &FlatPapers,
     told: &[Standing],
 ) -> Result<Settled, AllocError> {
     let (Some(one), Some(two), Some(three)) = (
@@ -176,7 +176,7 @@ pub(super) fn resume_with_the_third<R: Roll>(
 /// Does so in the memory of a round that is done with, where nobody is found by a guess at where they or their choices stand.
 fn resume_again_with_the_third<R: Roll>(
     alloc: Global,
-    papers: &Papers,
+    papers: &FlatPapers,
 ) -> Result<Settled, AllocError> {
     let (Some(one), Some(two), Some(three)) = (
         papers.student_at(0),
@@ -204,7 +204,7 @@ fn a_newcomer_to_a_round_in_old_memory(rt: HostRuntime) {
 }
 
 /// Enters all students, the last one first.
-fn settle_backwards<R: Roll>(alloc: Global, papers: &Papers) -> Result<Settled, AllocError> {
+fn settle_backwards<R: Roll>(alloc: Global, papers: &FlatPapers) -> Result<Settled, AllocError> {
     let mut round: Round<R> = Round::start(alloc, papers)?;
     let mut left = papers.students_len();
     while left > 0 {
@@ -218,7 +218,7 @@ fn settle_backwards<R: Roll>(alloc: Global, papers: &Papers) -> Result<Settled, 
 }
 
 /// Enters all students in order into a round in which nobody has entered.
-fn enter_all<R: Roll>(round: &mut Round<R>, papers: &Papers) -> Result<(), AllocError>
+fn enter_all<R: Roll>(round: &mut Round<R>, papers: &FlatPapers) -> Result<(), AllocError>
     requires first { SettlesFirst papers.now (view_of R.keys R.seats round.old) 0 }
     requires ready { is_spent round.old ≡ false }
     ensures ready { OnOk result (is_spent round.new ≡ false) }
@@ -235,7 +235,7 @@ fn enter_all<R: Roll>(round: &mut Round<R>, papers: &Papers) -> Result<(), Alloc
 }
 
 /// Enters all students, the first one first.
-fn settle_forwards<R: Roll>(alloc: Global, papers: &Papers) -> Result<Settled, AllocError> {
+fn settle_forwards<R: Roll>(alloc: Global, papers: &FlatPapers) -> Result<Settled, AllocError> {
     let mut round: Round<R> = Round::start(alloc, papers)?;
     enter_all(&mut round, papers)?;
     round.into_settled(papers)
@@ -263,7 +263,7 @@ fn entry_in_reverse(rt: HostRuntime) {
 }
 
 /// A spent round stays spent.
-fn expect_spent<R: Roll>(rt: &impl Abort, papers: &Papers, round: &mut Round<R>, one: StudentNo)
+fn expect_spent<R: Roll>(rt: &impl Abort, papers: &FlatPapers, round: &mut Round<R>, one: StudentNo)
     requires { is_spent round.old ≡ true }
     ensures { is_spent round.new ≡ true }
 {
@@ -273,7 +273,7 @@ fn expect_spent<R: Roll>(rt: &impl Abort, papers: &Papers, round: &mut Round<R>,
     assert!(rt; round.assignment(papers).is_err());
 }
 
-fn expect_unsettled<R: Roll>(rt: &impl Abort, papers: &Papers, round: Round<R>)
+fn expect_unsettled<R: Roll>(rt: &impl Abort, papers: &FlatPapers, round: Round<R>)
     requires { is_spent round ≡ true }
 {
     assert!(rt; round.into_settled(papers).is_err());
@@ -286,7 +286,7 @@ fn expect_first_school(rt: &impl Abort, place: Option<SchoolNo>) {
 /// The student has entered at school 1.
 fn expect_entered<R: Roll>(
     rt: &impl Abort,
-    papers: &Papers,
+    papers: &FlatPapers,
     round: &Round<R>,
     one: StudentNo,
 ) -> Result<(), AllocError>
@@ -305,7 +305,7 @@ fn expect_entered<R: Roll>(
 /// Where a growth is refused within `enter_one`, the round stays spent.
 fn spend(
     rt: &impl Abort,
-    papers: &Papers,
+    papers: &FlatPapers,
     mut round: Round<SortedRoll>,
     one: StudentNo,
 ) -> Result<(), AllocError>
@@ -326,9 +326,9 @@ fn spend(
 }
 
 /// Spends a round of these papers, if the student is in them.
-fn spend_one(rt: &impl Abort, alloc: Global, papers: &Papers) -> Result<(), AllocError> {
+fn spend_one(rt: &impl Abort, alloc: Global, papers: &FlatPapers) -> Result<(), AllocError> {
     let one = student(rt, 1);
-    if papers.student(one).is_none() {
+    if papers.student_position(one).is_none() {
         return Ok(());
     }
     let round: Round<SortedRoll> = Round::start(alloc, papers)?;

@@ -9,7 +9,8 @@ use crate::given::{school, student};
 use crate::rounds::{expect_both, resume_with_the_third};
 use sc_checkpoint::{Segments, Spans, Standing};
 use sc_papers::{
-    Amendment, Hints, Papers, Refusal, Rejection, SchoolList, SchoolRefusal, Seats, Seed, Zone,
+    Amendment, FlatPapers, Hints, Papers, Refusal, Rejection, SchoolList, SchoolRefusal, Seats,
+    Seed, Zone,
 };
 use sc_seats::{HeapRoll, SortedRoll};
 use std::alloc::{AllocError, Global};
@@ -199,7 +200,7 @@ fn expect_each(rt: &impl Abort, next_choices: &[Standing], wanted: &[(u32, u32)]
 /// Where the students of the papers stand after the segments.
 fn expect_next_choices(
     rt: &impl Abort,
-    papers: &Papers,
+    papers: &FlatPapers,
     segments: &Segments,
 ) -> Result<(), AllocError>
     requires papers { students_of papers.now ≡ 1 ∷ 2 ∷ 3 ∷ [] }

@@ -17,7 +17,7 @@ use crate::writing::write_text;
 use sc_audit::{Verdict, audit};
 use sc_decimal::push_number;
 use sc_intake::{Source, read_log};
-use sc_papers::{Papers, Rejection, Seed};
+use sc_papers::{FlatPapers, Rejection, Seed};
 use sc_report::Watched;
 use std::alloc::{AllocError, Global};
 use std::io::{Read, Write};
@@ -25,8 +25,8 @@ use std::io::{Read, Write};
 /// What a log that was audited came to.
 #[derive(Drop)]
 pub struct Audited {
-    /// The papers under which it was audited.
-    pub papers: Papers,
+    /// The papers under which it was audited, without a record of each student.
+    pub papers: FlatPapers,
     pub verdict: Verdict,
 }
 
@@ -77,7 +77,7 @@ fn write_verdict<W: Write>(
 /// Audits a log under papers.
 fn audit_papers<W: Write>(
     alloc: Global,
-    papers: &Papers,
+    papers: &FlatPapers,
     log: &[u8],
     out: &mut Watched<W>,
 ) -> Result<Verdict, RunFault>
@@ -102,7 +102,7 @@ fn audit_papers<W: Write>(
 /// Audits a log under papers, and answers them with the verdict.
 fn answer_papers<W: Write>(
     alloc: Global,
-    papers: Papers,
+    papers: FlatPapers,
     log: &[u8],
     out: &mut Watched<W>,
 ) -> Result<Audited, RunFault>

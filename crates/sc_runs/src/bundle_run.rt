@@ -19,12 +19,12 @@ use crate::bundle::{Bundle, split_bundle};
 use crate::ending::Ending;
 use crate::fault::RunFault;
 use crate::inputs::{OpeningSlices, read_input};
-use crate::opening::read_papers;
+use crate::opening::read_flat;
 use crate::recorder::Unkept;
 use crate::running::run_texts;
 use crate::settled::report_papers;
 use sc_intake::Source;
-use sc_papers::{Papers, Seed};
+use sc_papers::{FlatPapers, Seed};
 use sc_report::Watched;
 use std::alloc::Global;
 use std::io::{Read, Write};
@@ -67,7 +67,7 @@ fn opening_of<'a>(bundle: &Bundle<'a>) -> OpeningSlices<'a>
 /// Writes the report of papers that were read, and flushes it, or answers why they were not.
 fn report_read<W: Write>(
     alloc: Global,
-    read: Result<Papers, RunFault>,
+    read: Result<FlatPapers, RunFault>,
     out: &mut Watched<W>,
 ) -> Result<(), RunFault>
     requires { (reading : Result Market IntakeFault) × IsReadingOf reading read }
@@ -116,7 +116,7 @@ fn run_text<W: Write>(alloc: Global, text: Vec<u8>, out: &mut Watched<W>) -> End
         let done = run_texts(alloc, &seed, opening, script, settling, out, &mut Unkept);
         return ending_of(done);
     }
-    let read = read_papers(alloc, &seed, opening);
+    let read = read_flat(alloc, &seed, opening);
     drop(text);
     ending_of(report_read(alloc, read, out))
 }

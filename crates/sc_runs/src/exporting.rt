@@ -10,7 +10,7 @@ ghost use Rattle.sc_runs.specs.declared.fault.RunFault.TheVariants.{OutOfMemory}
 
 use crate::fault::RunFault;
 use crate::inputs::{Opening, OpeningTexts, read_opening_and};
-use crate::opening::read_owned;
+use crate::opening::read_kept;
 use sc_export::{PapersFiles, export};
 use sc_intake::Source;
 use sc_journal::{Tail, replay_papers};
@@ -64,7 +64,7 @@ fn export_texts(
 ) -> Result<Exported, RunFault>
     ensures { ExportsStanding (opening_in seed.now (texts_of texts)) journal.now result }
 {
-    match read_owned(alloc, seed, texts) {
+    match read_kept(alloc, seed, texts) {
         Ok(papers) => export_after(alloc, papers, journal),
         Err(fault) => Err(fault),
     }

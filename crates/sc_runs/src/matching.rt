@@ -11,7 +11,7 @@ use crate::fault::RunFault;
 use crate::inputs::{Opening, OpeningTexts, read_opening};
 use crate::opening::read_owned;
 use crate::settled::{log_papers, report_papers};
-use sc_papers::{Papers, Seed};
+use sc_papers::{FlatPapers, Seed};
 use sc_report::Watched;
 use std::alloc::Global;
 use std::io::{Read, Write};
@@ -19,7 +19,7 @@ use std::io::{Read, Write};
 /// Settles papers and writes their report, or their log, and flushes it.
 fn match_papers<W: Write>(
     alloc: Global,
-    papers: &Papers,
+    papers: &FlatPapers,
     show_log: bool,
     out: &mut Watched<W>,
 ) -> Result<(), RunFault>
@@ -42,7 +42,7 @@ fn match_texts<W: Write>(
     texts: OpeningTexts,
     show_log: bool,
     out: &mut Watched<W>,
-) -> Result<Papers, RunFault>
+) -> Result<FlatPapers, RunFault>
     ensures bytes { WritesMatch show_log (opening_in seed.now (texts_of texts))
         (W.contents (device_of out.old)) (W.contents (device_of out.new)) result }
     ensures papers { IfOk result (λ papers. opening_in seed.now (texts_of texts) ≡ Ok papers) }
@@ -62,8 +62,8 @@ fn match_texts<W: Write>(
 }
 
 /// Reads the three files, in the order schools, roster, lists, and writes the report of their papers, or
-/// with `show_log` the log of rejections that certifies the assignment of the report. It answers the papers, for a caller
-/// that goes on with them.
+/// with `show_log` the log of rejections that certifies the assignment of the report. It answers the papers, without a
+/// record of each student, for a caller that goes on with them.
 ///
 /// Nothing is written before the files are known to be good. An error is the first fault of the
 /// files, each of which is read whole before any is looked into; that a file or the output failed; or
@@ -76,7 +76,7 @@ pub fn match_files<R: Read, W: Write>(
     opening: &mut Opening<R>,
     show_log: bool,
     out: &mut Watched<W>,
-) -> Result<Papers, RunFault>
+) -> Result<FlatPapers, RunFault>
     ensures bytes { MatchesFiles seed.now show_log (opening_turns R.remaining opening.old opening.new)
         (W.contents (device_of out.old)) (W.contents (device_of out.new)) result }
     ensures papers { IfOk result (λ papers.

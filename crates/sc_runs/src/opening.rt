@@ -6,8 +6,23 @@ ghost use Rattle.sc_runs.specs.Steps.{papers_held, texts_of, IsOpeningFault};
 
 use crate::fault::RunFault;
 use crate::inputs::{OpeningSlices, OpeningTexts};
-use sc_papers::{Papers, Seed};
+use sc_intake::read_flat_papers;
+use sc_papers::{FlatPapers, Papers, Seed};
 use std::alloc::Global;
+
+/// The papers that the texts hold, or their first fault, without a record of each student.
+pub fn read_flat(
+    alloc: Global,
+    seed: &Seed,
+    texts: OpeningSlices<'_>,
+) -> Result<FlatPapers, RunFault>
+    ensures { MatchResult result
+        (λ papers. papers_held seed.now texts.entry ≡ Ok papers)
+        (IsOpeningFault (papers_held seed.now texts.entry)) }
+{
+    let papers = read_flat_papers(alloc, *seed, texts.schools, texts.roster, texts.lists)?;
+    Ok(papers)
+}
 
 /// The papers that the texts hold, or their first fault.
 pub fn read_papers(alloc: Global, seed: &Seed, texts: OpeningSlices<'_>) -> Result<Papers, RunFault>
@@ -19,14 +34,27 @@ pub fn read_papers(alloc: Global, seed: &Seed, texts: OpeningSlices<'_>) -> Resu
     Ok(papers)
 }
 
-/// The papers that the texts hold, or their first fault. The texts are given up once the papers are read, so that their
-/// memory serves the settling.
-pub fn read_owned(alloc: Global, seed: &Seed, texts: OpeningTexts) -> Result<Papers, RunFault>
+/// The papers that the texts hold, or their first fault, without a record of each student. The texts are given up once
+/// the papers are read, so that their memory serves the settling.
+pub fn read_owned(alloc: Global, seed: &Seed, texts: OpeningTexts) -> Result<FlatPapers, RunFault>
     ensures { MatchResult result
         (λ papers. opening_in seed.now (texts_of texts) ≡ Ok papers)
         (IsOpeningFault (opening_in seed.now (texts_of texts))) }
 {
-    let papers = read_papers(alloc, seed, texts.as_slices());
+    let papers = read_flat(alloc, seed, texts.as_slices());
     drop(texts);
     papers
+}
+
+/// The papers that the texts hold, or their first fault. The texts are given up before the students' records are made.
+pub fn read_kept(alloc: Global, seed: &Seed, texts: OpeningTexts) -> Result<Papers, RunFault>
+    ensures { MatchResult result
+        (λ papers. opening_in seed.now (texts_of texts) ≡ Ok papers)
+        (IsOpeningFault (opening_in seed.now (texts_of texts))) }
+{
+    let flat = read_owned(alloc, seed, texts)?;
+    match Papers::from_flat(flat) {
+        Ok(papers) => Ok(papers),
+        Err(_) => Err(RunFault::OutOfMemory),
+    }
 }

@@ -25,7 +25,7 @@ use crate::writing::write_text;
 use sc_audit::{AuditedLog, Verdict, audit_and_place};
 use sc_decimal::push_number;
 use sc_intake::Source;
-use sc_papers::{Papers, Rejection, SchoolNo, Seed};
+use sc_papers::{FlatPapers, Rejection, SchoolNo, Seed};
 use sc_report::{Matched, ReadFault, Watched, first_difference, report_text_of};
 use std::alloc::{AllocError, Global};
 use std::io::{Read, Write};
@@ -125,7 +125,7 @@ fn compare<R: Read>(
 /// What a log that was audited so comes to, with a report, which is looked at if the log is settled.
 fn find_audited<R: Read>(
     alloc: Global,
-    papers: &Papers,
+    papers: &FlatPapers,
     log: &[Rejection],
     audited: &AuditedLog,
     report: &mut Watched<R>,
@@ -158,7 +158,7 @@ fn find_audited<R: Read>(
 /// Audits a log under papers, and then a report, if the log is settled.
 fn find<R: Read>(
     alloc: Global,
-    papers: &Papers,
+    papers: &FlatPapers,
     log: &[Rejection],
     report: &mut Watched<R>,
 ) -> Result<Finding, RunFault>
@@ -180,7 +180,7 @@ fn find<R: Read>(
 /// Audits a log and a report under papers, and writes what is found.
 fn audit_papers<R: Read, W: Write>(
     alloc: Global,
-    papers: &Papers,
+    papers: &FlatPapers,
     log: &[u8],
     report: &mut Watched<R>,
     out: &mut Watched<W>,

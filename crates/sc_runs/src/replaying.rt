@@ -11,7 +11,7 @@ ghost use Rattle.sc_runs.specs.Steps.{texts_of, WritesReplayed};
 
 use crate::fault::RunFault;
 use crate::inputs::{Opening, OpeningTexts, read_inputs};
-use crate::opening::read_owned;
+use crate::opening::read_kept;
 use crate::settled::report_papers;
 use sc_intake::Source;
 use sc_journal::{Tail, replay_papers};
@@ -83,7 +83,7 @@ fn replay_texts<W: Write>(
         (W.contents (device_of out.old)) (W.contents (device_of out.new)) result }
     ensures failed { OutputFailsAsTold out.old out.new result }
 {
-    match read_owned(alloc, seed, texts) {
+    match read_kept(alloc, seed, texts) {
         Ok(papers) => report_replayed(alloc, papers, journal, out),
         Err(fault) => Err(fault),
     }

@@ -7,7 +7,7 @@ ghost use Rattle.sc_runs.specs.Opening.{IsCertificate, IsReport, WritesText};
 use crate::fault::RunFault;
 use crate::writing::{write_flushed_report, write_log};
 use sc_engine::{settle, settle_by_first_keys};
-use sc_papers::Papers;
+use sc_papers::FlatPapers;
 use sc_report::{Matched, Watched};
 use std::alloc::Global;
 use std::io::Write;
@@ -16,7 +16,7 @@ use std::io::Write;
 /// log, and costs less where those who are ahead at their first choices enter first.
 pub fn report_papers<W: Write>(
     alloc: Global,
-    papers: &Papers,
+    papers: &FlatPapers,
     out: &mut Watched<W>,
 ) -> Result<(), RunFault>
     ensures bytes { WritesText (IsReport papers.now)
@@ -42,7 +42,7 @@ pub fn report_papers<W: Write>(
 /// order of entry.
 pub fn log_papers<W: Write>(
     alloc: Global,
-    papers: &Papers,
+    papers: &FlatPapers,
     out: &mut Watched<W>,
 ) -> Result<(), RunFault>
     ensures bytes { WritesText (IsCertificate papers.now)

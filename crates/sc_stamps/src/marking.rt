@@ -2,7 +2,7 @@ ghost use Rattle.std.specs.Prelude.{◌≡◌};
 ghost use Rattle.sc_stamps.specs.Stamps.{marking_of};
 
 use crate::record::{Record, record_of};
-use sc_papers::{Amendment, Papers};
+use sc_papers::{Amendment, FlatPapers};
 
 /// What an accepted amendment does to the stamps, beside that it is counted, by positions in the orders of
 /// entry before it, from 0, or `None` where the record is not in the papers.
@@ -19,7 +19,7 @@ pub enum Marking {
 }
 
 /// What the amendment will do to the stamps once the papers accept it. One look-up.
-pub fn marking_of(papers: &Papers, amendment: &Amendment) -> Marking
+pub fn marking_of(papers: &FlatPapers, amendment: &Amendment) -> Marking
     ensures { result ≡ marking_of papers.now amendment.now }
 {
     match amendment {

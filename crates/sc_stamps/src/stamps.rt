@@ -3,7 +3,7 @@ ghost use Rattle.sc_stamps.specs.Stamps.{stamp_at, with_stamp, without_stamp};
 
 use crate::marking::{Marking, marking_of};
 use crate::record::{Record, record_of};
-use sc_papers::{Papers, Refusal, SchoolNo, Stamp, Stamped, StudentNo};
+use sc_papers::{FlatPapers, Refusal, SchoolNo, Stamp, Stamped, StudentNo};
 use std::alloc::{AllocError, Global};
 use std::marker::Model;
 
@@ -53,7 +53,7 @@ impl Stamps {
     ghost use Rattle.sc_stamps.specs.declared.record.Record.TheVariants.{OfStudent, OfSchool};
 
     /// The stamps of papers that no amendment was accepted for: each is 0. The only error is want of memory.
-    pub fn new(alloc: Global, papers: &Papers) -> Result<Self, AllocError>
+    pub fn new(alloc: Global, papers: &FlatPapers) -> Result<Self, AllocError>
         ensures { IfOk result (λ stamps. stamps ≡ no_stamps papers.now) }
     {
         let students = zeros(alloc, papers.students_len())?;
@@ -73,21 +73,21 @@ impl Stamps {
     }
 
     /// The stamp of a student: 0 for one who is not in the papers. In constant time.
-    pub fn of_student(&self, papers: &Papers, student: StudentNo) -> Stamp
+    pub fn of_student(&self, papers: &FlatPapers, student: StudentNo) -> Stamp
         ensures { result ≡ stamp_of papers.now self.now (OfStudent student) }
     {
         stamp_at(&self.students, papers.student_position(student))
     }
 
     /// The stamp of a school: 0 for one that is not in the papers. In constant time.
-    pub fn of_school(&self, papers: &Papers, school: SchoolNo) -> Stamp
+    pub fn of_school(&self, papers: &FlatPapers, school: SchoolNo) -> Stamp
         ensures { result ≡ stamp_of papers.now self.now (OfSchool school) }
     {
         stamp_at(&self.schools, papers.school_position(school))
     }
 
     /// The stamp of a record: 0 for one that is not in the papers. In constant time.
-    pub fn of(&self, papers: &Papers, whose: Record) -> Stamp
+    pub fn of(&self, papers: &FlatPapers, whose: Record) -> Stamp
         ensures { result ≡ stamp_of papers.now self.now whose }
     {
         match whose {
@@ -97,9 +97,9 @@ impl Stamps {
     }
 
     /// The first refusal that applies to a stamped amendment of the papers, but for want of memory: that of
-    /// the papers first, as `Papers::check` answers it, then `Stale` with the record's stamp, then `Spent`. It
+    /// the papers first, as `FlatPapers::check` answers it, then `Stale` with the record's stamp, then `Spent`. It
     /// takes no memory.
-    pub fn check(&self, papers: &Papers, stamped: &Stamped) -> Result<(), Refusal>
+    pub fn check(&self, papers: &FlatPapers, stamped: &Stamped) -> Result<(), Refusal>
         ensures { result ≡ unless_refused
             (stamped_verdict (record { papers = papers.now; stamps = self.now }) stamped.now) }
     {

@@ -4,7 +4,7 @@ ghost use Rattle.std.specs.Prelude.{◌≡◌, IfOk};
 ghost use Rattle.sc_papers.specs.Assignment.{assigned};
 ghost use Rattle.sc_tallies.specs.Places.{ArePlaces};
 
-use sc_papers::{Assignment, Papers, SchoolNo};
+use sc_papers::{Assignment, FlatPapers, SchoolNo};
 use std::alloc::{AllocError, Global};
 
 /// The school that each student of the papers has by an assignment, if any, in the papers' order of entry.
@@ -13,7 +13,7 @@ use std::alloc::{AllocError, Global};
 /// has a school where the assignment's pairs are in another order than the students.
 pub fn places_of(
     alloc: Global,
-    papers: &Papers,
+    papers: &FlatPapers,
     assignment: &Assignment,
 ) -> Result<Vec<Option<SchoolNo>>, AllocError>
     ensures { IfOk result (λ places. ArePlaces papers.now (assigned assignment.now) places.items) }

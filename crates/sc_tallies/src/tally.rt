@@ -6,7 +6,7 @@ ghost use Rattle.sc_tallies.specs.LastKey.{or_later};
 ghost use Rattle.sc_tallies.specs.Places.{ArePlaces};
 ghost use Rattle.sc_tallies.specs.Tally.{held_at, no_tally, with_key, AreTallies, AreTalliesAmong};
 
-use sc_papers::{Key, MOST_SCHOOLS, MOST_STUDENTS, Papers, SchoolNo};
+use sc_papers::{FlatPapers, Key, MOST_SCHOOLS, MOST_STUDENTS, SchoolNo};
 use std::alloc::{AllocError, Global};
 
 /// How many students have a school, and the last key among them, if they are any.
@@ -39,7 +39,7 @@ fn with_student(tally: Tally, key: Key) -> Tally
 
 /// The position of the school that a student has, if it is one of the papers, and the student's key there. The student
 /// is the one at the position, and has this school.
-fn held_at(papers: &Papers, position: usize, place: Option<SchoolNo>) -> Option<(usize, Key)>
+fn held_at(papers: &FlatPapers, position: usize, place: Option<SchoolNo>) -> Option<(usize, Key)>
     ensures within { IfSome result (λ found. found.0 < length papers.now.schools) }
     ensures found { (a : Matching) (student : ℕ) → slice_get (students_of papers.now) position ≡ Some student
         → a student ≡ place → result ≡ held_at papers.now a student }
@@ -64,7 +64,12 @@ fn count_at(tallies: &mut [Tally], at: usize, key: Key, counted: usize)
 }
 
 /// Counts the student at the position of the order of entry, who has this school, if any.
-fn count_student(tallies: &mut [Tally], papers: &Papers, position: usize, place: Option<SchoolNo>)
+fn count_student(
+    tallies: &mut [Tally],
+    papers: &FlatPapers,
+    position: usize,
+    place: Option<SchoolNo>,
+)
     requires within { position < length papers.now.students }
     requires well_formed { WellFormed papers.now }
     requires within_limits { WithinLimits papers.now }
@@ -96,7 +101,7 @@ fn no_tallies(alloc: Global, count: usize) -> Result<Vec<Tally>, AllocError>
 }
 
 /// Counts the students, who have these schools in order of entry, where nobody is counted yet.
-fn count_students(tallies: &mut [Tally], papers: &Papers, places: &[Option<SchoolNo>])
+fn count_students(tallies: &mut [Tally], papers: &FlatPapers, places: &[Option<SchoolNo>])
     requires places { length places.now ≡ length papers.now.students }
     requires well_formed { WellFormed papers.now }
     requires within_limits { WithinLimits papers.now }
@@ -117,7 +122,7 @@ fn count_students(tallies: &mut [Tally], papers: &Papers, places: &[Option<Schoo
 /// are always well-formed, and this call tells its callers so.
 pub fn tallies(
     alloc: Global,
-    papers: &Papers,
+    papers: &FlatPapers,
     places: &[Option<SchoolNo>],
 ) -> Result<Vec<Tally>, AllocError>
     requires { length places.now ≡ length papers.now.students }

@@ -9,7 +9,7 @@ ghost use Rattle.sc_engine.specs.RoundView.{OffersAt, roll_at, next_of, Fits, Fi
 use super::Round;
 use super::ranks::{position_near, proposal_of};
 use super::rolls::{is_refused, offer_to};
-use sc_papers::{LONGEST_LIST, Papers, Proposal, Rejection, StudentNo};
+use sc_papers::{FlatPapers, LONGEST_LIST, Proposal, Rejection, StudentNo};
 use sc_seats::{HeldKey, Roll};
 use std::alloc::AllocError;
 
@@ -52,7 +52,7 @@ impl<R: Roll> Round<R> {
     /// row is at hand after the first of them.
     fn next_open(
         &mut self,
-        papers: &Papers,
+        papers: &FlatPapers,
         proposer: usize,
     ) -> Result<Option<Proposal>, AllocError>
         requires within { proposer < length papers.now.students }
@@ -76,7 +76,7 @@ impl<R: Roll> Round<R> {
 
     /// The student at the position proposes, from their next choice on, until a school does not refuse them at once: the
     /// position of whoever is put out there, if anybody.
-    fn propose(&mut self, papers: &Papers, proposer: usize) -> Result<Option<usize>, AllocError>
+    fn propose(&mut self, papers: &FlatPapers, proposer: usize) -> Result<Option<usize>, AllocError>
         requires within { proposer < length papers.now.students }
         requires fits { FitsBut papers.now (view_of R.keys R.seats self.old) (only (student_at papers.now proposer)) }
         ensures within { IfOk result (λ out. IfSome out (λ next. next < length papers.now.students)) }
@@ -93,7 +93,7 @@ impl<R: Roll> Round<R> {
     /// put out, if anybody.
     fn propose_with(
         &mut self,
-        papers: &Papers,
+        papers: &FlatPapers,
         proposer: usize,
         proposal: Option<Proposal>,
     ) -> Result<Option<usize>, AllocError>
@@ -123,7 +123,7 @@ impl<R: Roll> Round<R> {
 
     /// The chain of the student at the position: whoever is put out proposes to the next choice, until
     /// nobody is put out or the one put out has no choice left.
-    fn chain(&mut self, papers: &Papers, first: usize) -> Result<(), AllocError>
+    fn chain(&mut self, papers: &FlatPapers, first: usize) -> Result<(), AllocError>
         requires within { first < length papers.now.students }
         requires fits { FitsBut papers.now (view_of R.keys R.seats self.old) (only (student_at papers.now first)) }
         ensures { OnOk result (ChainEnds papers.now (view_of R.keys R.seats self.old) (view_of R.keys R.seats self.new)
@@ -139,7 +139,7 @@ impl<R: Roll> Round<R> {
     /// Does what `chain` does, where the proposal that the student is to make is known, or that there is none.
     fn chain_with(
         &mut self,
-        papers: &Papers,
+        papers: &FlatPapers,
         first: usize,
         proposal: Option<Proposal>,
     ) -> Result<(), AllocError>
@@ -159,7 +159,7 @@ impl<R: Roll> Round<R> {
     /// The student at the position goes to their first choice by this proposal, and their chain follows.
     pub(super) fn enter(
         &mut self,
-        papers: &Papers,
+        papers: &FlatPapers,
         student: StudentNo,
         at: usize,
         first: Option<Proposal>,

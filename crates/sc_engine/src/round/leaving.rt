@@ -10,11 +10,11 @@ ghost use Rattle.sc_engine.specs.RoundView.{Fits};
 use super::Round;
 use super::ranks::proposal_of;
 use super::rolls::{renew_roll, seats_at};
-use sc_papers::{Papers, SchoolNo};
+use sc_papers::{FlatPapers, SchoolNo};
 use sc_seats::Roll;
 
 /// Empties the roll of the school at which the student at a position stands, if they stand at one.
-fn empty_roll_of<R: Roll>(rolls: &mut Vec<R>, ranks: &[Option<u8>], papers: &Papers, at: usize)
+fn empty_roll_of<R: Roll>(rolls: &mut Vec<R>, ranks: &[Option<u8>], papers: &FlatPapers, at: usize)
     requires well_formed { WellFormed papers.now }
     requires student { at < length papers.now.students }
     requires rolls { length rolls.old.items ≡ length papers.now.schools }
@@ -33,7 +33,7 @@ fn empty_roll_of<R: Roll>(rolls: &mut Vec<R>, ranks: &[Option<u8>], papers: &Pap
 fn empty_rolls_of<R: Roll>(
     rolls: &mut Vec<R>,
     ranks: &[Option<u8>],
-    papers: &Papers,
+    papers: &FlatPapers,
     positions: &[usize],
 )
     requires well_formed { WellFormed papers.now }
@@ -55,7 +55,7 @@ impl<R: Roll> Round<R> {
     /// others stay where they stand. Of other students, and of a round that has counted proposals, nothing is said.
     ///
     /// It takes no memory. The cost is a look at the row of each of these students.
-    pub fn leave(&mut self, papers: &Papers, positions: &[usize])
+    pub fn leave(&mut self, papers: &FlatPapers, positions: &[usize])
         requires fits { Fits papers.now (view_of R.keys R.seats self.old) }
         requires within { AreWithin papers.now positions.now }
         ensures left { (test : ℕ → Bool) → StandAt papers.now test positions.now → AreApart papers.now test
@@ -69,7 +69,7 @@ impl<R: Roll> Round<R> {
 
     /// Gives the roll of a school the seats that the papers give it, in the memory that it has. Nobody stands there
     /// afterwards: it is for a school whose students have left. One that is not in the papers has no roll. In constant time.
-    pub fn reseat(&mut self, papers: &Papers, school: SchoolNo)
+    pub fn reseat(&mut self, papers: &FlatPapers, school: SchoolNo)
         requires { length (view_of R.keys R.seats self.old).rolls ≡ length papers.now.schools }
         ensures reseated { IsReseated papers.now (Some school) (view_of R.keys R.seats self.old)
             (view_of R.keys R.seats self.new) }

@@ -6,14 +6,14 @@ ghost use Rattle.sc_papers.specs.Market.{is_student, students_of};
 ghost use Rattle.sc_engine.specs.Proposals.{IsProposal};
 ghost use Rattle.sc_engine.specs.RoundView.{next_of};
 
-use sc_papers::{Assignment, Papers, Proposal, SchoolNo, StudentNo};
+use sc_papers::{Assignment, FlatPapers, Proposal, SchoolNo, StudentNo};
 use std::alloc::{AllocError, Global};
 
 /// Each student's choice, in order of entry.
 pub(super) fn assignment_of(
     alloc: Global,
     ranks: &[Option<u8>],
-    papers: &Papers,
+    papers: &FlatPapers,
 ) -> Result<Assignment, AllocError>
     ensures { IfOk result (λ assignment. (i : ℕ) → assigned assignment i ≡ next_of papers.now ranks.now i) }
 {
@@ -31,7 +31,7 @@ pub(super) fn assignment_of(
 pub(super) fn places_of(
     alloc: Global,
     ranks: &[Option<u8>],
-    papers: &Papers,
+    papers: &FlatPapers,
 ) -> Result<Vec<Option<SchoolNo>>, AllocError>
     ensures { IfOk result (λ places. places.items ≡ map (next_of papers.now ranks.now) (students_of papers.now)) }
 {
@@ -54,7 +54,7 @@ fn rank_at(ranks: &[Option<u8>], at: usize) -> Option<usize>
 }
 
 /// The choice at which the student at the position stands.
-fn choice_at(ranks: &[Option<u8>], papers: &Papers, at: usize) -> Option<SchoolNo>
+fn choice_at(ranks: &[Option<u8>], papers: &FlatPapers, at: usize) -> Option<SchoolNo>
     requires { at < length papers.now.students }
     ensures { (i : ℕ) → position (nat_eq i) (students_of papers.now) ≡ Some at
         → result ≡ next_of papers.now ranks.now i }
@@ -65,7 +65,7 @@ fn choice_at(ranks: &[Option<u8>], papers: &Papers, at: usize) -> Option<SchoolN
 
 /// The choice at which the student at the position stands, with its position and the student's key there.
 #[inline]
-pub(super) fn proposal_of(ranks: &[Option<u8>], papers: &Papers, at: usize) -> Option<Proposal>
+pub(super) fn proposal_of(ranks: &[Option<u8>], papers: &FlatPapers, at: usize) -> Option<Proposal>
     requires { at < length papers.now.students }
     ensures { (i : ℕ) → position (nat_eq i) (students_of papers.now) ≡ Some at
         → IsProposal papers.now i (next_of papers.now ranks.now i) result }
@@ -75,7 +75,11 @@ pub(super) fn proposal_of(ranks: &[Option<u8>], papers: &Papers, at: usize) -> O
 }
 
 /// The choice at which the student stands.
-pub(super) fn next_in(ranks: &[Option<u8>], papers: &Papers, student: StudentNo) -> Option<SchoolNo>
+pub(super) fn next_in(
+    ranks: &[Option<u8>],
+    papers: &FlatPapers,
+    student: StudentNo,
+) -> Option<SchoolNo>
     ensures { result ≡ next_of papers.now ranks.now student }
 {
     choice_at(ranks, papers, papers.student_position(student)?)
@@ -84,7 +88,7 @@ pub(super) fn next_in(ranks: &[Option<u8>], papers: &Papers, student: StudentNo)
 /// The choice at which the student stands, who often is at the guessed position: then no number is looked up.
 pub(super) fn next_near(
     ranks: &[Option<u8>],
-    papers: &Papers,
+    papers: &FlatPapers,
     student: StudentNo,
     guess: usize,
 ) -> Option<SchoolNo>
@@ -94,7 +98,7 @@ pub(super) fn next_near(
 }
 
 /// The position of a student of the papers, who often stands at the guess: then no number is looked up.
-pub(super) fn position_near(papers: &Papers, student: StudentNo, guess: usize) -> usize
+pub(super) fn position_near(papers: &FlatPapers, student: StudentNo, guess: usize) -> usize
     requires { is_student papers.now student ≡ true }
     ensures { position (nat_eq student) (students_of papers.now) ≡ Some result }
 {

@@ -10,13 +10,13 @@ use super::Round;
 use super::ranks::position_near;
 use super::rolls::offer_to;
 use sc_checkpoint::Standing;
-use sc_papers::{Key, LONGEST_LIST, Papers, SchoolNo};
+use sc_papers::{FlatPapers, Key, LONGEST_LIST, MOST_STUDENTS, SchoolNo};
 use sc_seats::{HeldKey, Roll};
 use std::alloc::{AllocError, Global};
 
 /// The rank of the school among the choices of the student at the position, or a rank after the last where there is no
 /// school. Often it is the guessed one, and then one choice alone is looked at. The student's row is read, and no record.
-fn rank_in(papers: &Papers, at: usize, school: Option<SchoolNo>, guess: usize) -> usize
+fn rank_in(papers: &FlatPapers, at: usize, school: Option<SchoolNo>, guess: usize) -> usize
     requires student { at < length papers.now.students }
     requires listed { IfSome school (λ s. Contains (choices_of papers.now (student_at papers.now at)) s) }
     ensures rank { slice_get (choices_of papers.now (student_at papers.now at)) result ≡ school }
@@ -26,7 +26,7 @@ fn rank_in(papers: &Papers, at: usize, school: Option<SchoolNo>, guess: usize) -
         return guess;
     }
     // This call tells that the choices are few enough.
-    prove!(papers.choices_at(at).len() <= LONGEST_LIST);
+    prove!(papers.students_len() <= MOST_STUDENTS);
     let Some(school) = school else {
         return papers.choice_positions_at(at).len();
     };
@@ -38,7 +38,7 @@ fn rank_in(papers: &Papers, at: usize, school: Option<SchoolNo>, guess: usize) -
 
 /// The position of the school that stands at a rank of the choices of the student at a position, and the student's key
 /// there. The school is not looked up.
-fn position_and_key(papers: &Papers, at: usize, rank: usize, school: SchoolNo) -> (usize, Key)
+fn position_and_key(papers: &FlatPapers, at: usize, rank: usize, school: SchoolNo) -> (usize, Key)
     requires student { at < length papers.now.students }
     requires listed { slice_get (choices_of papers.now (student_at papers.now at)) rank ≡ Some school }
     ensures position { position (nat_eq school) (schools_of papers.now) ≡ Some result.0 }
@@ -68,7 +68,7 @@ impl<R: Roll> Round<R> {
     /// proposal: it was made before.
     fn put(
         &mut self,
-        papers: &Papers,
+        papers: &FlatPapers,
         choice: Standing,
         position_guess: usize,
         rank_guess: usize,
@@ -107,7 +107,7 @@ impl<R: Roll> Round<R> {
     /// in the order of entry is looked up by number, and so is a next choice other than the first.
     pub fn resume(
         alloc: Global,
-        papers: &Papers,
+        papers: &FlatPapers,
         next_choices: &[Standing],
     ) -> Result<Self, AllocError>
         requires { CanResume papers.now next_choices.now }
@@ -123,7 +123,7 @@ impl<R: Roll> Round<R> {
     /// Nothing else depends on either.
     pub fn resume_near(
         alloc: Global,
-        papers: &Papers,
+        papers: &FlatPapers,
         next_choices: &[Standing],
         near: &[usize],
         ranks: &[u8],
@@ -142,7 +142,7 @@ impl<R: Roll> Round<R> {
     /// two bytes to clear for each student of the papers.
     pub fn resume_in(
         self,
-        papers: &Papers,
+        papers: &FlatPapers,
         next_choices: &[Standing],
         near: &[usize],
         ranks: &[u8],
@@ -157,7 +157,7 @@ impl<R: Roll> Round<R> {
     /// Puts each student of these next choices at theirs, in a round in which nobody has entered.
     fn put_all(
         self,
-        papers: &Papers,
+        papers: &FlatPapers,
         next_choices: &[Standing],
         near: &[usize],
         ranks: &[u8],

@@ -5,12 +5,12 @@ ghost use Rattle.sc_papers.specs.Market.{schools_of, seats_of};
 ghost use Rattle.sc_engine.specs.RoundView.{OffersAt, roll_at, AreEmpty};
 ghost use Rattle.sc_engine.specs.Rolls.{rolls_of};
 
-use sc_papers::{Key, Papers, Seats};
+use sc_papers::{FlatPapers, Key, Seats};
 use sc_seats::{HeldKey, Roll};
 use std::alloc::{AllocError, Global};
 
 /// The seats of the school at the position.
-pub(super) fn seats_at(papers: &Papers, position: usize) -> Seats
+pub(super) fn seats_at(papers: &FlatPapers, position: usize) -> Seats
     requires { position < length papers.now.schools }
     ensures { (s : ℕ) → slice_get (schools_of papers.now) position ≡ Some s → result ≡ seats_of papers.now s }
 {
@@ -57,7 +57,7 @@ fn put_empty_roll<R: Roll>(
 pub(super) fn renew_rolls<R: Roll>(
     alloc: Global,
     rolls: &mut Vec<R>,
-    papers: &Papers,
+    papers: &FlatPapers,
 ) -> Result<(), AllocError>
     ensures length { OnOk result (length rolls.new.items ≡ length papers.now.schools) }
     ensures empty { OnOk result (AreEmpty papers.now (rolls_of R.keys R.seats rolls.new.items)
@@ -71,7 +71,7 @@ pub(super) fn renew_rolls<R: Roll>(
 }
 
 /// A roll of its capacity for each school, on which nobody is.
-pub(super) fn empty_rolls<R: Roll>(alloc: Global, papers: &Papers) -> Result<Vec<R>, AllocError>
+pub(super) fn empty_rolls<R: Roll>(alloc: Global, papers: &FlatPapers) -> Result<Vec<R>, AllocError>
     ensures length { IfOk result (λ rolls. length rolls.items ≡ length papers.now.schools) }
     ensures empty { IfOk result (λ rolls. AreEmpty papers.now (rolls_of R.keys R.seats rolls.items)
         (length papers.now.schools)) }

@@ -7,7 +7,7 @@ ghost use Rattle.sc_engine.specs.Rolls.{rolls_of};
 use super::Round;
 use super::rolls::{empty_rolls, renew_rolls};
 use crate::rank_table::RankTable;
-use sc_papers::{MOST_STUDENTS, Papers, Rejection};
+use sc_papers::{FlatPapers, MOST_STUDENTS, Rejection};
 use sc_seats::Roll;
 use std::alloc::{AllocError, Global};
 
@@ -16,7 +16,7 @@ impl<R: Roll> Round<R> {
 
     /// A round of these parts, in which nobody has entered.
     fn of_parts(
-        papers: &Papers,
+        papers: &FlatPapers,
         alloc: Global,
         ranks: RankTable,
         rolls: Vec<R>,
@@ -43,7 +43,7 @@ impl<R: Roll> Round<R> {
 
     /// A round in which nobody has entered, or the error of a refused growth. It takes memory for each
     /// student and each school; the rolls take theirs by the offers.
-    pub fn start(alloc: Global, papers: &Papers) -> Result<Self, AllocError>
+    pub fn start(alloc: Global, papers: &FlatPapers) -> Result<Self, AllocError>
         ensures { IfOk result (IsFresh R.keys R.seats papers.now) }
     {
         let ranks = RankTable::with_room(alloc, papers.students_len())?;
@@ -53,7 +53,7 @@ impl<R: Roll> Round<R> {
 
     /// What `start` gives, in the memory of a round that is done with, whatever papers it was of and whether or not
     /// it is spent.
-    pub(crate) fn again(self, papers: &Papers) -> Result<Self, AllocError>
+    pub(crate) fn again(self, papers: &FlatPapers) -> Result<Self, AllocError>
         ensures { IfOk result (IsFresh R.keys R.seats papers.now) }
     {
         let mut ranks = self.ranks;

@@ -9,7 +9,7 @@ ghost use Rattle.sc_engine.specs.RoundView.{Fits, rank_of};
 
 use super::Round;
 use super::ranks::proposal_of;
-use sc_papers::Papers;
+use sc_papers::FlatPapers;
 use sc_seats::Roll;
 use std::mem::swap;
 
@@ -19,7 +19,7 @@ fn take_roll<R: Roll>(
     rolls: &mut Vec<R>,
     others: &mut Vec<R>,
     ranks: &[Option<u8>],
-    papers: &Papers,
+    papers: &FlatPapers,
     at: usize,
 )
     requires well_formed { WellFormed papers.now }
@@ -46,7 +46,7 @@ fn take_rolls<R: Roll>(
     rolls: &mut Vec<R>,
     others: &mut Vec<R>,
     ranks: &[Option<u8>],
-    papers: &Papers,
+    papers: &FlatPapers,
     positions: &[usize],
 )
     requires well_formed { WellFormed papers.now }
@@ -70,7 +70,7 @@ impl<R: Roll> Round<R> {
     /// stood here. The other round is good for nothing afterwards but its memory.
     ///
     /// It takes no memory. The cost is a look at the row of each of these students.
-    pub fn take_over(&mut self, other: &mut Self, papers: &Papers, positions: &[usize])
+    pub fn take_over(&mut self, other: &mut Self, papers: &FlatPapers, positions: &[usize])
         requires fits { Fits papers.now (view_of R.keys R.seats self.old) }
         requires other_rolls { HasRolls papers.now (view_of R.keys R.seats other.old) }
         requires within { AreWithin papers.now positions.now }

@@ -9,5 +9,5 @@ returns-clause-read_back c =
     let schools : c.push_schools.new.text.items ≡ schools_text m = search rules in
     let roster : c.push_roster.new.text.items ≡ roster_text m = search rules in
     let lists : c.push_lists.new.text.items ≡ lists_text m = search rules in
-    rw (schools, roster, lists) (read-back m c.students_len.ensures.well_formed c.students_len.ensures.within_limits
-    (record { schools = c.in_ok-push_schools.ensures.in_range; students = c.in_ok-push_roster.ensures.in_range }))
+    rw (schools, roster, lists) (read-back m (rw c.deref.ensures at c.students_len.ensures.well_formed) (rw c.deref.ensures at c.students_len.ensures.within_limits)
+    (record { schools = rw c.deref-2.ensures at c.in_ok-push_schools.ensures.in_range; students = c.in_ok-push_roster.ensures.in_range }))

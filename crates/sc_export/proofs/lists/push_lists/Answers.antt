@@ -10,7 +10,7 @@ unreachable-requires c =
     let past : slice_get c.args.papers.now.students c.loop-position.position ≡ None =
     sym c.student_entry.ensures ∙ ap (option_map (λ (entry : ℕ × Bor Student). (entry.0, entry.1.now))) c.in-None.is in
     let within = c.loop-position-test.true in
-    let size = c.students_len-position-end.ensures.count in
+    let size = rw c.deref.ensures at c.students_len-position-end.ensures.count in
     not-past c.args.papers.now.students c.loop-position.position past (omega arith)
 
 pub loop-position-preserved : goal.loop-position-preserved
@@ -23,7 +23,7 @@ loop-position-preserved c =
 pub returns : goal.returns
 returns c =
     let past = c.loop-position-test.false in
-    let size = c.students_len-position-end.ensures.count in
+    let size = rw c.deref.ensures at c.students_len-position-end.ensures.count in
     rows-all row_text list_fields c.args.papers.now.students c.loop-position.position _ c.loop-position.text.items c.loop-position.invariant (omega arith)
     ∙ ap (λ (text : List ℕ). text ++ flat_map row_text (map list_fields c.args.papers.now.students)) c.in_ok-extend_from_slice.ensures.items
     ∙ append_assoc c.args.text.now.items (codes "student,choices\n") (flat_map row_text (map list_fields c.args.papers.now.students))

@@ -10,7 +10,7 @@ unreachable-requires c =
     let past : slice_get c.args.papers.now.students c.loop-position.position ≡ None =
     sym c.student_entry.ensures ∙ ap (option_map (λ (entry : ℕ × Bor Student). (entry.0, entry.1.now))) c.in-None.is in
     let within = c.loop-position-test.true in
-    let size = c.students_len-position-end.ensures.count in
+    let size = rw c.deref.ensures at c.students_len-position-end.ensures.count in
     not-past c.args.papers.now.students c.loop-position.position past (omega arith)
 
 pub returns-then-is_some : goal.returns-then-is_some

@@ -11,7 +11,7 @@ unreachable-requires c =
     let past : slice_get c.args.papers.now.students c.loop-position.position ≡ None =
     sym c.student_entry.ensures ∙ ap (option_map (λ (entry : ℕ × Bor Student). (entry.0, entry.1.now))) c.in-None.is in
     let within = c.loop-position-test.true in
-    let size = c.students_len-position-end.ensures.count in
+    let size = rw c.deref.ensures at c.students_len-position-end.ensures.count in
     not-past c.args.papers.now.students c.loop-position.position past (omega arith)
 
 pub loop-position-preserved : goal.loop-position-preserved
@@ -26,11 +26,11 @@ loop-position-preserved c =
 pub returns-clause-rows : goal.returns-clause-rows
 returns-clause-rows c =
     let past = c.loop-position-test.false in
-    let size = c.students_len-position-end.ensures.count in
+    let size = rw c.deref.ensures at c.students_len-position-end.ensures.count in
     rows-all row_text (roster_fields c.args.longer) c.args.papers.now.students c.loop-position.position _ c.loop-position.text.items c.loop-position.invariant.0 (omega arith)
 
 pub returns-clause-in_range : goal.returns-clause-in_range
 returns-clause-in_range c =
     let past = c.loop-position-test.false in
-    let size = c.students_len-position-end.ensures.count in
+    let size = rw c.deref.ensures at c.students_len-position-end.ensures.count in
     all-of IsStudentInRange c.args.papers.now.students c.loop-position.position c.loop-position.invariant.1 (omega arith)

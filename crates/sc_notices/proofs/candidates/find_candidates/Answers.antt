@@ -1,4 +1,4 @@
-use Rattle.std.proofs.Common.{◌∙◌, [], ap, replicate}
+use Rattle.std.proofs.Common.{◌∙◌, [], ap, length, replicate}
 use Rattle.sc_papers.specs.Assignment.{assigned}
 use Rattle.sc_papers.specs.Matching.{has}
 use Rattle.sc_notices.specs.Admissions.{waits}
@@ -9,4 +9,4 @@ pub loop-position-init : goal.loop-position-init
 loop-position-init c =
     let m = c.args.papers.now in
     let a = assigned c.args.places.now in
-    record { holders = lists-none m (has a) _ (c.in_ok-empty.ensures ∙ ap (λ n. replicate n []) c.schools_len.ensures); waiters = lists-none m (waits m a) _ (c.in_ok-empty-2.ensures ∙ ap (λ n. replicate n []) c.schools_len-2.ensures) }
+    record { holders = lists-none m (has a) _ (c.in_ok-empty.ensures ∙ ap (λ n. replicate n []) (c.schools_len.ensures ∙ ap (λ n. length n.schools) c.deref.ensures)); waiters = lists-none m (waits m a) _ (c.in_ok-empty-2.ensures ∙ ap (λ n. replicate n []) (c.schools_len-2.ensures ∙ ap (λ n. length n.schools) c.deref-2.ensures)) }

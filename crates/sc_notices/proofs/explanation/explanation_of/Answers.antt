@@ -15,20 +15,20 @@ use Rattle.sc_notices.proofs.explanation.explanation_of.Goals as goal
 
 pub returns-in_default-clause-known : goal.returns-in_default-clause-known
 returns-in_default-clause-known c =
-    elim (cases_Bool (is_student c.papers-papers.result.now c.args.student)) [
-      | inl known ↦ absurd (has-position c.papers-papers.result.now c.args.student known c.in_default.ensures)
-      | inr unknown ↦ sym unknown ∙ ap (λ m. is_student m c.args.student) c.papers-papers.ensures.papers
+    elim (cases_Bool (is_student c.deref-papers.result.now c.args.student)) [
+      | inl known ↦ absurd (has-position c.deref-papers.result.now c.args.student known c.in_default.ensures)
+      | inr unknown ↦ sym unknown ∙ ap (λ m. is_student m c.args.student) (c.deref-papers.ensures ∙ c.papers.ensures.papers)
     ]
 
 pub returns-clause-known : goal.returns-clause-known
 returns-clause-known c =
-    let m = c.papers-papers.result.now in
+    let m = c.deref-papers.result.now in
     sym (among-student m c.args.student (position-among (students_of m) c.args.student c.in-Some.position (sym c.in-Some.ensures)))
-    ∙ ap (λ n. is_student n c.args.student) c.papers-papers.ensures.papers
+    ∙ ap (λ n. is_student n c.args.student) (c.deref-papers.ensures ∙ c.papers.ensures.papers)
 
 pub returns-clause-text : goal.returns-clause-text
 returns-clause-text c =
-    let m = c.papers-papers.result.now in
+    let m = c.deref-papers.result.now in
     let standing = c.args.clearing.now.standing in
     let b = assigned c.places.result.now in
     let k = c.in-Some.position in
@@ -43,5 +43,5 @@ returns-clause-text c =
     let hold = All-cons (Holds b) one [] (sym held) (All-nil (Holds b)) in
     explained-one standing.papers (matching_of standing) b m c.args.student
     c.new-text.result.items c.push_explanations.new.text.items
-    c.papers-papers.ensures.papers (ap assigned c.places.ensures) c.new-text.ensures.items
+    (c.deref-papers.ensures ∙ c.papers.ensures.papers) (ap assigned c.places.ensures) c.new-text.ensures.items
     (c.in_ok-push_explanations.ensures b made hold ∙ ap (λ i. c.new-text.result.items ++ explanation_lines m b (i ∷ [])) same)

@@ -1,6 +1,6 @@
-use Rattle.std.proofs.Common.{sym, ◌∙◌, ap}
+use Rattle.std.proofs.Common.{sym, ◌∙◌, ap, slice_get}
 use Rattle.sc_papers.specs.Assignment.{assigned}
-use Rattle.sc_papers.specs.Market.{choices_of}
+use Rattle.sc_papers.specs.Market.{choices_of, students_of}
 use Rattle.sc_papers.proofs.Hands.{hand-is}
 use Rattle.sc_notices.proofs.RankLemmas.{ranks-more}
 use Rattle.sc_notices.proofs.ranks.count_student.Goals as goal
@@ -9,6 +9,7 @@ pub returns : goal.returns
 returns c =
     let m = c.args.papers.now in
     let i = c.in-Some.student in
+    let told = ap (λ n. slice_get (students_of n) c.args.position) (sym c.deref.ensures) ∙ sym c.in-Some.ensures in
     ranks-more m (assigned c.args.places.now) c.args.counts.now c.count_place.new.counts c.choices_at.result.now c.get_near-held.result c.args.position i
-    (sym c.in-Some.ensures) (c.choices_at.ensures.choices ∙ ap (choices_of m) (hand-is m c.args.position i (sym c.in-Some.ensures)))
+    told (c.choices_at.ensures.choices ∙ ap (choices_of m) (hand-is m c.args.position i told))
     c.get_near-held.ensures c.requires.before c.count_place.ensures.by_rank c.count_place.ensures.unplaced

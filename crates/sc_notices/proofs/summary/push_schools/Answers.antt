@@ -17,7 +17,7 @@ loop-row-preserved c =
     lines-more (λ (r : CutoffRow). row_line r.school r.seats r.held (listed m r.school)) c.as_slice-row-items.result.now c.loop-row.row-index row
     c.extend_from_slice.new.self.items c.loop-row.text.items c.push_school.new.text.items c.loop-row.invariant
     (c.in_ok-push_school.ensures
-    ∙ ap (λ n. c.loop-row.text.items ++ row_line row.school row.seats row.held n) (c.listings_of.ensures ∙ ap (λ p. listed p row.school) c.papers-papers.ensures.papers))
+    ∙ ap (λ n. c.loop-row.text.items ++ row_line row.school row.seats row.held n) (c.listings_of.ensures ∙ ap (λ p. listed p row.school) (c.deref-papers.ensures ∙ c.papers.ensures.papers)))
     c.loop-row-test.true c.row-item.is
 
 pub returns : goal.returns

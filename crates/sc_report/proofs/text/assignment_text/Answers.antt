@@ -9,9 +9,9 @@ use Rattle.sc_report.proofs.text.assignment_text.Goals as goal
 
 pub returns : goal.returns
 returns c =
-    let m = c.papers-papers.result.now in
+    let m = c.deref-papers.result.now in
     let a = matching_of c.args.clearing.now.standing in
     let are = c.as_slice.ensures.value ∙ c.in_ok-places.ensures ∙ ap (λ places. map (assigned places) (students_of m)) c.places.ensures in
     let hold = subst (All (Holds a)) (sym c.as_slice-3.ensures.value) (c.in_ok-entrants.ensures.hold a are) in
     c.in_ok-push_assignments.ensures a hold ∙ ap (λ old. old ++ assignment_lines a (numbers_of c.as_slice-3.result.now)) c.in_ok-text.ensures.items
-    ∙ ap (assignment_lines a) (ap numbers_of c.as_slice-3.ensures.value ∙ c.in_ok-entrants.ensures.rising.numbers ∙ ap (λ papers. rising (students_of papers)) c.papers-papers.ensures.papers)
+    ∙ ap (assignment_lines a) (ap numbers_of c.as_slice-3.ensures.value ∙ c.in_ok-entrants.ensures.rising.numbers ∙ ap (λ papers. rising (students_of papers)) (c.deref-papers.ensures ∙ c.papers.ensures.papers))

@@ -61,7 +61,7 @@ returns-in-Some-script-clause-ending g c =
     }))
 
 pub report_read-requires : goal.report_read-requires
-report_read-requires g c = (_, is-reading _ c.read_papers-read.result c.read_papers-read.ensures)
+report_read-requires g c = (_, is-reading _ c.read_flat-read.result c.read_flat-read.ensures)
 
 pub returns-clause-ending : goal.returns-clause-ending
 returns-clause-ending g c =
@@ -77,5 +77,5 @@ returns-clause-ending g c =
       split = ap bundle_of (sym c.as_slice.ensures.value) ∙ sym c.in-Some.ensures;
       seeded = sym c.in-Ok.ensures;
       written = subst (λ (script : Option (List ℕ)). WritesWith script (papers_in c.in-Ok.seed sections.schools sections.roster sections.lists) old new c.report_read.result) (sym script)
-          (c.report_read.ensures.bytes _ (rw (← texts.schools) (rw (← texts.roster) (rw (← texts.lists) (is-reading _ c.read_papers-read.result c.read_papers-read.ensures)))));
+          (c.report_read.ensures.bytes _ (rw (← texts.schools) (rw (← texts.roster) (rw (← texts.lists) (is-reading _ c.read_flat-read.result c.read_flat-read.ensures)))));
     }))

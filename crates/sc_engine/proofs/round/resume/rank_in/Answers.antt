@@ -1,12 +1,13 @@
 use Rattle.std.proofs.Common.{sym, ◌∙◌, ap, subst, ℕ, Option, IfSome, Contains, Some, length, nat_eq, position, arith}
 use Rattle.sc_papers.specs.Market.{choices_of, schools_of, student_at}
+use Rattle.sc_papers.proofs.Students.{choices-short}
 use Rattle.sc_engine.proofs.Tables.{length-mapped}
 use Rattle.sc_engine.proofs.Ranks.{rank-there, rank-low, rank-found}
 use Rattle.sc_engine.proofs.round.resume.rank_in.Goals as goal
 
 pub returns-in_default-clause-within : goal.returns-in_default-clause-within
 returns-in_default-clause-within c =
-    omega (arith, c.choices_at.ensures.short, ap length c.choices_at.ensures.choices, ap length c.choice_positions_at.ensures, length-mapped (λ (p : ℕ). Some p) c.choice_positions_at.result.now, length-mapped (λ s. position (nat_eq s) (schools_of c.args.papers.now)) (choices_of c.args.papers.now (student_at c.args.papers.now c.args.at)))
+    omega (arith, choices-short c.args.papers.now c.students_len.ensures.within_limits (student_at c.args.papers.now c.args.at), ap length c.choice_positions_at.ensures, length-mapped (λ (p : ℕ). Some p) c.choice_positions_at.result.now, length-mapped (λ s. position (nat_eq s) (schools_of c.args.papers.now)) (choices_of c.args.papers.now (student_at c.args.papers.now c.args.at)))
 
 pub unreachable-requires : goal.unreachable-requires
 unreachable-requires c =
@@ -19,4 +20,4 @@ returns-clause-rank c = rank-there _ _ _ (sym c.choice_rank_at.ensures ∙ c.in-
 
 pub returns-clause-within : goal.returns-clause-within
 returns-clause-within c =
-    omega (arith, c.choices_at.ensures.short, ap length c.choices_at.ensures.choices, rank-low (choices_of c.args.papers.now (student_at c.args.papers.now c.args.at)) c.in-Some.school c.in-Some-choice_rank_at.rank (sym c.choice_rank_at.ensures ∙ c.in-Some-choice_rank_at.is))
+    omega (arith, choices-short c.args.papers.now c.students_len.ensures.within_limits (student_at c.args.papers.now c.args.at), rank-low (choices_of c.args.papers.now (student_at c.args.papers.now c.args.at)) c.in-Some.school c.in-Some-choice_rank_at.rank (sym c.choice_rank_at.ensures ∙ c.in-Some-choice_rank_at.is))

@@ -1,6 +1,10 @@
-use Rattle.std.proofs.Common.{refl}
-use Rattle.sc_papers.proofs.EntryOrder.{IsSound-moved}
+use Rattle.std.proofs.Common.{ap, map, sym, ◌∙◌}
+use Rattle.indexmap.specs.IndexMap.{move_index}
+use Rattle.indexmap.proofs.SetLemmas.{map-move}
+use Rattle.sc_papers.specs.Market.{Market}
 use Rattle.sc_papers.proofs.papers.Papers.move_student.Goals as goal
 
 pub invariant_of-self : goal.invariant_of-self
-invariant_of-self c = IsSound-moved c.self.inside _ c.args.from c.args.to c.self.invariant refl refl refl c.move_index.ensures.entries c.move_row.ensures
+invariant_of-self c =
+    c.move_item.ensures ∙ ap (λ rs. move_index rs c.args.from c.args.to) c.self.invariant
+    ∙ sym (map-move (λ e. e.1) c.self.inside.flat.students c.args.from c.args.to) ∙ sym (ap (λ (m : Market). map (λ e. e.1) m.students) c.move_student.ensures)

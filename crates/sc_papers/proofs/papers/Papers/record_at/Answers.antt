@@ -1,12 +1,13 @@
-use Rattle.std.proofs.Common.{sym, ◌∙◌, ap, slice_get}
+use Rattle.std.proofs.Common.{ap, slice_get, ◌∙◌}
 use Rattle.std.specs.Option.{option_and_then}
 use Rattle.sc_papers.specs.Market.{Market, student_of, students_of}
-use Rattle.sc_papers.specs.Representation.{market_of}
-use Rattle.sc_papers.proofs.Keys.{record-there}
+use Rattle.sc_papers.proofs.Recorded.{record-indexed, records-read}
 use Rattle.sc_papers.proofs.papers.Papers.record_at.Goals as goal
 
 pub returns : goal.returns
 returns c =
-    let found = c.in_ok-record.ensures in
-    record-there (market_of c.self.inside) c.args.position _ c.in_ok-record.record.now (sym found.entry) found.value
+    let read = c.in_ok-record.ensures.lookup in
+    record-indexed c.deref.result.now c.args.position c.in_ok-record.record.now read.0 read.1
+    ∙ ap (λ rs. slice_get rs c.args.position) (c.deref.ensures.value ∙ c.self.invariant)
+    ∙ records-read c.self.inside.flat c.students_len.ensures.well_formed c.args.position
     ∙ ap (λ (m : Market). option_and_then (student_of m) (slice_get (students_of m) c.args.position)) c.self.view_is

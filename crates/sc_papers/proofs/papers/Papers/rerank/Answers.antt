@@ -1,37 +1,59 @@
-use Rattle.std.proofs.Common.{◌≡◌, ℕ, List, None, refl, ◌∙◌, ap, slice_set}
-use Rattle.sc_papers.specs.Representation.{market_of}
+use Rattle.std.proofs.Common.{◌∷◌, ap, arith, slice_set, subst, sym, ◌∙◌}
 use Rattle.sc_papers.specs.Market.{Market, choices_of}
-use Rattle.sc_papers.specs.StudentRow.{Row, row_of}
-use Rattle.sc_papers.specs.Verdict.{first_of, objections_to_rerank}
+use Rattle.sc_papers.specs.Records.{AreRecords}
+use Rattle.sc_papers.specs.Verdict.{first_of, objections_to_list, no_choices, objections_to_rerank, with_choices}
 use Rattle.sc_papers.specs.WellFormed.{IsProper, IsShort}
+use Rattle.sc_papers.specs.declared.records.Student.{Student}
 use Rattle.sc_papers.proofs.Changing.{All-found, IsProper-reranked, IsShort-reranked}
-use Rattle.sc_papers.proofs.ChangingRepresentation.{IsSound-put_student}
-use Rattle.sc_papers.proofs.Keys.{draw-there}
+use Rattle.sc_papers.proofs.Recorded.{changed-known, no-student, record-low, record-read, records-put}
 use Rattle.sc_papers.proofs.TakingBack.{choices-found}
 use Rattle.sc_papers.proofs.papers.Papers.rerank.Goals as goal
 
+pub unreachable-requires : goal.unreachable-requires
+unreachable-requires c =
+    no-student c.self.inside.flat c.args.number (no_choices c.args.choices ∷ objections_to_list c.self.inside.flat c.args.choices) c.in_default.ensures
+    (ap (λ (n : Market). first_of (objections_to_rerank n c.args.number c.args.choices)) c.self.view_is ∙ c.requires)
+
+pub index_mut-record-requires : goal.index_mut-record-requires
+index_mut-record-requires c = omega (arith, record-low c.self.inside.flat c.self.inside.records.items c.args.number c.in-Some.position c.self.invariant (sym c.in-Some.ensures), c.self.inside.records.ok)
+
+pub put_student-requires-clause-proper : goal.put_student-requires-clause-proper
+put_student-requires-clause-proper c =
+    let m = c.self.inside.flat in
+    let before = c.index_mut-record.result.now in
+    let known = record-read m c.self.inside.records.items c.args.number c.in-Some.position before c.self.invariant (sym c.in-Some.ensures) c.index_mut-record.ensures.value in
+    let allowed = ap (λ choices. first_of (objections_to_rerank m c.args.number choices)) c.replace-before.ensures.after
+    ∙ ap (λ (n : Market). first_of (objections_to_rerank n c.args.number c.args.choices)) c.self.view_is ∙ c.requires in
+    IsProper-reranked m c.args.number before c.replace-before.new.dest allowed
+    (All-found (IsProper m) c.args.number m.students before (sym known) c.students_len.ensures.well_formed.students_proper)
+
+pub put_student-requires-clause-short : goal.put_student-requires-clause-short
+put_student-requires-clause-short c =
+    let m = c.self.inside.flat in
+    let before = c.index_mut-record.result.now in
+    let known = record-read m c.self.inside.records.items c.args.number c.in-Some.position before c.self.invariant (sym c.in-Some.ensures) c.index_mut-record.ensures.value in
+    let allowed = ap (λ choices. first_of (objections_to_rerank m c.args.number choices)) c.replace-before.ensures.after
+    ∙ ap (λ (n : Market). first_of (objections_to_rerank n c.args.number c.args.choices)) c.self.view_is ∙ c.requires in
+    IsShort-reranked m c.args.number before c.replace-before.new.dest allowed
+    (All-found IsShort c.args.number m.students before (sym known) c.students_len.ensures.within_limits.lists)
+
 pub invariant_of-self : goal.invariant_of-self
 invariant_of-self c =
-    let m = market_of c.self.inside in
-    let put-choices = c.replace-before.ensures.after in
-    let allowed : first_of (objections_to_rerank m c.args.number c.replace-before.new.dest) ≡ None =
-    ap (λ (choices : List ℕ). first_of (objections_to_rerank m c.args.number choices)) put-choices
-    ∙ ap (λ (n : Market). first_of (objections_to_rerank n c.args.number c.args.choices)) c.self.view_is ∙ c.requires in
-    let before = c.in-Some-get_mut.student.now in
-    let value = c.in-Some-get_mut.ensures.value in
-    let proper = All-found (IsProper m) c.args.number m.students before value c.self.invariant.well_formed.students_proper in
-    let short = All-found IsShort c.args.number m.students before value c.self.invariant.within_limits.lists in
-    let student = record before { choices = c.replace-before.new.dest } in
-    let put = (c.get_mut.follows.holds student).0 in
-    let drawn = draw-there c.self.inside.lottery c.self.inside.positions c.self.inside.students.entries c.self.inside.rows.items c.in-Some.position c.args.number c.index.result.now
-    c.self.invariant.rows c.in-Some.ensures.index c.index.ensures in
-    let row = c.new.ensures ∙ ap (λ (d : ℕ). row_of c.self.inside.positions c.args.number d student) (c.draw-draw.ensures ∙ drawn) in
-    IsSound-put_student c.self.inside _ c.args.number c.in-Some.position student c.self.invariant
-    (IsProper-reranked m c.args.number before c.replace-before.new.dest allowed proper)
-    (IsShort-reranked m c.args.number before c.replace-before.new.dest allowed short) refl refl refl put c.in-Some.ensures.index
-    (ap (λ (r : Row). slice_set c.self.inside.rows.items c.in-Some.position r) row)
+    let student : Student = record c.index_mut-record.result.now { choices = c.replace-before.new.dest } in
+    subst (λ (m : Market). AreRecords m (slice_set c.self.inside.records.items c.in-Some.position student)) (sym c.put_student.ensures)
+    (records-put c.self.inside.flat c.self.inside.records.items c.args.number c.in-Some.position student c.self.invariant (sym c.in-Some.ensures))
+
+pub returns-clause-new : goal.returns-clause-new
+returns-clause-new c =
+    let m = c.self.inside.flat in
+    let before = c.index_mut-record.result.now in
+    let known = record-read m c.self.inside.records.items c.args.number c.in-Some.position before c.self.invariant (sym c.in-Some.ensures) c.index_mut-record.ensures.value in
+    c.put_student.ensures ∙ changed-known m c.args.number before (λ student. record student { choices = c.replace-before.new.dest }) known
+    ∙ ap (with_choices m c.args.number) c.replace-before.ensures.after ∙ ap (λ (n : Market). with_choices n c.args.number c.args.choices) c.self.view_is
 
 pub returns-clause-old : goal.returns-clause-old
 returns-clause-old c =
-    c.replace-before.ensures.value ∙ choices-found (market_of c.self.inside) c.args.number c.in-Some-get_mut.student.now c.in-Some-get_mut.ensures.value
-    ∙ ap (λ (m : Market). choices_of m c.args.number) c.self.view_is
+    let m = c.self.inside.flat in
+    let before = c.index_mut-record.result.now in
+    let known = record-read m c.self.inside.records.items c.args.number c.in-Some.position before c.self.invariant (sym c.in-Some.ensures) c.index_mut-record.ensures.value in
+    c.replace-before.ensures.value ∙ choices-found m c.args.number before (sym known) ∙ ap (λ (n : Market). choices_of n c.args.number) c.self.view_is

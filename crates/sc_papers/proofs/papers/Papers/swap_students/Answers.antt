@@ -1,11 +1,9 @@
-use Rattle.std.proofs.Common.{◌<◌, length, refl, subst, sym}
+use Rattle.std.proofs.Common.{ap, map, swap, sym, ◌∙◌}
+use Rattle.indexmap.proofs.ReorderLemmas.{map-swap}
 use Rattle.sc_papers.specs.Market.{Market}
-use Rattle.sc_papers.proofs.EntryOrder.{IsSound-swapped}
 use Rattle.sc_papers.proofs.papers.Papers.swap_students.Goals as goal
 
 pub invariant_of-self : goal.invariant_of-self
 invariant_of-self c =
-    IsSound-swapped c.self.inside _ c.args.a c.args.b
-    (subst (λ (m : Market). c.args.a < length m.students) (sym c.self.view_is) c.requires.a)
-    (subst (λ (m : Market). c.args.b < length m.students) (sym c.self.view_is) c.requires.b)
-    c.self.invariant refl refl refl c.swap_indices.ensures.entries c.swap_rows.ensures
+    c.swap_items.ensures ∙ ap (λ rs. swap rs c.args.a c.args.b) c.self.invariant
+    ∙ sym (map-swap (λ e. e.1) c.self.inside.flat.students c.args.a c.args.b) ∙ sym (ap (λ (m : Market). map (λ e. e.1) m.students) c.swap_students.ensures)

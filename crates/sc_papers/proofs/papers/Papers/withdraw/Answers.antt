@@ -1,8 +1,17 @@
-use Rattle.std.proofs.Common.{refl}
-use Rattle.sc_papers.proofs.ChangingRepresentation.{IsSound-withdrawn}
+use Rattle.std.proofs.Common.{ap, map, nat_eq, remove, subst, sym, ◌∙◌}
+use Rattle.sc_papers.specs.Market.{Market}
+use Rattle.sc_papers.specs.Records.{AreRecords}
+use Rattle.sc_papers.proofs.Changing.{remove-found}
+use Rattle.sc_papers.proofs.ChangingRepresentation.{without-absent}
 use Rattle.sc_papers.proofs.papers.Papers.withdraw.Goals as goal
 
 pub invariant_of-self : goal.invariant_of-self
 invariant_of-self c =
-    IsSound-withdrawn c.self.inside _ c.args.student c.in-Some.position c.self.invariant refl refl refl c.shift_remove_full.ensures.entries
-    c.in-Some.ensures.index c.remove.ensures.items
+    c.remove.ensures.items ∙ ap (λ rs. remove rs c.in-Some.position) c.self.invariant
+    ∙ remove-found (λ e. e.1) (nat_eq c.args.student) c.self.inside.flat.students c.in-Some.position c.in-Some.ensures.position
+    ∙ sym (ap (λ (m : Market). map (λ e. e.1) m.students) c.withdraw.ensures.left)
+
+pub invariant_of-self-in_default : goal.invariant_of-self-in_default
+invariant_of-self-in_default c =
+    subst (λ (m : Market). AreRecords m c.self.inside.records.items)
+    (without-absent c.self.inside.flat c.args.student c.in_default.ensures.position ∙ sym c.withdraw.ensures.left) c.self.invariant

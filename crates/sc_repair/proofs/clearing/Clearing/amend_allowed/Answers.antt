@@ -15,7 +15,7 @@ invariant_of-self-in-Ok c =
     let a = c.args.amendment in
     let marked =
     c.finish.ensures ∙ ap (finished c.marking_of-marking.result) c.in_ok-begin.ensures.begun
-    ∙ ap (λ (k : Marking). finished k (begun k before)) (c.marking_of-marking.ensures ∙ ap (λ (n : Market). marking_of n a) c.papers.ensures.papers) in
+    ∙ ap (λ (k : Marking). finished k (begun k before)) (c.marking_of-marking.ensures ∙ ap (λ (n : Market). marking_of n a) (c.deref.ensures ∙ c.papers.ensures.papers)) in
     stays-in-step m c.amend.new.self.papers before c.finish.new.self a c.in-Ok.ensures.accepted marked c.self.invariant
 
 pub returns-in-Ok-clause-stamped : goal.returns-in-Ok-clause-stamped
@@ -25,6 +25,6 @@ returns-in-Ok-clause-stamped c =
     let a = c.args.amendment in
     let marked =
     c.finish.ensures ∙ ap (finished c.marking_of-marking.result) c.in_ok-begin.ensures.begun
-    ∙ ap (λ (k : Marking). finished k (begun k before)) (c.marking_of-marking.ensures ∙ ap (λ (n : Market). marking_of n a) c.papers.ensures.papers) in
+    ∙ ap (λ (k : Marking). finished k (begun k before)) (c.marking_of-marking.ensures ∙ ap (λ (n : Market). marking_of n a) (c.deref.ensures ∙ c.papers.ensures.papers)) in
     subst (λ (s : StampedStanding). GivesStamp (stamped_papers s) a (record { papers = c.amend.new.self.papers; stamps = c.finish.new.self })) c.self.view_is
     (gives-stamp m c.amend.new.self.papers before c.finish.new.self a c.in-Ok.ensures.accepted marked c.papers.ensures.certified.well_formed (ap (λ (s : StampedStanding). verdict s.standing.papers c.args.amendment) c.self.view_is ∙ c.requires.allowed) c.self.invariant)

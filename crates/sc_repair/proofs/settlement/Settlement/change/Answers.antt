@@ -1,20 +1,25 @@
-use Rattle.std.proofs.Common.{◌≡◌, ℕ, List, true, false, Contains, ap, sym, subst, ◌∙◌, IfSome, take, arith}
+use Rattle.std.proofs.Common.{◌≡◌, ℕ, List, length, true, false, Contains, ap, sym, subst, ◌∙◌, IfSome, take, arith}
 use Rattle.std.specs.Option.{IsSomeAnd}
 use Rattle.std.proofs.lemmas.List.{take_all}
 use Rattle.sc_papers.specs.declared.key.Key.{Key}
 use Rattle.sc_seats.specs.Roll.{RollView}
 use Rattle.sc_region.specs.Region.{amended_school}
-use Rattle.sc_repair.specs.Rejoining.{school_in, HasSeats}
+use Rattle.sc_repair.specs.Rejoining.{school_in, CanRejoin, HasJoined, HasLeft, HasSeats, StandsInside}
 use Rattle.sc_papers.specs.Market.{Market, students_of}
-use Rattle.sc_papers.specs.Verdict.{verdict}
+use Rattle.sc_papers.specs.Restriction.{cut, AreApart}
+use Rattle.sc_papers.specs.Verdict.{after, verdict}
+use Rattle.sc_papers.specs.WellFormed.{WellFormed, WithinLimits}
 use Rattle.sc_checkpoint.specs.Chains.{logs_in, students_in, Chain}
+use Rattle.sc_engine.specs.Leaving.{AreWithin, StandAt}
 use Rattle.sc_engine.specs.Round.{is_spent, view_of}
 use Rattle.sc_engine.specs.RoundView.{without_log}
 use Rattle.sc_region.specs.Marks.{marked}
-use Rattle.sc_repair.specs.Changed.{standing_of}
+use Rattle.sc_region.specs.Telling.{MarkRegion}
+use Rattle.sc_repair.specs.Changed.{standing_of, HaveChanged}
 use Rattle.sc_repair.specs.Locality.{is_among, marked_in, TellsRegion}
 use Rattle.sc_region.specs.Districts.{AreDistricts}
 use Rattle.sc_repair.specs.Newcomer.{StandsAfter}
+use Rattle.sc_repair.specs.Representation.{IsKept}
 use Rattle.sc_repair.specs.Rewinding.{rewind_point}
 use Rattle.sc_repair.specs.Standing.{Standing, CountsInside, CountsRegion, IsCertified, KeepsOthers}
 use Rattle.sc_repair.proofs.Admitted.{still-certified}
@@ -32,16 +37,17 @@ resettle-settled-requires c =
     let test = is_among (marked_in c.in_ok-region.region c.self.inside.segments) in
     let tells : TellsRegion m c.args.amendment test =
     subst (λ is. TellsRegion m c.args.amendment (is_among (marked c.in_ok-region.region is))) (sym c.self.invariant.theirs)
-    (marks-tell m c.args.amendment c.in_ok-region.region c.self.invariant.certified.well_formed (ap (λ (s : Standing). verdict s.papers c.args.amendment) c.self.view_is ∙ c.requires.allowed) c.requires.no_entry c.in_ok-region.ensures.region.region) in
+    (marks-tell m c.args.amendment c.in_ok-region.region c.self.invariant.certified.well_formed (ap (λ (s : Standing). verdict s.papers c.args.amendment) c.self.view_is ∙ c.requires.allowed) c.requires.no_entry (subst (λ p. MarkRegion p c.args.amendment c.in_ok-region.region) c.deref.ensures c.in_ok-region.ensures.region).region) in
     record {
-      changed = in-place-changed m c.apply_reversibly.new.self c.args.amendment c.point_in-point.result c.students_len-end.result c.self.invariant.certified.well_formed (ap (λ (s : Standing). verdict s.papers c.args.amendment) c.self.view_is ∙ c.requires.allowed) c.requires.no_entry
-          c.requires.no_withdrawal c.in-Ok.ensures.accepted c.point_in-point.ensures c.students_len-end.ensures.count c.self.inside.places c.self.inside.segments test (record {
+      changed = subst (λ p. HaveChanged p c.self.inside.places c.self.inside.segments test c.point_in-point.result c.students_len-end.result) (sym c.deref-5.ensures)
+          (in-place-changed m c.apply_reversibly.new.self c.args.amendment c.point_in-point.result c.students_len-end.result c.self.invariant.certified.well_formed (ap (λ (s : Standing). verdict s.papers c.args.amendment) c.self.view_is ∙ c.requires.allowed) c.requires.no_entry
+          c.requires.no_withdrawal c.in-Ok.ensures.accepted (c.point_in-point.ensures ∙ ap (λ p. rewind_point p c.args.amendment) c.deref-2.ensures) (c.students_len-end.ensures.count ∙ ap (λ (p : Market). length p.students) c.deref-4.ensures) c.self.inside.places c.self.inside.segments test (record {
             well_formed = c.self.invariant.certified.well_formed;
             theirs = c.self.invariant.theirs;
             segmented = c.self.invariant.certified.segmented;
             optimal = c.self.invariant.certified.optimal;
-          }) tells;
-      one_each = marks-count m c.in_ok-region.region c.self.inside.segments c.in_ok-region.ensures.region.one_each c.self.invariant.theirs;
+          }) tells);
+      one_each = marks-count m c.in_ok-region.region c.self.inside.segments (subst (λ p. MarkRegion p c.args.amendment c.in_ok-region.region) c.deref.ensures c.in_ok-region.ensures.region).one_each c.self.invariant.theirs;
     }
 
 abbrev keys : RollView → List Key
@@ -57,8 +63,9 @@ let_leave-requires-clause-within c =
     let marks = c.in_ok-region.region in
     let test = is_among (marked_in marks chains) in
     let allowed = ap (λ (s : Standing). verdict s.papers c.args.amendment) c.self.view_is ∙ c.requires.allowed in
-    let tells = region-tells m c.args.amendment marks chains c.self.invariant.certified.well_formed allowed c.requires.no_entry c.in_ok-region.ensures.region c.self.invariant.theirs in
-    (stand-at m c.args.amendment test marks c.positions-positions.result.now c.in_ok-region.ensures.region.one_each tells c.in_ok-region.ensures.region.region c.positions-positions.ensures.marked).within
+    let tells = region-tells m c.args.amendment marks chains c.self.invariant.certified.well_formed allowed c.requires.no_entry (subst (λ p. MarkRegion p c.args.amendment c.in_ok-region.region) c.deref.ensures c.in_ok-region.ensures.region) c.self.invariant.theirs in
+    subst (λ p. AreWithin p c.positions-positions.result.now) (sym c.deref-3.ensures)
+    (stand-at m c.args.amendment test marks c.positions-positions.result.now (subst (λ p. MarkRegion p c.args.amendment c.in_ok-region.region) c.deref.ensures c.in_ok-region.ensures.region).one_each tells (subst (λ p. MarkRegion p c.args.amendment c.in_ok-region.region) c.deref.ensures c.in_ok-region.ensures.region).region c.positions-positions.ensures.marked).within
 
 pub reseat-requires : goal.reseat-requires
 reseat-requires c =
@@ -67,13 +74,14 @@ reseat-requires c =
     let marks = c.in_ok-region.region in
     let test = is_among (marked_in marks chains) in
     let allowed = ap (λ (s : Standing). verdict s.papers c.args.amendment) c.self.view_is ∙ c.requires.allowed in
-    let tells = region-tells m c.args.amendment marks chains c.self.invariant.certified.well_formed allowed c.requires.no_entry c.in_ok-region.ensures.region c.self.invariant.theirs in
+    let tells = region-tells m c.args.amendment marks chains c.self.invariant.certified.well_formed allowed c.requires.no_entry (subst (λ p. MarkRegion p c.args.amendment c.in_ok-region.region) c.deref.ensures c.in_ok-region.ensures.region) c.self.invariant.theirs in
     let gone = gone-some keys seats m test chains c.self.inside.round c.let_leave.new.round
-    (c.let_leave.ensures test (stand-at m c.args.amendment test marks c.positions-positions.result.now c.in_ok-region.ensures.region.one_each tells c.in_ok-region.ensures.region.region c.positions-positions.ensures.marked) (region-apart m c.args.amendment test tells)) c.self.invariant.round in
+    (subst (λ p. StandAt p test c.positions-positions.result.now → AreApart p test → IfSome c.let_leave.new.round (λ new. IsSomeAnd c.self.inside.round (λ old. HasLeft keys seats p test old new)))
+    c.deref-3.ensures (c.let_leave.ensures test) (stand-at m c.args.amendment test marks c.positions-positions.result.now (subst (λ p. MarkRegion p c.args.amendment c.in_ok-region.region) c.deref.ensures c.in_ok-region.ensures.region).one_each tells (subst (λ p. MarkRegion p c.args.amendment c.in_ok-region.region) c.deref.ensures c.in_ok-region.ensures.region).region c.positions-positions.ensures.marked) (region-apart m c.args.amendment test tells)) c.self.invariant.round in
     let students : students_of c.apply_reversibly.new.self ≡ students_of m = ap students_of c.in-Ok.ensures.accepted ∙ students-stay m c.args.amendment c.requires.no_entry c.requires.no_withdrawal in
     let changed = change m c.apply_reversibly.new.self c.args.amendment marks c.positions-positions.result.now chains c.self.invariant.certified.well_formed allowed c.requires.no_entry c.in-Ok.ensures.accepted
-    c.students_len-end.ensures.well_formed c.students_len-end.ensures.within_limits c.in_ok-region.ensures.region c.positions-positions.ensures.marked c.self.invariant.theirs in
-    if-some _ _ c.let_leave.new.round (λ r left. left.1.leave.fits.rolls ∙ sym changed.schools_count) gone
+    (subst WellFormed c.deref-4.ensures c.students_len-end.ensures.well_formed) (subst WithinLimits c.deref-4.ensures c.students_len-end.ensures.within_limits) (subst (λ p. MarkRegion p c.args.amendment c.in_ok-region.region) c.deref.ensures c.in_ok-region.ensures.region) c.positions-positions.ensures.marked c.self.invariant.theirs in
+    if-some _ _ c.let_leave.new.round (λ r left. left.1.leave.fits.rolls ∙ sym changed.schools_count ∙ ap (λ (p : Market). length p.schools) (sym c.deref-in-Ok-settled.ensures)) gone
 
 pub rejoin-requires : goal.rejoin-requires
 rejoin-requires c =
@@ -82,22 +90,24 @@ rejoin-requires c =
     let marks = c.in_ok-region.region in
     let test = is_among (marked_in marks chains) in
     let allowed = ap (λ (s : Standing). verdict s.papers c.args.amendment) c.self.view_is ∙ c.requires.allowed in
-    let tells = region-tells m c.args.amendment marks chains c.self.invariant.certified.well_formed allowed c.requires.no_entry c.in_ok-region.ensures.region c.self.invariant.theirs in
+    let tells = region-tells m c.args.amendment marks chains c.self.invariant.certified.well_formed allowed c.requires.no_entry (subst (λ p. MarkRegion p c.args.amendment c.in_ok-region.region) c.deref.ensures c.in_ok-region.ensures.region) c.self.invariant.theirs in
     let gone = gone-some keys seats m test chains c.self.inside.round c.let_leave.new.round
-    (c.let_leave.ensures test (stand-at m c.args.amendment test marks c.positions-positions.result.now c.in_ok-region.ensures.region.one_each tells c.in_ok-region.ensures.region.region c.positions-positions.ensures.marked) (region-apart m c.args.amendment test tells)) c.self.invariant.round in
+    (subst (λ p. StandAt p test c.positions-positions.result.now → AreApart p test → IfSome c.let_leave.new.round (λ new. IsSomeAnd c.self.inside.round (λ old. HasLeft keys seats p test old new)))
+    c.deref-3.ensures (c.let_leave.ensures test) (stand-at m c.args.amendment test marks c.positions-positions.result.now (subst (λ p. MarkRegion p c.args.amendment c.in_ok-region.region) c.deref.ensures c.in_ok-region.ensures.region).one_each tells (subst (λ p. MarkRegion p c.args.amendment c.in_ok-region.region) c.deref.ensures c.in_ok-region.ensures.region).region c.positions-positions.ensures.marked) (region-apart m c.args.amendment test tells)) c.self.invariant.round in
     let students : students_of c.apply_reversibly.new.self ≡ students_of m = ap students_of c.in-Ok.ensures.accepted ∙ students-stay m c.args.amendment c.requires.no_entry c.requires.no_withdrawal in
     let changed = change m c.apply_reversibly.new.self c.args.amendment marks c.positions-positions.result.now chains c.self.invariant.certified.well_formed allowed c.requires.no_entry c.in-Ok.ensures.accepted
-    c.students_len-end.ensures.well_formed c.students_len-end.ensures.within_limits c.in_ok-region.ensures.region c.positions-positions.ensures.marked c.self.invariant.theirs in
+    (subst WellFormed c.deref-4.ensures c.students_len-end.ensures.well_formed) (subst WithinLimits c.deref-4.ensures c.students_len-end.ensures.within_limits) (subst (λ p. MarkRegion p c.args.amendment c.in_ok-region.region) c.deref.ensures c.in_ok-region.ensures.region) c.positions-positions.ensures.marked c.self.invariant.theirs in
     let waiting = waits-some keys seats m c.apply_reversibly.new.self test chains (amended_school c.args.amendment) c.let_leave.new.round c.reseat.new.round
-    (subst (λ amended. IfSome c.reseat.new.round (λ new. IsSomeAnd c.let_leave.new.round (λ before. HasSeats keys seats c.apply_reversibly.new.self amended before new))) (ap school_in c.record_of-amended.ensures ∙ amended-in c.args.amendment) c.reseat.ensures)
+    (subst (λ amended. IfSome c.reseat.new.round (λ new. IsSomeAnd c.let_leave.new.round (λ before. HasSeats keys seats c.apply_reversibly.new.self amended before new))) (ap school_in c.record_of-amended.ensures ∙ amended-in c.args.amendment)
+    (subst (λ p. IfSome c.reseat.new.round (λ new. IsSomeAnd c.let_leave.new.round (λ before. HasSeats keys seats p (school_in c.record_of-amended.result) before new))) c.deref-in-Ok-settled.ensures c.reseat.ensures))
     gone (λ l r. waits m c.apply_reversibly.new.self c.args.amendment test _ chains l r changed students c.self.invariant.theirs) in
     let at = stand-still m c.apply_reversibly.new.self test c.positions-positions.result.now students changed.at in
-    record {
+    subst (λ p. CanRejoin keys seats p (Contains c.positions-positions.result.now) c.reseat.new.round c.resettle-settled.new.spare) (sym c.deref-in-Ok-settled-2.ensures) (record {
       fits = if-some _ _ c.reseat.new.round (λ r waits. waits.1.fits) waiting;
-      spare_rolls = if-some _ _ c.resettle-settled.new.spare (λ other inside. record { rolls = inside.fits.rolls; each = inside.fits.each }) c.in-Ok-settled.ensures.inside;
+      spare_rolls = if-some _ _ c.resettle-settled.new.spare (λ other inside. record { rolls = inside.fits.rolls; each = inside.fits.each }) (subst (λ p. IfSome c.resettle-settled.new.spare (λ other. StandsInside p test c.resettle-settled.new.places c.students_len-end.result (view_of keys seats other))) c.deref-5.ensures c.in-Ok-settled.ensures.inside);
       within = at.within;
       room = if-some _ _ c.reseat.new.round (λ r waits p among. waits.1.room p (at.within p among)) waiting;
-    }
+    })
 
 pub round_of_everybody-requires-clause-kept : goal.round_of_everybody-requires-clause-kept
 round_of_everybody-requires-clause-kept c =
@@ -106,24 +116,29 @@ round_of_everybody-requires-clause-kept c =
     let marks = c.in_ok-region.region in
     let test = is_among (marked_in marks chains) in
     let allowed = ap (λ (s : Standing). verdict s.papers c.args.amendment) c.self.view_is ∙ c.requires.allowed in
-    let tells = region-tells m c.args.amendment marks chains c.self.invariant.certified.well_formed allowed c.requires.no_entry c.in_ok-region.ensures.region c.self.invariant.theirs in
+    let tells = region-tells m c.args.amendment marks chains c.self.invariant.certified.well_formed allowed c.requires.no_entry (subst (λ p. MarkRegion p c.args.amendment c.in_ok-region.region) c.deref.ensures c.in_ok-region.ensures.region) c.self.invariant.theirs in
     let gone = gone-some keys seats m test chains c.self.inside.round c.let_leave.new.round
-    (c.let_leave.ensures test (stand-at m c.args.amendment test marks c.positions-positions.result.now c.in_ok-region.ensures.region.one_each tells c.in_ok-region.ensures.region.region c.positions-positions.ensures.marked) (region-apart m c.args.amendment test tells)) c.self.invariant.round in
+    (subst (λ p. StandAt p test c.positions-positions.result.now → AreApart p test → IfSome c.let_leave.new.round (λ new. IsSomeAnd c.self.inside.round (λ old. HasLeft keys seats p test old new)))
+    c.deref-3.ensures (c.let_leave.ensures test) (stand-at m c.args.amendment test marks c.positions-positions.result.now (subst (λ p. MarkRegion p c.args.amendment c.in_ok-region.region) c.deref.ensures c.in_ok-region.ensures.region).one_each tells (subst (λ p. MarkRegion p c.args.amendment c.in_ok-region.region) c.deref.ensures c.in_ok-region.ensures.region).region c.positions-positions.ensures.marked) (region-apart m c.args.amendment test tells)) c.self.invariant.round in
     let students : students_of c.apply_reversibly.new.self ≡ students_of m = ap students_of c.in-Ok.ensures.accepted ∙ students-stay m c.args.amendment c.requires.no_entry c.requires.no_withdrawal in
     let changed = change m c.apply_reversibly.new.self c.args.amendment marks c.positions-positions.result.now chains c.self.invariant.certified.well_formed allowed c.requires.no_entry c.in-Ok.ensures.accepted
-    c.students_len-end.ensures.well_formed c.students_len-end.ensures.within_limits c.in_ok-region.ensures.region c.positions-positions.ensures.marked c.self.invariant.theirs in
+    (subst WellFormed c.deref-4.ensures c.students_len-end.ensures.well_formed) (subst WithinLimits c.deref-4.ensures c.students_len-end.ensures.within_limits) (subst (λ p. MarkRegion p c.args.amendment c.in_ok-region.region) c.deref.ensures c.in_ok-region.ensures.region) c.positions-positions.ensures.marked c.self.invariant.theirs in
     let waiting = waits-some keys seats m c.apply_reversibly.new.self test chains (amended_school c.args.amendment) c.let_leave.new.round c.reseat.new.round
-    (subst (λ amended. IfSome c.reseat.new.round (λ new. IsSomeAnd c.let_leave.new.round (λ before. HasSeats keys seats c.apply_reversibly.new.self amended before new))) (ap school_in c.record_of-amended.ensures ∙ amended-in c.args.amendment) c.reseat.ensures)
+    (subst (λ amended. IfSome c.reseat.new.round (λ new. IsSomeAnd c.let_leave.new.round (λ before. HasSeats keys seats c.apply_reversibly.new.self amended before new))) (ap school_in c.record_of-amended.ensures ∙ amended-in c.args.amendment)
+    (subst (λ p. IfSome c.reseat.new.round (λ new. IsSomeAnd c.let_leave.new.round (λ before. HasSeats keys seats p (school_in c.record_of-amended.result) before new))) c.deref-in-Ok-settled.ensures c.reseat.ensures))
     gone (λ l r. waits m c.apply_reversibly.new.self c.args.amendment test _ chains l r changed students c.self.invariant.theirs) in
     let n = c.apply_reversibly.new.self in
-    let cut_all = whole-cut-of n c.students_len-end.result c.students_len-end.ensures.count in
+    let cut_all = ap (λ p. cut p c.students_len-end.result) c.deref-5.ensures ∙ whole-cut-of n c.students_len-end.result (c.students_len-end.ensures.count ∙ ap (λ (p : Market). length p.students) c.deref-4.ensures) in
     let certified = subst (λ p. IsCertified (standing_of p c.resettle-settled.new.places c.resettle-settled.new.segments c.in-Ok-settled.proposals)) cut_all c.in-Ok-settled.ensures.certified in
-    subst (λ o. IfSome o (λ r. (is_spent r ≡ false) × StandsAfter n c.resettle-settled.new.segments (view_of keys seats r))) (sym c.take.ensures.value)
+    subst (λ p. IfSome c.take.result (λ r. (is_spent r ≡ false) × StandsAfter p c.resettle-settled.new.segments (view_of keys seats r))) (sym c.deref-in-Ok-settled-3.ensures)
+    (subst (λ o. IfSome o (λ r. (is_spent r ≡ false) × StandsAfter n c.resettle-settled.new.segments (view_of keys seats r))) (sym c.take.ensures.value)
     (rejoined-some keys seats m n test chains c.resettle-settled.new.segments c.resettle-settled.new.places c.reseat.new.round c.resettle-settled.new.spare c.rejoin.new.round
-    (c.rejoin.ensures.joined test (stand-still m n test c.positions-positions.result.now students changed.at) changed.apart) waiting
-    (if-some _ _ c.resettle-settled.new.spare (λ other. joins-inside n test c.resettle-settled.new.places c.students_len-end.result (view_of keys seats other) (take_all c.students_len-end.result (students_of n) (omega (arith, c.students_len-end.ensures.count, length-students n)))) c.in-Ok-settled.ensures.inside)
+    (subst (λ p. StandAt p test c.positions-positions.result.now → AreApart p test
+    → IfSome c.rejoin.new.round (λ new. IsSomeAnd c.reseat.new.round (λ old. IsSomeAnd c.resettle-settled.new.spare (λ other. HasJoined keys seats p test old other new))))
+    c.deref-in-Ok-settled-2.ensures (c.rejoin.ensures.joined test) (stand-still m n test c.positions-positions.result.now students changed.at) changed.apart) waiting
+    (if-some _ _ c.resettle-settled.new.spare (λ other. joins-inside n test c.resettle-settled.new.places c.students_len-end.result (view_of keys seats other) (take_all c.students_len-end.result (students_of n) (omega (arith, (c.students_len-end.ensures.count ∙ ap (λ (p : Market). length p.students) c.deref-4.ensures), length-students n)))) (subst (λ p. IfSome c.resettle-settled.new.spare (λ other. StandsInside p test c.resettle-settled.new.places c.students_len-end.result (view_of keys seats other))) c.deref-5.ensures c.in-Ok-settled.ensures.inside))
     (λ r other r'. rejoined m n test chains c.resettle-settled.new.segments c.self.inside.places c.resettle-settled.new.places r other r' c.self.invariant.theirs (c.in-Ok-settled.ensures.theirs ∙ ap students_of cut_all) changed.same_outside
-    certified.settled certified.matching c.self.invariant.certified.matching c.in-Ok-settled.ensures.others))
+    certified.settled certified.matching c.self.invariant.certified.matching c.in-Ok-settled.ensures.others)))
 
 pub round_of_everybody-requires-clause-ready : goal.round_of_everybody-requires-clause-ready
 round_of_everybody-requires-clause-ready c none =
@@ -134,20 +149,22 @@ round_of_everybody-requires-clause-stands c none =
     let new = c.resettle-settled.new.segments in
     let theirs : students_in new ≡ students_in c.self.inside.segments =
     c.in-Ok-settled.ensures.theirs
-    ∙ ap students_of (whole-cut-of c.apply_reversibly.new.self c.students_len-end.result c.students_len-end.ensures.count ∙ c.in-Ok.ensures.accepted)
+    ∙ ap students_of (ap (λ p. cut p c.students_len-end.result) c.deref-5.ensures ∙ whole-cut-of c.apply_reversibly.new.self c.students_len-end.result (c.students_len-end.ensures.count ∙ ap (λ (p : Market). length p.students) c.deref-4.ensures) ∙ c.in-Ok.ensures.accepted)
     ∙ students-stay c.self.inside.papers c.args.amendment c.requires.no_entry c.requires.no_withdrawal
     ∙ sym c.self.invariant.theirs in
-    subst (λ o. IfSome o (λ round. ((i : ℕ) → Contains (students_in new) i → is_among (marked_in c.in_ok-region.region new) i ≡ true) → StandsAfter c.apply_reversibly.new.self new (without_log (view_of keys seats round))))
+    subst (λ o. IfSome o (λ round. ((i : ℕ) → Contains (students_in new) i → is_among (marked_in c.in_ok-region.region new) i ≡ true) → StandsAfter c.deref-in-Ok-settled-3.result.now new (without_log (view_of keys seats round))))
     (sym (c.rejoin.ensures.spare_stays (sym c.take.ensures.value ∙ none)))
-    (subst (λ (is : List ℕ). IfSome c.resettle-settled.new.spare (λ round. ((i : ℕ) → Contains (students_in new) i → is_among (marked c.in_ok-region.region is) i ≡ true) → StandsAfter c.apply_reversibly.new.self new (without_log (view_of keys seats round))))
-    (sym theirs) c.in-Ok-settled.ensures.stands)
+    (subst (λ (is : List ℕ). IfSome c.resettle-settled.new.spare (λ round. ((i : ℕ) → Contains (students_in new) i → is_among (marked c.in_ok-region.region is) i ≡ true) → StandsAfter c.deref-in-Ok-settled-3.result.now new (without_log (view_of keys seats round))))
+    (sym theirs)
+    (subst (λ p. IfSome c.resettle-settled.new.spare (λ round. ((i : ℕ) → Contains (students_in new) i → is_among (marked_in c.in_ok-region.region c.self.inside.segments) i ≡ true) → StandsAfter p new (without_log (view_of keys seats round))))
+    (c.deref-5.ensures ∙ sym c.deref-in-Ok-settled-3.ensures) c.in-Ok-settled.ensures.stands))
 
 pub invariant_of-self-in-Ok-settled : goal.invariant_of-self-in-Ok-settled
 invariant_of-self-in-Ok-settled c = record {
-  certified = subst (λ n. IsCertified (standing_of n c.resettle-settled.new.places c.resettle-settled.new.segments c.in-Ok-settled.proposals)) (whole-cut-of c.apply_reversibly.new.self c.students_len-end.result c.students_len-end.ensures.count) c.in-Ok-settled.ensures.certified;
-  theirs = c.in-Ok-settled.ensures.theirs ∙ ap students_of (whole-cut-of c.apply_reversibly.new.self c.students_len-end.result c.students_len-end.ensures.count);
-  round = c.round_of_everybody.ensures;
-  districts = subst (λ m. IfSome c.region_of.new.districts (AreDistricts m)) (sym c.in-Ok.ensures.accepted) c.in_ok-region.ensures.in_step;
+  certified = subst (λ n. IsCertified (standing_of n c.resettle-settled.new.places c.resettle-settled.new.segments c.in-Ok-settled.proposals)) (ap (λ p. cut p c.students_len-end.result) c.deref-5.ensures ∙ whole-cut-of c.apply_reversibly.new.self c.students_len-end.result (c.students_len-end.ensures.count ∙ ap (λ (p : Market). length p.students) c.deref-4.ensures)) c.in-Ok-settled.ensures.certified;
+  theirs = c.in-Ok-settled.ensures.theirs ∙ ap students_of (ap (λ p. cut p c.students_len-end.result) c.deref-5.ensures ∙ whole-cut-of c.apply_reversibly.new.self c.students_len-end.result (c.students_len-end.ensures.count ∙ ap (λ (p : Market). length p.students) c.deref-4.ensures));
+  round = subst (λ p. IfSome c.round_of_everybody.result (IsKept p c.resettle-settled.new.segments)) c.deref-in-Ok-settled-3.ensures c.round_of_everybody.ensures;
+  districts = subst (λ m. IfSome c.region_of.new.districts (AreDistricts m)) (ap (λ p. after p c.args.amendment) c.deref.ensures ∙ sym c.in-Ok.ensures.accepted) c.in_ok-region.ensures.in_step;
 }
 
 pub invariant_of-self-in-Err : goal.invariant_of-self-in-Err
@@ -168,12 +185,12 @@ returns-clause-certified c =
 
 pub returns-in-Ok-settled-clause-certified : goal.returns-in-Ok-settled-clause-certified
 returns-in-Ok-settled-clause-certified c =
-    subst (λ n. IsCertified (standing_of n c.resettle-settled.new.places c.resettle-settled.new.segments c.in-Ok-settled.proposals)) (whole-cut-of c.apply_reversibly.new.self c.students_len-end.result c.students_len-end.ensures.count) c.in-Ok-settled.ensures.certified
+    subst (λ n. IsCertified (standing_of n c.resettle-settled.new.places c.resettle-settled.new.segments c.in-Ok-settled.proposals)) (ap (λ p. cut p c.students_len-end.result) c.deref-5.ensures ∙ whole-cut-of c.apply_reversibly.new.self c.students_len-end.result (c.students_len-end.ensures.count ∙ ap (λ (p : Market). length p.students) c.deref-4.ensures)) c.in-Ok-settled.ensures.certified
 
 pub returns-in-Ok-settled-clause-stays : goal.returns-in-Ok-settled-clause-stays
 returns-in-Ok-settled-clause-stays c =
     subst (λ (s : Standing). take (rewind_point s.papers c.args.amendment) (logs_in c.resettle-settled.new.segments) ≡ take (rewind_point s.papers c.args.amendment) s.segments) c.self.view_is
-    (subst (λ k. take k (logs_in c.resettle-settled.new.segments) ≡ take k (logs_in c.self.inside.segments)) c.point_in-point.ensures c.in-Ok-settled.ensures.stays)
+    (subst (λ k. take k (logs_in c.resettle-settled.new.segments) ≡ take k (logs_in c.self.inside.segments)) (c.point_in-point.ensures ∙ ap (λ p. rewind_point p c.args.amendment) c.deref-2.ensures) c.in-Ok-settled.ensures.stays)
 
 pub returns-in-Ok-settled-clause-others : goal.returns-in-Ok-settled-clause-others
 returns-in-Ok-settled-clause-others c =
@@ -181,7 +198,7 @@ returns-in-Ok-settled-clause-others c =
     let test = is_among (marked_in c.in_ok-region.region c.self.inside.segments) in
     let tells : TellsRegion m c.args.amendment test =
     subst (λ is. TellsRegion m c.args.amendment (is_among (marked c.in_ok-region.region is))) (sym c.self.invariant.theirs)
-    (marks-tell m c.args.amendment c.in_ok-region.region c.self.invariant.certified.well_formed (ap (λ (s : Standing). verdict s.papers c.args.amendment) c.self.view_is ∙ c.requires.allowed) c.requires.no_entry c.in_ok-region.ensures.region.region) in
+    (marks-tell m c.args.amendment c.in_ok-region.region c.self.invariant.certified.well_formed (ap (λ (s : Standing). verdict s.papers c.args.amendment) c.self.view_is ∙ c.requires.allowed) c.requires.no_entry (subst (λ p. MarkRegion p c.args.amendment c.in_ok-region.region) c.deref.ensures c.in_ok-region.ensures.region).region) in
     let old : Standing = record { papers = m; places = c.self.inside.places; segments = logs_in c.self.inside.segments; proposals = c.self.inside.proposals } in
     let new : Standing = record { papers = c.apply_reversibly.new.self; places = c.resettle-settled.new.places; segments = logs_in c.resettle-settled.new.segments; proposals = c.in-Ok-settled.proposals } in
     subst (λ (s : Standing). KeepsOthers s c.args.amendment new) c.self.view_is
@@ -193,12 +210,12 @@ returns-in-Ok-settled-clause-proposals c =
     let test = is_among (marked_in c.in_ok-region.region c.self.inside.segments) in
     let tells : TellsRegion m c.args.amendment test =
     subst (λ is. TellsRegion m c.args.amendment (is_among (marked c.in_ok-region.region is))) (sym c.self.invariant.theirs)
-    (marks-tell m c.args.amendment c.in_ok-region.region c.self.invariant.certified.well_formed (ap (λ (s : Standing). verdict s.papers c.args.amendment) c.self.view_is ∙ c.requires.allowed) c.requires.no_entry c.in_ok-region.ensures.region.region) in
+    (marks-tell m c.args.amendment c.in_ok-region.region c.self.invariant.certified.well_formed (ap (λ (s : Standing). verdict s.papers c.args.amendment) c.self.view_is ∙ c.requires.allowed) c.requires.no_entry (subst (λ p. MarkRegion p c.args.amendment c.in_ok-region.region) c.deref.ensures c.in_ok-region.ensures.region).region) in
     let new : Standing = record { papers = c.apply_reversibly.new.self; places = c.resettle-settled.new.places; segments = logs_in c.resettle-settled.new.segments; proposals = c.in-Ok-settled.proposals } in
     subst (λ (s : Standing). CountsRegion s.papers c.args.amendment new) c.self.view_is
     (counts-region m c.args.amendment (marked_in c.in_ok-region.region c.self.inside.segments) new tells
-    (subst (λ k. CountsInside test k new) c.point_in-point.ensures
-    (subst (λ n. CountsInside test c.point_in-point.result (standing_of n c.resettle-settled.new.places c.resettle-settled.new.segments c.in-Ok-settled.proposals)) (whole-cut-of c.apply_reversibly.new.self c.students_len-end.result c.students_len-end.ensures.count) c.in-Ok-settled.ensures.proposals)))
+    (subst (λ k. CountsInside test k new) (c.point_in-point.ensures ∙ ap (λ p. rewind_point p c.args.amendment) c.deref-2.ensures)
+    (subst (λ n. CountsInside test c.point_in-point.result (standing_of n c.resettle-settled.new.places c.resettle-settled.new.segments c.in-Ok-settled.proposals)) (ap (λ p. cut p c.students_len-end.result) c.deref-5.ensures ∙ whole-cut-of c.apply_reversibly.new.self c.students_len-end.result (c.students_len-end.ensures.count ∙ ap (λ (p : Market). length p.students) c.deref-4.ensures)) c.in-Ok-settled.ensures.proposals)))
 
 pub returns-clause-unchanged : goal.returns-clause-unchanged
 returns-clause-unchanged c =

@@ -2,7 +2,7 @@ use Rattle.std.proofs.Common.{◌≡◌, ℕ, ◌≤◌, true, length, Some, ref
 use Rattle.std.proofs.lemmas.List.Sums.{count_by-le-length}
 use Rattle.std.proofs.lemmas.Map.Entries.{length-keys_of}
 use Rattle.sc_papers.specs.Assignment.{assigned}
-use Rattle.sc_papers.specs.Market.{is_school, students_of}
+use Rattle.sc_papers.specs.Market.{Market, is_school, students_of}
 use Rattle.sc_papers.specs.Matching.{has, held, how_many}
 use Rattle.sc_papers.proofs.Validity.{next-among}
 use Rattle.sc_repair.specs.Representation.{standing_of}
@@ -23,7 +23,7 @@ unfolding how_many
 overflow_cast-result c =
     let papers = c.self.inside.papers in
     let few : held papers (assigned c.self.inside.places) c.args.school ≤ length (students_of papers) = count_by-le-length (has (assigned c.self.inside.places) c.args.school) (students_of papers) in
-    omega (arith, counts-students c, few, length-keys_of papers.students, c.students_len.ensures.count, c.if-prove-2.false)
+    omega (arith, counts-students c, few, length-keys_of papers.students, c.students_len.ensures.count, ap (λ (m : Market). length m.students) c.deref-2.ensures, c.if-prove-2.false)
 
 pub returns : goal.returns
 returns c =

@@ -1,0 +1,57 @@
+use Rattle.std.proofs.Common.{◌<◌, Some, length, nat_eq, position, sym, ◌∙◌, ap, subst}
+use Rattle.std.specs.Prelude.{nat_lt, slice_get}
+use Rattle.sc_papers.specs.Representation.{market_of}
+use Rattle.sc_papers.specs.Key.{class_by, has_sibling_at, key_at, same_zone}
+use Rattle.sc_papers.specs.Market.{Market, schools_of, siblings_of, student_at}
+use Rattle.sc_papers.proofs.Keys.{key-of_row, key-there, row-more_siblings, row-read, row-sibling, row-within}
+use Rattle.sc_papers.proofs.Positions.{school-place_position}
+use Rattle.sc_papers.proofs.flat_papers.FlatPapers.key_at.Goals as goal
+
+pub returns : goal.returns
+returns c =
+    let m = market_of c.self.inside in
+    let rows = c.deref.result.now in
+    let row = c.in_ok-row.row.now in
+    let read = c.in_ok-row.ensures.lookup in
+    let here = row-read rows c.args.student row read.0 read.1 in
+    let school = c.in_ok-name.ensures in
+    let name = c.in_ok-name.name.now in
+    let zone = c.in_ok-name.entry.now.zone in
+    let continues = c.continues_at-continuing.ensures in
+    let sibling = c.has_sibling_at-sibling.ensures ∙ sym (ap (λ (n : Market). has_sibling_at n (student_at n c.args.student) name) c.self.view_is) in
+    let class_is = c.class_of-class.ensures ∙ (λ t. class_by (continues t) c.has_sibling_at-sibling.result (same_zone (c.zone.ensures t) zone)) in
+    (λ t. Some (record { class = c.class_of-class.result; draw = c.draw.ensures t; student = c.number.ensures t }))
+    ∙ key-of_row m c.self.inside.positions rows c.args.student row c.self.invariant.well_formed (c.deref.ensures.value ∙ c.self.invariant.rows) here
+    c.args.school name c.class_of-class.result c.has_sibling_at-sibling.result c.in_ok-name.entry.now (sym school.entry) school.value sibling class_is
+    ∙ ap (λ (n : Market). key_at n c.args.student c.args.school) c.self.view_is
+
+pub has_sibling_at-sibling-requires-clause-student : goal.has_sibling_at-sibling-requires-clause-student
+has_sibling_at-sibling-requires-clause-student c =
+    let m = market_of c.self.inside in
+    let read = c.in_ok-row.ensures.lookup in
+    let here = row-read c.deref.result.now c.args.student c.in_ok-row.row.now read.0 read.1 in
+    subst (λ (n : Market). c.args.student < length n.students) c.self.view_is
+    (row-within m c.self.inside.positions c.deref.result.now c.args.student c.in_ok-row.row.now c.self.invariant.well_formed (c.deref.ensures.value ∙ c.self.invariant.rows) here)
+
+pub has_sibling_at-sibling-requires-clause-sibling : goal.has_sibling_at-sibling-requires-clause-sibling
+has_sibling_at-sibling-requires-clause-sibling c =
+    let m = market_of c.self.inside in
+    let read = c.in_ok-row.ensures.lookup in
+    let here = row-read c.deref.result.now c.args.student c.in_ok-row.row.now read.0 read.1 in
+    row-sibling m c.self.inside.positions c.deref.result.now c.args.student c.in_ok-row.row.now c.self.invariant.well_formed (c.deref.ensures.value ∙ c.self.invariant.rows) here
+    ∙ ap (λ (n : Market). slice_get (siblings_of n (student_at n c.args.student)) 0) c.self.view_is
+
+pub has_sibling_at-sibling-requires-clause-more : goal.has_sibling_at-sibling-requires-clause-more
+has_sibling_at-sibling-requires-clause-more c =
+    let m = market_of c.self.inside in
+    let read = c.in_ok-row.ensures.lookup in
+    let here = row-read c.deref.result.now c.args.student c.in_ok-row.row.now read.0 read.1 in
+    row-more_siblings m c.self.inside.positions c.deref.result.now c.args.student c.in_ok-row.row.now c.self.invariant.well_formed (c.deref.ensures.value ∙ c.self.invariant.rows) here
+    ∙ ap (λ (n : Market). nat_lt 1 (length (siblings_of n (student_at n c.args.student)))) c.self.view_is
+
+pub has_sibling_at-sibling-requires-clause-school : goal.has_sibling_at-sibling-requires-clause-school
+has_sibling_at-sibling-requires-clause-school c =
+    let m = market_of c.self.inside in
+    let school = c.in_ok-name.ensures in
+    sym (ap (λ (n : Market). position (nat_eq c.in_ok-name.name.now) (schools_of n)) c.self.view_is)
+    ∙ school-place_position m c.self.invariant.well_formed c.args.school c.in_ok-name.name.now (key-there m.schools c.args.school c.in_ok-name.name.now c.in_ok-name.entry.now (sym school.entry))

@@ -1,0 +1,41 @@
+use Rattle.std.specs.Map.{lookup}
+use Rattle.std.proofs.Common.{arith, length, nat_eq, List, ◌++◌, ◌∷◌, [], refl, ◌∙◌, ap, subst, sym}
+use Rattle.sc_papers.specs.Entry.{MayEnterAt}
+use Rattle.sc_papers.specs.Representation.{market_of}
+use Rattle.sc_papers.specs.Market.{Market}
+use Rattle.sc_papers.specs.StudentRow.{Row}
+use Rattle.sc_papers.specs.Verdict.{with_student}
+use Rattle.sc_papers.proofs.Entering.{MayEnter-allowed}
+use Rattle.sc_papers.proofs.EnteringRepresentation.{IsSound-entered, market_of-entered, row-made}
+use Rattle.sc_papers.proofs.Representation.{kept-few}
+use Rattle.sc_papers.proofs.flat_papers.FlatPapers.put_last.Goals as goal
+
+pub invariant_of-self-2 : goal.invariant_of-self-2
+invariant_of-self-2 c =
+    let i = c.args.number in
+    let student = c.args.student.now in
+    let allowed = subst (λ (m : Market). MayEnterAt m i student c.args.positions) (sym c.self.view_is) c.requires in
+    let row = row-made c.self.inside i student c.args.positions c.self.invariant allowed c.draw-draw.result c.with_positions-row.result c.draw-draw.ensures.draw c.with_positions-row.ensures in
+    IsSound-entered c.self.inside _ i student c.self.invariant (MayEnter-allowed (market_of c.self.inside) i student allowed.allowed) c.draw-draw.ensures.seed refl refl c.in_ok-insert.ensures.keys
+    (c.push_reserved.ensures.items ∙ ap (λ (rows : List Row). rows ++ c.with_positions-row.result ∷ []) c.in_ok-reserve.ensures.items ∙ ap (λ (r : Row). c.self.inside.rows.items ++ r ∷ []) row)
+    (λ q apart. c.keep_siblings.ensures.others q apart ∙ ap (lookup (nat_eq q)) c.in_ok-reserve-2.ensures.entries) c.keep_siblings.ensures.own
+    (omega (arith, c.keep_siblings.ensures.room, c.in_ok-reserve-2.ensures.ok, c.saturating_sub-room.ensures, c.len.ensures, c.len-2.ensures.len, ap length c.in_ok-reserve-2.ensures.entries, c.push_reserved.ensures.len, c.push_reserved.new.self.ok, c.reserve.new.self.ok))
+
+pub returns-clause-entered : goal.returns-clause-entered
+returns-clause-entered c =
+    let i = c.args.number in
+    let student = c.args.student.now in
+    let allowed = subst (λ (m : Market). MayEnterAt m i student c.args.positions) (sym c.self.view_is) c.requires in
+    let row = row-made c.self.inside i student c.args.positions c.self.invariant allowed c.draw-draw.result c.with_positions-row.result c.draw-draw.ensures.draw c.with_positions-row.ensures in
+    market_of-entered c.self.inside
+    (record { lottery = c.draw-draw.new.self; schools = c.self.inside.schools; positions = c.self.inside.positions; numbers = c.insert.new.self; rows = c.push_reserved.new.self; siblings = c.keep_siblings.new.kept })
+    i student c.self.invariant (MayEnter-allowed (market_of c.self.inside) i student allowed.allowed) c.draw-draw.ensures.seed refl refl c.in_ok-insert.ensures.keys
+    (c.push_reserved.ensures.items ∙ ap (λ (rows : List Row). rows ++ c.with_positions-row.result ∷ []) c.in_ok-reserve.ensures.items ∙ ap (λ (r : Row). c.self.inside.rows.items ++ r ∷ []) row)
+    (λ q apart. c.keep_siblings.ensures.others q apart ∙ ap (lookup (nat_eq q)) c.in_ok-reserve-2.ensures.entries) c.keep_siblings.ensures.own
+    (omega (arith, c.keep_siblings.ensures.room, c.in_ok-reserve-2.ensures.ok, c.saturating_sub-room.ensures, c.len.ensures, c.len-2.ensures.len, ap length c.in_ok-reserve-2.ensures.entries, c.push_reserved.ensures.len, c.push_reserved.new.self.ok, c.reserve.new.self.ok))
+    ∙ ap (λ (m : Market). with_student m i student) c.self.view_is
+
+pub keep_siblings-requires-clause-room : goal.keep_siblings-requires-clause-room
+keep_siblings-requires-clause-room c = λ none.
+    let few = kept-few c.self.inside c.self.invariant c.len-2.ensures.unique in
+    omega (arith, few, c.in_ok-reserve-2.ensures.ok, c.saturating_sub-room.ensures, c.len.ensures, c.len-2.ensures.len, ap length c.in_ok-reserve.ensures.items, c.reserve.new.self.ok)

@@ -1,0 +1,14 @@
+use Rattle.std.proofs.Common.{refl}
+use Rattle.sc_papers.proofs.ChangingRepresentation.{IsSound-put_school}
+use Rattle.sc_papers.proofs.flat_papers.FlatPapers.put_seats.Goals as goal
+use Rattle.sc_papers.proofs.flat_papers.FlatPapers.put_seats.Goals.{in-Some, in_default}
+
+pub invariant_of-self : goal.invariant_of-self
+invariant_of-self c =
+    elim c.match-get_mut.branch [
+      | in-Some w ↦
+          let school = record w.in-Some.school.now { seats = c.args.seats } in
+          let put = (c.get_mut.follows.holds school).0 in
+          rw w.self-inside-is (IsSound-put_school c.self.inside _ c.args.number school c.self.invariant c.requires refl refl put refl refl refl)
+      | in_default w ↦ rw (w.self-inside-is, c.get_mut.follows.holds-at-none) c.self.invariant
+    ]

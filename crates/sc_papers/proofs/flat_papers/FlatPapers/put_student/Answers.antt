@@ -1,0 +1,43 @@
+use Rattle.std.proofs.lemmas.List.{length-set}
+use Rattle.std.proofs.Common.{Some, arith, nat_eq, position, refl, sym, ap, subst, ◌∙◌, slice_set}
+use Rattle.sc_papers.specs.Market.{Market, students_of}
+use Rattle.sc_papers.specs.Representation.{market_of}
+use Rattle.sc_papers.specs.StudentRow.{row_of}
+use Rattle.sc_papers.specs.Verdict.{changed_student}
+use Rattle.sc_papers.specs.WellFormed.{IsProper}
+use Rattle.sc_papers.proofs.ChangingRepresentation.{IsSound-put_student, market_of-put_student, put-known}
+use Rattle.sc_papers.proofs.Keys.{draw-there, found-by_position}
+use Rattle.sc_papers.proofs.Representation.{kept-fewer}
+use Rattle.sc_papers.proofs.flat_papers.FlatPapers.put_student.Goals as goal
+
+pub invariant_of-self : goal.invariant_of-self
+invariant_of-self c =
+    let i = c.args.number in
+    let student = c.args.student.now in
+    let found = sym (ap (λ (m : Market). position (nat_eq i) (students_of m)) c.self.view_is ∙ c.requires.stands) in
+    let drawn = draw-there c.self.inside.lottery c.self.inside.positions (market_of c.self.inside).students c.self.inside.rows.items c.args.at i c.index.result.now c.self.invariant.rows found c.index.ensures in
+    let row = c.new.ensures ∙ ap (λ d. row_of c.self.inside.positions i d student) (c.draw-draw.ensures ∙ drawn) in
+    IsSound-put_student c.self.inside _ i c.args.at student c.self.invariant (subst (λ (m : Market). IsProper m student) (sym c.self.view_is) c.requires.proper) c.requires.short
+    refl refl refl refl found (ap (slice_set c.self.inside.rows.items c.args.at) row) c.keep_siblings.ensures.others c.keep_siblings.ensures.own
+    (omega (arith, c.keep_siblings.ensures.room, c.self.invariant.room, length-set c.self.inside.rows.items c.args.at c.new.result))
+
+pub returns : goal.returns
+returns c =
+    let i = c.args.number in
+    let student = c.args.student.now in
+    let found = sym (ap (λ (m : Market). position (nat_eq i) (students_of m)) c.self.view_is ∙ c.requires.stands) in
+    let drawn = draw-there c.self.inside.lottery c.self.inside.positions (market_of c.self.inside).students c.self.inside.rows.items c.args.at i c.index.result.now c.self.invariant.rows found c.index.ensures in
+    let row = c.new.ensures ∙ ap (λ d. row_of c.self.inside.positions i d student) (c.draw-draw.ensures ∙ drawn) in
+    market_of-put_student c.self.inside
+    (record c.self.inside { rows = Rattle.std.specs.Vec.with_item c.self.inside.rows c.args.at c.new.result; siblings = c.keep_siblings.new.kept })
+    i c.args.at student c.self.invariant (subst (λ (m : Market). IsProper m student) (sym c.self.view_is) c.requires.proper)
+    c.requires.short refl refl refl refl found (ap (slice_set c.self.inside.rows.items c.args.at) row) c.keep_siblings.ensures.others c.keep_siblings.ensures.own
+    (omega (arith, c.keep_siblings.ensures.room, c.self.invariant.room, length-set c.self.inside.rows.items c.args.at c.new.result))
+    ∙ put-known (market_of c.self.inside) i c.args.at student (sym found)
+    ∙ ap (λ (m : Market). changed_student m i (λ before. student)) c.self.view_is
+
+pub keep_siblings-requires-clause-room : goal.keep_siblings-requires-clause-room
+keep_siblings-requires-clause-room c = λ none.
+    let found = ap (λ (m : Market). position (nat_eq c.args.number) (students_of m)) c.self.view_is ∙ c.requires.stands in
+    let fewer = kept-fewer c.self.inside c.self.invariant c.len.ensures.unique c.args.number (found-by_position (market_of c.self.inside).students c.args.number (Some c.args.at) found) none in
+    omega (arith, fewer, c.self.invariant.room)

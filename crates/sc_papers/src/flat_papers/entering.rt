@@ -1,0 +1,179 @@
+//! Schools and students who come to the papers.
+
+use crate::amendment::Refusal;
+use crate::check::{check_enter, check_school, is_student, may_be_named};
+use crate::flat_papers::FlatPapers;
+use crate::limits::{MOST_SCHOOLS, MOST_STUDENTS};
+use crate::places::place_once;
+use crate::position_list::keep_siblings;
+use crate::records::{School, Student};
+use crate::school_no::SchoolNo;
+use crate::school_refusal::SchoolRefusal;
+use crate::seats::Seats;
+use crate::student_row::{StudentRow, fill_positions};
+use crate::zone::Zone;
+use sc_lottery::StudentNumber;
+use std::alloc::AllocError;
+
+impl FlatPapers {
+    ghost use Rattle.std.specs.Prelude.{◌≡◌, ◌≤◌, None, Some, OnOk, OnErr, IfErr, IfOk};
+    ghost use Rattle.std.specs.Option.{IfSome};
+    ghost use Rattle.sc_papers.specs.Entry.{MayEnterAt};
+    ghost use Rattle.sc_papers.specs.Verdict.{first_of, objections_to_enter, school_verdict, with_school, with_student, IsRefusal, IsSchoolRefusal};
+
+    /// Adds a school last, or answers the first refusal that applies: `SchoolExists`,
+    /// `TooManySchools` where there are 5,000, `SchoolsClosed` once a student has entered, and last
+    /// `OutOfMemory`. After a refusal the papers are as before.
+    pub fn add_school(
+        &mut self,
+        school: SchoolNo,
+        zone: Zone,
+        seats: Seats,
+    ) -> Result<(), SchoolRefusal>
+        ensures allowed { OnOk result (school_verdict self.old school ≡ None) }
+        ensures added { OnOk result (self.new ≡ with_school self.old school (record { zone = zone; seats = seats })) }
+        ensures refused { IfErr result (IsSchoolRefusal (school_verdict self.old school)) }
+        ensures unchanged { OnErr result (self.new ≡ self.old) }
+    {
+        if self.school(school).is_some() {
+            return Err(SchoolRefusal::SchoolExists);
+        }
+        if self.schools.len() >= MOST_SCHOOLS {
+            return Err(SchoolRefusal::TooManySchools);
+        }
+        if !self.rows.is_empty() {
+            return Err(SchoolRefusal::SchoolsClosed);
+        }
+        prove!(seats.get() <= Seats::GREATEST);
+        self.put_school(school, School { zone, seats })?;
+        Ok(())
+    }
+
+    /// Puts a school that may be added last in the order of entry. Both growths come before the first
+    /// change that counts, so a refused one leaves the papers as they were.
+    fn put_school(&mut self, number: SchoolNo, school: School) -> Result<(), AllocError>
+        requires allowed { school_verdict self.old number ≡ None }
+        requires seats { school.seats ≤ Seats.GREATEST }
+        ensures added { OnOk result (self.new ≡ with_school self.old number school) }
+        ensures unchanged { OnErr result (self.new ≡ self.old) }
+    {
+        self.positions.reserve(number)?;
+        let position = self.schools.len() as u16;
+        let _ = self.schools.insert(number, school)?;
+        self.positions.put(number, position);
+        Ok(())
+    }
+
+    /// Makes room for so many more students, so that none of them takes memory as they enter. Nothing
+    /// else changes, also where the growth is refused. The only error is want of memory.
+    pub fn reserve(&mut self, students: usize) -> Result<(), AllocError>
+        ensures { self.new ≡ self.old }
+    {
+        self.numbers.reserve(students)?;
+        self.rows.reserve(students)?;
+        self.siblings.reserve(students)?;
+        Ok(())
+    }
+
+    /// The positions of the choices' schools, and zeros after the last, of a student against whose entering nothing can
+    /// be said; found in one pass over the choices. `None` says nothing of the student: `check` tells what can be said.
+    fn positions_to_enter(&self, number: StudentNumber, student: &Student) -> Option<[u16; 20]>
+        ensures { IfSome result (λ positions. MayEnterAt self.now number student.now positions) }
+    {
+        if is_student(self, number) {
+            return None;
+        }
+        if self.students_len() >= MOST_STUDENTS {
+            return None;
+        }
+        if student.choices.as_slice().is_empty() {
+            return None;
+        }
+        if !may_be_named(self, student.siblings.as_slice()) {
+            return None;
+        }
+        check_school(self, student.continuing).ok()?;
+        place_once(&self.positions, student.choices.as_slice())
+    }
+
+    /// The positions of the choices' schools, and zeros after the last, of a student who may enter, or the first refusal
+    /// that applies.
+    pub(crate) fn check_entry(
+        &self,
+        number: StudentNumber,
+        student: &Student,
+    ) -> Result<[u16; 20], Refusal>
+        ensures may { IfOk result (λ positions. MayEnterAt self.now number student.now positions) }
+        ensures refused { IfErr result (λ refusal. Some refusal ≡ first_of
+            (objections_to_enter self.now number student.now.siblings student.now.choices student.now.continuing)) }
+    {
+        if let Some(positions) = self.positions_to_enter(number, student) {
+            return Ok(positions);
+        }
+        check_enter(
+            self,
+            number,
+            student.siblings.as_slice(),
+            student.choices.as_slice(),
+            student.continuing,
+        )?;
+        Ok(self.entry_positions(number, student))
+    }
+
+    /// The positions of the choices' schools, and zeros after the last, of a student who may enter.
+    pub(crate) fn entry_positions(&self, number: StudentNumber, student: &Student) -> [u16; 20]
+        requires { first_of (objections_to_enter self.now number student.now.siblings student.now.choices
+            student.now.continuing) ≡ None }
+        ensures { MayEnterAt self.now number student.now result }
+    {
+        fill_positions(&self.positions, student.choices.as_slice())
+    }
+
+    /// Puts the student last in the order of entry, or answers the first refusal that applies. After a refusal the
+    /// papers are as before. No record of the student is kept, only what the papers tell of them.
+    ///
+    /// The refusals, in the order of the tests: `StudentExists` where the number is in the papers; `EmptyList` where
+    /// there are no choices; `ListTooLong` where there are more than 20 choices, or more than 20 siblings;
+    /// `UnknownSchool` where a school is not in the papers, of the choices, then of the siblings, then the one at which
+    /// the student continues; `SchoolTwice` where the choices, and then the siblings, name a school twice; `RosterFull`
+    /// where there are 200,000 students; and last `OutOfMemory`.
+    ///
+    /// The cost is the lengths of the lists, a look-up for each school named, and one draw of the lottery for a student
+    /// who enters. It takes memory for the student alone, and none where `reserve` made room.
+    pub fn admit(&mut self, number: StudentNumber, student: Student) -> Result<(), Refusal>
+        ensures allowed { OnOk result
+            (first_of (objections_to_enter self.old number student.siblings student.choices student.continuing) ≡ None) }
+        ensures entered { OnOk result (self.new ≡ with_student self.old number student) }
+        ensures refused { IfErr result (IsRefusal
+            (first_of (objections_to_enter self.old number student.siblings student.choices student.continuing))) }
+        ensures unchanged { OnErr result (self.new ≡ self.old) }
+    {
+        let positions = self.check_entry(number, &student)?;
+        self.put_last(number, &student, positions)?;
+        Ok(())
+    }
+
+    /// Puts a student who may enter, whose choices' schools stand at the first of these positions, last in the order of
+    /// entry, with the one draw that they ever make. All growths come first, so a refused one leaves the papers as they
+    /// were.
+    pub(crate) fn put_last(
+        &mut self,
+        number: StudentNumber,
+        student: &Student,
+        positions: [u16; 20],
+    ) -> Result<(), AllocError>
+        requires { MayEnterAt self.old number student.now positions }
+        ensures entered { OnOk result (self.new ≡ with_student self.old number student.now) }
+        ensures unchanged { OnErr result (self.new ≡ self.old) }
+    {
+        self.rows.reserve(1)?;
+        let room = (self.rows.len() + 1).saturating_sub(self.siblings.len());
+        self.siblings.reserve(room)?;
+        let draw = self.lottery.draw(number);
+        let row = StudentRow::with_positions(number, draw, positions, student);
+        let _ = self.numbers.insert(number)?;
+        self.rows.push_reserved(row);
+        keep_siblings(&mut self.siblings, &self.positions, number, student);
+        Ok(())
+    }
+}
