@@ -4,7 +4,7 @@ use Rattle.std.proofs.lemmas.List.{drop-take, take-take, take_rest, length-appen
 use Rattle.std.specs.Io.KnownBytes.{Appends, Consumes}
 use Rattle.std.proofs.KnownBytes.{Appends-trans, Consumes-trans}
 use Rattle.std.specs.Prelude.{Result, Ok, Err, IsErr}
-use Rattle.sc_report.specs.Whole.{GivesAtMost, ReadsWhole}
+use Rattle.sc_report.specs.Whole.{AppendsPrefix, GivesAtMost, ReadsWhole, WritesWhole}
 
 -- a prefix and what was taken after it make a longer prefix
 pub take-more : (at count : ℕ) (text : List ℕ) → take (at + count) text ≡ take at text ++ take count (drop at text)
@@ -32,6 +32,11 @@ GivesAtMost-more limit most a b c given gave (came, second, few) within =
 pub ReadsWhole-err : {V E : Type 0} (items : V → List ℕ) (limit : ℕ) (a b : Option (List ℕ)) (result : Result V E) → IsErr result → GivesAtMost limit a b → ReadsWhole items limit a b result
 ReadsWhole-err items limit a b (Ok given) failed few = cc
 ReadsWhole-err items limit a b (Err fault) failed few = few
+
+-- a write that failed left a prefix of the text
+pub WritesWhole-err : {T E : Type 0} (a b : Option (List ℕ)) (result : Result T E) (text : List ℕ) → IsErr result → AppendsPrefix a b text → WritesWhole a b result text
+WritesWhole-err a b (Ok done) text failed prefix = cc
+WritesWhole-err a b (Err fault) text failed prefix = prefix
 
 -- a test that is joined to a false one is itself
 pub or-false : (b : Bool) → (b || false) ≡ b

@@ -7,6 +7,7 @@ pub mod CutoffLemmas
 pub mod ReasonLemmas
 pub mod ReasonCounts
 pub mod LineLemmas
+pub mod PageLemmas
 pub mod EndingLemmas
 pub mod ReasonLaws
 pub mod AdmissionLaws

@@ -15,7 +15,7 @@ use Rattle.sc_report.specs.Text.{assignment_lines, assignment_text, report_text}
 use Rattle.sc_report.specs.declared.cutoff.CutoffRow.{CutoffRow}
 use Rattle.sc_report.specs.declared.reason.ReasonRow.{ReasonRow}
 
-flat_map-one_more : {X : Type 0} (f : X → List ℕ) (xs : List X) (x : X) → flat_map f (xs ++ x ∷ []) ≡ flat_map f xs ++ f x
+pub flat_map-one_more : {X : Type 0} (f : X → List ℕ) (xs : List X) (x : X) → flat_map f (xs ++ x ∷ []) ≡ flat_map f xs ++ f x
 flat_map-one_more f [] x = append-nil (f x)
 flat_map-one_more f (y ∷ ys) x = ap (λ more. f y ++ more) (flat_map-one_more f ys x) ∙ sym (append_assoc (f y) (flat_map f ys) (f x))
 

@@ -1,5 +1,6 @@
 pub mod Watched
 pub mod Whole
+pub mod Pages
 pub mod Comparing
 pub mod Devices
 pub mod Rising

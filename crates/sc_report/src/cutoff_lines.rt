@@ -64,7 +64,7 @@ pub(crate) fn push_cutoffs(text: &mut Vec<u8>, rows: &[CutoffRow]) -> Result<(),
 }
 
 /// How many bytes the cutoff text takes at most.
-pub(crate) fn room_for_cutoffs(papers: &FlatPapers) -> usize {
+fn room_for_cutoffs(papers: &FlatPapers) -> usize {
     // This call tells that the papers are within their limits.
     prove!(papers.students_len() <= MOST_STUDENTS);
     HEADER.len() + papers.schools_len() * LONGEST_LINE

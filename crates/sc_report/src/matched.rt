@@ -8,6 +8,4 @@ pub struct Matched<'a> {
     pub papers: &'a FlatPapers,
     /// The school that each student has, if any, in the papers' order of entry.
     pub places: &'a [Option<SchoolNo>],
-    /// How many rejections led there. The text takes room by it, and says the same whatever it is.
-    pub rejections: usize,
 }

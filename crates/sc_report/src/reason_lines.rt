@@ -7,14 +7,15 @@ ghost use Rattle.sc_repair.specs.Standing.{matching_of};
 ghost use Rattle.sc_report.specs.Cutoff.{rows_in_order};
 ghost use Rattle.sc_report.specs.Endings.{schools_with, EndingsStand};
 ghost use Rattle.sc_report.specs.Entrants.{numbers_of, Holds, StandsAt};
+ghost use Rattle.sc_report.specs.Pages.{text_so_far};
 ghost use Rattle.sc_report.specs.Reason.{reasons_of};
 ghost use Rattle.sc_report.specs.ReasonText.{reason_line, reason_lines, reason_text, reason_word};
 
 use crate::cutoff::{CutoffRow, rows_in_order};
 use crate::endings::Endings;
 use crate::entrants::{Entrant, rising_entrants};
+use crate::pages::Pages;
 use crate::reason::{Reason, row_at_rank};
-use crate::room::Widths;
 use sc_decimal::push_number;
 use sc_papers::{FlatPapers, StudentNo};
 use sc_repair::Clearing;
@@ -23,9 +24,6 @@ use std::alloc::{AllocError, Global};
 
 /// The line above the reasons' lines.
 const HEADER: &[u8; 22] = b"student,school,reason\n";
-
-/// The most bytes of a line beside its two numbers: the longest word, two commas and a newline.
-const MOST_BESIDE: usize = 10;
 
 /// The most bytes of a student's number and a comma.
 const LONGEST_NUMBER: usize = 10;
@@ -93,7 +91,7 @@ fn push_student(
 /// Adds the header and the lines of the students, in their order, by the rows of all schools in order of
 /// entry. A student's number and the ending of a school's lines are written once, however many lines have them.
 pub(crate) fn push_reason_lines(
-    text: &mut Vec<u8>,
+    pages: &mut Pages,
     alloc: Global,
     entrants: &[Entrant],
     rows: &[CutoffRow],
@@ -104,24 +102,25 @@ pub(crate) fn push_reason_lines(
     requires well_formed { WellFormed papers.now }
     // By whichever matching the rows were made.
     ensures { OnOk result ((a : Matching) → rows.now ≡ rows_in_order papers.now a → All (Holds a) entrants.now
-        → text.new.items ≡ text.old.items
+        → text_so_far pages.new ≡ text_so_far pages.old
         ++ reason_lines (flat_map (reasons_of papers.now a) (numbers_of entrants.now))) }
 {
     let endings = Endings::new(alloc, rows)?;
     let mut number = Vec::with_capacity(alloc, LONGEST_NUMBER)?;
-    text.extend_from_slice(HEADER)?;
+    pages.last.extend_from_slice(HEADER)?;
     for entrant in entrants {
         set_number(&mut number, entrant.student)?;
-        push_student(text, number.as_slice(), &endings, rows, papers, *entrant)?;
+        push_student(
+            &mut pages.last,
+            number.as_slice(),
+            &endings,
+            rows,
+            papers,
+            *entrant,
+        )?;
+        pages.turn(alloc)?;
     }
     Ok(())
-}
-
-/// How many bytes the reasons take at most, where so many rejections led to the assignment: it has a line for each.
-pub(crate) fn room_for_reasons(widths: Widths, rejections: usize) -> usize {
-    widths
-        .room(rejections, MOST_BESIDE)
-        .saturating_add(HEADER.len())
 }
 
 /// The reason text: a header, and a line for each choice that a student prefers to what it has, with
@@ -135,14 +134,13 @@ pub fn reason_text(alloc: Global, clearing: &Clearing) -> Result<Vec<u8>, AllocE
     let places = places_of(alloc, papers, clearing.places())?;
     let entrants = rising_entrants(alloc, papers, places.as_slice())?;
     let rows = rows_in_order(alloc, papers, places.as_slice())?;
-    let room = room_for_reasons(Widths::new(entrants.as_slice(), papers), clearing.log_len());
-    let mut text = Vec::with_capacity(alloc, room)?;
+    let mut pages = Pages::whole(alloc);
     push_reason_lines(
-        &mut text,
+        &mut pages,
         alloc,
         entrants.as_slice(),
         rows.as_slice(),
         papers,
     )?;
-    Ok(text)
+    pages.into_text(alloc)
 }

@@ -7,9 +7,9 @@ ghost use Rattle.sc_report.specs.declared.report.ReportFault.TheVariants as faul
 ghost use Rattle.sc_tallies.specs.Places.{ArePlaces};
 
 use crate::matched::Matched;
-use crate::text::{report_text, report_text_of};
+use crate::pages::write_pages;
+use crate::text::{report_pages, report_pages_of};
 use crate::watched::{DeviceFailed, Watched};
-use crate::whole::write_whole;
 use sc_repair::Clearing;
 use std::alloc::{AllocError, Global};
 use std::io::Write;
@@ -58,8 +58,8 @@ pub fn write_report_of<W: Write>(
         (W.contents (device_of to.old)) (W.contents (device_of to.new)) result }
     ensures failed { has_failed to.new ≡ (has_failed to.old || is_write_fault result) }
 {
-    let text = report_text_of(alloc, matched)?;
-    write_whole(to, text.as_slice())?;
+    let pages = report_pages_of(alloc, matched)?;
+    write_pages(to, pages.as_slice())?;
     Ok(())
 }
 
@@ -73,7 +73,7 @@ pub fn write_report<W: Write>(
         (W.contents (device_of to.old)) (W.contents (device_of to.new)) result }
     ensures failed { has_failed to.new ≡ (has_failed to.old || is_write_fault result) }
 {
-    let text = report_text(alloc, clearing)?;
-    write_whole(to, text.as_slice())?;
+    let pages = report_pages(alloc, clearing)?;
+    write_pages(to, pages.as_slice())?;
     Ok(())
 }

@@ -1,19 +1,20 @@
-ghost use Rattle.std.specs.Prelude.{◌≡◌, ◌++◌, length, map, All, IfOk, OnOk};
+ghost use Rattle.std.specs.Prelude.{◌≡◌, [], ◌++◌, length, map, All, IfOk, OnOk};
 ghost use Rattle.sc_papers.specs.Market.{schools_of};
 ghost use Rattle.sc_papers.specs.Matching.{Matching};
 ghost use Rattle.sc_papers.specs.WellFormed.{WellFormed};
 ghost use Rattle.sc_repair.specs.Standing.{matching_of};
 ghost use Rattle.sc_report.specs.Cutoff.{rows_in_order};
 ghost use Rattle.sc_report.specs.Entrants.{numbers_of, Holds};
+ghost use Rattle.sc_report.specs.Pages.{pages_text, text_so_far};
 ghost use Rattle.sc_report.specs.Text.{assignment_line, assignment_lines, assignment_text, place_text, report_text, IsReportText};
 ghost use Rattle.sc_tallies.specs.Places.{ArePlaces};
 
 use crate::cutoff::{CutoffRow, rising_rows, rows_in_order};
-use crate::cutoff_lines::{push_cutoffs, room_for_cutoffs};
+use crate::cutoff_lines::push_cutoffs;
 use crate::entrants::{Entrant, rising_entrants};
 use crate::matched::Matched;
-use crate::reason_lines::{push_reason_lines, room_for_reasons};
-use crate::room::Widths;
+use crate::pages::Pages;
+use crate::reason_lines::push_reason_lines;
 use sc_decimal::push_number;
 use sc_papers::{FlatPapers, SchoolNo};
 use sc_repair::Clearing;
@@ -22,9 +23,6 @@ use std::alloc::{AllocError, Global};
 
 /// The line above the assignment's lines.
 const HEADER: &[u8; 15] = b"student,school\n";
-
-/// How many bytes a student's line has beside its two numbers: a comma and a newline.
-const BESIDE: usize = 2;
 
 /// Adds what the student has, or a dash.
 fn push_place(text: &mut Vec<u8>, held: Option<SchoolNo>) -> Result<(), AllocError>
@@ -48,22 +46,20 @@ fn push_line(text: &mut Vec<u8>, entrant: Entrant) -> Result<(), AllocError>
 }
 
 /// Adds the header and the line of each student.
-fn push_assignments(text: &mut Vec<u8>, entrants: &[Entrant]) -> Result<(), AllocError>
+fn push_assignments(
+    pages: &mut Pages,
+    alloc: Global,
+    entrants: &[Entrant],
+) -> Result<(), AllocError>
     ensures { OnOk result ((a : Matching) → All (Holds a) entrants.now
-        → text.new.items ≡ text.old.items ++ assignment_lines a (numbers_of entrants.now)) }
+        → text_so_far pages.new ≡ text_so_far pages.old ++ assignment_lines a (numbers_of entrants.now)) }
 {
-    text.extend_from_slice(HEADER)?;
+    pages.last.extend_from_slice(HEADER)?;
     for entrant in entrants {
-        push_line(text, *entrant)?;
+        push_line(&mut pages.last, *entrant)?;
+        pages.turn(alloc)?;
     }
     Ok(())
-}
-
-/// How many bytes the assignment text takes at most.
-fn room_for_assignment(widths: Widths, papers: &FlatPapers) -> usize {
-    widths
-        .room(papers.students_len(), BESIDE)
-        .saturating_add(HEADER.len())
 }
 
 /// The assignment text: a header, and for each student by rising number a line with the school that
@@ -76,23 +72,14 @@ pub fn assignment_text(alloc: Global, clearing: &Clearing) -> Result<Vec<u8>, Al
     let papers: &FlatPapers = clearing.papers();
     let places = places_of(alloc, papers, clearing.places())?;
     let entrants = rising_entrants(alloc, papers, places.as_slice())?;
-    let room = room_for_assignment(Widths::new(entrants.as_slice(), papers), papers);
-    let mut text = Vec::with_capacity(alloc, room)?;
-    push_assignments(&mut text, entrants.as_slice())?;
-    Ok(text)
+    let mut pages = Pages::whole(alloc);
+    push_assignments(&mut pages, alloc, entrants.as_slice())?;
+    pages.into_text(alloc)
 }
 
-/// How many bytes the report text takes at most, where so many rejections led to the assignment.
-fn room_for_report(widths: Widths, papers: &FlatPapers, rejections: usize) -> usize {
-    room_for_assignment(widths, papers)
-        .saturating_add(room_for_cutoffs(papers))
-        .saturating_add(room_for_reasons(widths, rejections))
-}
-
-/// Adds the assignment text, the cutoff text and the reason text, by the rows of all schools in order of
-/// entry. Room is taken for as many reasons as rejections led to the assignment.
+/// Adds the assignment text, the cutoff text and the reason text, by the rows of all schools in order of entry.
 fn push_report(
-    text: &mut Vec<u8>,
+    pages: &mut Pages,
     alloc: Global,
     rows: &[CutoffRow],
     matched: Matched<'_>,
@@ -103,17 +90,40 @@ fn push_report(
     // By whichever matching the rows were made.
     ensures { OnOk result ((a : Matching) → ArePlaces matched.entry.papers.now a matched.entry.places.now
         → rows.now ≡ rows_in_order matched.entry.papers.now a
-        → text.new.items ≡ text.old.items ++ report_text matched.entry.papers.now a) }
+        → text_so_far pages.new ≡ text_so_far pages.old ++ report_text matched.entry.papers.now a) }
 {
     let papers = matched.papers;
     let entrants = rising_entrants(alloc, papers, matched.places)?;
-    let widths = Widths::new(entrants.as_slice(), papers);
-    text.reserve(room_for_report(widths, papers, matched.rejections))?;
-    push_assignments(text, entrants.as_slice())?;
+    push_assignments(pages, alloc, entrants.as_slice())?;
     let cutoffs = rising_rows(alloc, rows)?;
-    push_cutoffs(text, cutoffs.as_slice())?;
-    push_reason_lines(text, alloc, entrants.as_slice(), rows, papers)?;
+    push_cutoffs(&mut pages.last, cutoffs.as_slice())?;
+    push_reason_lines(pages, alloc, entrants.as_slice(), rows, papers)?;
     Ok(())
+}
+
+/// Fills pages on which nothing stands with the report text of papers and of the school that each student has.
+fn fill_report(mut pages: Pages, alloc: Global, matched: Matched<'_>) -> Result<Pages, AllocError>
+    requires empty { text_so_far pages ≡ [] }
+    requires places { length matched.places.now ≡ length matched.papers.now.students }
+    ensures { IfOk result (λ filled. (a : Matching) → ArePlaces matched.entry.papers.now a matched.entry.places.now
+        → IsReportText matched.entry.papers.now a (text_so_far filled)) }
+{
+    let rows = rows_in_order(alloc, matched.papers, matched.places)?;
+    push_report(&mut pages, alloc, rows.as_slice(), matched)?;
+    Ok(pages)
+}
+
+/// The report text of papers and of the school that each student has, as `report_text_of` makes it, on pages.
+pub(crate) fn report_pages_of(
+    alloc: Global,
+    matched: Matched<'_>,
+) -> Result<Vec<Vec<u8>>, AllocError>
+    requires { length matched.places.now ≡ length matched.papers.now.students }
+    ensures { IfOk result (λ pages. (a : Matching) → ArePlaces matched.entry.papers.now a matched.entry.places.now
+        → IsReportText matched.entry.papers.now a (pages_text pages.items)) }
+{
+    let pages = fill_report(Pages::new(alloc), alloc, matched)?;
+    pages.finish()
 }
 
 /// The report text of papers and of the school that each student has, of which there is one for each student in order of
@@ -124,10 +134,23 @@ pub fn report_text_of(alloc: Global, matched: Matched<'_>) -> Result<Vec<u8>, Al
     ensures { IfOk result (λ text. (a : Matching) → ArePlaces matched.entry.papers.now a matched.entry.places.now
         → IsReportText matched.entry.papers.now a text.items) }
 {
-    let rows = rows_in_order(alloc, matched.papers, matched.places)?;
-    let mut text = Vec::new(alloc);
-    push_report(&mut text, alloc, rows.as_slice(), matched)?;
-    Ok(text)
+    let pages = fill_report(Pages::whole(alloc), alloc, matched)?;
+    pages.into_text(alloc)
+}
+
+/// The report text of the standing assignment, as `report_pages_of` makes it.
+pub(crate) fn report_pages(alloc: Global, clearing: &Clearing) -> Result<Vec<Vec<u8>>, AllocError>
+    ensures { IfOk result (λ pages. IsReportText clearing.now.standing.papers
+        (matching_of clearing.now.standing) (pages_text pages.items)) }
+{
+    let papers: &FlatPapers = clearing.papers();
+    let places = places_of(alloc, papers, clearing.places())?;
+    let matched = Matched {
+        papers,
+        places: places.as_slice(),
+    };
+    let pages = report_pages_of(alloc, matched)?;
+    Ok(pages)
 }
 
 /// The report text of the standing assignment, as `report_text_of` makes it.
@@ -140,7 +163,6 @@ pub fn report_text(alloc: Global, clearing: &Clearing) -> Result<Vec<u8>, AllocE
     let matched = Matched {
         papers,
         places: places.as_slice(),
-        rejections: clearing.log_len(),
     };
     let text = report_text_of(alloc, matched)?;
     Ok(text)

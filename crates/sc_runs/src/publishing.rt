@@ -122,7 +122,8 @@ fn compare<R: Read>(
     }
 }
 
-/// What a log that was audited so comes to, with a report, which is looked at if the log is settled.
+/// What a log that was audited so comes to, with a report, which is looked at if the log is settled. The log itself is
+/// not looked at again: the clauses name it.
 fn find_audited<R: Read>(
     alloc: Global,
     papers: &FlatPapers,
@@ -145,7 +146,6 @@ fn find_audited<R: Read>(
             let matched = Matched {
                 papers,
                 places: audited.places.as_slice(),
-                rejections: log.len(),
             };
             match compare(alloc, matched, report) {
                 Ok(difference) => Ok(finding_of(difference)),

@@ -28,7 +28,6 @@ pub fn report_papers<W: Write>(
             let matched = Matched {
                 papers,
                 places: outcome.places.as_slice(),
-                rejections: outcome.rejections,
             };
             let written = write_flushed_report(alloc, matched, out);
             drop(outcome);

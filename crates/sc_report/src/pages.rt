@@ -1,0 +1,119 @@
+//! A long text on pages, so that each of its blocks finds room where smaller ones were let go of.
+ghost use Rattle.std.specs.Prelude.{◌≡◌, ◌||◌, [], IfOk, OnOk, is_err};
+ghost use Rattle.sc_report.specs.Pages.{pages_text, text_so_far};
+ghost use Rattle.sc_report.specs.Watched.{device_of, has_failed};
+ghost use Rattle.sc_report.specs.Whole.{WritesWhole};
+
+use crate::watched::{DeviceFailed, Watched};
+use crate::whole::write_whole;
+use std::alloc::{AllocError, Global};
+use std::io::Write;
+use std::mem;
+
+/// How many bytes fill a page. It ends with the lines of the student that filled it, and so has some more.
+const FULL: usize = 1_000_000;
+
+/// The room of a page, 1 MiB: the bytes that fill it, and the lines that it ends with.
+const ROOM: usize = 1_048_576;
+
+/// A text that grows, on pages.
+#[derive(Drop)]
+pub(crate) struct Pages {
+    /// How many bytes fill a page.
+    most: usize,
+    /// The pages that are full, in order.
+    full: Vec<Vec<u8>>,
+    /// The page that lines are added to.
+    pub(crate) last: Vec<u8>,
+}
+
+impl Pages {
+    /// No text yet. The first page grows with its text, so that a short text takes little room.
+    pub(crate) fn new(alloc: Global) -> Pages
+        ensures { text_so_far result ≡ [] }
+    {
+        Pages {
+            most: FULL,
+            full: Vec::new(alloc),
+            last: Vec::new(alloc),
+        }
+    }
+
+    /// No text yet, and one page alone, however long the text becomes: for who asks for the text in one block.
+    pub(crate) fn whole(alloc: Global) -> Pages
+        ensures { text_so_far result ≡ [] }
+    {
+        Pages {
+            most: usize::MAX,
+            full: Vec::new(alloc),
+            last: Vec::new(alloc),
+        }
+    }
+
+    /// Begins a page if the last one is full.
+    pub(crate) fn turn(&mut self, alloc: Global) -> Result<(), AllocError>
+        ensures { OnOk result (text_so_far self.new ≡ text_so_far self.old) }
+    {
+        if self.last.len() < self.most {
+            return Ok(());
+        }
+        let next = Vec::with_capacity(alloc, ROOM)?;
+        self.full.push(mem::replace(&mut self.last, next))?;
+        Ok(())
+    }
+
+    /// All pages, in order.
+    pub(crate) fn finish(self) -> Result<Vec<Vec<u8>>, AllocError>
+        ensures { IfOk result (λ pages. pages_text pages.items ≡ text_so_far self) }
+    {
+        let Pages { mut full, last, .. } = self;
+        full.push(last)?;
+        Ok(full)
+    }
+
+    /// The text in one block, which the only page is where there is one.
+    pub(crate) fn into_text(self, alloc: Global) -> Result<Vec<u8>, AllocError>
+        ensures { IfOk result (λ text. text.items ≡ text_so_far self) }
+    {
+        if self.full.is_empty() {
+            return Ok(self.last);
+        }
+        let pages = self.finish()?;
+        join(alloc, pages)
+    }
+}
+
+/// Writes all pages, in order, each as `write_whole` does.
+pub(crate) fn write_pages<W: Write>(
+    to: &mut Watched<W>,
+    pages: &[Vec<u8>],
+) -> Result<(), DeviceFailed>
+    ensures bytes { WritesWhole (W.contents (device_of to.old)) (W.contents (device_of to.new))
+        result (pages_text pages.now) }
+    ensures failed { has_failed to.new ≡ (has_failed to.old || is_err result) }
+{
+    for page in pages {
+        write_whole(to, page.as_slice())?;
+    }
+    Ok(())
+}
+
+/// How many bytes stand on pages. It has no clause, since it only tells how much room to take.
+fn room_for(pages: &[Vec<u8>]) -> usize {
+    let mut room: usize = 0;
+    for page in pages {
+        room = room.saturating_add(page.len());
+    }
+    room
+}
+
+/// The text of pages in one block. Room is taken once, and each page is let go of as soon as it is copied.
+fn join(alloc: Global, pages: Vec<Vec<u8>>) -> Result<Vec<u8>, AllocError>
+    ensures { IfOk result (λ text. text.items ≡ pages_text pages.items) }
+{
+    let mut text = Vec::with_capacity(alloc, room_for(pages.as_slice()))?;
+    for page in pages {
+        text.extend_from_slice(page.as_slice())?;
+    }
+    Ok(text)
+}
