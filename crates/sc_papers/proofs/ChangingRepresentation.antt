@@ -10,7 +10,6 @@ use Rattle.std.proofs.lemmas.List.Elements.{All-cons, All-head, All-nil, All-tai
 use Rattle.std.proofs.lemmas.Map.{keys-set_value, lookup-remove_entry}
 use Rattle.std.proofs.lemmas.Map.Made.{is_some-lookup}
 use Rattle.indexmap.specs.IndexMap.{index_map_len, spare}
-use Rattle.indexmap.specs.IndexSet.{remove_key}
 use Rattle.sc_lottery.specs.Draw.{draw}
 use Rattle.sc_papers.specs.Market.{Market, is_student, student_of, students_of}
 use Rattle.sc_papers.specs.Representation.{IsSound, AreKept, AreOfStudents, market_of}
@@ -25,15 +24,6 @@ use Rattle.sc_papers.proofs.Keys.{found-by_position}
 use Rattle.sc_papers.proofs.Representation.{IsSound-shown, KeepsOthers, Shows, kept-others, market_of-shown}
 use Rattle.sc_papers.specs.declared.seats.TheConstants.Seats.{GREATEST}
 
--- the keys that a removal leaves
-keys-removed : {X : Type 0} (test : ℕ → Bool) (es : List (ℕ × X)) → remove_key test (keys_of es) ≡ keys_of (remove_entry test es)
-keys-removed test [] = refl
-keys-removed test (e ∷ es) =
-    elim (cases_Bool (test e.0)) [
-      | inl here ↦ rw here refl
-      | inr other ↦ rw other (ap (λ ks. e.0 ∷ ks) (keys-removed test es))
-    ]
-
 -- nobody's number takes nobody out
 removed-nobody : {X : Type 0} (i : ℕ) (es : List (ℕ × X)) → list_any (nat_eq i) (keys_of es) ≡ false → remove_entry (nat_eq i) es ≡ es
 removed-nobody i [] none = refl
@@ -43,11 +33,11 @@ removed-nobody i (e ∷ es) none =
       | inr other ↦ rw other (ap (λ rest. e ∷ rest) (removed-nobody i es (rw other at none)))
     ]
 
-pub without-nobody : (m : Market) (i : ℕ) → list_any (nat_eq i) (students_of m) ≡ false → m ≡ without_student m i
-without-nobody m i none = let same = removed-nobody i m.students none in λ t. record m { students = sym same t }
-
 pub without-absent : (m : Market) (i : ℕ) → None ≡ position (nat_eq i) (students_of m) → m ≡ without_student m i
-without-absent m i none = without-nobody m i (sym (is_some-lookup (nat_eq i) m.students) ∙ found-by_position m.students i None (sym none))
+without-absent m i none =
+    let absent = sym (is_some-lookup (nat_eq i) m.students) ∙ found-by_position m.students i None (sym none) in
+    let same = removed-nobody i m.students absent in
+    λ t. record m { students = sym same t }
 
 -- keys that differ from the first
 keys-apart : {X : Type 0} (i : ℕ) (x : X) (es : List (ℕ × X)) → IsDistinct nat_eq (keys_of ((i, x) ∷ es)) → All (λ e. nat_eq i e.0 ≡ false) es
@@ -126,7 +116,7 @@ room-left false rows left kept stay before after one fewer more room = omega (ar
 -- a student goes, and with them what stands at their position
 module _ (old new : Inside) (i place : ℕ) (sound : IsSound old)
     (seed : new.lottery ≡ old.lottery) (schools : new.schools ≡ old.schools) (positions : new.positions ≡ old.positions)
-    (left : new.numbers.keys ≡ remove_key (nat_eq i) old.numbers.keys) (found : Some place ≡ position (nat_eq i) old.numbers.keys)
+    (found : Some place ≡ position (nat_eq i) old.numbers) (left : new.numbers ≡ remove old.numbers place)
     (rows : new.rows.items ≡ remove old.rows.items place)
     (others : KeepsOthers i old.siblings.entries new.siblings.entries) (gone : lookup (nat_eq i) new.siblings.entries ≡ None)
     (room : length new.rows.items ≤ index_map_len new.siblings + spare new.siblings)
@@ -139,7 +129,7 @@ module _ (old new : Inside) (i place : ℕ) (sound : IsSound old)
           seed = seed;
           schools = rw schools refl;
           positions = rw positions sound.positions;
-          numbers = left ∙ ap (remove_key (nat_eq i)) sound.numbers ∙ keys-removed (nat_eq i) m.students;
+          numbers = left ∙ ap (λ ks. remove ks place) sound.numbers ∙ remove-found (λ e. e.0) (nat_eq i) m.students place at;
           rows =
               rows ∙ ap (λ rs. remove rs place) sound.rows
               ∙ remove-found (λ e. row_of old.positions e.0 (draw old.lottery e.0) e.1) (nat_eq i) m.students place at
@@ -228,7 +218,7 @@ module _ (old new : Inside) (s : ℕ) (school : School) (sound : IsSound old) (s
 -- copied fields tell of the same market
 module _ (old new : Inside) (sound : IsSound old)
     (seed : new.lottery ≡ old.lottery) (schools : new.schools.entries ≡ old.schools.entries) (positions : new.positions ≡ old.positions)
-    (numbers : new.numbers.keys ≡ old.numbers.keys) (rows : new.rows.items ≡ old.rows.items) (siblings : new.siblings.entries ≡ old.siblings.entries)
+    (numbers : new.numbers ≡ old.numbers) (rows : new.rows.items ≡ old.rows.items) (siblings : new.siblings.entries ≡ old.siblings.entries)
     (room : length old.rows.items ≤ spare new.siblings)
   where
     Shows-copied : Shows new (market_of old)

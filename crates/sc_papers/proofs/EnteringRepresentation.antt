@@ -1,14 +1,13 @@
 -- What the fields of the type `FlatPapers` tell of once a student has entered.
 use Rattle.std.proofs.Common.{◌≡◌, ◌⊎◌, ◌≤◌, ◌+◌, ℕ, nat_eq, true, false, List, [], ◌∷◌, ◌++◌, All, Some, None, length, map, take, refl, ap, sym, ◌∙◌, inl, inr}
 use Rattle.std.specs.Prelude.{is_some, nat_lt}
-use Rattle.std.proofs.lemmas.Bool.{cases_Bool, cond-false, eq-eqb, eqb-true, or_left, or_right}
+use Rattle.std.proofs.lemmas.Bool.{cases_Bool, eq-eqb, eqb-true, or_left, or_right}
 use Rattle.std.proofs.lemmas.List.Elements.{All-cons, All-nil, All-push}
 use Rattle.std.proofs.lemmas.List.Folds.{list_any-append}
 use Rattle.std.proofs.lemmas.Map.Made.{is_some-lookup}
 use Rattle.std.specs.List.{list_any}
 use Rattle.std.specs.Map.{lookup}
 use Rattle.indexmap.specs.IndexMap.{index_map_len, spare}
-use Rattle.indexmap.specs.IndexSet.{insert_key}
 use Rattle.sc_lottery.specs.Draw.{draw}
 use Rattle.sc_papers.specs.Entry.{MayEnterAt}
 use Rattle.sc_papers.specs.Market.{Market, is_student, students_of}
@@ -17,7 +16,7 @@ use Rattle.sc_papers.specs.StudentRow.{Row, positions_in, row_at, row_of}
 use Rattle.sc_papers.specs.Verdict.{with_student}
 use Rattle.sc_papers.specs.declared.flat_papers.FlatPapers.TheInside.{Inside}
 use Rattle.sc_papers.specs.declared.records.Student.{Student}
-use Rattle.sc_papers.proofs.Entering.{MayEnter, WellFormed-with_student, WithinLimits-with_student, keys_of-push, list_any-keys}
+use Rattle.sc_papers.proofs.Entering.{MayEnter, WellFormed-with_student, WithinLimits-with_student, keys_of-push}
 use Rattle.sc_papers.proofs.EnteringAt.{row-tabled}
 use Rattle.sc_papers.proofs.Representation.{IsSound-shown, KeepsOthers, Shows, kept-others, market_of-shown}
 
@@ -63,7 +62,7 @@ entered-known m i student q known =
 
 module _ (old new : Inside) (i : ℕ) (student : Student) (sound : IsSound old) (may : MayEnter (market_of old) i student)
     (seed : new.lottery ≡ old.lottery) (schools : new.schools ≡ old.schools) (positions : new.positions ≡ old.positions)
-    (inserted : new.numbers.keys ≡ insert_key nat_eq old.numbers.keys i)
+    (pushed : new.numbers ≡ old.numbers ++ i ∷ [])
     (row : new.rows.items ≡ old.rows.items ++ row_of old.positions i (draw old.lottery i) student ∷ [])
     (others : KeepsOthers i old.siblings.entries new.siblings.entries)
     (own : nat_lt 1 (length student.siblings) ≡ true → lookup (nat_eq i) new.siblings.entries ≡ Some (positions_in old.positions student.siblings))
@@ -76,10 +75,7 @@ module _ (old new : Inside) (i : ℕ) (student : Student) (sound : IsSound old) 
           seed = seed;
           schools = rw schools refl;
           positions = rw positions sound.positions;
-          numbers =
-              inserted ∙ ap (λ ks. insert_key nat_eq ks i) sound.numbers
-              ∙ cond-false (list_any (nat_eq i) (students_of m)) (students_of m) (students_of m ++ i ∷ []) (list_any-keys i m.students may.new)
-              ∙ sym (keys_of-push m.students (i, student));
+          numbers = pushed ∙ ap (λ ks. ks ++ i ∷ []) sound.numbers ∙ sym (keys_of-push m.students (i, student));
           rows =
               row ∙ ap (λ rows. rows ++ row_of old.positions i (draw old.lottery i) student ∷ []) sound.rows
               ∙ rw (positions, map-push (λ e. row_of old.positions e.0 (draw old.lottery e.0) e.1) m.students (i, student)) refl;

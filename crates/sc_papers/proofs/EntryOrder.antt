@@ -99,7 +99,7 @@ moved-known m students q moved well known =
 -- the fields of the type `FlatPapers` stay sound where a student moves, and what stands at their position as far
 module _ (old new : Inside) (from to : ℕ) (sound : IsSound old)
     (seed : new.lottery ≡ old.lottery) (schools : new.schools ≡ old.schools) (positions : new.positions ≡ old.positions)
-    (numbers : new.numbers.keys ≡ move_index old.numbers.keys from to)
+    (numbers : new.numbers ≡ move_index old.numbers from to)
     (rows : new.rows.items ≡ move_index old.rows.items from to) (siblings : new.siblings ≡ old.siblings)
   where
     Shows-moved : Shows new (with_moved_student (market_of old) from to)
@@ -134,7 +134,7 @@ WellFormed-swapped m a b low high formed = WellFormed-reordered m (swap m.studen
 -- and the fields stay sound where what stands at their positions does so too
 module _ (old new : Inside) (a b : ℕ) (low : a < length (market_of old).students) (high : b < length (market_of old).students) (sound : IsSound old)
     (seed : new.lottery ≡ old.lottery) (schools : new.schools ≡ old.schools) (positions : new.positions ≡ old.positions)
-    (numbers : new.numbers.keys ≡ swap old.numbers.keys a b)
+    (numbers : new.numbers ≡ swap old.numbers a b)
     (rows : new.rows.items ≡ swap old.rows.items a b) (siblings : new.siblings ≡ old.siblings)
   where
     Shows-swapped : Shows new (with_swapped_students (market_of old) a b)

@@ -5,7 +5,7 @@ use Rattle.std.proofs.lemmas.Bool.{false≢true}
 use Rattle.std.proofs.lemmas.Map.Entries.{All-lookup, length-keys_of}
 use Rattle.std.proofs.lemmas.Option.{get_or_from_slice_get, slice_get-get_or, none-some}
 use Rattle.sc_papers.specs.Key.{key_of, key_at}
-use Rattle.sc_papers.specs.Market.{Market, is_school, is_student, choices_of, schools_of, siblings_of, student_at, student_of, students_of}
+use Rattle.sc_papers.specs.Market.{Market, is_school, is_student, choices_of, schools_of, student_at, student_of, students_of}
 use Rattle.sc_papers.specs.WellFormed.{WellFormed, WithinLimits, IsShort}
 use Rattle.sc_papers.specs.declared.limits.TheConstants.{LONGEST_LIST}
 use Rattle.sc_papers.specs.declared.records.Student.{Student}
@@ -56,10 +56,6 @@ hand-recorded m at low none = false≢true (ap is_some (none ∙ hand-record m a
 pub hand-choices : (m : Market) (at : ℕ) (held : Student) → at < length m.students → Some held ≡ option_and_then (student_of m) (slice_get (students_of m) at) → held.choices ≡ choices_of m (student_at m at)
 unfolding choices_of
 hand-choices m at held low is = ap (λ o. option_map_or (λ student. student.choices) o []) (is ∙ hand-record m at low)
-
--- and the schools of the student's siblings
-pub hand-siblings : (m : Market) (at : ℕ) (held : Student) → at < length m.students → Some held ≡ option_and_then (student_of m) (slice_get (students_of m) at) → held.siblings ≡ siblings_of m (student_at m at)
-hand-siblings m at held low is = ap (λ o. option_map_or (λ (student : Student). student.siblings) o []) (is ∙ hand-record m at low)
 
 -- no student lists more choices than a list may name
 pub record-short : (m : Market) → WithinLimits m → (at : ℕ) (held : Student) → Some held ≡ option_and_then (student_of m) (slice_get (students_of m) at) → length held.choices ≤ LONGEST_LIST

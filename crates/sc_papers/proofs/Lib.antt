@@ -35,6 +35,7 @@ pub mod Standings
 pub mod Cutting
 pub mod Reordering
 pub mod Representation
+pub mod Rising
 pub mod Locality
 pub mod Amending
 pub mod Unobjected

@@ -28,7 +28,7 @@ pub record Shows (p : Inside) (m : Market) : Type 0 where
   pub seed : p.lottery ≡ m.seed
   pub schools : p.schools.entries ≡ m.schools
   pub positions : (s : ℕ) → slice_index_or p.positions s None ≡ position (nat_eq s) (schools_of m)
-  pub numbers : p.numbers.keys ≡ students_of m
+  pub numbers : p.numbers ≡ students_of m
   pub rows : p.rows.items ≡ rows_of m.seed p.positions m.students
   pub siblings : AreKept p.positions p.siblings.entries m.students
   pub of_students : AreOfStudents m p.siblings.entries

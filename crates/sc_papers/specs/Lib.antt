@@ -21,3 +21,4 @@ pub mod EntryOrder
 pub mod Interleaving
 pub mod NumberHash
 pub mod LastKey
+pub mod Numbers

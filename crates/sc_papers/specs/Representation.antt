@@ -58,7 +58,7 @@ pub record IsSound (p : Inside) : Type 0 where
   pub well_formed : WellFormed (market_of p)
   pub within_limits : WithinLimits (market_of p)
   pub positions : (s : ℕ) → slice_index_or p.positions s None ≡ position (nat_eq s) (schools_of (market_of p))
-  pub numbers : p.numbers.keys ≡ students_of (market_of p)
+  pub numbers : p.numbers ≡ students_of (market_of p)
   pub rows : p.rows.items ≡ rows_of p.lottery p.positions (market_of p).students
   pub siblings : AreKept p.positions p.siblings.entries (market_of p).students
   pub of_students : AreOfStudents (market_of p) p.siblings.entries

@@ -6,8 +6,10 @@ ghost use Rattle.indexmap.specs.IndexMap.{spare};
 mod amending;
 mod entering;
 mod keys;
+mod numbers;
 pub(crate) mod order;
 
+use crate::flat_papers::numbers::Numbers;
 use crate::position_list::PositionList;
 use crate::records::School;
 use crate::school_no::SchoolNo;
@@ -15,14 +17,15 @@ use crate::school_positions::SchoolPositions;
 use crate::seats::Seats;
 use crate::seeded_hash::SeededHash;
 use crate::student_row::StudentRow;
-use indexmap::{IndexMap, IndexSet};
+use indexmap::IndexMap;
 use sc_lottery::{Draws, Seed, StudentNumber};
 use std::alloc::{AllocError, Global};
 use std::marker::Model;
 
 /// The schools and the students of one school choice, and the seed of its lottery, without a record of a student.
 ///
-/// Look-ups by number and by position take constant time.
+/// Look-ups by position and by a school's number take constant time. So do those by a student's number, but for papers
+/// that are not amended while the numbers rise in order of entry: these have no table of them, and are searched.
 #[derive(Drop)]
 pub struct FlatPapers {
     // The seed's draws, read where the last student who entered left them.
@@ -30,8 +33,7 @@ pub struct FlatPapers {
     schools: IndexMap<SchoolNo, School, SeededHash>,
     // Where each school stands in `schools`, so that a look-up by number hashes nothing.
     positions: SchoolPositions,
-    // In order of entry.
-    numbers: IndexSet<StudentNumber, SeededHash>,
+    numbers: Numbers,
     // What a proposal reads of each student, in order of entry: so a key costs no block of the cipher, nor a look-up
     // where there is one sibling at most, and a choice no look-up.
     rows: Vec<StudentRow>,
@@ -84,14 +86,6 @@ fn copy_schools(
     schools.clone()
 }
 
-fn copy_numbers(
-    numbers: &IndexSet<StudentNumber, SeededHash>,
-) -> Result<IndexSet<StudentNumber, SeededHash>, AllocError>
-    ensures { IfOk result (λ copy. copy.keys ≡ numbers.now.keys) }
-{
-    numbers.clone()
-}
-
 impl FlatPapers {
     ghost use Rattle.std.specs.Prelude.{◌≡◌, ◌<◌, [], length, map, slice_get, position, nat_eq, Some, IfOk};
     ghost use Rattle.std.specs.Option.{option_map};
@@ -105,14 +99,40 @@ impl FlatPapers {
         ensures schools { result.schools ≡ [] }
         ensures students { result.students ≡ [] }
     {
+        FlatPapers::empty(alloc, seed, Numbers::rising(alloc, SeededHash::new(seed)))
+    }
+
+    /// The same, with a table of the students' numbers from the first on, for papers that are amended.
+    pub(crate) fn tabled(alloc: Global, seed: Seed) -> Self
+        ensures seed { result.seed ≡ seed }
+        ensures schools { result.schools ≡ [] }
+        ensures students { result.students ≡ [] }
+    {
+        FlatPapers::empty(alloc, seed, Numbers::tabled(alloc, SeededHash::new(seed)))
+    }
+
+    fn empty(alloc: Global, seed: Seed, numbers: Numbers) -> Self
+        requires { numbers ≡ [] }
+        ensures seed { result.seed ≡ seed }
+        ensures schools { result.schools ≡ [] }
+        ensures students { result.students ≡ [] }
+    {
         FlatPapers {
             lottery: Draws::new(seed),
             schools: IndexMap::with_hasher(alloc, SeededHash::new(seed)),
             positions: SchoolPositions::new(alloc),
-            numbers: IndexSet::with_hasher(alloc, SeededHash::new(seed)),
+            numbers,
             rows: Vec::new(alloc),
             siblings: IndexMap::with_hasher(alloc, SeededHash::new(seed)),
         }
+    }
+
+    /// Makes a table of the students' numbers, for papers that are amended. Nothing else changes, also where the growth
+    /// is refused.
+    pub(crate) fn table_numbers(&mut self) -> Result<(), AllocError>
+        ensures { self.new ≡ self.old }
+    {
+        self.numbers.make_table()
     }
 
     /// Equal papers, or the error of a refused growth. One pass over the schools and the students; no
@@ -124,7 +144,7 @@ impl FlatPapers {
         let siblings = copy_siblings(&self.siblings, self.rows.len())?;
         let positions = self.positions.copy()?;
         let schools = copy_schools(&self.schools)?;
-        let numbers = copy_numbers(&self.numbers)?;
+        let numbers = self.numbers.copy()?;
         Ok(FlatPapers {
             lottery: Draws::new(self.lottery.seed()),
             schools,
@@ -231,10 +251,11 @@ impl FlatPapers {
         self.positions.get(school).map(usize::from)
     }
 
-    /// A student's position in the order of entry. In constant time.
+    /// A student's position in the order of entry. In constant time, or by a search among the numbers where they rise
+    /// and the papers are not amended.
     pub fn student_position(&self, student: StudentNumber) -> Option<usize>
         ensures { result ≡ position (nat_eq student) (students_of self.now) }
     {
-        self.numbers.get_index_of(&student)
+        self.numbers.position(student)
     }
 }

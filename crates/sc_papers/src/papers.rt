@@ -73,16 +73,18 @@ impl Papers {
         ensures students { result.students ≡ [] }
     {
         Papers {
-            flat: FlatPapers::new(alloc, seed),
+            flat: FlatPapers::tabled(alloc, seed),
             records: Vec::new(alloc),
         }
     }
 
     /// Papers that hold a record of each student of flat ones. The only error is want of memory, after which the flat
-    /// papers are given up. The cost is one pass over the students and their lists.
-    pub fn from_flat(flat: FlatPapers) -> Result<Self, AllocError>
+    /// papers are given up. The cost is one pass over the students and their lists. A table of the students' numbers is
+    /// made, if there is none.
+    pub fn from_flat(mut flat: FlatPapers) -> Result<Self, AllocError>
         ensures { IfOk result (λ papers. papers ≡ flat) }
     {
+        flat.table_numbers()?;
         match records_of(&flat) {
             Ok(records) => Ok(Papers { flat, records }),
             Err(refused) => {

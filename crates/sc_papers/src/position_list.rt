@@ -71,7 +71,8 @@ pub(crate) fn keep_siblings(
 )
     requires short { length student.now.siblings ≤ LONGEST_LIST }
     requires room { lookup (nat_eq number) kept.old.entries ≡ None → 0 < spare kept.old }
-    ensures others { (q : ℕ) → nat_eq number q ≡ false → lookup (nat_eq q) kept.new.entries ≡ lookup (nat_eq q) kept.old.entries }
+    ensures others { (q : ℕ) → nat_eq number q ≡ false
+        → lookup (nat_eq q) kept.new.entries ≡ lookup (nat_eq q) kept.old.entries }
     ensures own { nat_lt 1 (length student.now.siblings) ≡ true
         → lookup (nat_eq number) kept.new.entries ≡ Some (positions_in table.now student.now.siblings) }
     ensures room { index_map_len kept.old + spare kept.old ≤ index_map_len kept.new + spare kept.new }

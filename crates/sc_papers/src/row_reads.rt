@@ -17,8 +17,8 @@ fn rank_of(positions: &[u16], at: usize) -> Option<usize>
 
 impl FlatPapers {
     /// A student's position in the order of entry, from 0, or `None` where the student is not in the papers. The
-    /// guess changes nothing of the answer, and any number may be one. In constant time: where the student stands at
-    /// the guess, that row alone is read, and else the number is looked up.
+    /// guess changes nothing of the answer, and any number may be one. Where the student stands at the guess, that row
+    /// alone is read, and else the number is looked up by `student_position`.
     pub fn student_position_near(&self, student: StudentNumber, guess: usize) -> Option<usize>
         ensures { result ≡ position (nat_eq student) (students_of self.now) }
     {

@@ -64,8 +64,9 @@ impl FlatPapers {
         Ok(())
     }
 
-    /// Makes room for so many more students, so that none of them takes memory as they enter. Nothing
-    /// else changes, also where the growth is refused. The only error is want of memory.
+    /// Makes room for so many more students, so that none of them takes memory as they enter, but for the
+    /// table of which `admit` tells. Nothing else changes, also where the growth is refused. The only error
+    /// is want of memory.
     pub fn reserve(&mut self, students: usize) -> Result<(), AllocError>
         ensures { self.new ≡ self.old }
     {
@@ -139,7 +140,8 @@ impl FlatPapers {
     /// where there are 200,000 students; and last `OutOfMemory`.
     ///
     /// The cost is the lengths of the lists, a look-up for each school named, and one draw of the lottery for a student
-    /// who enters. It takes memory for the student alone, and none where `reserve` made room.
+    /// who enters. It takes memory for the student alone, and none where `reserve` made room. Only where all numbers
+    /// rose so far and this one is lower than the last, a table of them all is made.
     pub fn admit(&mut self, number: StudentNumber, student: Student) -> Result<(), Refusal>
         ensures allowed { OnOk result
             (first_of (objections_to_enter self.old number student.siblings student.choices student.continuing) ≡ None) }
@@ -171,7 +173,7 @@ impl FlatPapers {
         self.siblings.reserve(room)?;
         let draw = self.lottery.draw(number);
         let row = StudentRow::with_positions(number, draw, positions, student);
-        let _ = self.numbers.insert(number)?;
+        self.numbers.push(number)?;
         self.rows.push_reserved(row);
         keep_siblings(&mut self.siblings, &self.positions, number, student);
         Ok(())

@@ -39,7 +39,7 @@ impl FlatPapers {
     ghost use Rattle.sc_papers.specs.Key.{has_sibling_at, key_at, key_of};
 
     /// The student's key at the school, or `None` where either is not in the papers. The student
-    /// need not list the school. In constant time; no draw is made.
+    /// need not list the school. The cost is that of `student_position`; no draw is made.
     pub fn key(&self, student: StudentNumber, school: SchoolNo) -> Option<Key>
         ensures { result ≡ (if is_student self.now student && is_school self.now school
             then Some (key_of self.now student school) else None) }

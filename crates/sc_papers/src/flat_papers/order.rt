@@ -51,7 +51,7 @@ impl FlatPapers {
         requires b { b < length self.old.students }
         ensures { self.new ≡ with_swapped_students self.old a b }
     {
-        self.numbers.swap_indices(a, b);
+        self.numbers.swap(a, b);
         swap_items(&mut self.rows, a, b);
     }
 
@@ -62,7 +62,8 @@ impl FlatPapers {
         ensures left { self.new ≡ without_student self.old student }
         ensures position { result ≡ position (nat_eq student) (students_of self.old) }
     {
-        let (position, _) = self.numbers.shift_remove_full(&student)?;
+        let position = self.numbers.position(student)?;
+        self.numbers.remove(position);
         let _ = self.rows.remove(position);
         let _ = self.siblings.swap_remove(&student);
         Some(position)
