@@ -1,5 +1,5 @@
 -- What the fields of the type `FlatPapers` tell of once a student has entered.
-use Rattle.std.proofs.Common.{◌≡◌, ◌⊎◌, ◌≤◌, ◌+◌, ℕ, nat_eq, true, false, List, [], ◌∷◌, ◌++◌, All, Some, None, length, map, take, refl, ap, sym, ◌∙◌, inl, inr}
+use Rattle.std.proofs.Common.{◌≡◌, ◌⊎◌, ◌≤◌, ◌+◌, ℕ, nat_eq, true, false, List, [], ◌∷◌, ◌++◌, All, Some, None, length, map, refl, ap, sym, ◌∙◌, inl, inr}
 use Rattle.std.specs.Prelude.{is_some, nat_lt}
 use Rattle.std.proofs.lemmas.Bool.{cases_Bool, eq-eqb, eqb-true, or_left, or_right}
 use Rattle.std.proofs.lemmas.List.Elements.{All-cons, All-nil, All-push}
@@ -9,8 +9,9 @@ use Rattle.std.specs.List.{list_any}
 use Rattle.std.specs.Map.{lookup}
 use Rattle.indexmap.specs.IndexMap.{index_map_len, spare}
 use Rattle.sc_lottery.specs.Draw.{draw}
-use Rattle.sc_papers.specs.Entry.{MayEnterAt}
+use Rattle.sc_papers.specs.Entry.{with_choices_at}
 use Rattle.sc_papers.specs.Market.{Market, is_student, students_of}
+use Rattle.sc_papers.specs.Placed.{AreOfSchools}
 use Rattle.sc_papers.specs.Representation.{IsSound, AreOfStudents, market_of}
 use Rattle.sc_papers.specs.StudentRow.{Row, positions_in, row_at, row_of}
 use Rattle.sc_papers.specs.Verdict.{with_student}
@@ -26,12 +27,12 @@ map-push f [] e = refl
 map-push f (x ∷ es) e = ap (λ rest. f x ∷ rest) (map-push f es e)
 
 -- the row that is made of a student who may enter
-pub row-made : (old : Inside) (i : ℕ) (student : Student) (positions : List ℕ) → IsSound old → MayEnterAt (market_of old) i student positions
-    → (d : ℕ) (row : Row) → d ≡ draw old.lottery i → row ≡ row_at (take (length student.choices) positions) i d student
-    → row ≡ row_of old.positions i (draw old.lottery i) student
-row-made old i student positions sound may d row drawn is =
-    is ∙ ap (λ (ps : List ℕ). row_at ps i d student) (row-tabled (market_of old) old.positions sound.positions i student positions may)
-    ∙ ap (λ (x : ℕ). row_of old.positions i x student) drawn
+pub row-made : (old : Inside) (i : ℕ) (student : Student) (positions : List ℕ) → IsSound old → AreOfSchools (market_of old) positions
+    → (d : ℕ) (row : Row) → d ≡ draw old.lottery i → row ≡ row_at positions i d student
+    → row ≡ row_of old.positions i (draw old.lottery i) (with_choices_at (market_of old) positions student)
+row-made old i student positions sound within d row drawn is =
+    is ∙ ap (λ (ps : List ℕ). row_at ps i d student) (row-tabled (market_of old) sound.well_formed old.positions sound.positions positions within)
+    ∙ ap (λ (x : ℕ). row_of old.positions i x (with_choices_at (market_of old) positions student)) drawn
 
 -- who is not in the papers is none of the students
 others-differ : (i : ℕ) (es : List (ℕ × Student)) → lookup (nat_eq i) es ≡ None → All (λ e. nat_eq i e.0 ≡ false) es

@@ -6,7 +6,8 @@ pub mod Keys
 pub mod Positions
 pub mod Hands
 pub mod ChoicePositions
-pub mod PlacedOnce
+pub mod Filling
+mod Placed
 pub mod Objections
 pub mod Entering
 pub mod EnteringRepresentation

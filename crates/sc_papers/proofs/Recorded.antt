@@ -1,16 +1,15 @@
 -- The records that stand beside flat papers, and what is made of these.
-use Rattle.std.proofs.Common.{◌≡◌, refl, ap, sym, ◌∙◌, ℕ, ◌+◌, ◌<◌, nat_eq, List, [], ◌∷◌, ◌++◌, length, get_or, map, take, Option, Some, None, false, true, All, is_some, position, slice_get, arith}
+use Rattle.std.proofs.Common.{◌≡◌, refl, ap, sym, ◌∙◌, ℕ, ◌+◌, ◌<◌, nat_eq, List, [], ◌∷◌, ◌++◌, length, get_or, map, take, Option, Some, None, false, true, is_some, position, slice_get, arith}
 use Rattle.std.specs.Prelude.{nat_lt, slice_set}
 use Rattle.std.specs.Option.{option_and_then, option_map, option_map_or}
 use Rattle.std.proofs.lemmas.Bool.{false≢true, ltb-true}
 use Rattle.std.proofs.lemmas.Cmp.{nat_eq_equiv}
 use Rattle.std.proofs.lemmas.List.{length-map, map-append, take_more}
-use Rattle.std.proofs.lemmas.List.Elements.{All-cons}
 use Rattle.std.proofs.lemmas.Map.Entries.{lookup_from_place}
 use Rattle.std.proofs.lemmas.Option.{get_or_from_slice_get, none-some, slice_get-get_or, slice_get-map, slice_get_read}
-use Rattle.sc_papers.specs.Market.{Market, choices_of, continuing_of, schools_of, siblings_of, student_at, student_of, students_of, zone_of}
+use Rattle.sc_papers.specs.Market.{Market, choices_of, continuing_of, siblings_of, student_at, student_of, students_of, zone_of}
 use Rattle.sc_papers.specs.Records.{AreRecords}
-use Rattle.sc_papers.specs.Representation.{schools_at}
+use Rattle.sc_papers.specs.Placed.{schools_at}
 use Rattle.sc_papers.specs.Verdict.{changed_student, first_of, unknown_student}
 use Rattle.sc_papers.specs.WellFormed.{WellFormed}
 use Rattle.sc_papers.specs.declared.amendment.Refusal.{Refusal}
@@ -21,7 +20,6 @@ use Rattle.sc_papers.proofs.EntryOrder.{entry-there}
 use Rattle.sc_papers.proofs.Hands.{hand-record, hand-student, position-low}
 use Rattle.sc_papers.proofs.Keys.{found-by_position, record-there}
 use Rattle.sc_papers.proofs.Objections.{first_of-none}
-use Rattle.sc_papers.proofs.Positions.{position-at, position-there}
 use Rattle.sc_papers.proofs.TakingBack.{known-student}
 
 -- at a student's position stands what the papers hold of the student
@@ -107,27 +105,6 @@ schools-more schools places k p s d made low is there before =
     ∙ ap (λ x. schools_at schools (take k places) ++ x ∷ []) (sym (get_or_from_slice_get schools p s 0 (sym there)))
     ∙ sym (map-append (λ q. get_or schools q 0) (take k places) (p ∷ []))
     ∙ ap (schools_at schools) (ap (λ (q : ℕ). take k places ++ q ∷ []) is ∙ sym (take_more places k d low))
-
--- positions of schools lead back to the schools
-pub places-back : (m : Market) (list places : List ℕ) → map Some places ≡ map (λ s. position (nat_eq s) (schools_of m)) list → schools_at (schools_of m) places ≡ list
-places-back m [] [] are = refl
-places-back m [] (p ∷ places) are = cc
-places-back m (s ∷ list) [] are = cc
-places-back m (s ∷ list) (p ∷ places) are =
-    let here : Some p ≡ position (nat_eq s) (schools_of m) = cc in
-    let rest : map Some places ≡ map (λ x. position (nat_eq x) (schools_of m)) list = cc in
-    λ t. get_or_from_slice_get (schools_of m) p s 0 (position-there (schools_of m) s p (sym here)) t ∷ places-back m list places rest t
-
--- and each of them is one
-pub places-low : (m : Market) (list places : List ℕ) → map Some places ≡ map (λ s. position (nat_eq s) (schools_of m)) list → All (λ p. p < length m.schools) places
-places-low m [] [] are = λ k d low. absurd (omega (arith, low))
-places-low m [] (p ∷ places) are = cc
-places-low m (s ∷ list) [] are = cc
-places-low m (s ∷ list) (p ∷ places) are =
-    let here : Some p ≡ position (nat_eq s) (schools_of m) = cc in
-    let rest : map Some places ≡ map (λ x. position (nat_eq x) (schools_of m)) list = cc in
-    All-cons (λ x. x < length m.schools) p places
-    (omega (arith, (position-at (schools_of m) s p (sym here)).0, length-map m.schools (λ e. e.0))) (places-low m list places rest)
 
 -- the record that is made of what the papers tell of a student is what they hold
 pub made-record : (m : Market) (at zone : ℕ) (continuing : Option ℕ) (siblings choices : List ℕ) → at < length m.students

@@ -15,7 +15,8 @@ use Rattle.std.proofs.lemmas.Option.{get_or_from_slice_get}
 use Rattle.indexmap.specs.IndexMap.{index_map_len, spare}
 use Rattle.sc_lottery.specs.Draw.{draw}
 use Rattle.sc_papers.specs.Market.{Market, is_school, schools_of, students_of}
-use Rattle.sc_papers.specs.Representation.{IsSound, AreKept, AreOfStudents, entry_in, market_of, rows_of, schools_at}
+use Rattle.sc_papers.specs.Placed.{schools_at}
+use Rattle.sc_papers.specs.Representation.{IsSound, AreKept, AreOfStudents, entry_in, market_of, rows_of}
 use Rattle.sc_papers.specs.StudentRow.{positions_in, row_of}
 use Rattle.sc_papers.specs.WellFormed.{IsProper, WellFormed, WithinLimits}
 use Rattle.sc_papers.specs.declared.flat_papers.FlatPapers.TheInside.{Inside}
@@ -53,7 +54,7 @@ module _ (m : Market) (table : List (Option ℕ)) (kept : List (ℕ × List ℕ)
           ∙ get_or_from_slice_get (schools_of m) at s 0 (position-there (schools_of m) s at found)
 
   -- and so those of a list lead back to the list
-  schools-back : (list : List ℕ) → All (λ s. is_school m s ≡ true) list → schools_at (schools_of m) (positions_in table list) ≡ list
+  pub schools-back : (list : List ℕ) → All (λ s. is_school m s ≡ true) list → schools_at (schools_of m) (positions_in table list) ≡ list
   schools-back [] known = refl
   schools-back (s ∷ list) known =
       λ t. school-back s (All-head (λ x. is_school m x ≡ true) s list known) t ∷ schools-back list (All-tail (λ x. is_school m x ≡ true) s list known) t

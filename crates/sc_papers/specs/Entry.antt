@@ -1,21 +1,15 @@
--- How a student enters: their choices' schools each have a position, and none is named twice.
-use Rattle.std.specs.Prelude.{◌≡◌, ℕ, ◌≤◌, nat_eq, not, List, [], length, map, take, find, position, is_some, slice_index_or, Option, Some, None}
+-- How a student enters whose choices go by where their schools stand.
+use Rattle.std.specs.Prelude.{◌≡◌, ℕ, List, None}
 use Rattle.sc_papers.specs.Market.{Market, schools_of}
-use Rattle.sc_papers.specs.StudentRow.{positions_in}
-use Rattle.sc_papers.specs.Verdict.{first_of, first_repeat, objections_to_enter}
-use Rattle.sc_papers.specs.declared.limits.TheConstants.{LONGEST_LIST}
+use Rattle.sc_papers.specs.Placed.{schools_at, AreOfSchools}
+use Rattle.sc_papers.specs.Verdict.{first_of, objections_to_enter}
 use Rattle.sc_papers.specs.declared.records.Student.{Student}
 
--- the list is short, each of its schools has a position in the table, none equals an earlier one, and their positions
--- are the first of these
-pub record ArePlacedOnce (table : List (Option ℕ)) (schools positions : List ℕ) : Type 0 where
-  pub short : length schools ≤ LONGEST_LIST
-  pub placed : find (λ s. not (is_some (slice_index_or table s None))) schools ≡ None
-  pub once : first_repeat [] schools ≡ None
-  pub filled : take (length schools) positions ≡ positions_in table schools
-
--- nothing can be said against entering the student, and the positions of their choices' schools in the order of entry
--- are the first of these
+-- nothing can be said against entering the student, if the schools of their choices stand at these positions
 pub record MayEnterAt (m : Market) (i : ℕ) (student : Student) (positions : List ℕ) : Type 0 where
-  pub allowed : first_of (objections_to_enter m i student.siblings student.choices student.continuing) ≡ None
-  pub placed : map Some (take (length student.choices) positions) ≡ map (λ s. position (nat_eq s) (schools_of m)) student.choices
+  pub within : AreOfSchools m positions
+  pub allowed : first_of (objections_to_enter m i student.siblings (schools_at (schools_of m) positions) student.continuing) ≡ None
+
+-- the student with the choices whose schools stand at these positions
+abbrev pub with_choices_at : Market → List ℕ → Student → Student
+with_choices_at m positions student = record student { choices = schools_at (schools_of m) positions }

@@ -14,6 +14,7 @@ pub mod Matching
 pub mod Log
 pub mod Restriction
 pub mod Chain
+pub mod Placed
 pub mod Progress
 pub mod Records
 pub mod Reordering

@@ -4,14 +4,11 @@ use Rattle.std.specs.Map.{keys_of, lookup}
 use Rattle.indexmap.specs.IndexMap.{index_map_len, spare}
 use Rattle.sc_lottery.specs.Draw.{draw}
 use Rattle.sc_papers.specs.Market.{Market, is_student, schools_of, students_of}
+use Rattle.sc_papers.specs.Placed.{schools_at}
 use Rattle.sc_papers.specs.StudentRow.{Row, positions_in, row_of}
 use Rattle.sc_papers.specs.declared.records.Student.{Student}
 use Rattle.sc_papers.specs.WellFormed.{WellFormed, WithinLimits}
 use Rattle.sc_papers.specs.declared.flat_papers.FlatPapers.TheInside.{Inside}
-
--- the schools that stand at these positions
-abbrev pub schools_at : List ℕ → List ℕ → List ℕ
-schools_at schools positions = map (λ p. slice_index_or schools p 0) positions
 
 -- the schools of a student's siblings: the one of the row, or where it tells of more those that are kept under the number
 abbrev pub siblings_told : List ℕ → List (ℕ × List ℕ) → Row → List ℕ

@@ -248,7 +248,14 @@ impl FlatPapers {
     pub fn school_position(&self, school: SchoolNo) -> Option<usize>
         ensures { result ≡ position (nat_eq school) (schools_of self.now) }
     {
-        self.positions.get(school).map(usize::from)
+        self.position_of(school).map(usize::from)
+    }
+
+    /// A school's position in the order of entry, as a row keeps it. In constant time.
+    pub(crate) fn position_of(&self, school: SchoolNo) -> Option<u16>
+        ensures { result ≡ position (nat_eq school) (schools_of self.now) }
+    {
+        self.positions.get(school)
     }
 
     /// A student's position in the order of entry. In constant time, or by a search among the numbers where they rise

@@ -3,7 +3,8 @@
 ghost use Rattle.std.specs.Prelude.{◌≡◌, ◌+◌, ◌-◌, ◌<◌, ◌≤◌, [], length, slice_get, IfOk, IfErr, OnOk, OnErr, None};
 ghost use Rattle.std.specs.Option.{option_and_then, option_copied};
 ghost use Rattle.sc_papers.specs.Entry.{MayEnterAt};
-ghost use Rattle.sc_papers.specs.Market.{choices_of, continuing_of, seats_of, siblings_of, student_at, student_of, students_of, zone_of};
+ghost use Rattle.sc_papers.specs.Market.{choices_of, continuing_of, seats_of, schools_of, siblings_of, student_at, student_of, students_of, zone_of};
+ghost use Rattle.sc_papers.specs.Placed.{schools_at};
 ghost use Rattle.sc_papers.specs.Verdict.{first_of, objections_to_add, objections_to_close, objections_to_correct, objections_to_enter, objections_to_rerank, school_verdict, with_choices, with_circumstances, with_school, with_seats, with_student, without_student, IsRefusal, IsSchoolRefusal};
 ghost use Rattle.sc_papers.specs.EntryOrder.{with_moved_student, with_swapped_students};
 
@@ -12,6 +13,7 @@ use crate::count::Count;
 use crate::flat_papers::FlatPapers;
 use crate::flat_papers::order::{move_item, swap_items};
 use crate::limits::{LONGEST_LIST, MOST_STUDENTS};
+use crate::position_list::PositionList;
 use crate::recording::{records_of, replace_circumstances};
 use crate::records::Student;
 use crate::school_list::SchoolList;
@@ -174,8 +176,8 @@ impl Papers {
             (first_of (objections_to_enter self.old number student.siblings student.choices student.continuing))) }
         ensures unchanged { OnErr result (self.new ≡ self.old) }
     {
-        let positions = self.flat.check_entry(number, &student)?;
-        self.put_last(number, student, positions)?;
+        let choices = self.flat.check_entry(number, &student)?;
+        self.put_last(number, student, &choices)?;
         Ok(())
     }
 
@@ -190,24 +192,24 @@ impl Papers {
         ensures entered { OnOk result (self.new ≡ with_student self.old number student) }
         ensures unchanged { OnErr result (self.new ≡ self.old) }
     {
-        let positions = self.flat.entry_positions(number, &student);
-        self.put_last(number, student, positions)
+        let choices = self.flat.entry_positions(number, &student);
+        self.put_last(number, student, &choices)
     }
 
-    /// Puts a student who may enter, whose choices' schools stand at the first of these positions, last in the order of
-    /// entry. The growth comes first, so a refused one leaves the papers as they were.
+    /// Puts a student who may enter, whose choices' schools stand at these positions, last in the order of entry. The growth comes first, so a refused one leaves the papers as they were.
     fn put_last(
         &mut self,
         number: StudentNumber,
         student: Student,
-        positions: [u16; 20],
+        choices: &PositionList,
     ) -> Result<(), AllocError>
-        requires { MayEnterAt self.old number student positions }
+        requires may { MayEnterAt self.old number student choices.now }
+        requires choices { schools_at (schools_of self.old) choices.now ≡ student.choices }
         ensures entered { OnOk result (self.new ≡ with_student self.old number student) }
         ensures unchanged { OnErr result (self.new ≡ self.old) }
     {
         self.records.reserve(1)?;
-        self.flat.put_last(number, &student, positions)?;
+        self.flat.put_last(number, &student, choices)?;
         self.records.push_reserved(student);
         Ok(())
     }

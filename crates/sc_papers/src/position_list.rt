@@ -17,8 +17,8 @@ use std::marker::Model;
 /// Where the schools of a list stand in the order of entry, in one piece of memory: as many as a list may name at most.
 #[derive(Drop)]
 pub(crate) struct PositionList {
-    count: u8,
-    positions: [u16; 20],
+    pub(crate) count: u8,
+    pub(crate) positions: [u16; 20],
 }
 
 impl Model for PositionList {
@@ -32,6 +32,18 @@ impl Model for PositionList {
 }
 
 impl PositionList {
+    ghost use Rattle.std.specs.Prelude.{◌≡◌, ◌≤◌, ◌<◌, ◌++◌, [], ◌∷◌, length};
+
+    /// No positions.
+    pub(crate) fn empty() -> Self
+        ensures { result ≡ [] }
+    {
+        PositionList {
+            count: 0,
+            positions: [0; 20],
+        }
+    }
+
     /// The positions of the schools of a list.
     pub(crate) fn new(table: &SchoolPositions, schools: &[SchoolNo]) -> Self
         requires { length schools.now ≤ LONGEST_LIST }
@@ -41,6 +53,23 @@ impl PositionList {
             count: schools.len() as u8,
             positions: fill_positions(table, schools),
         }
+    }
+
+    /// How many there are.
+    pub(crate) fn len(&self) -> usize
+        ensures len { result ≡ length self.now }
+        ensures short { result ≤ LONGEST_LIST }
+    {
+        usize::from(self.count)
+    }
+
+    /// Adds a position last.
+    pub(crate) fn push(&mut self, position: u16)
+        requires { length self.old < LONGEST_LIST }
+        ensures { self.new ≡ self.old ++ position ∷ [] }
+    {
+        self.positions[usize::from(self.count)] = position;
+        self.count += 1;
     }
 
     /// The positions, in the list's order.

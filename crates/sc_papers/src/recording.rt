@@ -3,7 +3,7 @@
 ghost use Rattle.std.specs.Prelude.{◌≡◌, ◌<◌, All, Some, length, IfOk};
 ghost use Rattle.sc_papers.specs.Market.{schools_of, siblings_of, student_at, student_of};
 ghost use Rattle.sc_papers.specs.Records.{AreRecords};
-ghost use Rattle.sc_papers.specs.Representation.{schools_at};
+ghost use Rattle.sc_papers.specs.Placed.{schools_at};
 
 use crate::flat_papers::FlatPapers;
 use crate::limits::MOST_STUDENTS;

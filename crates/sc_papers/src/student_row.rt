@@ -3,6 +3,7 @@ ghost use Rattle.std.specs.Option.{option_eq};
 ghost use Rattle.sc_papers.specs.StudentRow.{positions_in, row_at, row_of, school_in};
 
 use crate::limits::LONGEST_LIST;
+use crate::position_list::PositionList;
 use crate::records::Student;
 use crate::school_no::SchoolNo;
 use crate::school_positions::SchoolPositions;
@@ -74,19 +75,19 @@ impl StudentRow {
         requires { length student.now.choices ≤ LONGEST_LIST }
         ensures { result ≡ row_of table.now number draw student.now }
     {
-        let positions = fill_positions(table, student.choices.as_slice());
-        Self::with_positions(number, draw, positions, student)
+        let choices = PositionList::new(table, student.choices.as_slice());
+        Self::with_choices(number, draw, &choices, student)
     }
 
-    /// The row of a student with this number and this draw, whose choices' schools stand at the first of these positions.
-    pub(crate) fn with_positions(
+    /// The row of a student with this number and this draw, whose choices' schools stand at these positions, whatever the
+    /// student's own list is.
+    pub(crate) fn with_choices(
         number: StudentNumber,
         draw: u64,
-        positions: [u16; 20],
+        choices: &PositionList,
         student: &Student,
     ) -> Self
-        requires { length student.now.choices ≤ LONGEST_LIST }
-        ensures { result ≡ row_at (take (length student.now.choices) positions) number draw student.now }
+        ensures { result ≡ row_at choices.now number draw student.now }
     {
         StudentRow {
             draw,
@@ -95,8 +96,8 @@ impl StudentRow {
             sibling: number_or_zero(student.siblings.as_slice().first().copied()),
             zone: student.zone,
             more_siblings: student.siblings.as_slice().len() > 1,
-            count: student.choices.as_slice().len() as u8,
-            positions,
+            count: choices.count,
+            positions: choices.positions,
         }
     }
 

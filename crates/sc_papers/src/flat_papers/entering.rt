@@ -3,23 +3,27 @@
 use crate::amendment::Refusal;
 use crate::check::{check_enter, check_school, is_student, may_be_named};
 use crate::flat_papers::FlatPapers;
-use crate::limits::{MOST_SCHOOLS, MOST_STUDENTS};
-use crate::places::place_once;
-use crate::position_list::keep_siblings;
+use crate::limits::{LONGEST_LIST, MOST_SCHOOLS, MOST_STUDENTS};
+use crate::placed_choices::PlacedChoices;
+use crate::position_list::{PositionList, keep_siblings};
 use crate::records::{School, Student};
+use crate::school_list::SchoolList;
 use crate::school_no::SchoolNo;
 use crate::school_refusal::SchoolRefusal;
 use crate::seats::Seats;
-use crate::student_row::{StudentRow, fill_positions};
+use crate::student_row::StudentRow;
 use crate::zone::Zone;
 use sc_lottery::StudentNumber;
 use std::alloc::AllocError;
 
 impl FlatPapers {
-    ghost use Rattle.std.specs.Prelude.{◌≡◌, ◌≤◌, None, Some, OnOk, OnErr, IfErr, IfOk};
+    ghost use Rattle.std.specs.Prelude.{◌≡◌, ◌≤◌, [], None, Some, length, OnOk, OnErr, IfErr, IfOk};
+    ghost use Rattle.std.specs.Bool.{OnFalse, OnTrue};
     ghost use Rattle.std.specs.Option.{IfSome};
-    ghost use Rattle.sc_papers.specs.Entry.{MayEnterAt};
-    ghost use Rattle.sc_papers.specs.Verdict.{first_of, objections_to_enter, school_verdict, with_school, with_student, IsRefusal, IsSchoolRefusal};
+    ghost use Rattle.sc_papers.specs.Entry.{with_choices_at, MayEnterAt};
+    ghost use Rattle.sc_papers.specs.Market.{schools_of};
+    ghost use Rattle.sc_papers.specs.Placed.{schools_at, AreOfSchools};
+    ghost use Rattle.sc_papers.specs.Verdict.{first_of, first_repeat, objections_to_enter, school_verdict, with_school, with_student, IsRefusal, IsSchoolRefusal};
 
     /// Adds a school last, or answers the first refusal that applies: `SchoolExists`,
     /// `TooManySchools` where there are 5,000, `SchoolsClosed` once a student has entered, and last
@@ -76,40 +80,51 @@ impl FlatPapers {
         Ok(())
     }
 
-    /// The positions of the choices' schools, and zeros after the last, of a student against whose entering nothing can
-    /// be said; found in one pass over the choices. `None` says nothing of the student: `check` tells what can be said.
-    fn positions_to_enter(&self, number: StudentNumber, student: &Student) -> Option<[u16; 20]>
-        ensures { IfSome result (λ positions. MayEnterAt self.now number student.now positions) }
+    /// Whether nothing can be said against a student's entering, if the schools of their choices stand at these positions.
+    /// `false` says nothing of the student: `check` tells what can be said.
+    fn may_enter_at(&self, number: StudentNumber, student: &Student, choices: &PositionList) -> bool
+        requires within { AreOfSchools self.now choices.now }
+        requires short { length choices.now ≤ LONGEST_LIST }
+        requires once { first_repeat [] choices.now ≡ None }
+        ensures { OnTrue result (MayEnterAt self.now number student.now choices.now) }
     {
-        if is_student(self, number) {
-            return None;
+        if self.students_len() >= MOST_STUDENTS || choices.len() == 0 {
+            return false;
         }
-        if self.students_len() >= MOST_STUDENTS {
-            return None;
+        if is_student(self, number) || !may_be_named(self, student.siblings.as_slice()) {
+            return false;
         }
-        if student.choices.as_slice().is_empty() {
-            return None;
-        }
-        if !may_be_named(self, student.siblings.as_slice()) {
-            return None;
-        }
-        check_school(self, student.continuing).ok()?;
-        place_once(&self.positions, student.choices.as_slice())
+        check_school(self, student.continuing).is_ok()
     }
 
-    /// The positions of the choices' schools, and zeros after the last, of a student who may enter, or the first refusal
-    /// that applies.
+    /// Where the schools of the choices stand of a student against whose entering nothing can be said; found in one pass
+    /// over the choices. `None` says nothing of the student.
+    fn positions_to_enter(&self, number: StudentNumber, student: &Student) -> Option<PositionList>
+        ensures may { IfSome result (λ choices. MayEnterAt self.now number student.now choices) }
+        ensures choices { IfSome result (λ choices. schools_at (schools_of self.now) choices ≡ student.now.choices) }
+    {
+        let mut placed = PlacedChoices::new();
+        if !placed.push_all(self, student.choices.as_slice())
+            || !self.may_enter_at(number, student, placed.as_list())
+        {
+            return None;
+        }
+        Some(placed.into_list())
+    }
+
+    /// Where the schools of the choices stand of a student who may enter, or the first refusal that applies.
     pub(crate) fn check_entry(
         &self,
         number: StudentNumber,
         student: &Student,
-    ) -> Result<[u16; 20], Refusal>
-        ensures may { IfOk result (λ positions. MayEnterAt self.now number student.now positions) }
+    ) -> Result<PositionList, Refusal>
+        ensures may { IfOk result (λ choices. MayEnterAt self.now number student.now choices) }
+        ensures choices { IfOk result (λ choices. schools_at (schools_of self.now) choices ≡ student.now.choices) }
         ensures refused { IfErr result (λ refusal. Some refusal ≡ first_of
             (objections_to_enter self.now number student.now.siblings student.now.choices student.now.continuing)) }
     {
-        if let Some(positions) = self.positions_to_enter(number, student) {
-            return Ok(positions);
+        if let Some(choices) = self.positions_to_enter(number, student) {
+            return Ok(choices);
         }
         check_enter(
             self,
@@ -121,13 +136,71 @@ impl FlatPapers {
         Ok(self.entry_positions(number, student))
     }
 
-    /// The positions of the choices' schools, and zeros after the last, of a student who may enter.
-    pub(crate) fn entry_positions(&self, number: StudentNumber, student: &Student) -> [u16; 20]
+    /// Where the schools of the choices stand of a student who may enter.
+    pub(crate) fn entry_positions(&self, number: StudentNumber, student: &Student) -> PositionList
         requires { first_of (objections_to_enter self.now number student.now.siblings student.now.choices
             student.now.continuing) ≡ None }
-        ensures { MayEnterAt self.now number student.now result }
+        ensures may { MayEnterAt self.now number student.now result }
+        ensures choices { schools_at (schools_of self.now) result ≡ student.now.choices }
     {
-        fill_positions(&self.positions, student.choices.as_slice())
+        PositionList::new(&self.positions, student.choices.as_slice())
+    }
+
+    /// Puts a student against whose entering nothing can be said, with the choices whose schools stand at these positions,
+    /// last in the order of entry, and says whether it did. Otherwise, or where memory is wanting, the papers are as before.
+    fn put_placed(
+        &mut self,
+        number: StudentNumber,
+        student: &Student,
+        choices: &PositionList,
+    ) -> bool
+        requires within { AreOfSchools self.old choices.now }
+        requires short { length choices.now ≤ LONGEST_LIST }
+        requires once { first_repeat [] choices.now ≡ None }
+        ensures allowed { OnTrue result (MayEnterAt self.old number student.now choices.now) }
+        ensures entered { OnTrue result (self.new ≡ with_student self.old number
+            (with_choices_at self.old choices.now student.now)) }
+        ensures unchanged { OnFalse result (self.new ≡ self.old) }
+    {
+        if !self.may_enter_at(number, student, choices) {
+            return false;
+        }
+        self.put_last(number, student, choices).is_ok()
+    }
+
+    /// Puts a student of this number, zone, siblings' schools and school at which they continue last in the order of entry,
+    /// with the choices whose schools stand at these positions of the papers, and says whether it did. It does so where
+    /// `admit` would take the student with those choices; otherwise, or where memory is wanting, the papers are as before,
+    /// and `admit` tells why.
+    ///
+    /// The cost is a draw of the lottery, and a look-up for each school of a sibling and the one at which the student
+    /// continues: none of the choices is looked up. It takes the memory that `admit` takes.
+    pub fn admit_placed(
+        &mut self,
+        number: StudentNumber,
+        zone: Zone,
+        siblings: SchoolList,
+        continuing: Option<SchoolNo>,
+        choices: &PlacedChoices,
+    ) -> bool
+        requires { AreOfSchools self.old choices.now }
+        ensures allowed { OnTrue result (first_of (objections_to_enter self.old number siblings
+            (schools_at (schools_of self.old) choices.now) continuing) ≡ None) }
+        ensures entered { OnTrue result (self.new ≡ with_student self.old number (record {
+          zone = zone;
+          continuing = continuing;
+          siblings = siblings;
+          choices = schools_at (schools_of self.old) choices.now;
+        })) }
+        ensures unchanged { OnFalse result (self.new ≡ self.old) }
+    {
+        let student = Student {
+            zone,
+            siblings,
+            choices: SchoolList::from_vec(Vec::new(self.allocator())),
+            continuing,
+        };
+        self.put_placed(number, &student, choices.as_list())
     }
 
     /// Puts the student last in the order of entry, or answers the first refusal that applies. After a refusal the
@@ -150,29 +223,29 @@ impl FlatPapers {
             (first_of (objections_to_enter self.old number student.siblings student.choices student.continuing))) }
         ensures unchanged { OnErr result (self.new ≡ self.old) }
     {
-        let positions = self.check_entry(number, &student)?;
-        self.put_last(number, &student, positions)?;
+        let choices = self.check_entry(number, &student)?;
+        self.put_last(number, &student, &choices)?;
         Ok(())
     }
 
-    /// Puts a student who may enter, whose choices' schools stand at the first of these positions, last in the order of
-    /// entry, with the one draw that they ever make. All growths come first, so a refused one leaves the papers as they
-    /// were.
+    /// Puts a student who may enter, with the choices whose schools stand at these positions, last in the order of entry,
+    /// with the one draw that they ever make. All growths come first, so a refused one leaves the papers as they were.
     pub(crate) fn put_last(
         &mut self,
         number: StudentNumber,
         student: &Student,
-        positions: [u16; 20],
+        choices: &PositionList,
     ) -> Result<(), AllocError>
-        requires { MayEnterAt self.old number student.now positions }
-        ensures entered { OnOk result (self.new ≡ with_student self.old number student.now) }
+        requires { MayEnterAt self.old number student.now choices.now }
+        ensures entered { OnOk result (self.new ≡ with_student self.old number
+            (with_choices_at self.old choices.now student.now)) }
         ensures unchanged { OnErr result (self.new ≡ self.old) }
     {
         self.rows.reserve(1)?;
         let room = (self.rows.len() + 1).saturating_sub(self.siblings.len());
         self.siblings.reserve(room)?;
         let draw = self.lottery.draw(number);
-        let row = StudentRow::with_positions(number, draw, positions, student);
+        let row = StudentRow::with_choices(number, draw, choices, student);
         self.numbers.push(number)?;
         self.rows.push_reserved(row);
         keep_siblings(&mut self.siblings, &self.positions, number, student);

@@ -116,7 +116,8 @@ impl FlatPapers {
     }
 
     /// Whether a sibling of the student at a position of the order of entry, from 0, who has more than one, is at the
-    /// school at a position.
+    /// school at a position. It is not inlined, since few have more than one, and who asks for a key does so in a loop.
+    #[inline(never)]
     fn has_any_sibling_at(&self, student: usize, school: SchoolNo, at: usize) -> bool
         requires student { student < length self.now.students }
         requires more { nat_lt 1 (length (siblings_of self.now (student_at self.now student))) ≡ true }

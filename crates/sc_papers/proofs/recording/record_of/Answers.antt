@@ -1,6 +1,7 @@
 use Rattle.std.proofs.Common.{◌∙◌}
 use Rattle.sc_papers.specs.Market.{choices_of, student_at}
-use Rattle.sc_papers.proofs.Recorded.{made-record, places-back, places-low}
+use Rattle.sc_papers.proofs.Placed.{places-back, places-low}
+use Rattle.sc_papers.proofs.Recorded.{made-record}
 use Rattle.sc_papers.proofs.recording.record_of.Goals as goal
 
 pub schools_at-requires : goal.schools_at-requires

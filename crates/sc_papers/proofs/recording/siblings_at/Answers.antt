@@ -1,7 +1,7 @@
 use Rattle.std.proofs.Common.{◌≡◌, ℕ, List, [], ◌∷◌, ◌++◌, ap, subst, sym, option_to_list, ◌∙◌}
 use Rattle.std.specs.Result.{IfOk}
 use Rattle.sc_papers.specs.Market.{siblings_of, student_at}
-use Rattle.sc_papers.proofs.Recorded.{places-back, places-low}
+use Rattle.sc_papers.proofs.Placed.{places-back, places-low}
 use Rattle.sc_papers.proofs.Representation.{first-only}
 use Rattle.sc_papers.proofs.recording.siblings_at.Goals as goal
 use Rattle.sc_papers.proofs.recording.siblings_at.Goals.{in-Some+in_ok-push, in_default}

@@ -1,7 +1,7 @@
 use Rattle.std.proofs.Common.{◌<◌, ap, ◌∙◌, length, arith}
 use Rattle.std.proofs.lemmas.List.{length-set}
 use Rattle.std.specs.Prelude.{unwrap_or}
-use Rattle.sc_papers.proofs.PlacedOnce.{filled-more}
+use Rattle.sc_papers.proofs.Filling.{filled-more}
 use Rattle.sc_papers.proofs.student_row.fill_positions.Goals as goal
 
 pub loop-rank-preserved : goal.loop-rank-preserved

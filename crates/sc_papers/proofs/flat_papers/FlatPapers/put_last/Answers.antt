@@ -1,7 +1,7 @@
 use Rattle.std.specs.List.{list_any}
 use Rattle.std.specs.Map.{lookup}
 use Rattle.std.proofs.Common.{arith, length, nat_eq, List, ◌++◌, ◌∷◌, [], refl, ◌∙◌, ap, subst, sym}
-use Rattle.sc_papers.specs.Entry.{MayEnterAt}
+use Rattle.sc_papers.specs.Entry.{with_choices_at, MayEnterAt}
 use Rattle.sc_papers.specs.Representation.{market_of}
 use Rattle.sc_papers.specs.Market.{Market}
 use Rattle.sc_papers.specs.StudentRow.{Row}
@@ -14,34 +14,35 @@ use Rattle.sc_papers.proofs.flat_papers.FlatPapers.put_last.Goals as goal
 pub invariant_of-self-2 : goal.invariant_of-self-2
 invariant_of-self-2 c =
     let i = c.args.number in
-    let student = c.args.student.now in
-    let allowed = subst (λ (m : Market). MayEnterAt m i student c.args.positions) (sym c.self.view_is) c.requires in
-    let row = row-made c.self.inside i student c.args.positions c.self.invariant allowed c.draw-draw.result c.with_positions-row.result c.draw-draw.ensures.draw c.with_positions-row.ensures in
-    IsSound-entered c.self.inside _ i student c.self.invariant (MayEnter-allowed (market_of c.self.inside) i student allowed.allowed) c.draw-draw.ensures.seed refl refl c.in_ok-push.ensures.pushed
-    (c.push_reserved.ensures.items ∙ ap (λ (rows : List Row). rows ++ c.with_positions-row.result ∷ []) c.in_ok-reserve.ensures.items ∙ ap (λ (r : Row). c.self.inside.rows.items ++ r ∷ []) row)
+    let may = subst (λ (m : Market). MayEnterAt m i c.args.student.now c.args.choices.now) (sym c.self.view_is) c.requires in
+    let student = with_choices_at (market_of c.self.inside) c.args.choices.now c.args.student.now in
+    let row = row-made c.self.inside i c.args.student.now c.args.choices.now c.self.invariant may.within c.draw-draw.result c.with_choices-row.result c.draw-draw.ensures.draw c.with_choices-row.ensures in
+    IsSound-entered c.self.inside _ i student c.self.invariant (MayEnter-allowed (market_of c.self.inside) i student may.allowed) c.draw-draw.ensures.seed refl refl c.in_ok-push.ensures.pushed
+    (c.push_reserved.ensures.items ∙ ap (λ (rows : List Row). rows ++ c.with_choices-row.result ∷ []) c.in_ok-reserve.ensures.items ∙ ap (λ (r : Row). c.self.inside.rows.items ++ r ∷ []) row)
     (λ q apart. c.keep_siblings.ensures.others q apart ∙ ap (lookup (nat_eq q)) c.in_ok-reserve-2.ensures.entries) c.keep_siblings.ensures.own
     (omega (arith, c.keep_siblings.ensures.room, c.in_ok-reserve-2.ensures.ok, c.saturating_sub-room.ensures, c.len.ensures, c.len-2.ensures.len, ap length c.in_ok-reserve-2.ensures.entries, c.push_reserved.ensures.len, c.push_reserved.new.self.ok, c.reserve.new.self.ok))
 
 pub returns-clause-entered : goal.returns-clause-entered
 returns-clause-entered c =
     let i = c.args.number in
-    let student = c.args.student.now in
-    let allowed = subst (λ (m : Market). MayEnterAt m i student c.args.positions) (sym c.self.view_is) c.requires in
-    let row = row-made c.self.inside i student c.args.positions c.self.invariant allowed c.draw-draw.result c.with_positions-row.result c.draw-draw.ensures.draw c.with_positions-row.ensures in
+    let may = subst (λ (m : Market). MayEnterAt m i c.args.student.now c.args.choices.now) (sym c.self.view_is) c.requires in
+    let student = with_choices_at (market_of c.self.inside) c.args.choices.now c.args.student.now in
+    let row = row-made c.self.inside i c.args.student.now c.args.choices.now c.self.invariant may.within c.draw-draw.result c.with_choices-row.result c.draw-draw.ensures.draw c.with_choices-row.ensures in
     market_of-entered c.self.inside
     (record { lottery = c.draw-draw.new.self; schools = c.self.inside.schools; positions = c.self.inside.positions; numbers = c.push.new.self; rows = c.push_reserved.new.self; siblings = c.keep_siblings.new.kept })
-    i student c.self.invariant (MayEnter-allowed (market_of c.self.inside) i student allowed.allowed) c.draw-draw.ensures.seed refl refl c.in_ok-push.ensures.pushed
-    (c.push_reserved.ensures.items ∙ ap (λ (rows : List Row). rows ++ c.with_positions-row.result ∷ []) c.in_ok-reserve.ensures.items ∙ ap (λ (r : Row). c.self.inside.rows.items ++ r ∷ []) row)
+    i student c.self.invariant (MayEnter-allowed (market_of c.self.inside) i student may.allowed) c.draw-draw.ensures.seed refl refl c.in_ok-push.ensures.pushed
+    (c.push_reserved.ensures.items ∙ ap (λ (rows : List Row). rows ++ c.with_choices-row.result ∷ []) c.in_ok-reserve.ensures.items ∙ ap (λ (r : Row). c.self.inside.rows.items ++ r ∷ []) row)
     (λ q apart. c.keep_siblings.ensures.others q apart ∙ ap (lookup (nat_eq q)) c.in_ok-reserve-2.ensures.entries) c.keep_siblings.ensures.own
     (omega (arith, c.keep_siblings.ensures.room, c.in_ok-reserve-2.ensures.ok, c.saturating_sub-room.ensures, c.len.ensures, c.len-2.ensures.len, ap length c.in_ok-reserve-2.ensures.entries, c.push_reserved.ensures.len, c.push_reserved.new.self.ok, c.reserve.new.self.ok))
-    ∙ ap (λ (m : Market). with_student m i student) c.self.view_is
+    ∙ ap (λ (m : Market). with_student m i (with_choices_at m c.args.choices.now c.args.student.now)) c.self.view_is
 
 pub push-requires : goal.push-requires
 push-requires c =
     let i = c.args.number in
-    let allowed = subst (λ (m : Market). MayEnterAt m i c.args.student.now c.args.positions) (sym c.self.view_is) c.requires in
+    let may = subst (λ (m : Market). MayEnterAt m i c.args.student.now c.args.choices.now) (sym c.self.view_is) c.requires in
+    let student = with_choices_at (market_of c.self.inside) c.args.choices.now c.args.student.now in
     ap (list_any (nat_eq i)) c.self.invariant.numbers
-    ∙ list_any-keys i (market_of c.self.inside).students (MayEnter-allowed (market_of c.self.inside) i c.args.student.now allowed.allowed).new
+    ∙ list_any-keys i (market_of c.self.inside).students (MayEnter-allowed (market_of c.self.inside) i student may.allowed).new
 
 pub keep_siblings-requires-clause-room : goal.keep_siblings-requires-clause-room
 keep_siblings-requires-clause-room c = λ none.

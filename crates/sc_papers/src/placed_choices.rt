@@ -1,0 +1,129 @@
+//! Where the schools of a student's choices stand, found in the one pass that tests them.
+
+ghost use Rattle.std.specs.Prelude.{◌≡◌, ◌≤◌, ◌<◌, ◌==◌, ◌%◌, ◌++◌, [], ◌∷◌, length, None};
+ghost use Rattle.std.specs.Bool.{OnTrue};
+ghost use Rattle.std.specs.List.{list_any};
+ghost use Rattle.sc_papers.specs.Market.{schools_of};
+ghost use Rattle.sc_papers.specs.Placed.{may_choose, schools_at, AreOfSchools};
+ghost use Rattle.sc_papers.specs.Verdict.{first_repeat};
+ghost use Rattle.sc_papers.specs.declared.marks.TheConstants.{MARKS};
+
+use crate::flat_papers::FlatPapers;
+use crate::limits::LONGEST_LIST;
+use crate::marks::MARKS;
+use crate::position_list::PositionList;
+use crate::school_no::SchoolNo;
+use std::marker::Model;
+
+/// Where the schools of a student's choices stand in the papers' order of entry, best choice first: 20 at most, and none
+/// twice.
+///
+/// They are named one after the other, as a list is read, and take no memory.
+#[derive(Drop)]
+pub struct PlacedChoices {
+    list: PositionList,
+    marked: [bool; MARKS],
+}
+
+impl Model for PlacedChoices {
+    ghost use Rattle.std.specs.Prelude.{◌≡◌, ℕ, List, [], None};
+    ghost use Rattle.sc_papers.specs.Marks.{AreMarked};
+    ghost use Rattle.sc_papers.specs.Verdict.{first_repeat};
+
+    ghost Value = { List ℕ };
+
+    ghost view = { λ p. p.list };
+
+    ghost invariant = { λ p. AreMarked p.marked p.list × (first_repeat [] p.list ≡ None) };
+}
+
+/// The mark of a position: two whose marks differ are different.
+fn mark_at(position: u16) -> usize
+    ensures mark { result ≡ position % MARKS }
+    ensures within { result < MARKS }
+{
+    usize::from(position) % MARKS
+}
+
+impl PlacedChoices {
+    /// No choices yet.
+    pub fn new() -> Self
+        ensures { result ≡ [] }
+    {
+        PlacedChoices {
+            list: PositionList::empty(),
+            marked: [false; MARKS],
+        }
+    }
+
+    /// Forgets all choices.
+    pub fn clear(&mut self)
+        ensures { self.new ≡ [] }
+    {
+        self.list = PositionList::empty();
+        self.marked = [false; MARKS];
+    }
+
+    /// Whether a school at a position is chosen. Where the position's mark is not set, they are not looked through.
+    #[inline(always)]
+    fn has(&self, position: u16) -> bool
+        ensures { result ≡ list_any (λ p. p == position) self.now }
+    {
+        self.marked[mark_at(position)] && self.list.as_slice().contains(&position)
+    }
+
+    /// Adds a school last, and says whether it did: the school is in the papers, it is not chosen yet, and there are
+    /// fewer than 20 choices. In constant time where few positions share a mark, and else the cost is a pass over the
+    /// choices.
+    ///
+    /// It is taken into the loop that reads a list.
+    #[inline(always)]
+    pub fn push(&mut self, papers: &FlatPapers, school: SchoolNo) -> bool
+        ensures may { result ≡ may_choose papers.now self.old school }
+        ensures added { OnTrue result (schools_at (schools_of papers.now) self.new
+            ≡ schools_at (schools_of papers.now) self.old ++ school ∷ []) }
+        ensures within { OnTrue result (AreOfSchools papers.now self.old → AreOfSchools papers.now self.new) }
+    {
+        let Some(position) = papers.position_of(school) else {
+            return false;
+        };
+        if self.list.len() >= LONGEST_LIST || self.has(position) {
+            return false;
+        }
+        self.marked[mark_at(position)] = true;
+        self.list.push(position);
+        true
+    }
+
+    /// Adds the schools of a list, in its order, and says whether it did. Otherwise some of them may have been added.
+    pub(crate) fn push_all(&mut self, papers: &FlatPapers, list: &[SchoolNo]) -> bool
+        ensures added { OnTrue result (schools_at (schools_of papers.now) self.new
+            ≡ schools_at (schools_of papers.now) self.old ++ list.now) }
+        ensures within { OnTrue result (AreOfSchools papers.now self.old → AreOfSchools papers.now self.new) }
+    {
+        for school in list {
+            if !self.push(papers, *school) {
+                return false;
+            }
+        }
+        true
+    }
+
+    /// The positions, which are few and differ.
+    pub(crate) fn as_list(&self) -> &PositionList
+        ensures list { result.now ≡ self.now }
+        ensures short { length self.now ≤ LONGEST_LIST }
+        ensures once { first_repeat [] self.now ≡ None }
+    {
+        // This call tells that a list is short.
+        prove!(self.list.len() <= LONGEST_LIST);
+        &self.list
+    }
+
+    /// The positions, once they are all there.
+    pub(crate) fn into_list(self) -> PositionList
+        ensures { result ≡ self }
+    {
+        self.list
+    }
+}
