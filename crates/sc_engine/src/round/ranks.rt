@@ -64,7 +64,9 @@ fn choice_at(ranks: &[Option<u8>], papers: &FlatPapers, at: usize) -> Option<Sch
 }
 
 /// The choice at which the student at the position stands, with its position and the student's key there.
-#[inline]
+///
+/// It is taken into the loop that asks for it, so that what it answers stays in registers.
+#[inline(always)]
 pub(super) fn proposal_of(ranks: &[Option<u8>], papers: &FlatPapers, at: usize) -> Option<Proposal>
     requires { at < length papers.now.students }
     ensures { (i : ℕ) → position (nat_eq i) (students_of papers.now) ≡ Some at
