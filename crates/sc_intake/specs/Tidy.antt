@@ -5,6 +5,7 @@ use Rattle.sc_intake.specs.Blanks.{trimmed}
 use Rattle.sc_intake.specs.Fault.{◌>>=◌}
 use Rattle.sc_intake.specs.Field.{all_schools, as_school_or_none, number_of, number_or_none, numbers_in}
 use Rattle.sc_intake.specs.File.{text_at}
+use Rattle.sc_intake.specs.Lists.{choices_of}
 use Rattle.sc_intake.specs.Plain.{after_line, ends_field, fields_from, first_line}
 use Rattle.sc_intake.specs.Rows.{row_at}
 use Rattle.sc_intake.specs.declared.blanks.Blanks.TheVariants.{InLine}
@@ -53,6 +54,11 @@ pub record TakesRow {R : Type 0} (read : ℕ → List (List ℕ) → Result R Ca
   pub fields : List (List ℕ)
   pub next : records ≡ fields ∷ left
   pub reads : row_at read width row fields ≡ Ok found
+
+-- the first of these records is a row of the lists, of this student and these choices, and these are left
+abbrev pub TakesList : ℕ → List (List (List ℕ)) → List (List (List ℕ)) → ℕ → List ℕ → Type 0
+TakesList width records left student choices =
+    (row : ℕ) → TakesRow choices_of width row records left (record { row = row; student = student; choices = choices })
 
 -- the first of these records, if there is one, is this row, and these are left
 abbrev pub IsNextRow : {R : Type 0} → (ℕ → List (List ℕ) → Result R Cause) → ℕ → ℕ → List (List (List ℕ)) → List (List (List ℕ)) → Option R → Type 0

@@ -1,16 +1,19 @@
 //! A file below its header, row by row.
 
-ghost use Rattle.std.specs.Prelude.{◌≡◌, IfNone, IfSome, Ok};
+ghost use Rattle.std.specs.Prelude.{◌≡◌, [], IfNone, IfSome, Ok};
+ghost use Rattle.std.specs.Bool.{OnTrue};
 ghost use Rattle.sc_intake.specs.File.{records_below};
 ghost use Rattle.sc_intake.specs.Rows.{row_at};
-ghost use Rattle.sc_intake.specs.Tidy.{IsNextRow, TakesRow};
+ghost use Rattle.sc_intake.specs.Tidy.{IsNextRow, TakesList, TakesRow};
+ghost use Rattle.sc_papers.specs.Market.{schools_of};
+ghost use Rattle.sc_papers.specs.Placed.{schools_at, AreOfSchools};
 
 use crate::byte_count::count_of;
 use crate::input::records_in;
 use crate::records::Records;
 use crate::rows::{Row, take_header};
-use crate::tidy_rows::TidyRow;
-use sc_papers::MOST_STUDENTS;
+use crate::tidy_rows::{TidyRow, take_placed};
+use sc_papers::{FlatPapers, MOST_STUDENTS, PlacedChoices, StudentNo};
 use std::alloc::Global;
 
 /// A file below its header: its records, each of which is to have as many fields as that.
@@ -62,9 +65,31 @@ fn tidy_row<R: TidyRow>(alloc: Global, row: u64, below: &mut Below<'_>) -> Optio
     Some(found)
 }
 
+/// The student of the row that the next record of the lists is, where that is tidy and a student may have its choices;
+/// where their schools stand is put into `placed`. `None` says nothing of the record, and leaves the records as they were.
+pub(crate) fn placed_row(
+    alloc: Global,
+    papers: &FlatPapers,
+    below: &mut Below<'_>,
+    placed: &mut PlacedChoices,
+) -> Option<StudentNo>
+    ensures row { IfSome result (λ student. TakesList below.old.width below.old.records.left below.new.records.left
+        student (schools_at (schools_of papers.now) placed.new)) }
+    ensures within { IfSome result (λ _. AreOfSchools papers.now placed.new) }
+    ensures unchanged { IfNone result (below.new ≡ below.old) }
+    ensures width { below.new.width ≡ below.old.width }
+{
+    let text = below.records.plain_text()?;
+    let Some((student, left)) = take_placed(papers, below.width, text, placed) else {
+        return None;
+    };
+    below.records.go_on(alloc, left);
+    Some(student)
+}
+
 /// The row that the next record of a file is, if there is one, however it is written. `None` says nothing: it is none,
 /// or memory is wanting.
-fn any_row<R: Row>(alloc: Global, row: u64, below: &mut Below<'_>) -> Option<Option<R>>
+pub(crate) fn any_row<R: Row>(alloc: Global, row: u64, below: &mut Below<'_>) -> Option<Option<R>>
     ensures row { IfSome result (IsNextRow R.reading below.old.width row
         below.old.records.left below.new.records.left) }
     ensures width { below.new.width ≡ below.old.width }
@@ -90,6 +115,13 @@ pub(crate) fn next_row<R: TidyRow>(
         Some(found) => Some(Some(found)),
         None => any_row(alloc, row, below),
     }
+}
+
+/// Whether no record of a file is left. `false` says nothing: there is one, or memory is wanting.
+pub(crate) fn is_at_end(below: &mut Below<'_>) -> bool
+    ensures { OnTrue result (below.old.records.left ≡ []) }
+{
+    matches!(below.records.read(), Ok(false))
 }
 
 /// How many students a roster may have, by its line ends: a guess, for which room is made at once.

@@ -4,14 +4,16 @@
 
 ghost use Rattle.std.specs.Prelude.{◌≡◌, ◌∷◌, IfSome};
 ghost use Rattle.sc_intake.specs.Plain.{plain_records};
-ghost use Rattle.sc_intake.specs.Tidy.{AreSchools, EndsLine, EndsRow, IsSchoolOrNone, TakesField, TakesNumber, TakesRow};
+ghost use Rattle.sc_intake.specs.Tidy.{AreSchools, EndsLine, EndsRow, IsSchoolOrNone, TakesField, TakesList, TakesNumber, TakesRow};
+ghost use Rattle.sc_papers.specs.Market.{schools_of};
+ghost use Rattle.sc_papers.specs.Placed.{schools_at, AreOfSchools};
 
 use crate::lists::ListRow;
 use crate::ranges;
 use crate::roster::RosterRow;
 use crate::rows::Row;
 use sc_decimal::number_at_front;
-use sc_papers::{LONGEST_LIST, SchoolList, SchoolNo};
+use sc_papers::{FlatPapers, LONGEST_LIST, PlacedChoices, SchoolList, SchoolNo, StudentNo};
 use std::alloc::Global;
 
 /// A row that is read at the front of a text without a quote.
@@ -81,6 +83,37 @@ fn take_schools(alloc: Global, text: &[u8]) -> Option<(SchoolList, &[u8])>
     None
 }
 
+/// Reads the schools that a text begins with, at least one, puts where each stands in the papers into `placed`, in place
+/// of what was there, and answers the text after them. `None` says nothing of the text: it begins with no such number,
+/// there are more of them than a list may have, or a school is not in the papers or comes twice.
+///
+/// It is not inlined, so that what its loop uses stays in registers.
+#[inline(never)]
+fn place_schools<'a>(
+    papers: &FlatPapers,
+    text: &'a [u8],
+    placed: &mut PlacedChoices,
+) -> Option<&'a [u8]>
+    ensures schools { IfSome result (λ rest. TakesField text.now rest.now
+        (AreSchools (schools_at (schools_of papers.now) placed.new))) }
+    ensures within { IfSome result (λ _. AreOfSchools papers.now placed.new) }
+{
+    placed.clear();
+    let mut rest = text;
+    for _ in 0..LONGEST_LIST {
+        let (number, after) = take_number(rest)?;
+        let school = SchoolNo::new(number)?;
+        if !placed.push(papers, school) {
+            return None;
+        }
+        match after {
+            [b' ', further @ ..] => rest = further,
+            _ => return Some(after),
+        }
+    }
+    None
+}
+
 /// The schools that a text begins with, none where it begins with no digit, and the text after them.
 fn take_siblings(alloc: Global, text: &[u8]) -> Option<(SchoolList, &[u8])>
     ensures { IfSome result (λ taken. TakesField text.now taken.1.now (AreSchools taken.0)) }
@@ -119,6 +152,31 @@ fn end_row(width: usize, text: &[u8]) -> Option<(Option<SchoolNo>, &[u8])>
         }
         _ => None,
     }
+}
+
+/// The student of the row of the lists that the first record of a text is, under a header of so many fields, and the
+/// text after it. Where the schools of the choices stand is put into `placed`, in place of what was there. `None` says
+/// nothing of the text: the record is not tidy, or no student may have such choices.
+pub(crate) fn take_placed<'a>(
+    papers: &FlatPapers,
+    width: usize,
+    text: &'a [u8],
+    placed: &mut PlacedChoices,
+) -> Option<(StudentNo, &'a [u8])>
+    ensures row { IfSome result (λ taken. TakesList width (plain_records text.now) (plain_records taken.1.now)
+        taken.0 (schools_at (schools_of papers.now) placed.new)) }
+    ensures within { IfSome result (λ _. AreOfSchools papers.now placed.new) }
+{
+    if width != 2 {
+        return None;
+    }
+    let (number, after) = take_number(text)?;
+    let after = place_schools(papers, after_comma(after)?, placed)?;
+    let rest = after_line_end(after)?;
+    let Ok(student) = ranges::student(number) else {
+        return None;
+    };
+    Some((student, rest))
 }
 
 impl TidyRow for ListRow {

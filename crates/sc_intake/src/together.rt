@@ -2,17 +2,22 @@
 
 ghost use Rattle.std.specs.Prelude.{◌≡◌, ◌⊎◌, [], Err, IfErr, IfOk, IfSome, Ok, Some};
 ghost use Rattle.std.specs.Bool.{OnTrue};
-ghost use Rattle.sc_intake.specs.Papers.{entered_by, papers_in, IsWantOfMemory};
-ghost use Rattle.sc_intake.specs.Together.{papers_below, AreReadTo};
+ghost use Rattle.sc_intake.specs.Papers.{amended, entered_by, papers_in, IsWantOfMemory};
+ghost use Rattle.sc_intake.specs.Together.{papers_below, AreReadTo, EntersNext};
+ghost use Rattle.sc_papers.specs.Market.{schools_of};
+ghost use Rattle.sc_papers.specs.Placed.{schools_at, AreOfSchools};
+ghost use Rattle.sc_papers.specs.declared.amendment.Amendment.TheVariants.{Enter};
 
 use crate::any_order::papers_in_any_order;
-use crate::below::{Below, below_header, likely_students, next_row};
+use crate::below::{
+    Below, any_row, below_header, is_at_end, likely_students, next_row, placed_row,
+};
 use crate::fault::IntakeFault;
 use crate::lists::{ListRow, read_lists};
 use crate::papers::{enter, flat_papers_of, open_with_room, with_records};
 use crate::roster::{RosterRow, read_roster};
 use crate::schools::{SchoolRows, read_schools};
-use sc_papers::{FlatPapers, Papers, Seed};
+use sc_papers::{FlatPapers, Papers, PlacedChoices, Seed};
 use std::alloc::Global;
 
 /// Enters the student of these rows, and says whether they are of one student who may enter. Otherwise, or where memory
@@ -21,6 +26,40 @@ fn enter_both(papers: &mut FlatPapers, row: RosterRow, list: ListRow) -> bool
     ensures { OnTrue result ((row.student ≡ list.student) × (entered_by papers.old row (Some list) ≡ Ok papers.new)) }
 {
     row.student == list.student && enter(papers, row, list.choices).is_ok()
+}
+
+/// Enters a student of the roster with the choices whose schools stand at these positions, and says whether the student
+/// may enter. Otherwise, or where memory is wanting, the papers are no longer to be used.
+fn enter_placed(papers: &mut FlatPapers, row: RosterRow, choices: &PlacedChoices) -> bool
+    requires { AreOfSchools papers.old choices.now }
+    ensures { OnTrue result (amended papers.old (Enter row.student row.zone row.siblings
+        (schools_at (schools_of papers.old) choices.now) row.continuing) ≡ Ok papers.new) }
+{
+    papers.admit_placed(row.student, row.zone, row.siblings, row.continuing, choices)
+}
+
+/// Enters a student of the roster with the next list, whose number this is, and says whether the list is the student's,
+/// who may enter by it. Otherwise, or where memory is wanting, the papers are no longer to be used. What stands in
+/// `placed` before is of no account.
+fn enter_next(
+    alloc: Global,
+    number: u64,
+    papers: &mut FlatPapers,
+    row: RosterRow,
+    lists: &mut Below<'_>,
+    placed: &mut PlacedChoices,
+) -> bool
+    ensures entered { OnTrue result (EntersNext lists.old.width number lists.old.records.left lists.new.records.left
+        papers.old row papers.new) }
+    ensures width { lists.new.width ≡ lists.old.width }
+{
+    if let Some(student) = placed_row(alloc, papers, lists, placed) {
+        return student == row.student && enter_placed(papers, row, placed);
+    }
+    match any_row::<ListRow>(alloc, number, lists) {
+        Some(Some(list)) => enter_both(papers, row, list),
+        _ => false,
+    }
 }
 
 /// Enters the students of both files, and says whether each row of the one is of the same student as that row of the
@@ -35,22 +74,17 @@ fn enter_together(
     ensures { OnTrue result (AreReadTo roster.old.width lists.old.width
         roster.old.records.left lists.old.records.left papers.old [] [] papers.new) }
 {
+    let mut placed = PlacedChoices::new();
     'rows: loop {
         let number = papers.students_len() as u64 + 2;
-        let Some(row) = next_row::<RosterRow>(alloc, number, roster) else {
+        let Some(next) = next_row::<RosterRow>(alloc, number, roster) else {
             return false;
         };
-        let Some(list) = next_row::<ListRow>(alloc, number, lists) else {
-            return false;
+        let Some(row) = next else {
+            return is_at_end(lists);
         };
-        match (row, list) {
-            (Some(row), Some(list)) => {
-                if !enter_both(papers, row, list) {
-                    return false;
-                }
-            }
-            (None, None) => return true,
-            _ => return false,
+        if !enter_next(alloc, number, papers, row, lists, &mut placed) {
+            return false;
         }
     }
 }

@@ -9,21 +9,22 @@ pub rows-init : goal.rows-init
 rows-init c = (AreReadTo-none c.args.roster.now.width c.args.lists.now.width c.args.roster.now.records.left c.args.lists.now.records.left c.args.papers.now, refl, refl)
 
 pub rows-smaller : goal.rows-smaller
-rows-smaller c = room-left c.rows.papers c.enter_both.new.papers c.in-Some-Some.row c.in-Some-Some.list c.if-not-enter_both.ensures.1
+rows-smaller c = let next = c.if-not-enter_next.ensures.entered in room-left c.rows.papers c.enter_next.new.papers c.in-Some-next.row next.list next.entered
 
 pub rows-preserved : goal.rows-preserved
 rows-preserved c =
     let (so_far, width, list_width) = c.rows.invariant in
     let same = c.next_row.ensures.width in
-    let list_same = c.next_row-in-rows.ensures.width in
+    let list_same = c.enter_next.ensures.width in
     let number = c.students_len.ensures.count in
-    let takes : TakesRow student_of c.next_row.new.below.width (length c.rows.papers.students + 2) c.rows.roster.records.left c.next_row.new.below.records.left c.in-Some-Some.row =
-    rw same (rw (c.in-Some-Some.is-0, number) at c.in-Some.ensures.row) in
-    let takes_list : TakesRow choices_of c.next_row-in-rows.new.below.width (length c.rows.papers.students + 2) c.rows.lists.records.left c.next_row-in-rows.new.below.records.left c.in-Some-Some.list =
-    rw list_same (rw (c.in-Some-Some.is-1, number) at c.in-Some-next_row.ensures.row) in (
-      AreReadTo-more c.next_row.new.below.width c.next_row-in-rows.new.below.width c.args.roster.now.records.left c.args.lists.now.records.left c.args.papers.now c.rows.roster.records.left c.rows.lists.records.left c.rows.papers
-          c.next_row.new.below.records.left c.next_row-in-rows.new.below.records.left c.enter_both.new.papers c.in-Some-Some.row c.in-Some-Some.list
-          c.requires (rw (same, list_same) so_far) takes takes_list c.if-not-enter_both.ensures.0 c.if-not-enter_both.ensures.1,
+    let next = c.if-not-enter_next.ensures.entered in
+    let takes : TakesRow student_of c.next_row.new.below.width (length c.rows.papers.students + 2) c.rows.roster.records.left c.next_row.new.below.records.left c.in-Some-next.row =
+    rw same (rw (c.in-Some-next.is, number) at c.in-Some.ensures.row) in
+    let takes_list : TakesRow choices_of c.enter_next.new.lists.width (length c.rows.papers.students + 2) c.rows.lists.records.left c.enter_next.new.lists.records.left next.list =
+    rw list_same (rw number at next.takes) in (
+      AreReadTo-more c.next_row.new.below.width c.enter_next.new.lists.width c.args.roster.now.records.left c.args.lists.now.records.left c.args.papers.now c.rows.roster.records.left c.rows.lists.records.left c.rows.papers
+          c.next_row.new.below.records.left c.enter_next.new.lists.records.left c.enter_next.new.papers c.in-Some-next.row next.list
+          c.requires (rw (same, list_same) so_far) takes takes_list next.same next.entered,
       same ∙ width,
       list_same ∙ list_width,
     )
