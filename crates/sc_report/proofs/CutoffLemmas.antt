@@ -62,9 +62,14 @@ rising-rows m a rows sorted are moved up =
     remade (cutoff_row m a) sorted (All-permutation (λ (row : CutoffRow). row ≡ cutoff_row m a row.school) rows sorted moved made)
     ∙ ap (map (cutoff_row m a)) (rising-by school rows sorted moved up ∙ ap rising (ap (map school) are ∙ schools-of_rows m a (schools_of m)))
 
--- the cutoff in the row at the position of a school
+-- the row at the position of a school is that school's
+pub row-read : (m : Market) (a : Matching) (rows : List CutoffRow) (s at : ℕ) (row : CutoffRow) → rows ≡ rows_in_order m a
+    → position (nat_eq s) (schools_of m) ≡ Some at → get_or rows at row ≡ cutoff_row m a s
+row-read m a rows s at row are found =
+    let (low, here) = position-at (schools_of m) s at found in
+    ap (λ all. get_or all at row) are ∙ get_or-map (cutoff_row m a) (schools_of m) at s row low ∙ ap (cutoff_row m a) here
+
+-- and has the school's cutoff
 pub cutoff-read : (m : Market) (a : Matching) (rows : List CutoffRow) (s at : ℕ) (row : CutoffRow) → rows ≡ rows_in_order m a
     → position (nat_eq s) (schools_of m) ≡ Some at → (get_or rows at row).cutoff ≡ cutoff m a s
-cutoff-read m a rows s at row are found =
-    let (low, here) = position-at (schools_of m) s at found in
-    ap (λ r. r.cutoff) (ap (λ all. get_or all at row) are ∙ get_or-map (cutoff_row m a) (schools_of m) at s row low ∙ ap (cutoff_row m a) here)
+cutoff-read m a rows s at row are found = ap (λ r. r.cutoff) (row-read m a rows s at row are found)

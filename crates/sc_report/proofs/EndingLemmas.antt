@@ -1,34 +1,86 @@
--- Where the endings of the reasons' lines stand, and the lines that they make.
-use Rattle.std.proofs.Common.{◌≡◌, refl, sym, ◌∙◌, ap, ℕ, ◌+◌, ◌-◌, ◌<◌, ◌≤◌, List, [], ◌∷◌, ◌++◌, length, get_or, map, take, add-one, drop, All, append_assoc, arith, codes, decimal}
-use Rattle.std.specs.List.{slice_range}
+-- The endings of the reasons' lines, and the lines that are made of pieces.
+use Rattle.std.proofs.Common.{◌≡◌, refl, sym, subst, ◌∙◌, ap, ℕ, ◌+◌, ◌-◌, ◌<◌, ◌≤◌, List, [], ◌∷◌, ◌++◌, length, drop, get_or, map, take, add-one, append_assoc, arith, codes, decimal, slice_get, Some}
+use Rattle.std.specs.Prelude.{◌%◌, ◌^◌}
+use Rattle.std.specs.List.{AllZip}
+use Rattle.std.specs.Option.{IsSomeAnd}
 use Rattle.std.proofs.Math.Seq.{take-suc}
-use Rattle.std.proofs.lemmas.List.{drop-append-le, length-append, length-drop, map-append, take-append-le}
-use Rattle.std.proofs.lemmas.List.Elements.{All-push}
-use Rattle.sc_report.specs.Endings.{line_ending, HasEndings, StandsFrom}
+use Rattle.std.proofs.lemmas.Fmt.{length-decimal-le}
+use Rattle.std.proofs.lemmas.List.{drop-take, drop_at, length-append, length-drop, length-map, length-take-le, take_all, take-append-drop, take-append-le, take-take}
+use Rattle.std.proofs.lemmas.Map.Entries.{length-keys_of}
+use Rattle.std.proofs.lemmas.Option.{slice_get_read, MatchOption-at_some}
+use Rattle.std.proofs.lemmas.Slice.{take-put_mid_below}
+use Rattle.std.proofs.lemmas.Slice.Zip.{all_zipped_more, AllZip-left, AllZip-long}
+use Rattle.sc_papers.specs.Market.{Market, schools_of}
+use borrow.Rule.Slice.PartMut.{put_mid, post_of}
+use Rattle.sc_report.specs.Endings.{line_ending, HasEndings, HaveEndings}
 use Rattle.sc_report.specs.ReasonText.{reason_line, reason_word}
+use Rattle.sc_report.specs.declared.cutoff.CutoffRow.{CutoffRow}
+use Rattle.sc_report.specs.declared.endings.Endings.{Endings}
 use Rattle.sc_report.specs.declared.endings.SchoolEndings.{SchoolEndings}
+use Rattle.sc_report.specs.declared.reason.Reason.{Reason}
 use Rattle.sc_report.specs.declared.reason.Reason.TheVariants.{Seats, Class, Lottery}
 use Rattle.sc_report.specs.declared.reason.ReasonRow.{ReasonRow}
 
--- where a piece stands in a text, it stands when the text has grown
-stands-grown : (text more new : List ℕ) (start end : ℕ) (piece : List ℕ) → new ≡ text ++ more → StandsFrom text start end piece → StandsFrom new start end piece
-stands-grown text more new start end piece new_is stands =
-    let low : start ≤ length text = omega (arith, stands.rising, stands.within) in
-    let most : end - start ≤ length (drop start text) = omega (arith, stands.within, length-drop start text) in
-    record {
-      rising = stands.rising;
-      within = omega (arith, stands.within, ap length new_is ∙ length-append text more);
-      bytes = ap (λ t. slice_range t start end) new_is
-          ∙ ap (take (end - start)) (drop-append-le start text more low)
-          ∙ take-append-le (end - start) (drop start text) more most ∙ stands.bytes;
-    }
+-- a short text stands in a block that it begins
+pub piece-made : (text more bytes : List ℕ) (n : ℕ) → length text < 16 → n ≡ length text → bytes ≡ take 16 (text ++ more) → take (n % 16) bytes ≡ text
+piece-made text more bytes n short count block =
+    let small : n % 16 ≡ length text = omega (arith, short, count) in
+    (λ t. take (small t) (block t)) ∙ take-take (length text) 16 (text ++ more) (omega (arith, short))
+    ∙ take-append-le (length text) text more (omega arith) ∙ take_all (length text) text (omega arith)
 
-has-grown : (text more new : List ℕ) (school : SchoolEndings) → new ≡ text ++ more → HasEndings text school → HasEndings new school
-has-grown text more new school new_is has = record {
-  seats = stands-grown text more new school.seats school.class (line_ending school.school Seats) new_is has.seats;
-  class = stands-grown text more new school.class school.lottery (line_ending school.school Class) new_is has.class;
-  lottery = stands-grown text more new school.lottery school.end (line_ending school.school Lottery) new_is has.lottery;
-}
+-- how long a part is
+pub part-long : (xs : List ℕ) (a k : ℕ) → a + k ≤ length xs → length (take (a + k - a) (drop a xs)) ≡ k
+part-long xs a k within =
+    length-take-le (a + k - a) (drop a xs) (omega (arith, within, length-drop a xs)) ∙ omega arith
+
+-- what stands up to some place in the part that was written over
+pub put-taken : (xs ys : List ℕ) (a k c : ℕ) → a ≤ length xs → c ≤ length ys → take (a + c) (put_mid a k xs ys) ≡ take a xs ++ take c ys
+put-taken xs ys a k c low within =
+    let all = put_mid a k xs ys in
+    let first : take a (take (a + c) all) ≡ take a xs = take-take a (a + c) all (omega arith) ∙ take-put_mid_below a k xs ys a (omega arith) low in
+    let rest = drop-take a c all ∙ ap (take c) (drop_at (take a xs) (ys ++ post_of a k xs) a (length-take-le a xs low)) ∙ take-append-le c ys (post_of a k xs) within in
+    sym (take-append-drop a (take (a + c) all)) ∙ (λ t. first t ++ rest t)
+
+-- a school's number, a comma, a word and a newline are fewer bytes than a block has
+pub ending-short : (s : ℕ) (reason : Reason) → s ≤ 99_999 → length (line_ending s reason) < 16
+ending-short s reason low =
+    let number = length-decimal-le 5 s (omega arith) (omega (arith, low)) (omega (arith, low)) in
+    let comma : length (codes ",") ≡ 1 = refl in
+    let newline : length (codes "\n") ≡ 1 = refl in
+    omega (arith, number, comma, newline, word reason, length-append (decimal s) (codes ","), length-append (decimal s ++ codes ",") (reason_word reason), length-append (decimal s ++ codes "," ++ reason_word reason) (codes "\n"))
+  where
+    word : (r : Reason) → length (reason_word r) ≤ 7
+    word Seats = omega arith
+    word Class = omega arith
+    word Lottery = omega arith
+
+-- so are a student's number and a comma
+pub number-short : (i : ℕ) → i < 2 ^ 32 → length (decimal i ++ codes ",") < 16
+number-short i low =
+    let comma : length (codes ",") ≡ 1 = refl in
+    omega (arith, length-decimal-le 10 i (omega arith) (omega (arith, low)) (omega (arith, low)), comma, length-append (decimal i) (codes ","))
+
+-- the endings of the first rows, and of one more
+pub endings-more : (rows : List CutoffRow) (k : ℕ) (row : CutoffRow) (before new : List SchoolEndings) (made : SchoolEndings) → AllZip HasEndings (take k rows) before → HasEndings row made
+    → k < length rows → row ≡ get_or rows k row → new ≡ before ++ made ∷ [] → AllZip HasEndings (take (k + 1) rows) new
+endings-more rows k row before new made so_far one low is new_is =
+    let front : take (k + 1) rows ≡ take k rows ++ row ∷ [] = rw (add-one, take-suc rows k row low) (ap (λ r. take k rows ++ r ∷ []) (sym is)) in
+    subst (AllZip HasEndings (take (k + 1) rows)) (sym new_is)
+    (subst (λ xs. AllZip HasEndings xs (before ++ made ∷ [])) (sym front) (all_zipped_more HasEndings (take k rows) before row made so_far one))
+
+-- the endings that stand at the place of a row are its
+pub endings-there : (rows : List CutoffRow) (schools : List SchoolEndings) (k : ℕ) (row : CutoffRow) (school : SchoolEndings) → AllZip HasEndings rows schools → slice_get rows k ≡ Some row
+    → k < length schools → school ≡ get_or schools k school → HasEndings row school
+endings-there rows schools k row school all here low is =
+    let there : slice_get schools k ≡ Some school = slice_get_read schools (length schools) k school refl low is in
+    subst (λ o. IsSomeAnd o (HasEndings row)) there
+    (MatchOption-at_some (Unit {0}) (λ r. IsSomeAnd (slice_get schools k) (HasEndings r)) row here (AllZip-left HasEndings rows schools all k))
+
+-- the endings of the rows of a matching, where those are what they were made by
+pub endings-long : (m : Market) (rows : List CutoffRow) (endings : Endings) → HaveEndings rows endings → map (λ row. row.school) rows ≡ schools_of m
+    → length endings.schools.items ≡ length m.schools
+endings-long m rows endings have schools =
+    AllZip-long HasEndings rows endings.schools.items have ∙ sym (length-map rows (λ (row : CutoffRow). row.school)) ∙ ap length schools ∙ length-keys_of m.schools
 
 five-parts : (a b c d e : List ℕ) → a ++ (b ++ c ++ d ++ e) ≡ a ++ b ++ c ++ d ++ e
 five-parts a b c d e =
@@ -36,28 +88,7 @@ five-parts a b c d e =
 
 -- the student's number with a comma, and an ending, are the row's line
 pub line-joined : (row : ReasonRow) (number ending old new : List ℕ) → number ≡ decimal row.student ++ codes "," → ending ≡ line_ending row.school row.reason
-    → new ≡ old ++ number ++ ending → new ≡ old ++ reason_line row
+    → new ≡ old ++ (number ++ ending) → new ≡ old ++ reason_line row
 line-joined row number ending old new number_is ending_is new_is =
-    new_is ∙ append_assoc old number ending ∙ (λ t. old ++ (number_is t ++ ending_is t))
+    new_is ∙ (λ t. old ++ (number_is t ++ ending_is t))
     ∙ ap (λ more. old ++ more) (five-parts (decimal row.student ++ codes ",") (decimal row.school) (codes ",") (reason_word row.reason) (codes "\n"))
-
--- a line makes the text longer
-pub line-longer : (i : ℕ) (number ending old new : List ℕ) → number ≡ decimal i ++ codes "," → new ≡ old ++ number ++ ending → length old < length new
-line-longer i number ending old new number_is new_is =
-    let comma : length (codes ",") ≡ 1 = refl in
-    omega (arith, ap length new_is ∙ length-append (old ++ number) ending, length-append old number, ap length number_is ∙ length-append (decimal i) (codes ","), comma)
-
--- what is read of two lists is the same with one more element of each
-pub read-more : {X Y : Type 0} (f : X → ℕ) (g : Y → ℕ) (xs : List X) (x : X) (ys : List Y) (k : ℕ) (y : Y) → map f xs ≡ map g (take k ys) → f x ≡ g y
-    → k < length ys → y ≡ get_or ys k y → map f (xs ++ x ∷ []) ≡ map g (take (k + 1) ys)
-read-more f g xs x ys k y before same low here =
-    let front : take (k + 1) ys ≡ take k ys ++ y ∷ [] = rw (add-one, take-suc ys k y low) (ap (λ z. take k ys ++ z ∷ []) (sym here)) in
-    map-append f xs (x ∷ []) ∙ (λ t. before t ++ same t ∷ []) ∙ sym (ap (map g) front ∙ map-append g (take k ys) (y ∷ []))
-
--- the schools so far and one more have their endings in the grown text
-pub all-more : (text first second third new : List ℕ) (schools : List SchoolEndings) (school : SchoolEndings) → new ≡ text ++ first ++ second ++ third
-    → All (HasEndings text) schools → HasEndings new school → All (HasEndings new) (schools ++ school ∷ [])
-all-more text first second third new schools school new_is all one =
-    All-push (HasEndings new) schools school
-    (λ k d low. has-grown text (first ++ (second ++ third)) new (get_or schools k d)
-    (new_is ∙ append_assoc (text ++ first) second third ∙ append_assoc text first (second ++ third)) (all k d low)) one

@@ -1,19 +1,25 @@
 -- A student's rows, choice by choice.
-use Rattle.std.proofs.Common.{◌≡◌, sym, ◌∙◌, ap, ℕ, suc, ◌+◌, ◌≤◌, Bool, true, false, ◌==◌, not, List, [], ◌∷◌, ◌++◌, length, take, add-one, append_assoc, slice_get, Option, None, Some, arith}
+use Rattle.std.proofs.Common.{◌≡◌, refl, inl, inr, sym, ◌∙◌, ap, ℕ, suc, ◌+◌, ◌<◌, ◌≤◌, nat_eq, Bool, true, false, ◌==◌, not, List, [], ◌∷◌, ◌++◌, length, get_or, map, take, add-one, append_assoc, position, slice_get, Option, None, Some, arith}
 use Rattle.std.specs.List.{before_first, position_or_len}
-use Rattle.std.specs.Option.{option_map, option_map_or}
-use Rattle.std.proofs.lemmas.Bool.{cond-true, cond-false}
+use Rattle.std.specs.Option.{option_and_then, option_map, option_map_or}
+use Rattle.std.proofs.lemmas.Bool.{cases_eq, cond-true, cond-false, eq-eqb, ne_eqb}
 use Rattle.std.proofs.Math.Seq.{take-suc}
 use Rattle.std.proofs.lemmas.List.{length-map, length-take-le, take_all}
 use Rattle.std.proofs.lemmas.List.Sums.{prefix_len-le-length}
-use Rattle.std.proofs.lemmas.Option.{get_or_from_slice_get, slice_get-map, slice_get_past, slice_get_within}
-use Rattle.sc_papers.specs.Market.{Market, choices_of}
+use Rattle.std.proofs.lemmas.Option.{get_or_from_slice_get, none-some, same_Some, slice_get-map, slice_get_past, slice_get_read, slice_get_within}
+use Rattle.sc_papers.specs.Key.{key_at, key_of}
+use Rattle.sc_papers.specs.Market.{Market, choices_of, schools_of, student_at, students_of}
 use Rattle.sc_papers.specs.Matching.{Matching, has}
+use Rattle.sc_papers.specs.declared.key.Key.{Key}
 use Rattle.sc_papers.proofs.Choices.{places-end}
+use Rattle.sc_papers.proofs.Hands.{hand-is}
+use Rattle.sc_papers.proofs.Positions.{position-one, position-there}
 use Rattle.sc_repair.proofs.InTurn.{slice_get_none}
 use Rattle.sc_repair.proofs.Positions.{first-here, first-later}
 use Rattle.sc_repair.proofs.Renewing.{get-take}
-use Rattle.sc_report.specs.Reason.{preferred, reason, reason_row, reasons_of}
+use Rattle.sc_report.specs.Cutoff.{cutoff_row}
+use Rattle.sc_report.specs.Reason.{held_at, preferred, reason_by, reason_row, reasons_of}
+use Rattle.sc_report.specs.declared.cutoff.CutoffRow.{CutoffRow}
 use Rattle.sc_report.specs.declared.reason.Reason.{Reason}
 use Rattle.sc_report.specs.declared.reason.ReasonRow.{ReasonRow}
 
@@ -68,16 +74,68 @@ row-past m a i k past =
     slice_get_past (reasons_of m a i) k
     (omega (arith, places-end (choices_of m i) k past, rows-length m a i, prefix_len-le-length (λ s. not (has a s i)) (choices_of m i)))
 
--- whether what a student has is a school
-pub held-test : (a : Matching) (i s : ℕ) (held : Option ℕ) (r b : Bool) → held ≡ a i → r ≡ option_map_or (λ t. t == s) held false → r ≡ b → has a s i ≡ b
-held-test a i s held r b held_is r_is is = ap (λ o. option_map_or (λ t. t == s) o false) (sym held_is) ∙ sym r_is ∙ is
+-- a school of the papers is what the student has just where it stands where that does
+held-place : (m : Market) (s p : ℕ) (held : Option ℕ) → position (nat_eq s) (schools_of m) ≡ Some p
+    → option_map_or (λ q. q == p) (held_at m held) false ≡ option_map_or (λ t. t == s) held false
+held-place m s p None here = refl
+held-place m s p (Some t) here =
+    go (position (nat_eq t) (schools_of m)) refl
+  where
+    go : (o : Option ℕ) → position (nat_eq t) (schools_of m) ≡ o → option_map_or (λ q. q == p) o false ≡ (t == s)
+    go None none = sym (ne_eqb t s (λ same. none-some p (sym none ∙ ap (λ x. position (nat_eq x) (schools_of m)) same ∙ here)))
+    go (Some q) found = elim (cases_eq q p) [
+      | inl same ↦ eq-eqb q p same ∙ sym (eq-eqb t s (position-one (schools_of m) s t p here (found ∙ ap Some same)))
+      | inr apart ↦ ne_eqb q p apart ∙ sym (ne_eqb t s (λ same. apart (same_Some q p (sym found ∙ ap (λ x. position (nat_eq x) (schools_of m)) same ∙ here))))
+    ]
+
+-- whether what a student has is a school, by where it stands
+pub held-test : (m : Market) (a : Matching) (i s p : ℕ) (held at : Option ℕ) (r b : Bool) → position (nat_eq s) (schools_of m) ≡ Some p → at ≡ held_at m held → held ≡ a i
+    → r ≡ option_map_or (λ q. q == p) at false → r ≡ b → has a s i ≡ b
+held-test m a i s p held at r b here at_is held_is r_is is =
+    ap (λ o. option_map_or (λ t. t == s) o false) (sym held_is) ∙ sym (held-place m s p held here)
+    ∙ ap (λ o. option_map_or (λ q. q == p) o false) (sym at_is) ∙ sym r_is ∙ is
+
+-- the choice whose position stands at a rank, of the student who stands at a place
+pub choice-there : (m : Market) (positions : List ℕ) (at i k p : ℕ) → map Some positions ≡ map (λ s. position (nat_eq s) (schools_of m)) (choices_of m (student_at m at))
+    → slice_get (students_of m) at ≡ Some i → k < length positions → (read : ℕ) → read ≡ get_or positions k read → p ≡ read
+    → (s : ℕ) × (slice_get (choices_of m i) k ≡ Some s) × (position (nat_eq s) (schools_of m) ≡ Some p)
+choice-there m positions at i k p are stands low read is same =
+    let here : slice_get positions k ≡ Some p = slice_get_read positions (length positions) k read refl low is ∙ ap Some (sym same) in
+    go (slice_get (choices_of m i) k) refl
+    (sym (slice_get-map place (choices_of m i) k) ∙ ap (λ xs. slice_get xs k) (sym (are ∙ ap (λ j. map place (choices_of m j)) (hand-is m at i stands)))
+    ∙ slice_get-map (λ (q : ℕ). Some q) positions k ∙ ap (option_map (λ (q : ℕ). Some q)) here)
+  where
+    place : ℕ → Option ℕ
+    place s = position (nat_eq s) (schools_of m)
+
+    go : (o : Option ℕ) → slice_get (choices_of m i) k ≡ o → option_map place o ≡ Some (Some p)
+        → (s : ℕ) × (slice_get (choices_of m i) k ≡ Some s) × (place s ≡ Some p)
+    go None none ends = absurd (none-some (Some p) ends)
+    go (Some s) found is = (s, found, same_Some (place s) (Some p) is)
+
+-- where no position stands at a rank, no choice does
+pub choice-past : (m : Market) (positions : List ℕ) (at i k : ℕ) → map Some positions ≡ map (λ s. position (nat_eq s) (schools_of m)) (choices_of m (student_at m at))
+    → slice_get (students_of m) at ≡ Some i → length positions ≤ k → slice_get (choices_of m i) k ≡ None
+choice-past m positions at i k are stands over =
+    let place : ℕ → Option ℕ = λ s. position (nat_eq s) (schools_of m) in
+    let same = are ∙ ap (λ j. map place (choices_of m j)) (hand-is m at i stands) in
+    slice_get_past (choices_of m i) k
+    (omega (arith, over, sym (length-map positions (λ (q : ℕ). Some q)) ∙ ap length same ∙ length-map (choices_of m i) place))
+
+-- the key of the student who stands at a place, at the school that stands at one
+pub key-there : (m : Market) (at i p s : ℕ) → slice_get (students_of m) at ≡ Some i → position (nat_eq s) (schools_of m) ≡ Some p → key_at m at p ≡ Some (key_of m i s)
+key-there m at i p s stands found =
+    ap (option_and_then (λ j. option_map (key_of m j) (slice_get (schools_of m) p))) stands ∙ ap (option_map (key_of m i)) (position-there (schools_of m) s p found)
 
 -- a row of these parts
 abbrev row_with : ℕ → ℕ → Reason → ReasonRow
 row_with i s made = record { student = i; school = s; reason = made }
 
-pub row-reason : (m : Market) (a : Matching) (i s : ℕ) (made : Reason) → made ≡ reason m a i s → row_with i s made ≡ reason_row m a i s
-row-reason m a i s made is = λ t. row_with i s (is t)
+-- the row that is made of a school's
+pub row-made : (m : Market) (a : Matching) (i s : ℕ) (row : CutoffRow) (key : Key) (made : Reason) → made ≡ reason_by row.cutoff key → row ≡ cutoff_row m a s → key ≡ key_of m i s
+    → row_with i row.school made ≡ reason_row m a i s
+row-made m a i s row key made made_is row_is key_is =
+    ap (row_with i row.school) made_is ∙ (λ t. row_with i (row_is t).school (reason_by (row_is t).cutoff (key_is t)))
 
 front : (rows : List ReasonRow) (k : ℕ) (row : ReasonRow) → slice_get rows k ≡ Some row → take (k + 1) rows ≡ take k rows ++ row ∷ []
 front rows k row here =

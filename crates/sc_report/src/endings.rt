@@ -1,62 +1,64 @@
 //! How the reasons' lines end: each ending is written once, however many lines have it.
-ghost use Rattle.std.specs.Prelude.{◌≡◌, ◌<◌, ◌++◌, ℕ, length, map, slice_get, Some, IfOk, OnOk};
-ghost use Rattle.sc_report.specs.Endings.{line_ending, schools_with, EndingsStand, HasEndings};
-ghost use Rattle.sc_report.specs.declared.reason.Reason.TheVariants as reason;
+ghost use Rattle.std.specs.Prelude.{◌≡◌, ◌<◌, nat_lt, length, slice_get, if◌then◌else◌, List, Some, IfOk};
+ghost use Rattle.sc_papers.specs.declared.key.Key.{Key};
+ghost use Rattle.sc_report.specs.Endings.{line_ending, piece_text, HasEndings, HaveEndings};
+ghost use Rattle.sc_report.specs.Reason.{reason_by};
+ghost use Rattle.sc_report.specs.declared.cutoff.CutoffRow.{CutoffRow};
 
-use crate::cutoff::CutoffRow;
+use crate::cutoff::{Cutoff, CutoffRow};
+use crate::piece::{Piece, ROOM};
 use crate::reason::Reason;
 use crate::reason_lines::push_reason;
 use sc_decimal::push_number;
-use sc_papers::SchoolNo;
+use sc_papers::{Key, SchoolNo};
 use std::alloc::{AllocError, Global};
 
-/// The most bytes of a school's three endings: three numbers, the words, three commas and three newlines.
-const MOST_BYTES: usize = 50;
-
-/// Where the endings of a school's lines stand: that with each reason up to where the next one starts.
+/// How the lines about a school end, after the student's number and the comma, by the student's class there.
 #[derive(Clone, Copy)]
 struct SchoolEndings {
-    school: SchoolNo,
-    seats: usize,
-    class: usize,
-    lottery: usize,
-    end: usize,
+    last: u8,
+    /// Where the class is at most the last one.
+    within: Piece,
+    /// Where it is greater.
+    beyond: Piece,
 }
 
-/// For each school and reason how a line about them ends, after the student's number and the comma.
+/// For each school how the lines about it end.
 #[derive(Drop)]
 pub(crate) struct Endings {
-    text: Vec<u8>,
     schools: Vec<SchoolEndings>,
 }
 
-/// Adds a school's number, a comma, a reason's word and a newline.
-fn push_ending(text: &mut Vec<u8>, school: SchoolNo, reason: Reason) -> Result<(), AllocError>
-    ensures { OnOk result (text.new.items ≡ text.old.items ++ line_ending school reason) }
+/// Makes the ending of a school's lines with a reason, in the place of what the text held.
+fn ending_of(text: &mut Vec<u8>, school: SchoolNo, reason: Reason) -> Result<Piece, AllocError>
+    ensures { IfOk result (λ piece. piece_text piece ≡ line_ending school reason) }
 {
+    text.clear();
     push_number(text, u64::from(school.get()))?;
-    push_reason(text, reason)
+    push_reason(text, reason)?;
+    Piece::of(text)
 }
 
-/// Adds the three endings of a school's lines, and tells where they stand.
-fn push_endings(text: &mut Vec<u8>, school: SchoolNo) -> Result<SchoolEndings, AllocError>
-    ensures text { OnOk result (text.new.items ≡ text.old.items ++ line_ending school reason.Seats
-        ++ line_ending school reason.Class ++ line_ending school reason.Lottery) }
-    ensures school { IfOk result (λ endings. endings.school ≡ school) }
-    ensures stand { IfOk result (HasEndings text.new.items) }
+/// A class, why a key does not get past a cutoff whose class is at most that one, and why where it is greater.
+fn reasons_by_class(cutoff: Cutoff) -> (u8, Reason, Reason)
+    ensures { (key : Key) → (if nat_lt result.0 key.class then result.2 else result.1) ≡ reason_by cutoff key }
 {
-    let seats = text.len();
-    push_ending(text, school, Reason::Seats)?;
-    let class = text.len();
-    push_ending(text, school, Reason::Class)?;
-    let lottery = text.len();
-    push_ending(text, school, Reason::Lottery)?;
+    match cutoff {
+        Cutoff::Closed => (0, Reason::Seats, Reason::Seats),
+        Cutoff::Free => (0, Reason::Lottery, Reason::Lottery),
+        Cutoff::Full { key } => (key.class, Reason::Lottery, Reason::Class),
+    }
+}
+
+/// Makes the endings of the lines about the school of a row.
+fn endings_of(text: &mut Vec<u8>, row: &CutoffRow) -> Result<SchoolEndings, AllocError>
+    ensures { IfOk result (HasEndings row.now) }
+{
+    let (last, within, beyond) = reasons_by_class(row.cutoff);
     Ok(SchoolEndings {
-        school,
-        seats,
-        class,
-        lottery,
-        end: text.len(),
+        last,
+        within: ending_of(text, row.school, within)?,
+        beyond: ending_of(text, row.school, beyond)?,
     })
 }
 
@@ -64,28 +66,28 @@ impl Endings {
     /// The endings of the lines about the schools of these rows, in their order. Memory is taken in proportion to the
     /// schools, and the only error is want of it. One pass.
     pub(crate) fn new(alloc: Global, rows: &[CutoffRow]) -> Result<Endings, AllocError>
-        ensures schools { IfOk result (λ endings. schools_with endings ≡ map (λ row. row.school) rows.now) }
-        ensures stand { IfOk result EndingsStand }
+        ensures { IfOk result (HaveEndings rows.now) }
     {
-        let mut text = Vec::with_capacity(alloc, rows.len().saturating_mul(MOST_BYTES))?;
+        let mut text = Vec::with_capacity(alloc, ROOM)?;
         let mut schools = Vec::with_capacity(alloc, rows.len())?;
         for row in rows {
-            schools.push(push_endings(&mut text, row.school)?)?;
+            schools.push(endings_of(&mut text, row)?)?;
         }
-        Ok(Endings { text, schools })
+        Ok(Endings { schools })
     }
 
-    /// How a line ends about the school at a position and with a reason. In constant time.
-    pub(crate) fn ending(&self, position: usize, reason: Reason) -> &[u8]
-        requires stand { EndingsStand self.now }
-        requires position { position < length self.now.schools.items }
-        ensures { (s : ℕ) → slice_get (schools_with self.now) position ≡ Some s → result.now ≡ line_ending s reason }
+    /// How a line ends about the school at a position and a student who has this key there. In constant time.
+    pub(crate) fn ending(&self, position: usize, key: Key) -> Piece
+        requires { position < length self.now.schools.items }
+        ensures { (rows : List CutoffRow) (row : CutoffRow) → HaveEndings rows self.now
+            → slice_get rows position ≡ Some row
+            → piece_text result ≡ line_ending row.school (reason_by row.cutoff key) }
     {
         let school = &self.schools[position];
-        match reason {
-            Reason::Seats => &self.text[school.seats..school.class],
-            Reason::Class => &self.text[school.class..school.lottery],
-            Reason::Lottery => &self.text[school.lottery..school.end],
+        if school.last < key.class {
+            school.beyond
+        } else {
+            school.within
         }
     }
 }

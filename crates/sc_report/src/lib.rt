@@ -13,6 +13,7 @@ mod lines;
 mod log;
 mod matched;
 mod pages;
+mod piece;
 mod reason;
 mod reason_lines;
 mod reply;

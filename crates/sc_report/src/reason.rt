@@ -1,17 +1,17 @@
 //! Reasons: why a student does not have a choice that it prefers to what it has.
-ghost use Rattle.std.specs.Prelude.{◌≡◌, ◌<◌, ◌≤◌, ◌++◌, ◌==◌, false, flat_map, length, nat_eq, option_map, position, slice_get, Some, All, IfOk, IfSome, IsSome, OnOk};
+ghost use Rattle.std.specs.Prelude.{◌≡◌, ◌<◌, ◌≤◌, ◌++◌, ◌==◌, ℕ, false, flat_map, length, slice_get, None, Some, All, IfOk, IfSome, IsSome, MatchOption, OnOk};
 ghost use Rattle.std.specs.Option.{option_map_or};
-ghost use Rattle.sc_papers.specs.Market.{Market, choices_of, schools_of};
+ghost use Rattle.sc_papers.specs.Market.{Market, choices_of};
 ghost use Rattle.sc_papers.specs.Matching.{Matching};
 ghost use Rattle.sc_papers.specs.WellFormed.{WellFormed};
 ghost use Rattle.sc_repair.specs.Standing.{matching_of};
-ghost use Rattle.sc_report.specs.Cutoff.{cutoff, rows_in_order};
+ghost use Rattle.sc_report.specs.Cutoff.{rows_in_order};
 ghost use Rattle.sc_report.specs.Entrants.{numbers_of, Holds, StandsAt};
-ghost use Rattle.sc_report.specs.Reason.{reason_by, reason_rows, reasons_of};
+ghost use Rattle.sc_report.specs.Reason.{held_at, reason_by, reason_rows, reasons_of, IsMissed};
 
 use crate::cutoff::{Cutoff, CutoffRow, rows_in_order};
 use crate::entrants::{Entrant, rising_entrants};
-use sc_papers::{FlatPapers, Key, Proposal, SchoolNo, StudentNo};
+use sc_papers::{FlatPapers, Key, SchoolNo, StudentNo};
 use sc_repair::Clearing;
 use sc_tallies::places_of;
 use std::alloc::{AllocError, Global};
@@ -46,70 +46,70 @@ pub fn reason_by(cutoff: Cutoff, key: Key) -> Reason
     }
 }
 
-/// Why a key does not get past the cutoff of a choice, by the rows of all schools in order of entry.
-fn reason_of(rows: &[CutoffRow], choice: &Proposal) -> Reason
-    requires { choice.now.position < length rows.now }
-    // By whichever papers and matching the rows were made.
-    ensures { (m : Market) (a : Matching) → rows.now ≡ rows_in_order m a
-        → position (nat_eq choice.now.school) (schools_of m) ≡ Some choice.now.position
-        → result ≡ reason_by (cutoff m a choice.now.school) choice.now.key }
+/// Where the school that a student has stands in the order of entry, if they have one.
+pub(crate) fn held_position(papers: &FlatPapers, entrant: &Entrant) -> Option<usize>
+    ensures { result ≡ held_at papers.now entrant.now.held }
 {
-    reason_by(rows[choice.position].cutoff, choice.key)
+    papers.school_position(entrant.held?)
 }
 
-/// Whether what a student has is this school.
-fn is_held(held: &Option<SchoolNo>, school: SchoolNo) -> bool
-    ensures { result ≡ option_map_or (λ s. s == school) held.now false }
+/// Whether what a student has is the school at this position.
+fn is_held(held: &Option<usize>, position: usize) -> bool
+    ensures { result ≡ option_map_or (λ p. p == position) held.now false }
 {
-    *held == Some(school)
+    *held == Some(position)
 }
 
-/// A choice that a student prefers to what they have, as its row, and where its school stands in the order of entry.
+/// A choice that a student prefers to what they have: where its school stands in the order of entry, and the key there.
 #[derive(Clone, Copy)]
 pub(crate) struct Missed {
-    pub row: ReasonRow,
     pub position: usize,
+    pub key: Key,
 }
 
-/// A student's row at a rank, from 0 and at most the number of their rows, or `None` past the last one: that of the
-/// choice there, unless it is what they have. It is made by the rows of all schools in order of entry. In constant time.
-pub(crate) fn row_at_rank(
-    rows: &[CutoffRow],
+/// The choice at a rank, from 0 and at most the number of a student's rows, or `None` past the last one and where it is
+/// what they have, which stands at this position of the order of entry. In constant time.
+pub(crate) fn missed_at(
     papers: &FlatPapers,
     entrant: &Entrant,
+    held: Option<usize>,
     rank: usize,
 ) -> Option<Missed>
-    requires rows { length rows.now ≡ length papers.now.schools }
     requires stands { StandsAt papers.now entrant.now }
-    // By whichever matching the rows were made.
-    ensures row { (a : Matching) → rows.now ≡ rows_in_order papers.now a → Holds a entrant.now
+    requires held { held ≡ held_at papers.now entrant.now.held }
+    ensures missed { (a : Matching) → Holds a entrant.now
         → rank ≤ length (reasons_of papers.now a entrant.now.student)
-        → option_map (λ missed. missed.row) result ≡ slice_get (reasons_of papers.now a entrant.now.student) rank }
+        → MatchOption result (slice_get (reasons_of papers.now a entrant.now.student) rank ≡ None)
+        (IsMissed papers.now a entrant.now.student rank) }
     ensures within { IsSome result → rank < length (choices_of papers.now entrant.now.student) }
-    ensures student { IfSome result (λ missed. missed.row.student ≡ entrant.now.student) }
-    ensures position { IfSome result (λ missed. position (nat_eq missed.row.school) (schools_of papers.now)
-        ≡ Some missed.position) }
+    ensures position { IfSome result (λ missed. missed.position < length papers.now.schools) }
 {
-    let Some(school) = papers.choice_at(entrant.position as usize, rank) else {
-        return None;
-    };
+    let student = entrant.position as usize;
+    let position = usize::from(*papers.choice_positions_at(student).get(rank)?);
     // Of what a student has, no key is made.
-    if is_held(&entrant.held, school) {
+    if is_held(&held, position) {
         return None;
     }
-    let Some(choice) = papers.proposal(entrant.position as usize, rank) else {
+    let Some(key) = papers.key_at(student, position) else {
         unreachable!()
     };
-    let reason = reason_of(rows, &choice);
-    let row = ReasonRow {
+    Some(Missed { position, key })
+}
+
+/// A student's row of a choice, by the rows of all schools in order of entry.
+fn row_of(rows: &[CutoffRow], entrant: &Entrant, missed: Missed) -> ReasonRow
+    requires { missed.position < length rows.now }
+    // By whichever papers and matching the rows were made.
+    ensures { (m : Market) (a : Matching) (rank : ℕ) → rows.now ≡ rows_in_order m a
+        → IsMissed m a entrant.now.student rank missed
+        → slice_get (reasons_of m a entrant.now.student) rank ≡ Some result }
+{
+    let row = rows[missed.position];
+    ReasonRow {
         student: entrant.student,
-        school,
-        reason,
-    };
-    Some(Missed {
-        row,
-        position: choice.position,
-    })
+        school: row.school,
+        reason: reason_by(row.cutoff, missed.key),
+    }
 }
 
 /// Adds a student's rows, in order of choice, by the rows of all schools in order of entry.
@@ -126,9 +126,10 @@ fn push_reasons(
     ensures { OnOk result ((a : Matching) → rows.now ≡ rows_in_order papers.now a → Holds a entrant
         → reasons.new.items ≡ reasons.old.items ++ reasons_of papers.now a entrant.student) }
 {
+    let held = held_position(papers, &entrant);
     let mut rank = 0;
-    'ranks: while let Some(found) = row_at_rank(rows, papers, &entrant, rank) {
-        reasons.push(found.row)?;
+    'ranks: while let Some(missed) = missed_at(papers, &entrant, held, rank) {
+        reasons.push(row_of(rows, &entrant, missed))?;
         rank += 1;
     }
     Ok(())

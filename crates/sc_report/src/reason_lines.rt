@@ -1,23 +1,25 @@
 //! The reasons as text.
-ghost use Rattle.std.specs.Prelude.{◌≡◌, ◌++◌, codes, decimal, flat_map, length, map, All, IfOk, OnOk};
+ghost use Rattle.std.specs.Prelude.{◌≡◌, ◌≤◌, ◌+◌, ◌++◌, codes, decimal, flat_map, length, map, take, All, IfOk, OnOk};
 ghost use Rattle.sc_papers.specs.Market.{schools_of};
 ghost use Rattle.sc_papers.specs.Matching.{Matching};
 ghost use Rattle.sc_papers.specs.WellFormed.{WellFormed};
 ghost use Rattle.sc_repair.specs.Standing.{matching_of};
 ghost use Rattle.sc_report.specs.Cutoff.{rows_in_order};
-ghost use Rattle.sc_report.specs.Endings.{schools_with, EndingsStand};
+ghost use Rattle.sc_report.specs.Endings.{piece_text, HaveEndings};
 ghost use Rattle.sc_report.specs.Entrants.{numbers_of, Holds, StandsAt};
 ghost use Rattle.sc_report.specs.Pages.{text_so_far};
 ghost use Rattle.sc_report.specs.Reason.{reasons_of};
+ghost use Rattle.sc_report.specs.declared.reason_lines.TheConstants.{LINES};
 ghost use Rattle.sc_report.specs.ReasonText.{reason_line, reason_lines, reason_text, reason_word};
 
 use crate::cutoff::{CutoffRow, rows_in_order};
 use crate::endings::Endings;
 use crate::entrants::{Entrant, rising_entrants};
 use crate::pages::Pages;
-use crate::reason::{Reason, row_at_rank};
+use crate::piece::{Piece, ROOM};
+use crate::reason::{Reason, held_position, missed_at};
 use sc_decimal::push_number;
-use sc_papers::{FlatPapers, StudentNo};
+use sc_papers::{FlatPapers, MOST_STUDENTS, StudentNo};
 use sc_repair::Clearing;
 use sc_tallies::places_of;
 use std::alloc::{AllocError, Global};
@@ -25,8 +27,8 @@ use std::alloc::{AllocError, Global};
 /// The line above the reasons' lines.
 const HEADER: &[u8; 22] = b"student,school,reason\n";
 
-/// The most bytes of a student's number and a comma.
-const LONGEST_NUMBER: usize = 10;
+/// The room of a student's lines: of 20 at most, each of two blocks.
+const LINES: usize = 640;
 
 /// Adds a comma, a reason's word and a newline, as a line of the reason text ends. The only error is want of memory.
 pub fn push_reason(text: &mut Vec<u8>, reason: Reason) -> Result<(), AllocError>
@@ -39,52 +41,60 @@ pub fn push_reason(text: &mut Vec<u8>, reason: Reason) -> Result<(), AllocError>
     }
 }
 
-/// Adds a line, of the text of the student's number and a comma, and its ending.
-fn push_line(text: &mut Vec<u8>, number: &[u8], ending: &[u8]) -> Result<(), AllocError>
-    ensures { OnOk result (text.new.items ≡ text.old.items ++ number.now ++ ending.now) }
-{
-    text.extend_from_slice(number)?;
-    text.extend_from_slice(ending)
-}
-
-/// Makes a text that of the student's number and a comma, in the place of what it held.
-fn set_number(text: &mut Vec<u8>, student: StudentNo) -> Result<(), AllocError>
-    ensures { OnOk result (text.new.items ≡ decimal student ++ codes ",") }
+/// The piece of a student's number and a comma, made in the place of what the text held.
+fn number_of(text: &mut Vec<u8>, student: StudentNo) -> Result<Piece, AllocError>
+    ensures { IfOk result (λ piece. piece_text piece ≡ decimal student ++ codes ",") }
 {
     text.clear();
     push_number(text, u64::from(student.get()))?;
-    text.extend_from_slice(b",")
+    text.extend_from_slice(b",")?;
+    Piece::of(text)
 }
 
-/// Adds the lines of a student, in order of choice, by the rows of all schools in order of entry, the endings of the
-/// lines about them, and the text of the student's number and a comma.
+/// Writes a line over some bytes, and tells where it ends there.
+fn put_line(over: &mut [u8], at: usize, number: Piece, ending: Piece) -> usize
+    requires { at + 32 ≤ length over.old }
+    ensures text { take result over.new ≡ take at over.old ++ (piece_text number ++ piece_text ending) }
+    ensures room { length over.new ≡ length over.old }
+    ensures end { result ≤ at + 32 }
+{
+    // Both blocks are within these bytes, as the compiler sees.
+    let line = &mut over[at..at + 32];
+    let count = number.put(line, 0);
+    at + ending.put(line, count)
+}
+
+/// Adds the lines of a student, in order of choice, by the endings of the lines about all schools in order of entry and
+/// the piece of the student's number and a comma. They are written over some bytes, and copied from there at once.
 fn push_student(
     text: &mut Vec<u8>,
-    number: &[u8],
+    over: &mut [u8],
+    number: Piece,
     endings: &Endings,
-    rows: &[CutoffRow],
     papers: &FlatPapers,
     entrant: Entrant,
 ) -> Result<(), AllocError>
-    requires number { number.now ≡ decimal entrant.student ++ codes "," }
-    requires schools { schools_with endings.now ≡ schools_of papers.now }
-    requires endings { EndingsStand endings.now }
-    requires rows { length rows.now ≡ length papers.now.schools }
+    requires over { length over.old ≡ LINES }
+    requires number { piece_text number ≡ decimal entrant.student ++ codes "," }
+    requires endings { length endings.now.schools.items ≡ length papers.now.schools }
     requires stands { StandsAt papers.now entrant }
-    requires well_formed { WellFormed papers.now }
-    // By whichever matching the rows were made.
-    ensures { OnOk result ((a : Matching) → rows.now ≡ rows_in_order papers.now a → Holds a entrant
+    // By whichever matching the endings were made.
+    ensures text { OnOk result ((a : Matching) → HaveEndings (rows_in_order papers.now a) endings.now
+        → Holds a entrant
         → text.new.items ≡ text.old.items ++ flat_map reason_line (reasons_of papers.now a entrant.student)) }
+    ensures over { length over.new ≡ LINES }
 {
+    // This call tells that the papers are within their limits.
+    prove!(papers.students_len() <= MOST_STUDENTS);
+    let held = held_position(papers, &entrant);
+    let mut at = 0;
     let mut rank = 0;
-    'ranks: while let Some(found) = row_at_rank(rows, papers, &entrant, rank) {
-        push_line(
-            text,
-            number,
-            endings.ending(found.position, found.row.reason),
-        )?;
+    'ranks: while let Some(missed) = missed_at(papers, &entrant, held, rank) {
+        let ending = endings.ending(missed.position, missed.key);
+        at = put_line(over, at, number, ending);
         rank += 1;
     }
+    text.extend_from_slice(&over[..at])?;
     Ok(())
 }
 
@@ -106,15 +116,16 @@ pub(crate) fn push_reason_lines(
         ++ reason_lines (flat_map (reasons_of papers.now a) (numbers_of entrants.now))) }
 {
     let endings = Endings::new(alloc, rows)?;
-    let mut number = Vec::with_capacity(alloc, LONGEST_NUMBER)?;
+    let mut text = Vec::with_capacity(alloc, ROOM)?;
+    let mut over = [0; LINES];
     pages.last.extend_from_slice(HEADER)?;
     for entrant in entrants {
-        set_number(&mut number, entrant.student)?;
+        let number = number_of(&mut text, entrant.student)?;
         push_student(
             &mut pages.last,
-            number.as_slice(),
+            &mut over,
+            number,
             &endings,
-            rows,
             papers,
             *entrant,
         )?;

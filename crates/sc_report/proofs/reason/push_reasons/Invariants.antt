@@ -12,7 +12,7 @@ abbrev pub invariant-ranks : goal.invariant-ranks
 invariant-ranks l = record {
   rows : (a : Matching) → l.rows ≡ rows_in_order l.papers a → Holds a l.entrant → l.reasons.items ≡ l.fn.reasons.items ++ take l.rank (reasons_of l.papers a l.entrant.student);
   longer : l.rank ≤ length l.reasons.items;
-  within : (a : Matching) → l.rows ≡ rows_in_order l.papers a → Holds a l.entrant → l.rank ≤ length (reasons_of l.papers a l.entrant.student);
+  within : (a : Matching) → Holds a l.entrant → l.rank ≤ length (reasons_of l.papers a l.entrant.student);
 }
 
 abbrev pub decreases-ranks : goal.decreases-ranks

@@ -1,27 +1,33 @@
 use Rattle.std.proofs.Common.{ap, subst, sym, ◌∙◌, ◌++◌}
 use Rattle.std.specs.Prelude.{codes, flat_map}
+use Rattle.sc_report.specs.Endings.{HaveEndings}
+use Rattle.sc_report.specs.Entrants.{Holds}
 use Rattle.sc_report.specs.Pages.{pages_text, text_so_far}
 use Rattle.sc_report.specs.Reason.{reasons_of}
 use Rattle.sc_report.specs.ReasonText.{reason_line}
 use Rattle.sc_report.specs.declared.entrants.Entrant.{Entrant}
+use Rattle.sc_report.proofs.EndingLemmas.{endings-long}
 use Rattle.sc_report.proofs.LineLemmas.{lines-all, lines-flat, lines-map, lines-more}
-use Rattle.sc_report.specs.Entrants.{Holds}
 use Rattle.sc_report.proofs.PageLemmas.{page-grew}
 use Rattle.sc_report.proofs.reason_lines.push_reason_lines.Goals as goal
 
-pub push_student-requires-clause-schools : goal.push_student-requires-clause-schools
-push_student-requires-clause-schools c = c.in_ok-endings.ensures.schools ∙ c.requires.schools
+pub push_student-requires-clause-endings : goal.push_student-requires-clause-endings
+push_student-requires-clause-endings c = endings-long c.args.papers.now c.args.rows.now c.in_ok-endings.endings c.in_ok-endings.ensures c.requires.schools
 
 pub loop-entrant-preserved : goal.loop-entrant-preserved
-loop-entrant-preserved c a are hold =
-    let k = c.loop-entrant.entrant-index in
-    let one = c.entrant-item.result in
-    let holds : Holds a one = subst (Holds a) (sym c.entrant-item.is) (hold k one c.loop-entrant-test.true) in
-    let pages = c.loop-entrant.pages in
-    let lines = λ (e : Entrant). flat_map reason_line (reasons_of c.args.papers.now a e.student) in
-    let grew = page-grew pages.full.items pages.last.items c.push_student.new.text.items (lines one) (c.in_ok-push_student.ensures a are holds) in
-    lines-more lines c.args.entrants.now k one _ (text_so_far pages) (text_so_far c.turn.new.self)
-    (c.loop-entrant.invariant a are hold) (c.in_ok-turn.ensures ∙ grew) c.loop-entrant-test.true c.entrant-item.is
+loop-entrant-preserved c = record {
+  text = λ a are hold.
+      let k = c.loop-entrant.entrant-index in
+      let one = c.entrant-item.result in
+      let holds : Holds a one = subst (Holds a) (sym c.entrant-item.is) (hold k one c.loop-entrant-test.true) in
+      let have = subst (λ rows. HaveEndings rows c.in_ok-endings.endings) are c.in_ok-endings.ensures in
+      let pages = c.loop-entrant.pages in
+      let lines = λ (e : Entrant). flat_map reason_line (reasons_of c.args.papers.now a e.student) in
+      let grew = page-grew pages.full.items pages.last.items c.push_student.new.text.items (lines one) (c.in_ok-push_student.ensures.text a have holds) in
+      lines-more lines c.args.entrants.now k one _ (text_so_far pages) (text_so_far c.turn.new.self)
+      (c.loop-entrant.invariant.text a are hold) (c.in_ok-turn.ensures ∙ grew) c.loop-entrant-test.true c.entrant-item.is;
+  room = c.push_student.ensures.over;
+}
 
 pub returns : goal.returns
 returns c a are hold =
@@ -30,6 +36,6 @@ returns c a are hold =
     let header = codes "student,school,reason\n" in
     lines-all (λ (e : Entrant). flat_map reason_line (rows e.student)) c.args.entrants.now c.loop-entrant.entrant-index (text_so_far pages) header
     (pages_text pages.full.items ++ c.extend_from_slice.new.self.items) (text_so_far c.loop-entrant.pages)
-    (page-grew pages.full.items pages.last.items c.extend_from_slice.new.self.items header c.in_ok-extend_from_slice.ensures.items) (c.loop-entrant.invariant a are hold) c.loop-entrant-test.false
+    (page-grew pages.full.items pages.last.items c.extend_from_slice.new.self.items header c.in_ok-extend_from_slice.ensures.items) (c.loop-entrant.invariant.text a are hold) c.loop-entrant-test.false
     ∙ ap (λ more. text_so_far pages ++ (header ++ more))
     (lines-flat reason_line (λ (e : Entrant). rows e.student) c.args.entrants.now ∙ ap (flat_map reason_line) (lines-map rows (λ (e : Entrant). e.student) c.args.entrants.now))

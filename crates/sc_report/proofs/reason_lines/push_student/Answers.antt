@@ -1,44 +1,69 @@
-use Rattle.std.proofs.Common.{◌≡◌, ◌++◌, None, Some, ap, arith, codes, decimal, flat_map, slice_get, sym, ◌∙◌}
-use Rattle.std.proofs.lemmas.Option.{get_or_from_slice_get, slice_get_within}
+use Rattle.std.proofs.Common.{◌≡◌, ◌≤◌, ◌++◌, refl, [], Some, ap, arith, length, slice_get, sym, take, ◌∙◌}
+use Rattle.std.specs.Option.{option_map}
+use Rattle.std.proofs.lemmas.List.{length-take-le}
+use Rattle.std.proofs.lemmas.Option.{get_or_from_slice_get, slice_get-map, slice_get_within}
+use Rattle.std.specs.Prelude.{flat_map}
 use Rattle.sc_papers.specs.Market.{schools_of}
 use Rattle.sc_papers.proofs.Positions.{position-there}
-use Rattle.sc_report.specs.Reason.{reasons_of}
+use Rattle.sc_papers.proofs.Students.{choices-short}
+use Rattle.sc_report.specs.Cutoff.{cutoff, cutoff_row, rows_in_order}
+use Rattle.sc_report.specs.Endings.{line_ending, piece_text}
+use Rattle.sc_report.specs.Reason.{reason_by, reason_row, reasons_of}
 use Rattle.sc_report.specs.ReasonText.{reason_line}
-use Rattle.sc_report.proofs.EndingLemmas.{line-joined, line-longer}
+use Rattle.sc_report.proofs.EndingLemmas.{line-joined}
 use Rattle.sc_report.proofs.LineLemmas.{lines-more}
 use Rattle.sc_report.proofs.ReasonLemmas.{rows-end}
 use Rattle.sc_report.proofs.reason_lines.push_student.Goals as goal
 
+pub put_line-at-requires : goal.put_line-at-requires
+put_line-at-requires c =
+    let short = choices-short c.args.papers.now c.students_len.ensures.within_limits c.args.entrant.student in
+    omega (arith, c.ranks.invariant.room, c.ranks.invariant.end, c.in-Some.ensures.within refl, short)
+
 pub overflow_add-rank : goal.overflow_add-rank
 overflow_add-rank c =
-    let longer = line-longer c.args.entrant.student c.args.number.now c.ending.result.now c.ranks.text.items c.push_line.new.text.items c.requires.number c.in_ok-push_line.ensures in
-    omega (arith, longer, c.ranks.invariant.longer, c.push_line.new.text.ok, c.push_line.new.text.small)
+    let short = choices-short c.args.papers.now c.students_len.ensures.within_limits c.args.entrant.student in
+    omega (arith, c.in-Some.ensures.within refl, short)
+
+pub slice_bounds-extend_from_slice-end : goal.slice_bounds-extend_from_slice-end
+slice_bounds-extend_from_slice-end c =
+    let short = choices-short c.args.papers.now c.students_len.ensures.within_limits c.args.entrant.student in
+    omega (arith, c.ranks.invariant.room, c.ranks.invariant.end, c.ranks.invariant.low, short)
+
+pub slice_bounds-extend_from_slice-end-2 : goal.slice_bounds-extend_from_slice-end-2
+slice_bounds-extend_from_slice-end-2 c =
+    let short = choices-short c.args.papers.now c.students_len.ensures.within_limits c.args.entrant.student in
+    let low : c.ranks.at ≤ length c.ranks.over = omega (arith, c.ranks.invariant.room, c.ranks.invariant.end, c.ranks.invariant.low, short) in
+    omega (arith, length-take-le c.ranks.at c.ranks.over low)
 
 pub ranks-preserved : goal.ranks-preserved
 ranks-preserved c =
     let m = c.args.papers.now in
+    let i = c.args.entrant.student in
     let k = c.ranks.rank in
-    let row = c.in-Some.found.row in
-    let ending = c.ending.ensures row.school
-    (ap (λ schools. slice_get schools c.in-Some.found.position) c.requires.schools ∙ position-there (schools_of m) row.school c.in-Some.found.position c.in-Some.ensures.position) in
-    let number = c.requires.number ∙ ap (λ i. decimal i ++ codes ",") (sym c.in-Some.ensures.student) in
-    let line = line-joined row c.args.number.now c.ending.result.now c.ranks.text.items c.push_line.new.text.items number ending c.in_ok-push_line.ensures in
-    let longer = line-longer c.args.entrant.student c.args.number.now c.ending.result.now c.ranks.text.items c.push_line.new.text.items c.requires.number c.in_ok-push_line.ensures in
+    let p = c.in-Some.missed.position in
     record {
-      lines = λ a are holds.
-          let rows = reasons_of m a c.args.entrant.student in
-          let here : slice_get rows k ≡ Some row = sym (c.in-Some.ensures.row a are holds (c.ranks.invariant.within a are holds)) in
-          lines-more reason_line rows k row c.args.text.now.items c.ranks.text.items c.push_line.new.text.items (c.ranks.invariant.lines a are holds) line
-          (slice_get_within rows k row here) (sym (get_or_from_slice_get rows k row row here));
-      longer = omega (arith, longer, c.ranks.invariant.longer);
-      within = λ a are holds.
-          let rows = reasons_of m a c.args.entrant.student in
-          let here : slice_get rows k ≡ Some row = sym (c.in-Some.ensures.row a are holds (c.ranks.invariant.within a are holds)) in
-          omega (arith, slice_get_within rows k row here);
+      text = λ a have holds.
+          let rows = reasons_of m a i in
+          let got = c.in-Some.ensures.missed a holds (c.ranks.invariant.within a holds) in
+          let s = got.school in
+          let row = reason_row m a i s in
+          let there : slice_get (rows_in_order m a) p ≡ Some (cutoff_row m a s) = slice_get-map (cutoff_row m a) (schools_of m) p ∙ ap (option_map (cutoff_row m a)) (position-there (schools_of m) s p got.place) in
+          let ending = c.ending-ending.ensures (rows_in_order m a) (cutoff_row m a s) have there ∙ ap (λ key. line_ending s (reason_by (cutoff m a s) key)) got.key in
+          let line = line-joined row (piece_text c.args.number) (piece_text c.ending-ending.result) (take c.ranks.at c.ranks.over) (take c.put_line-at.result c.put_line-at.new.over) c.requires.number ending c.put_line-at.ensures.text in
+          lines-more reason_line rows k row [] (take c.ranks.at c.ranks.over) (take c.put_line-at.result c.put_line-at.new.over) (c.ranks.invariant.text a have holds) line
+          (slice_get_within rows k row got.row) (sym (get_or_from_slice_get rows k row row got.row));
+      room = c.put_line-at.ensures.room ∙ c.ranks.invariant.room;
+      end = omega (arith, c.put_line-at.ensures.end, c.ranks.invariant.end);
+      low = omega (arith, c.in-Some.ensures.within refl);
+      within = λ a holds.
+          let got = c.in-Some.ensures.missed a holds (c.ranks.invariant.within a holds) in
+          omega (arith, slice_get_within (reasons_of m a i) k _ got.row);
     }
 
-pub returns : goal.returns
-returns c a are holds =
+pub returns-clause-text : goal.returns-clause-text
+returns-clause-text c a have holds =
     let rows = reasons_of c.args.papers.now a c.args.entrant.student in
-    let past : slice_get rows c.ranks.rank ≡ None = sym (c.in_default.ensures.row a are holds (c.ranks.invariant.within a are holds)) in
-    c.ranks.invariant.lines a are holds ∙ ap (λ more. c.args.text.now.items ++ flat_map reason_line more) (rows-end rows c.ranks.rank past)
+    let past = c.in_default.ensures.missed a holds (c.ranks.invariant.within a holds) in
+    c.in_ok-extend_from_slice.ensures.items
+    ∙ ap (λ more. c.args.text.now.items ++ more) (c.ranks.invariant.text a have holds ∙ ap (flat_map reason_line) (rows-end rows c.ranks.rank past))

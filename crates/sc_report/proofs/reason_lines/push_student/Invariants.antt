@@ -1,9 +1,9 @@
--- The lines so far are those of the student's first rows, by whichever matching the rows of the schools were made, and each
--- is longer than nothing.
-use Rattle.std.proofs.Common.{◌≡◌, ◌++◌, ◌-◌, ◌≤◌, flat_map, length, take}
+-- The lines so far are those of the student's first rows, by whichever matching the endings were made.
+use Rattle.std.proofs.Common.{◌≡◌, ◌*◌, ◌-◌, ◌≤◌, flat_map, length, take}
 use Rattle.sc_papers.specs.Market.{choices_of}
 use Rattle.sc_papers.specs.Matching.{Matching}
 use Rattle.sc_report.specs.Cutoff.{rows_in_order}
+use Rattle.sc_report.specs.Endings.{HaveEndings}
 use Rattle.sc_report.specs.Entrants.{Holds}
 use Rattle.sc_report.specs.Reason.{reasons_of}
 use Rattle.sc_report.specs.ReasonText.{reason_line}
@@ -11,9 +11,11 @@ use Rattle.sc_report.proofs.reason_lines.push_student.Given as goal
 
 abbrev pub invariant-ranks : goal.invariant-ranks
 invariant-ranks l = record {
-  lines : (a : Matching) → l.rows ≡ rows_in_order l.papers a → Holds a l.entrant → l.text.items ≡ l.fn.text.items ++ flat_map reason_line (take l.rank (reasons_of l.papers a l.entrant.student));
-  longer : l.rank ≤ length l.text.items;
-  within : (a : Matching) → l.rows ≡ rows_in_order l.papers a → Holds a l.entrant → l.rank ≤ length (reasons_of l.papers a l.entrant.student);
+  text : (a : Matching) → HaveEndings (rows_in_order l.papers a) l.endings → Holds a l.entrant → take l.at l.over ≡ flat_map reason_line (take l.rank (reasons_of l.papers a l.entrant.student));
+  room : length l.over ≡ 640;
+  end : l.at ≤ 32 * l.rank;
+  low : l.rank ≤ length (choices_of l.papers l.entrant.student);
+  within : (a : Matching) → Holds a l.entrant → l.rank ≤ length (reasons_of l.papers a l.entrant.student);
 }
 
 abbrev pub decreases-ranks : goal.decreases-ranks
