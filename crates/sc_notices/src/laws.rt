@@ -19,7 +19,8 @@ ghost use Rattle.sc_notices.specs.declared.outcome.Outcome.TheVariants.{Given, L
 pub fn outcomes_are_so()
     ensures given { (m : Market) (a : Matching) (i rank s : ℕ) → ((outcome m a i rank s ≡ Given) ↔ (a i ≡ Some s)) }
     ensures refused { (m : Market) (a : Matching) → WellFormed m → (i rank s : ℕ)
-        → slice_get (choices_of m i) rank ≡ Some s → Prefers m i s (a i) → outcome m a i rank s ≡ Refused (reason m a i s) }
+        → slice_get (choices_of m i) rank ≡ Some s → Prefers m i s (a i)
+        → outcome m a i rank s ≡ Refused (reason m a i s) }
     ensures later { (m : Market) (a : Matching) → WellFormed m → (i rank s t : ℕ)
         → slice_get (choices_of m i) rank ≡ Some s → a i ≡ Some t → StandsBefore (choices_of m i) t s
         → outcome m a i rank s ≡ Later }

@@ -169,8 +169,8 @@ impl Papers {
     /// puts the student last in the order of entry, or answers the first refusal that applies, as `FlatPapers::admit`
     /// does. After a refusal the papers are as before; the student is given up.
     pub fn admit(&mut self, number: StudentNumber, student: Student) -> Result<(), Refusal>
-        ensures allowed { OnOk result
-            (first_of (objections_to_enter self.old number student.siblings student.choices student.continuing) ≡ None) }
+        ensures allowed { OnOk result (first_of
+            (objections_to_enter self.old number student.siblings student.choices student.continuing) ≡ None) }
         ensures entered { OnOk result (self.new ≡ with_student self.old number student) }
         ensures refused { IfErr result (IsRefusal
             (first_of (objections_to_enter self.old number student.siblings student.choices student.continuing))) }

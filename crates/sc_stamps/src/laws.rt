@@ -28,7 +28,8 @@ pub fn accepted_amendment_stamps_its_record()
         → (stamps_after m a stamps).accepted ≡ stamps.accepted + 1 }
     ensures stamps { (m : Market) (stamps : Stamps) (a : Amendment) (r : Record) → WellFormed m → verdict m a ≡ None
         → IsInStep m stamps
-        → stamp_of (after m a) (stamps_after m a stamps) r ≡ (if is_record (after m a) r then (if is_same (record_of a) r then stamps.accepted + 1 else stamp_of m stamps r) else 0) }
+        → stamp_of (after m a) (stamps_after m a stamps) r ≡ (if is_record (after m a) r
+        then (if is_same (record_of a) r then stamps.accepted + 1 else stamp_of m stamps r) else 0) }
 {}
 
 /// An accepted amendment carried the stamp that its record had.

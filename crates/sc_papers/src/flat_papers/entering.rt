@@ -216,8 +216,8 @@ impl FlatPapers {
     /// who enters. It takes memory for the student alone, and none where `reserve` made room. Only where all numbers
     /// rose so far and this one is lower than the last, a table of them all is made.
     pub fn admit(&mut self, number: StudentNumber, student: Student) -> Result<(), Refusal>
-        ensures allowed { OnOk result
-            (first_of (objections_to_enter self.old number student.siblings student.choices student.continuing) ≡ None) }
+        ensures allowed { OnOk result (first_of
+            (objections_to_enter self.old number student.siblings student.choices student.continuing) ≡ None) }
         ensures entered { OnOk result (self.new ≡ with_student self.old number student) }
         ensures refused { IfErr result (IsRefusal
             (first_of (objections_to_enter self.old number student.siblings student.choices student.continuing))) }
