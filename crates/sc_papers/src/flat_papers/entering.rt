@@ -169,9 +169,8 @@ impl FlatPapers {
     }
 
     /// Puts a student of this number, zone, siblings' schools and school at which they continue last in the order of entry,
-    /// with the choices whose schools stand at these positions of the papers, and says whether it did. It does so where
-    /// `admit` would take the student with those choices; otherwise, or where memory is wanting, the papers are as before,
-    /// and `admit` tells why.
+    /// with the choices whose schools stand at these positions of the papers, and says whether it did. `false` says nothing
+    /// of the student, and the papers are as before: `admit` tells what can be said, or takes the student.
     ///
     /// The cost is a draw of the lottery, and a look-up for each school of a sibling and the one at which the student
     /// continues: none of the choices is looked up. It takes the memory that `admit` takes.
