@@ -4,21 +4,11 @@
 //! status that it answers.
 #![tactic(auto)]
 
+use sc_program::{end_without_words, perform};
 use sc_words::Word;
 use std::io::IsTerminal;
 use std::process::ExitCode;
 use std::{env, io};
-
-mod calls;
-mod checks;
-mod counted;
-mod exports;
-mod inputs;
-mod journal;
-mod messages;
-mod perform;
-#[cfg(test)]
-mod tests;
 
 /// The words after the program's name.
 fn words(rt: &HostRuntime) -> io::Result<Vec<Word>> {
@@ -39,7 +29,7 @@ fn main(rt: HostRuntime) -> ExitCode {
     let errors = rt.stderr();
     let terminal = terminal(&rt);
     let status = match words(&rt) {
-        Ok(words) => perform::perform(
+        Ok(words) => perform(
             &rt,
             words.as_slice(),
             rt.stdin(),
@@ -47,7 +37,7 @@ fn main(rt: HostRuntime) -> ExitCode {
             errors,
             terminal,
         ),
-        Err(error) => perform::end_without_words(rt.alloc(), &error, errors),
+        Err(error) => end_without_words(rt.alloc(), &error, errors),
     };
     ExitCode::from(status)
 }

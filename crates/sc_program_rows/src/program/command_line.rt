@@ -1,8 +1,8 @@
 //! What words order, and what is said of words that order nothing.
 mod help;
 
-use crate::perform::end_without_words;
 use clap::error::ErrorKind;
+use sc_program::end_without_words;
 use sc_words::{FileWords, OpeningWords, Order, Subcommand, Word, order_of};
 use std::alloc::{AllocError, Global};
 use std::io;

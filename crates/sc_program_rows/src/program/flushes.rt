@@ -1,6 +1,5 @@
 //! Flushes of what the program writes beside its output: no clause can speak of one.
-use crate::exports::fill_made;
-use crate::perform::{end_without_words, perform};
+use sc_program::{end_without_words, fill_made, perform};
 use sc_report::Watched;
 use sc_report::devices::{Ending as DeviceEnding, FailingWriter};
 use sc_runs::{Ending, PapersFile};

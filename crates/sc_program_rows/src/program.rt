@@ -6,7 +6,7 @@ mod notices;
 mod reports;
 mod scripts;
 
-use crate::perform::perform;
+use sc_program::perform;
 use sc_report::devices::{Ending, FailingWriter};
 use sc_words::Word;
 use std::alloc::{AllocError, Global};

@@ -1,6 +1,6 @@
 //! Runs of scripts, what a terminal shows of one, and replays.
 use super::{NEWCOMER, REPORT, expect, ordered_after, ordering, write_files};
-use crate::perform::perform;
+use sc_program::perform;
 use sc_report::devices::{Ending, FailingWriter};
 use std::{fs, io};
 

@@ -1,0 +1,14 @@
+//! The program, over any files and streams: does what the words of a command line order, and tells its faults.
+#![tactic(auto)]
+
+mod calls;
+mod checks;
+mod counted;
+mod exports;
+mod inputs;
+mod journal;
+mod messages;
+mod perform;
+
+pub use exports::fill_made;
+pub use perform::{end_without_words, perform};
