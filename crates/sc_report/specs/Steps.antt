@@ -1,5 +1,5 @@
 -- What the steps of reading and of comparing do. Public contracts do not cite it.
-use Rattle.std.specs.Prelude.{◌++◌, ◌+◌, ◌<◌, ◌≡◌, ◌≤◌, length, take, List, Option, ℕ}
+use Rattle.std.specs.Prelude.{◌++◌, ◌<◌, ◌≡◌, ◌≤◌, length, take, List, Option, ℕ}
 use Rattle.std.specs.Io.KnownBytes.{Consumes}
 use Rattle.sc_report.specs.Comparing.{common, ComparesWith}
 use Rattle.sc_report.specs.declared.comparing.Meeting.TheVariants.{Alike, Ended}

@@ -52,8 +52,8 @@ pub fn write_report_of<W: Write>(
     matched: Matched<'_>,
     to: &mut Watched<W>,
 ) -> Result<(), ReportFault>
-    requires { length matched.places.now ≡ length matched.papers.now.students }
-    ensures bytes { (a : Matching) → ArePlaces matched.entry.papers.now a matched.entry.places.now
+    requires { length matched.places.items ≡ length matched.papers.now.students }
+    ensures bytes { (a : Matching) → ArePlaces matched.entry.papers.now a matched.entry.places.items
         → WritesReport matched.entry.papers.now a
         (W.contents (device_of to.old)) (W.contents (device_of to.new)) result }
     ensures failed { has_failed to.new ≡ (has_failed to.old || is_write_fault result) }

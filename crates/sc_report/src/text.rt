@@ -1,10 +1,11 @@
 ghost use Rattle.std.specs.Prelude.{◌≡◌, [], ◌++◌, length, map, All, IfOk, OnOk};
-ghost use Rattle.sc_papers.specs.Market.{schools_of};
+ghost use Rattle.sc_papers.specs.Market.{Market, schools_of};
 ghost use Rattle.sc_papers.specs.Matching.{Matching};
 ghost use Rattle.sc_papers.specs.WellFormed.{WellFormed};
 ghost use Rattle.sc_repair.specs.Standing.{matching_of};
-ghost use Rattle.sc_report.specs.Cutoff.{rows_in_order};
-ghost use Rattle.sc_report.specs.Entrants.{numbers_of, Holds};
+ghost use Rattle.sc_report.specs.Cutoff.{cutoff_rows, rows_in_order};
+ghost use Rattle.sc_report.specs.CutoffText.{cutoff_lines};
+ghost use Rattle.sc_report.specs.Entrants.{numbers_of, AreRising, Holds};
 ghost use Rattle.sc_report.specs.Pages.{pages_text, text_so_far};
 ghost use Rattle.sc_report.specs.Text.{assignment_line, assignment_lines, assignment_text, place_text, report_text, IsReportText};
 ghost use Rattle.sc_tallies.specs.Places.{ArePlaces};
@@ -77,39 +78,58 @@ pub fn assignment_text(alloc: Global, clearing: &Clearing) -> Result<Vec<u8>, Al
     pages.into_text(alloc)
 }
 
-/// Adds the assignment text, the cutoff text and the reason text, by the rows of all schools in order of entry.
+/// Adds the cutoff text, by the rows of all schools in order of entry.
+fn push_cutoff_text(pages: &mut Pages, alloc: Global, rows: &[CutoffRow]) -> Result<(), AllocError>
+    // By whichever papers and matching the rows were made.
+    ensures { OnOk result ((m : Market) (a : Matching) → rows.now ≡ rows_in_order m a
+        → text_so_far pages.new ≡ text_so_far pages.old ++ cutoff_lines (cutoff_rows m a)) }
+{
+    let cutoffs = rising_rows(alloc, rows)?;
+    push_cutoffs(&mut pages.last, cutoffs.as_slice())?;
+    Ok(())
+}
+
+/// Adds the assignment text, the cutoff text and the reason text, by the students by rising number and the rows of all
+/// schools in order of entry.
 fn push_report(
     pages: &mut Pages,
     alloc: Global,
+    entrants: &[Entrant],
     rows: &[CutoffRow],
-    matched: Matched<'_>,
+    papers: &FlatPapers,
 ) -> Result<(), AllocError>
-    requires schools { map (λ row. row.school) rows.now ≡ schools_of matched.papers.now }
-    requires places { length matched.places.now ≡ length matched.papers.now.students }
-    requires well_formed { WellFormed matched.papers.now }
+    requires schools { map (λ row. row.school) rows.now ≡ schools_of papers.now }
+    requires rising { AreRising papers.now entrants.now }
+    requires well_formed { WellFormed papers.now }
     // By whichever matching the rows were made.
-    ensures { OnOk result ((a : Matching) → ArePlaces matched.entry.papers.now a matched.entry.places.now
-        → rows.now ≡ rows_in_order matched.entry.papers.now a
-        → text_so_far pages.new ≡ text_so_far pages.old ++ report_text matched.entry.papers.now a) }
+    ensures { OnOk result ((a : Matching) → All (Holds a) entrants.now → rows.now ≡ rows_in_order papers.now a
+        → text_so_far pages.new ≡ text_so_far pages.old ++ report_text papers.now a) }
 {
-    let papers = matched.papers;
-    let entrants = rising_entrants(alloc, papers, matched.places)?;
-    push_assignments(pages, alloc, entrants.as_slice())?;
-    let cutoffs = rising_rows(alloc, rows)?;
-    push_cutoffs(&mut pages.last, cutoffs.as_slice())?;
-    push_reason_lines(pages, alloc, entrants.as_slice(), rows, papers)?;
+    push_assignments(pages, alloc, entrants)?;
+    push_cutoff_text(pages, alloc, rows)?;
+    push_reason_lines(pages, alloc, entrants, rows, papers)?;
     Ok(())
 }
 
 /// Fills pages on which nothing stands with the report text of papers and of the school that each student has.
 fn fill_report(mut pages: Pages, alloc: Global, matched: Matched<'_>) -> Result<Pages, AllocError>
     requires empty { text_so_far pages ≡ [] }
-    requires places { length matched.places.now ≡ length matched.papers.now.students }
-    ensures { IfOk result (λ filled. (a : Matching) → ArePlaces matched.entry.papers.now a matched.entry.places.now
+    requires places { length matched.places.items ≡ length matched.papers.now.students }
+    ensures { IfOk result (λ filled. (a : Matching) → ArePlaces matched.entry.papers.now a matched.entry.places.items
         → IsReportText matched.entry.papers.now a (text_so_far filled)) }
 {
-    let rows = rows_in_order(alloc, matched.papers, matched.places)?;
-    push_report(&mut pages, alloc, rows.as_slice(), matched)?;
+    let papers = matched.papers;
+    let rows = rows_in_order(alloc, papers, matched.places.as_slice())?;
+    let entrants = rising_entrants(alloc, papers, matched.places.as_slice())?;
+    // What a student has stands with them now, and the pages may take the memory.
+    drop(matched);
+    push_report(
+        &mut pages,
+        alloc,
+        entrants.as_slice(),
+        rows.as_slice(),
+        papers,
+    )?;
     Ok(pages)
 }
 
@@ -118,8 +138,8 @@ pub(crate) fn report_pages_of(
     alloc: Global,
     matched: Matched<'_>,
 ) -> Result<Vec<Vec<u8>>, AllocError>
-    requires { length matched.places.now ≡ length matched.papers.now.students }
-    ensures { IfOk result (λ pages. (a : Matching) → ArePlaces matched.entry.papers.now a matched.entry.places.now
+    requires { length matched.places.items ≡ length matched.papers.now.students }
+    ensures { IfOk result (λ pages. (a : Matching) → ArePlaces matched.entry.papers.now a matched.entry.places.items
         → IsReportText matched.entry.papers.now a (pages_text pages.items)) }
 {
     let pages = fill_report(Pages::new(alloc), alloc, matched)?;
@@ -130,8 +150,8 @@ pub(crate) fn report_pages_of(
 /// entry, `None` where they have none: the assignment text, the cutoff text and the reason text. The only error is want of memory. The cost is one pass over the students for the cutoffs, a sort of the
 /// students' and the schools' numbers, and one pass for the lines.
 pub fn report_text_of(alloc: Global, matched: Matched<'_>) -> Result<Vec<u8>, AllocError>
-    requires { length matched.places.now ≡ length matched.papers.now.students }
-    ensures { IfOk result (λ text. (a : Matching) → ArePlaces matched.entry.papers.now a matched.entry.places.now
+    requires { length matched.places.items ≡ length matched.papers.now.students }
+    ensures { IfOk result (λ text. (a : Matching) → ArePlaces matched.entry.papers.now a matched.entry.places.items
         → IsReportText matched.entry.papers.now a text.items) }
 {
     let pages = fill_report(Pages::whole(alloc), alloc, matched)?;
@@ -145,10 +165,7 @@ pub(crate) fn report_pages(alloc: Global, clearing: &Clearing) -> Result<Vec<Vec
 {
     let papers: &FlatPapers = clearing.papers();
     let places = places_of(alloc, papers, clearing.places())?;
-    let matched = Matched {
-        papers,
-        places: places.as_slice(),
-    };
+    let matched = Matched { papers, places };
     let pages = report_pages_of(alloc, matched)?;
     Ok(pages)
 }
@@ -160,10 +177,7 @@ pub fn report_text(alloc: Global, clearing: &Clearing) -> Result<Vec<u8>, AllocE
 {
     let papers: &FlatPapers = clearing.papers();
     let places = places_of(alloc, papers, clearing.places())?;
-    let matched = Matched {
-        papers,
-        places: places.as_slice(),
-    };
+    let matched = Matched { papers, places };
     let text = report_text_of(alloc, matched)?;
     Ok(text)
 }

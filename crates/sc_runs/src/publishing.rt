@@ -102,9 +102,9 @@ fn compare<R: Read>(
     matched: Matched<'_>,
     report: &mut Watched<R>,
 ) -> Result<Option<u64>, RunFault>
-    requires { length matched.places.now ≡ length matched.papers.now.students }
+    requires { length matched.places.items ≡ length matched.papers.now.students }
     ensures compared { IfOk result (λ found. (a : Matching)
-        → ArePlaces matched.entry.papers.now a matched.entry.places.now
+        → ArePlaces matched.entry.papers.now a matched.entry.places.items
         → IsCompared (report_text matched.entry.papers.now a)
         (turn_of R.remaining input.Report report.old report.new) found) }
     ensures ended { IfErr result (EndsComparing (turn_of R.remaining input.Report report.old report.new)) }
@@ -128,12 +128,12 @@ fn find_audited<R: Read>(
     alloc: Global,
     papers: &FlatPapers,
     log: &[Rejection],
-    audited: &AuditedLog,
+    audited: AuditedLog,
     report: &mut Watched<R>,
 ) -> Result<Finding, RunFault>
-    requires verdict { IsVerdict papers.now log.now audited.now.verdict }
-    requires places { audited.now.verdict ≡ verdict.Certified
-        → ArePlaces papers.now (matching_of papers.now log.now) audited.now.places.items }
+    requires verdict { IsVerdict papers.now log.now audited.verdict }
+    requires places { audited.verdict ≡ verdict.Certified
+        → ArePlaces papers.now (matching_of papers.now log.now) audited.places.items }
     ensures found { IfOk result
         (IsFinding papers.now log.now (turn_of R.remaining input.Report report.old report.new)) }
     ensures ended { IfErr result
@@ -145,7 +145,7 @@ fn find_audited<R: Read>(
         Verdict::Certified => {
             let matched = Matched {
                 papers,
-                places: audited.places.as_slice(),
+                places: audited.places,
             };
             match compare(alloc, matched, report) {
                 Ok(difference) => Ok(finding_of(difference)),
@@ -168,11 +168,7 @@ fn find<R: Read>(
         (EndsFinding papers.now log.now (turn_of R.remaining input.Report report.old report.new)) }
 {
     match audit_and_place(alloc, papers, log) {
-        Ok(audited) => {
-            let found = find_audited(alloc, papers, log, &audited, report);
-            drop(audited);
-            found
-        }
+        Ok(audited) => find_audited(alloc, papers, log, audited, report),
         Err(_) => Err(RunFault::OutOfMemory),
     }
 }

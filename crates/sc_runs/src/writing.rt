@@ -79,8 +79,8 @@ pub fn write_flushed_report<W: Write>(
     matched: Matched<'_>,
     out: &mut Watched<W>,
 ) -> Result<(), RunFault>
-    requires { length matched.places.now ≡ length matched.papers.now.students }
-    ensures bytes { (a : Matching) → ArePlaces matched.entry.papers.now a matched.entry.places.now
+    requires { length matched.places.items ≡ length matched.papers.now.students }
+    ensures bytes { (a : Matching) → ArePlaces matched.entry.papers.now a matched.entry.places.items
         → WritesText (IsReportText matched.entry.papers.now a)
         (W.contents (device_of out.old)) (W.contents (device_of out.new)) result }
     ensures failed { OutputFailsAsTold out.old out.new result }

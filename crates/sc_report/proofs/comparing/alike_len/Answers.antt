@@ -1,6 +1,5 @@
 use Rattle.std.proofs.Common.{◌≡◌, ◌<◌, ap, subst, length, take, arith}
 use Rattle.std.proofs.lemmas.List.{length-take}
-use Rattle.sc_report.specs.Comparing.{common}
 use Rattle.sc_report.proofs.Differences.{common-apart, common-end}
 use Rattle.sc_report.proofs.comparing.alike_len.Goals as goal
 

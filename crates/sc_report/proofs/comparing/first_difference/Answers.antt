@@ -1,4 +1,4 @@
-use Rattle.std.proofs.Common.{◌≤◌, ◌+◌, ◌∙◌, length, subst, take, arith}
+use Rattle.std.proofs.Common.{◌+◌, ◌∙◌, length, subst, take, arith}
 use Rattle.std.proofs.lemmas.List.{length-take}
 use Rattle.sc_report.specs.Steps.{GoesOn}
 use Rattle.sc_report.specs.Watched.{device_of}
