@@ -27,11 +27,9 @@ pub fn report_papers<W: Write>(
         Ok(outcome) => {
             let matched = Matched {
                 papers,
-                places: outcome.places.as_slice(),
+                places: outcome.places,
             };
-            let written = write_flushed_report(alloc, matched, out);
-            drop(outcome);
-            written
+            write_flushed_report(alloc, matched, out)
         }
         Err(_) => Err(RunFault::OutOfMemory),
     }

@@ -1,5 +1,7 @@
 //! Exports of papers into a folder.
-use super::{expect, ordered, ordered_after, write_files};
+use super::{expect, ordered, ordered_after, remove, write, write_files};
+use std::process::Abort;
+use std::rt::Files;
 use std::{fs, io};
 
 /// The three files of a folder, one after the other.
@@ -16,11 +18,10 @@ fn files_in(rt: &HostRuntime, names: &[&str]) -> io::Result<String> {
 const EXPORTED: &[&str] = &["next/schools.csv", "next/roster.csv", "next/lists.csv"];
 
 /// Takes the folder `next` away, with what an earlier test left in it.
-fn without_next(rt: &HostRuntime) -> io::Result<()> {
-    if fs::exists(rt, "next")? {
-        fs::remove_dir_all(rt, "next")?;
+fn without_next<R: Files + Abort + AllocGlobal>(rt: &R) {
+    if let Ok(true) = fs::exists(rt, "next") {
+        fs::remove_dir_all(rt, "next").expect(rt, "a folder that can be taken away");
     }
-    Ok(())
 }
 
 /// The files of Market B's papers.
@@ -52,22 +53,21 @@ fn exported(rt: &HostRuntime, journal: &str) -> io::Result<String> {
 }
 
 #[test]
-fn an_export(rt: HostRuntime) -> io::Result<()> {
-    write_files(&rt)?;
-    without_next(&rt)?;
-    fs::create_dir(&rt, "next")?;
+fn an_export(rt: HostRuntime) {
+    write_files(&rt);
+    without_next(&rt);
+    fs::create_dir(&rt, "next").expect(&rt, "a folder");
     for (journal, files) in EXPORTS {
         expect(&rt, exported(&rt, journal), "0", files);
     }
     expect(&rt, ordered(&rt, "export", &["--to", "next"]), "", "0");
     for name in EXPORTED {
-        fs::remove_file(&rt, *name)?;
+        remove(&rt, *name);
     }
     let torn = "clearinghouse: journal torn\n0";
     expect(&rt, exported(&rt, "1,withdraw"), torn, MARKET_B_FILES);
     let none = "clearinghouse: cannot write schools.csv: no file is whole\n4";
     expect(&rt, ordered(&rt, "export", &["--to", ""]), "", none);
-    Ok(())
 }
 
 /// What an export into the folder `next` tells.
@@ -76,21 +76,20 @@ fn exporting(rt: &HostRuntime) -> io::Result<String> {
 }
 
 #[test]
-fn an_export_says_what_stands(rt: HostRuntime) -> io::Result<()> {
-    write_files(&rt)?;
-    without_next(&rt)?;
+fn an_export_says_what_stands(rt: HostRuntime) {
+    write_files(&rt);
+    without_next(&rt);
     let none = "clearinghouse: cannot write schools.csv: no file is whole\n4";
     expect(&rt, exporting(&rt), "", none);
-    fs::create_dir(&rt, "next")?;
-    fs::write(&rt, "next/lists.csv", "old")?;
+    fs::create_dir(&rt, "next").expect(&rt, "a folder");
+    write(&rt, "next/lists.csv", "old");
     let two =
         "clearinghouse: cannot write lists.csv: it is there already; schools.csv and roster.csv are whole\n4";
     expect(&rt, exporting(&rt), "", two);
     let first = "clearinghouse: cannot write schools.csv: it is there already; no file was made\n4";
     expect(&rt, exporting(&rt), "", first);
-    fs::remove_file(&rt, "next/schools.csv")?;
+    remove(&rt, "next/schools.csv");
     let one =
         "clearinghouse: cannot write roster.csv: it is there already; schools.csv is whole\n4";
     expect(&rt, exporting(&rt), "", one);
-    Ok(())
 }

@@ -1,5 +1,5 @@
 //! What becomes of the file of a journal.
-use super::{REPORT, expect, ordering, performed, write_files};
+use super::{REPORT, expect, ordering, performed, remove, write, write_files};
 use std::{fs, io};
 
 /// What a run tells whose schools and journal are these files, and then the journal.
@@ -27,13 +27,12 @@ fn run_with(
 }
 
 #[test]
-fn a_journal_outlives_an_input_that_is_not_there(rt: HostRuntime) -> io::Result<()> {
-    write_files(&rt)?;
-    fs::write(&rt, "script", "")?;
-    fs::write(&rt, "journal", "1,withdraw,1\n")?;
+fn a_journal_outlives_an_input_that_is_not_there(rt: HostRuntime) {
+    write_files(&rt);
+    write(&rt, "script", "");
+    write(&rt, "journal", "1,withdraw,1\n");
     let want = "clearinghouse: cannot read schools\n4|1,withdraw,1\n";
     expect(&rt, run_over(&rt, "absent", "journal"), "", want);
-    Ok(())
 }
 
 /// The inputs of a run, with what each holds.
@@ -44,26 +43,18 @@ const HELD: &[(&str, &str)] = &[
     ("script", "0,add,10,1\n"),
 ];
 
-/// Takes a file away, if it is there.
-fn without(rt: &HostRuntime, file: &str) -> io::Result<()> {
-    if fs::exists(rt, file)? {
-        fs::remove_file(rt, file)?;
-    }
-    Ok(())
-}
-
 #[test]
-fn no_input_is_the_journal(rt: HostRuntime) -> io::Result<()> {
-    write_files(&rt)?;
-    fs::write(&rt, "script", "0,add,10,1\n")?;
+fn no_input_is_the_journal(rt: HostRuntime) {
+    write_files(&rt);
+    write(&rt, "script", "0,add,10,1\n");
     let refused = "clearinghouse: cannot write journal\n4|";
     for (input, held) in HELD {
         expect(&rt, run_over(&rt, "schools", *input), refused, *held);
-        without(&rt, "linked")?;
-        fs::hard_link(&rt, *input, "linked")?;
+        remove(&rt, "linked");
+        fs::hard_link(&rt, *input, "linked").expect(&rt, "a link");
         expect(&rt, run_over(&rt, "schools", "linked"), refused, *held);
     }
-    without(&rt, "linked")
+    remove(&rt, "linked");
 }
 
 /// What a run without a record tells that is to keep an old journal, and then the journal.
@@ -73,16 +64,16 @@ fn run_that_keeps(rt: &HostRuntime) -> io::Result<String> {
 }
 
 #[test]
-fn no_journal_is_clobbered(rt: HostRuntime) -> io::Result<()> {
-    write_files(&rt)?;
-    fs::write(&rt, "script", "")?;
-    fs::write(&rt, "journal", "1,withdraw,1\n")?;
+fn no_journal_is_clobbered(rt: HostRuntime) {
+    write_files(&rt);
+    write(&rt, "script", "");
+    write(&rt, "journal", "1,withdraw,1\n");
     let refused = "clearinghouse: cannot write journal\n4|1,withdraw,1\n";
     expect(&rt, run_that_keeps(&rt), "", refused);
     expect(&rt, run_over(&rt, "schools", "journal"), REPORT, "0|");
     // It is an empty file now.
     expect(&rt, run_that_keeps(&rt), REPORT, "0|");
-    without(&rt, "journal")?;
+    remove(&rt, "journal");
     expect(&rt, run_that_keeps(&rt), REPORT, "0|");
     let null = &[
         "--no-clobber",
@@ -93,5 +84,4 @@ fn no_journal_is_clobbered(rt: HostRuntime) -> io::Result<()> {
     ];
     let device = "clearinghouse: cannot write journal\n4|";
     expect(&rt, run_with(&rt, "schools", "journal", null), "", device);
-    Ok(())
 }

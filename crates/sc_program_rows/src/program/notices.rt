@@ -1,5 +1,5 @@
 //! Summaries, explanations, lists of schools, and changes of places.
-use super::{expect, ordered, ordered_after, ordering, performed, write_files};
+use super::{expect, ordered, ordered_after, ordering, performed, remove, write, write_files};
 use sc_words::Word;
 use std::{fs, io};
 
@@ -22,18 +22,10 @@ const SUMMARIES: &[(&str, &str, &str)] = &[
     ),
 ];
 
-/// Takes the journal `kept` away, if an earlier test or run left it.
-fn without_kept(rt: &HostRuntime) -> io::Result<()> {
-    if fs::exists(rt, "kept")? {
-        fs::remove_file(rt, "kept")?;
-    }
-    Ok(())
-}
-
 #[test]
-fn a_summary(rt: HostRuntime) -> io::Result<()> {
-    write_files(&rt)?;
-    without_kept(&rt)?;
+fn a_summary(rt: HostRuntime) {
+    write_files(&rt);
+    remove(&rt, "kept");
     expect(&rt, ordered(&rt, "summary", &[]), SUMMARY, "0");
     let kept = &["--journal", "kept"];
     let absent = "clearinghouse: cannot read journal\n4";
@@ -42,7 +34,6 @@ fn a_summary(rt: HostRuntime) -> io::Result<()> {
         let told = ordered_after(&rt, ("kept", journal), "summary", kept);
         expect(&rt, told, summary, end);
     }
-    Ok(())
 }
 
 /// The line above what came of each choice.
@@ -71,26 +62,25 @@ const EXPLANATIONS: &[(&[&str], &str, &str)] = &[
 ];
 
 #[test]
-fn an_explanation(rt: HostRuntime) -> io::Result<()> {
-    write_files(&rt)?;
+fn an_explanation(rt: HostRuntime) {
+    write_files(&rt);
     let whole =
         "1,1,10,4,e56a5d4028bd8653,2,4,e56a5d4028bd8653,1,2,given\n1,2,20,2,e56a5d4028bd8653,2,4,b819d2bd1aed8da0,2,1,later\n2,1,20,4,b819d2bd1aed8da0,1,4,b819d2bd1aed8da0,2,1,given\n2,2,10,2,b819d2bd1aed8da0,1,4,e56a5d4028bd8653,1,2,later\n0";
     expect(&rt, ordered(&rt, "explain", &[]), EXPLAINED_HEADER, whole);
     let absent = ordered(&rt, "explain", &["--journal", "kept", "--student", "x"]);
     expect(&rt, absent, "", "clearinghouse: student: Number\n2");
-    fs::write(&rt, "kept", "1,enter,3,1,10,10\n2,withdraw,3")?;
+    write(&rt, "kept", "1,enter,3,1,10,10\n2,withdraw,3");
     for (options, text, end) in EXPLANATIONS {
         let told = after_kept(&rt, "explain", options);
         expect(&rt, told, text, end);
     }
-    Ok(())
 }
 
 /// What a subcommand does over Market B after the journal `kept`, with other options.
 fn after_kept(rt: &HostRuntime, subcommand: &str, options: &[&str]) -> io::Result<String> {
     let mut words = ordering(rt.alloc(), subcommand, "schools", options)?;
     words.push(Word::from_text(String::from_str(rt.alloc(), "--journal=kept")?))?;
-    Ok(performed(rt, words.as_slice(), "")?)
+    performed(rt, words.as_slice(), "")
 }
 
 /// The class list and the waiting list of school 20 in Market B with its newcomer.
@@ -115,20 +105,19 @@ const LISTS: &[(&[&str], &str, &str)] = &[
 ];
 
 #[test]
-fn class_lists_and_waiting_lists(rt: HostRuntime) -> io::Result<()> {
-    write_files(&rt)?;
-    without_kept(&rt)?;
+fn class_lists_and_waiting_lists(rt: HostRuntime) {
+    write_files(&rt);
+    remove(&rt, "kept");
     let header = "school,rank,student,class,draw,status\n";
     let whole = "10,1,1,4,e56a5d4028bd8653,admitted\n20,1,2,4,b819d2bd1aed8da0,admitted\n0";
     expect(&rt, ordered(&rt, "admissions", &[]), header, whole);
     let absent = ordered(&rt, "admissions", &["--journal", "kept", "--school", "x"]);
     expect(&rt, absent, "", "clearinghouse: school: Number\n2");
-    fs::write(&rt, "kept", "1,enter,3,1,10,10\n2,withdraw,3")?;
+    write(&rt, "kept", "1,enter,3,1,10,10\n2,withdraw,3");
     for (options, text, end) in LISTS {
         let told = after_kept(&rt, "admissions", options);
         expect(&rt, told, text, end);
     }
-    Ok(())
 }
 
 /// Whose place a newcomer changes in Market B.
@@ -158,17 +147,16 @@ const CHANGED: &[(&[&str], &str, &str)] = &[
 ];
 
 #[test]
-fn whose_place_changed(rt: HostRuntime) -> io::Result<()> {
-    write_files(&rt)?;
-    without_kept(&rt)?;
+fn whose_place_changed(rt: HostRuntime) {
+    write_files(&rt);
+    remove(&rt, "kept");
     let absent = ordered(&rt, "changes", &["--journal", "kept", "--since", "x"]);
     expect(&rt, absent, "", "clearinghouse: since: Number\n2");
     let missing = ordered(&rt, "changes", &["--journal", "kept"]);
     expect(&rt, missing, "", "clearinghouse: cannot read journal\n4");
-    fs::write(&rt, "kept", "1,enter,3,1,10,10\n2,withdraw,3")?;
+    write(&rt, "kept", "1,enter,3,1,10,10\n2,withdraw,3");
     for (options, text, end) in CHANGED {
         let told = after_kept(&rt, "changes", options);
         expect(&rt, told, text, end);
     }
-    Ok(())
 }

@@ -1,5 +1,5 @@
 //! Matches, their logs and audits, and tables of their reports.
-use super::{NEWCOMER, REPORT, expect, ordered, ordered_after, write_files};
+use super::{NEWCOMER, REPORT, expect, ordered, ordered_after, write, write_files};
 use std::{fs, io};
 
 /// Logs of Market B after its newcomer, and what an audit says of each.
@@ -13,36 +13,35 @@ const AUDITS: &[(&str, &str)] = &[
 ];
 
 #[test]
-fn a_match_and_its_log(rt: HostRuntime) -> io::Result<()> {
-    write_files(&rt)?;
+fn a_match_and_its_log(rt: HostRuntime) {
+    write_files(&rt);
     expect(&rt, ordered(&rt, "match", &[]), REPORT, "0");
-    fs::write(
+    write(
         &rt,
         "roster",
         "student,zone,siblings\n1,0,20\n2,0,10\n3,1,10\n",
-    )?;
-    fs::write(&rt, "lists", "student,choices\n1,10 20\n2,20 10\n3,10\n")?;
+    );
+    write(&rt, "lists", "student,choices\n1,10 20\n2,20 10\n3,10\n");
     let log = ordered(&rt, "match", &["--print-log"]);
     expect(&rt, log, "", "1,10\n2,20\n2,10\n0");
     for (log, want) in AUDITS {
         let told = ordered_after(&rt, ("log", log), "audit", &["--log", "log"]);
         expect(&rt, told, "", want);
     }
-    Ok(())
 }
 
 // The report of Market B after its newcomer is certified beside its log, another one is not, and one that is not there
 // cannot be read.
 #[test]
-fn published_reports(rt: HostRuntime) -> io::Result<()> {
-    fs::write(&rt, "schools", "school,zone,seats\n10,1,1\n20,0,1\n")?;
-    fs::write(
+fn published_reports(rt: HostRuntime) {
+    write(&rt, "schools", "school,zone,seats\n10,1,1\n20,0,1\n");
+    write(
         &rt,
         "roster",
         "student,zone,siblings\n1,0,20\n2,0,10\n3,1,10\n",
-    )?;
-    fs::write(&rt, "lists", "student,choices\n1,10 20\n2,20 10\n3,10\n")?;
-    fs::write(&rt, "log", "1,10\n2,20\n2,10\n")?;
+    );
+    write(&rt, "lists", "student,choices\n1,10 20\n2,20 10\n3,10\n");
+    write(&rt, "log", "1,10\n2,20\n2,10\n");
     let options = &["--log", "log", "--report", "report"];
     let absent = ordered(&rt, "audit", options);
     expect(&rt, absent, "", "clearinghouse: cannot read report\n4");
@@ -50,7 +49,6 @@ fn published_reports(rt: HostRuntime) -> io::Result<()> {
     expect(&rt, right, "", "certified\n0");
     let wrong = ordered_after(&rt, ("report", REPORT), "audit", options);
     expect(&rt, wrong, "", "report differs 2\n1");
-    Ok(())
 }
 
 /// Words after those of a match or a replay of Market B, and what is told.
@@ -83,11 +81,10 @@ const TABLES: &[(&str, &[&str], &str)] = &[
 ];
 
 #[test]
-fn tables_of_a_report(rt: HostRuntime) -> io::Result<()> {
-    write_files(&rt)?;
-    fs::write(&rt, "journal", "1,enter,3,1,10,10\n")?;
+fn tables_of_a_report(rt: HostRuntime) {
+    write_files(&rt);
+    write(&rt, "journal", "1,enter,3,1,10,10\n");
     for (subcommand, options, want) in TABLES {
         expect(&rt, ordered(&rt, subcommand, options), "", want);
     }
-    Ok(())
 }

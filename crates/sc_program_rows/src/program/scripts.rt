@@ -62,8 +62,8 @@ fn journaled(rt: &HostRuntime, script: &str, options: &[&str]) -> io::Result<Str
 }
 
 #[test]
-fn a_run_and_its_replay(rt: HostRuntime) -> io::Result<()> {
-    write_files(&rt)?;
+fn a_run_and_its_replay(rt: HostRuntime) {
+    write_files(&rt);
     let script = "0,enter,3,1,10,10\nnonsense\n1,withdraw,3\n";
     let want =
         "1,ok\n2,refused,1,Shape\n3,ok\nstudent,school\n1,10\n2,20\nschool,seats,held,class,draw,student\n10,1,1,4,e56a5d4028bd8653,1\n20,1,1,4,b819d2bd1aed8da0,2\nstudent,school,reason\n0|1,enter,3,1,10,10\n2,withdraw,3\n";
@@ -79,7 +79,6 @@ fn a_run_and_its_replay(rt: HostRuntime) -> io::Result<()> {
         );
         expect(&rt, told, report, end);
     }
-    Ok(())
 }
 
 /// What a terminal is given while a script is run with these options.
@@ -102,13 +101,12 @@ fn shown(rt: &HostRuntime, options: &[&str]) -> io::Result<String> {
 }
 
 #[test]
-fn a_terminal_shows_how_many_records_are_answered(rt: HostRuntime) -> io::Result<()> {
-    write_files(&rt)?;
+fn a_terminal_shows_how_many_records_are_answered(rt: HostRuntime) {
+    write_files(&rt);
     let want =
         "\rrecords answered: 1\rrecords answered: 2\r                                        \r";
     expect(&rt, shown(&rt, RUN_SETTLED_EACH_TIME), want, "");
     expect(&rt, shown(&rt, RUN), "", "");
-    Ok(())
 }
 
 /// Three amendments that are alike, so that one made twice would show.
@@ -149,11 +147,10 @@ const STOPS: &[(usize, &str)] = &[
 
 // The old journal is a prefix of the new one, whatever became of the old output.
 #[test]
-fn a_stopped_run_is_run_again(rt: HostRuntime) -> io::Result<()> {
-    write_files(&rt)?;
+fn a_stopped_run_is_run_again(rt: HostRuntime) {
+    write_files(&rt);
     for (room, left) in STOPS {
         expect(&rt, stopped(&rt, *room), "", left);
         expect(&rt, journaled(&rt, THREE_SEATS, RUN), "", SEATS_ADDED);
     }
-    Ok(())
 }
