@@ -69,18 +69,6 @@ impl Held {
         Ok(())
     }
 
-    /// The keys as a heap. The cost is their number, where they are none yet.
-    fn into_heap(self) -> KeyHeap
-        requires { 0 < length (keys_of self) }
-        ensures { IsPermutation (keys_of self) result }
-    {
-        match self {
-            Held::Nobody(_) => unreachable!(),
-            Held::Listed(keys) => keys.into_heap(),
-            Held::Heaped(keys) => keys,
-        }
-    }
-
     /// Puts a key in the place of the last one, which it answers. It takes no memory. The cost is the logarithm of
     /// their number, and the first time their number.
     pub(crate) fn replace_last(&mut self, alloc: Global, key: HeldKey) -> HeldKey
@@ -88,7 +76,13 @@ impl Held {
         ensures together { IsPermutation (key ∷ keys_of self.old) (result ∷ keys_of self.new) }
         ensures last { All (λ held. is_before result held ≡ false) (keys_of self.old) }
     {
-        let mut keys = mem::replace(self, Held::nobody(alloc)).into_heap();
+        if let Held::Heaped(keys) = self {
+            return keys.replace_last(key);
+        }
+        let Held::Listed(keys) = mem::replace(self, Held::nobody(alloc)) else {
+            unreachable!()
+        };
+        let mut keys = keys.into_heap();
         let out = keys.replace_last(key);
         *self = Held::Heaped(keys);
         out
