@@ -7,11 +7,11 @@ use Rattle.sc_papers.specs.Market.{Market, students_of}
 use Rattle.sc_papers.specs.WellFormed.{WellFormed}
 use Rattle.sc_engine.specs.Applications.{applicants_of, ComesNext}
 use Rattle.sc_engine.specs.Applicants.{numbers_of, AreEverybody}
-use Rattle.sc_engine.specs.RoundView.{RoundView, Enters, has_entered, SettlesThese}
+use Rattle.sc_engine.specs.RoundView.{RoundView, Enters, has_entered, HaveEntered}
 use Rattle.sc_engine.specs.declared.batches.Application.{Application}
 use Rattle.sc_engine.specs.declared.applicants.Applicant.{Applicant}
 use Rattle.sc_engine.proofs.Everybody.{applicant-position, applicant-apart, applicant-next}
-use Rattle.sc_engine.proofs.Settling.{settles-permuted, take-next}
+use Rattle.sc_engine.proofs.Settling.{entered-permuted, take-next}
 use Rattle.sc_engine.proofs.Tables.{get_or-mapped, length-mapped}
 
 -- one application more
@@ -40,23 +40,23 @@ numbers-front front rest n is =
 -- the first k applications have entered, after whoever entered before
 abbrev pub FirstEntered : Market → RoundView → RoundView → List Application → ℕ → Type 0
 FirstEntered m old new applications k =
-    (before after : List Applicant) → ComesNext m old before (applicants_of applications) after → SettlesThese m new (take (length before + k) (numbers_of (before ++ applicants_of applications ++ after)))
+    (before after : List Applicant) → ComesNext m old before (applicants_of applications) after → HaveEntered m new (take (length before + k) (numbers_of (before ++ applicants_of applications ++ after)))
 
 pub none-entered : (m : Market) (r : RoundView) (applications : List Application) → FirstEntered m r r applications 0
 none-entered m r applications before after comes =
-    subst (SettlesThese m r)
+    subst (HaveEntered m r)
     (sym (ap (λ es. take (length before + 0) (numbers_of es)) (append_assoc before (applicants_of applications) after) ∙ numbers-front before (applicants_of applications ++ after) (length before + 0) (omega arith)))
     comes.entered
 
 pub batch-entered : (m : Market) (old new : RoundView) (applications : List Application) (k : ℕ) → k ≡ length applications → FirstEntered m old new applications k
-    → (before after : List Applicant) → ComesNext m old before (applicants_of applications) after → SettlesThese m new (numbers_of (before ++ applicants_of applications))
+    → (before after : List Applicant) → ComesNext m old before (applicants_of applications) after → HaveEntered m new (numbers_of (before ++ applicants_of applications))
 batch-entered m old new applications k is first before after comes =
-    subst (SettlesThese m new)
+    subst (HaveEntered m new)
     (numbers-front (before ++ applicants_of applications) after (length before + k)
     (omega (arith, is, length-append before (applicants_of applications), length-mapped (λ (n : Application). n.applicant) applications)))
     (first before after comes)
 
--- a application of the batch, among everybody
+-- an application of the batch, among everybody
 module _ (applications : List Application) (k : ℕ) (n : Application) (low : k < length applications) (is : n ≡ get_or applications k n) (m : Market) (old : RoundView) (before after : List Applicant) (comes : ComesNext m old before (applicants_of applications) after) where
   low-mapped : k < length (applicants_of applications)
   low-mapped = omega (arith, low, length-mapped (λ (n : Application). n.applicant) applications)
@@ -78,10 +78,10 @@ module _ (applications : List Application) (k : ℕ) (n : Application) (low : k 
       applicant-apart (before ++ applicants_of applications ++ after) (length before + k) n.applicant application-low application-there m now comes.everybody (first before after comes)
 
   pub application-next : (now new : RoundView) → FirstEntered m old now applications k → Enters m now new n.applicant.student
-      → SettlesThese m new (take (length before + (k + 1)) (numbers_of (before ++ applicants_of applications ++ after)))
+      → HaveEntered m new (take (length before + (k + 1)) (numbers_of (before ++ applicants_of applications ++ after)))
   application-next now new first enters =
       let more : (length before + k) + 1 ≡ length before + (k + 1) = omega arith in
-      subst (λ (n : ℕ). SettlesThese m new (take n (numbers_of (before ++ applicants_of applications ++ after)))) more
+      subst (λ (n : ℕ). HaveEntered m new (take n (numbers_of (before ++ applicants_of applications ++ after)))) more
       (applicant-next (before ++ applicants_of applications ++ after) (length before + k) n.applicant application-low application-there m now new (first before after comes) enters)
 
 -- the next batch of those who are left
@@ -91,15 +91,15 @@ module _ (applicants before batch left rest : List Applicant) (applications : Li
       ap (λ middle. before ++ middle ++ rest) read ∙ append_assoc before batch rest
       ∙ ap (λ end. before ++ end) (sym next) ∙ whole
 
-  pub batch-comes : (m : Market) (r : RoundView) → AreEverybody m applicants → SettlesThese m r (numbers_of before) → ComesNext m r before (applicants_of applications) rest
+  pub batch-comes : (m : Market) (r : RoundView) → AreEverybody m applicants → HaveEntered m r (numbers_of before) → ComesNext m r before (applicants_of applications) rest
   batch-comes m r everybody entered = record {
     everybody = subst (AreEverybody m) (sym batch-whole) everybody;
     entered = entered;
   }
 
 -- nobody is left
-pub everybody-entered : (m : Market) (r : RoundView) (applicants before left : List Applicant) → length left ≡ 0 → before ++ left ≡ applicants → AreEverybody m applicants → SettlesThese m r (numbers_of before) → SettlesThese m r (students_of m)
+pub everybody-entered : (m : Market) (r : RoundView) (applicants before left : List Applicant) → length left ≡ 0 → before ++ left ≡ applicants → AreEverybody m applicants → HaveEntered m r (numbers_of before) → HaveEntered m r (students_of m)
 everybody-entered m r applicants before [] none whole everybody entered =
-    settles-permuted m r (students_of m) (numbers_of applicants) everybody.numbers
-    (subst (λ (es : List Applicant). SettlesThese m r (numbers_of es)) (sym (append-nil before) ∙ whole) entered)
+    entered-permuted m r (students_of m) (numbers_of applicants) everybody.numbers
+    (subst (λ (es : List Applicant). HaveEntered m r (numbers_of es)) (sym (append-nil before) ∙ whole) entered)
 everybody-entered m r applicants before (e ∷ left) none whole everybody entered = absurd (omega (arith, none))

@@ -11,9 +11,9 @@ use Rattle.sc_papers.specs.Market.{Market, students_of}
 use Rattle.sc_papers.specs.WellFormed.{WellFormed}
 use Rattle.sc_papers.proofs.Positions.{place-position}
 use Rattle.sc_engine.specs.Applicants.{numbers_of, AreEverybody, StandsAt}
-use Rattle.sc_engine.specs.RoundView.{RoundView, Enters, has_entered, SettlesThese}
+use Rattle.sc_engine.specs.RoundView.{RoundView, Enters, has_entered, HaveEntered}
 use Rattle.sc_engine.specs.declared.applicants.Applicant.{Applicant}
-use Rattle.sc_engine.proofs.Settling.{first-apart, settles-next, take-next}
+use Rattle.sc_engine.proofs.Settling.{entered-next, first-apart, take-next}
 
 -- a student of the list, and the number at the same place
 module _ (applicants : List Applicant) (k : ℕ) (e : Applicant) (low : k < length applicants) (is : e ≡ get_or applicants k e) where
@@ -28,15 +28,15 @@ module _ (applicants : List Applicant) (k : ℕ) (e : Applicant) (low : k < leng
       place-position m well e.position e.student (subst (StandsAt m) (sym is) (are.stand k e low))
 
   -- those before are others
-  pub applicant-apart : (m : Market) (r : RoundView) → AreEverybody m applicants → SettlesThese m r (take k (numbers_of applicants)) → has_entered m r.ranks e.student ≡ false
+  pub applicant-apart : (m : Market) (r : RoundView) → AreEverybody m applicants → HaveEntered m r (take k (numbers_of applicants)) → has_entered m r.ranks e.student ≡ false
   applicant-apart m r are before =
       before.entered e.student
       ∙ first-apart (numbers_of applicants) k e.student
       (IsDistinct-IsPermutation nat_eq nat_eq_equiv.symm (students_of m) (numbers_of applicants) are.numbers before.fits.well_formed.students_differ)
       number-there
 
-  pub applicant-next : (m : Market) (old new : RoundView) → SettlesThese m old (take k (numbers_of applicants)) → Enters m old new e.student → SettlesThese m new (take (k + 1) (numbers_of applicants))
-  applicant-next m old new before enters = settles-next m old new (numbers_of applicants) k e.student number-there before enters
+  pub applicant-next : (m : Market) (old new : RoundView) → HaveEntered m old (take k (numbers_of applicants)) → Enters m old new e.student → HaveEntered m new (take (k + 1) (numbers_of applicants))
+  applicant-next m old new before enters = entered-next m old new (numbers_of applicants) k e.student number-there before enters
 
 -- the first students, and one more
 pub numbers-more : (m : Market) (applicants : List Applicant) (k : ℕ) (e : Applicant) → numbers_of applicants ≡ take k (students_of m) → slice_get (students_of m) k ≡ Some e.student

@@ -1,10 +1,10 @@
 -- A round that forgets its log goes on from where its students stand.
-use Rattle.std.proofs.Common.{◌≡◌, ap, sym, subst, ◌∙◌, List, [], ◌++◌, arith}
+use Rattle.std.proofs.Common.{◌≡◌, ap, sym, subst, ◌∙◌, ℕ, List, [], ◌++◌, arith}
 use Rattle.std.proofs.lemmas.List.{append-nil}
 use Rattle.sc_papers.specs.Log.{next_choice, IsSettled}
 use Rattle.sc_papers.specs.Market.{Market}
 use Rattle.sc_papers.specs.declared.rejection.Rejection.{Rejection}
-use Rattle.sc_engine.specs.RoundView.{RoundView, Continues, Fits, entered_papers, without_log}
+use Rattle.sc_engine.specs.RoundView.{RoundView, Continues, Fits, HaveEntered, entered_papers, without_log}
 
 pub fits-without_log : (m : Market) (r : RoundView) → Fits m r → Fits m (without_log r)
 fits-without_log m r fits = record {
@@ -23,3 +23,11 @@ continues-without_log m r earlier continues =
       settled = subst (λ (log : List Rejection). IsSettled (entered_papers m r.ranks) log) (sym whole) continues.settled;
       next = λ i. ap (λ (log : List Rejection). next_choice (entered_papers m r.ranks) log i) whole ∙ continues.next i;
     }
+
+pub entered-without_log : (m : Market) (r : RoundView) (xs : List ℕ) → HaveEntered m r xs → HaveEntered m (without_log r) xs
+entered-without_log m r xs these = record {
+  fits = fits-without_log m r these.fits;
+  entered = these.entered;
+  earlier = these.earlier ++ r.log;
+  continues = continues-without_log m r these.earlier these.continues;
+}

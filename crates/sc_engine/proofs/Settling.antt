@@ -1,5 +1,5 @@
 -- All students enter, in whatever order.
-use Rattle.std.proofs.Common.{◌≡◌, inl, inr, refl, ap, sym, subst, ◌∙◌, ℕ, zero, suc, ◌+◌, ◌<◌, ◌≤◌, ◌==◌, nat_eq, Bool, true, false, cond, not, ◌&&◌, ◌||◌, List, [], ◌∷◌, ◌++◌, length, get_or, take, filter, Option, Some, None, Contains, is_some, slice_get, add-one, arith}
+use Rattle.std.proofs.Common.{◌≡◌, inl, inr, refl, ap, sym, subst, ◌∙◌, ℕ, zero, suc, ◌+◌, ◌<◌, ◌≤◌, ◌==◌, nat_eq, Bool, true, false, cond, not, ◌&&◌, ◌||◌, List, [], ◌∷◌, ◌++◌, length, get_or, take, filter, map, Option, Some, None, Contains, is_some, slice_get, add-one, arith}
 use Rattle.std.specs.List.{list_any, IsDistinct}
 use Rattle.std.specs.List.Sorted.{IsPermutation}
 use Rattle.std.specs.Map.{keys_of}
@@ -12,8 +12,8 @@ use Rattle.std.proofs.Math.Seq.{take-suc}
 use Rattle.std.proofs.lemmas.Map.Keys.{apart_from_distinct}
 use Rattle.sc_papers.specs.Assignment.{assigned}
 use Rattle.sc_papers.specs.Market.{Market, students_of}
-use Rattle.sc_papers.specs.Log.{next_choice, matching_of, IsSettled}
-use Rattle.sc_papers.specs.Matching.{how_many, Matching, IsStudentOptimal}
+use Rattle.sc_papers.specs.Log.{next_choice, IsSettled}
+use Rattle.sc_papers.specs.Matching.{how_many, Matching}
 use Rattle.sc_papers.specs.Progress.{placed}
 use Rattle.sc_papers.specs.Restriction.{restricted}
 use Rattle.sc_papers.specs.WellFormed.{WellFormed}
@@ -22,7 +22,8 @@ use Rattle.sc_papers.proofs.Counting.{contains-head, contains-tail}
 use Rattle.sc_papers.proofs.Optimality.{settled-optimal}
 use Rattle.sc_papers.proofs.Rejections.{any-push}
 use Rattle.sc_papers.proofs.Students.{how_many-agree}
-use Rattle.sc_engine.specs.RoundView.{RoundView, next_of, has_entered, Fits, standing_but, entered_papers, Continues, Enters, SettlesFirst, SettlesThese}
+use Rattle.sc_engine.specs.RoundView.{RoundView, next_of, has_entered, Fits, standing_but, entered_papers, Continues, Enters, HaveEntered, SettlesFirst, SettlesThese}
+use Rattle.sc_engine.specs.SettledPlaces.{AreSettledPlaces}
 use Rattle.sc_engine.proofs.Tables.{next-among, length-mapped}
 use Rattle.sc_papers.proofs.Positions.{any-among}
 use Rattle.sc_engine.proofs.CountingLaws.{exact-none}
@@ -66,25 +67,39 @@ pub first-all : (xs : List ℕ) (j : ℕ) → Contains xs j → among_first xs (
 first-all xs j among = ap (list_any (nat_eq j)) (take-all xs) ∙ any-among xs j among
 
 -- one more student of a list has entered
-pub settles-next : (m : Market) (old new : RoundView) (xs : List ℕ) (k i : ℕ) → slice_get xs k ≡ Some i → SettlesThese m old (take k xs) → Enters m old new i → SettlesThese m new (take (k + 1) xs)
-settles-next m old new xs k i here before enters = record {
+pub entered-next : (m : Market) (old new : RoundView) (xs : List ℕ) (k i : ℕ) → slice_get xs k ≡ Some i → HaveEntered m old (take k xs) → Enters m old new i → HaveEntered m new (take (k + 1) xs)
+entered-next m old new xs k i here before enters = record {
   fits = enters.fits;
   entered = λ j. enters.entered j ∙ ap (λ b. b || j == i) (before.entered j) ∙ sym (first-more xs k i here j);
-  settled = enters.continues [] before.settled;
-  counted = omega (arith, before.counted, enters.counted);
+  earlier = before.earlier;
+  continues = enters.continues before.earlier before.continues;
+}
+
+-- a log that is settled for students is so after none
+abbrev pub settled-entered : (m : Market) (r : RoundView) (xs : List ℕ) → SettlesThese m r xs → HaveEntered m r xs
+settled-entered m r xs these = record {
+  fits = these.fits;
+  entered = these.entered;
+  earlier = [];
+  continues = these.settled;
 }
 
 -- one more student has entered, in order of entry
 pub settles-more : (m : Market) (old new : RoundView) (k i : ℕ) → slice_get (students_of m) k ≡ Some i → SettlesFirst m old k → Enters m old new i → SettlesFirst m new (k + 1)
-settles-more m old new = settles-next m old new (students_of m)
+settles-more m old new k i here before enters = record {
+  fits = enters.fits;
+  entered = (entered-next m old new (students_of m) k i here (settled-entered m old (take k (students_of m)) before) enters).entered;
+  settled = enters.continues [] before.settled;
+  counted = omega (arith, before.counted, enters.counted);
+}
 
 -- the same students in another order
-pub settles-permuted : (m : Market) (r : RoundView) (xs ys : List ℕ) → IsPermutation xs ys → SettlesThese m r ys → SettlesThese m r xs
-settles-permuted m r xs ys moved these = record {
+pub entered-permuted : (m : Market) (r : RoundView) (xs ys : List ℕ) → IsPermutation xs ys → HaveEntered m r ys → HaveEntered m r xs
+entered-permuted m r xs ys moved these = record {
   fits = these.fits;
   entered = λ i. these.entered i ∙ sym (list_any-IsPermutation (nat_eq i) xs ys moved);
-  settled = these.settled;
-  counted = these.counted;
+  earlier = these.earlier;
+  continues = these.continues;
 }
 
 -- nobody stands at a choice where nobody has entered
@@ -107,20 +122,23 @@ pub restricted-all : (m : Market) (test : ℕ → Bool) → ((i : ℕ) → Conta
 unfolding restricted
 restricted-all m test all = λ t. record m { students = filter-all test m.students all t }
 
-pub papers-all : (m : Market) (r : RoundView) → SettlesThese m r (students_of m) → entered_papers m r.ranks ≡ m
+papers-all : (m : Market) (r : RoundView) → HaveEntered m r (students_of m) → entered_papers m r.ranks ≡ m
 papers-all m r all = restricted-all m (has_entered m r.ranks) (λ i among. all.entered i ∙ any-among (students_of m) i among)
 
--- the log is settled, and the students stand at their next choices
-pub settled-all : (m : Market) (r : RoundView) → SettlesThese m r (students_of m) → IsSettled m r.log
-settled-all m r all = subst (λ n. IsSettled n r.log) (papers-all m r all) all.settled.settled
+-- the whole log is settled, and the students stand at their next choices
+pub settled-all : (m : Market) (r : RoundView) (all : HaveEntered m r (students_of m)) → IsSettled m (all.earlier ++ r.log)
+settled-all m r all = subst (λ n. IsSettled n (all.earlier ++ r.log)) (papers-all m r all) all.continues.settled
 
-pub next-all : (m : Market) (r : RoundView) → SettlesThese m r (students_of m) → (i : ℕ) → next_of m r.ranks i ≡ next_choice m r.log i
-next-all m r all i = sym (all.settled.next i) ∙ ap (λ n. next_choice n r.log i) (papers-all m r all)
+pub next-all : (m : Market) (r : RoundView) (all : HaveEntered m r (students_of m)) → next_of m r.ranks ≡ next_choice m (all.earlier ++ r.log)
+next-all m r all = λ t i. (sym (all.continues.next i) ∙ ap (λ n. next_choice n (all.earlier ++ r.log) i) (papers-all m r all)) t
 
-pub optimal-all : (m : Market) (r : RoundView) (given : Matching) → SettlesThese m r (students_of m) → ((i : ℕ) → given i ≡ next_of m r.ranks i) → IsStudentOptimal m given
-optimal-all m r given all is =
-    let same : matching_of m r.log ≡ given = λ t i. (sym (is i ∙ next-all m r all i)) t in
-    subst (IsStudentOptimal m) same (settled-optimal m all.fits.well_formed r.log (settled-all m r all))
+pub settled-places : (m : Market) (r : RoundView) (made : List (Option ℕ)) → HaveEntered m r (students_of m) → made ≡ map (next_of m r.ranks) (students_of m) → AreSettledPlaces m made
+settled-places m r made all is = record {
+  log = all.earlier ++ r.log;
+  settled = settled-all m r all;
+  optimal = settled-optimal m all.fits.well_formed (all.earlier ++ r.log) (settled-all m r all);
+  places = is ∙ ap (λ (next : Matching). map next (students_of m)) (next-all m r all);
+}
 
 pub placed-all : (m : Market) (r : RoundView) (given : Matching) → SettlesThese m r (students_of m) → ((i : ℕ) → given i ≡ next_of m r.ranks i) → r.proposals ≡ length r.log + placed m given
 unfolding standing_but

@@ -3,7 +3,7 @@ use Rattle.std.specs.Prelude.{◌≡◌, ℕ, nat_eq, List, ◌++◌, map, Optio
 use Rattle.std.specs.Option.{option_map}
 use Rattle.sc_papers.specs.Market.{Market, choices_of, schools_of}
 use Rattle.sc_engine.specs.Applicants.{numbers_of, AreEverybody, StandsAt}
-use Rattle.sc_engine.specs.RoundView.{RoundView, SettlesThese}
+use Rattle.sc_engine.specs.RoundView.{RoundView, HaveEntered}
 use Rattle.sc_engine.specs.declared.batches.Application.{Application}
 use Rattle.sc_engine.specs.declared.applicants.Applicant.{Applicant}
 
@@ -23,4 +23,4 @@ pub record KnowsFirst (m : Market) (application : Application) : Type 0 where
 -- those before the batch have entered, and with the batch and those after it they are everybody
 pub record ComesNext (m : Market) (r : RoundView) (before batch after : List Applicant) : Type 0 where
   pub everybody : AreEverybody m (before ++ batch ++ after)
-  pub entered : SettlesThese m r (numbers_of before)
+  pub entered : HaveEntered m r (numbers_of before)

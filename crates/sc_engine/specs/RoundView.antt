@@ -174,6 +174,13 @@ pub record Enters (m : Market) (old new : RoundView) (i : ℕ) : Type 0 where
   pub extends : Extends old.log new.log
   pub counted : CountsProposals m old nobody new nobody
 
+-- these students, and they alone, have entered, and after some earlier log the round's log is settled for them
+pub record HaveEntered (m : Market) (r : RoundView) (students : List ℕ) : Type 0 where
+  pub fits : Fits m r
+  pub entered : (i : ℕ) → has_entered m r.ranks i ≡ list_any (nat_eq i) students
+  pub earlier : List Rejection
+  pub continues : Continues m earlier r
+
 -- these students, and they alone, have entered; the log is settled for them, and every proposal ended in
 -- an entry of the log or in a place
 pub record SettlesThese (m : Market) (r : RoundView) (students : List ℕ) : Type 0 where

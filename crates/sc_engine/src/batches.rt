@@ -6,7 +6,7 @@ ghost use Rattle.sc_engine.specs.Applications.{applicants_of, ComesNext, IsFirst
 ghost use Rattle.sc_engine.specs.Proposals.{IsFirstProposal};
 ghost use Rattle.sc_engine.specs.Applicants.{numbers_of, AreEverybody, StandsAt};
 ghost use Rattle.sc_engine.specs.Round.{view_of, is_spent};
-ghost use Rattle.sc_engine.specs.RoundView.{SettlesThese};
+ghost use Rattle.sc_engine.specs.RoundView.{HaveEntered};
 
 use crate::applicants::Applicant;
 use crate::round::Round;
@@ -94,7 +94,7 @@ fn enter_batch<R: Roll>(
     requires ready { is_spent round.old ≡ false }
     ensures entered { OnOk result ((before after : List Applicant)
         → ComesNext papers.now (view_of R.keys R.seats round.old) before (applicants_of applications.now) after
-        → SettlesThese papers.now (view_of R.keys R.seats round.new)
+        → HaveEntered papers.now (view_of R.keys R.seats round.new)
         (numbers_of (before ++ applicants_of applications.now))) }
     ensures ready { OnOk result (is_spent round.new ≡ false) }
 {
@@ -113,23 +113,25 @@ fn enter_batch<R: Roll>(
 
 /// Enters each student of a list, who are all students, into a round in which nobody has entered. Each needs their row
 /// first, which seldom is at hand where they do not come in order of entry: so the rows of a batch are read before its
-/// first student enters. The only error is want of memory.
+/// first student enters, and its rejections are forgotten after its last. The only error is want of memory.
 pub(crate) fn enter_in_batches<R: Roll>(
     alloc: Global,
     round: &mut Round<R>,
     papers: &FlatPapers,
     applicants: &[Applicant],
 ) -> Result<(), AllocError>
-    requires first { SettlesThese papers.now (view_of R.keys R.seats round.old) [] }
+    requires first { HaveEntered papers.now (view_of R.keys R.seats round.old) [] }
     requires ready { is_spent round.old ≡ false }
     requires everybody { AreEverybody papers.now applicants.now }
-    ensures all { OnOk result (SettlesThese papers.now (view_of R.keys R.seats round.new) (students_of papers.now)) }
+    ensures all { OnOk result (HaveEntered papers.now (view_of R.keys R.seats round.new) (students_of papers.now)) }
     ensures ready { OnOk result (is_spent round.new ≡ false) }
 {
     let mut applications = Vec::with_capacity(alloc, BATCH)?;
     for batch in applicants.chunks(BATCH) {
         read_batch(papers, batch, &mut applications)?;
         enter_batch(round, papers, applications.as_slice())?;
+        // Nobody asks for the rejections, so the log need be no longer than that of a batch, and stays at hand.
+        round.forget_log();
     }
     Ok(())
 }

@@ -1,6 +1,6 @@
 //! Rounds of proposals.
 
-ghost use Rattle.std.specs.Prelude.{◌≡◌, ℕ, true, false, Some, length, position, nat_eq, map, IfOk, OnOk, OnErr};
+ghost use Rattle.std.specs.Prelude.{◌≡◌, ℕ, true, false, Some, position, nat_eq, map, IfOk, OnOk, OnErr};
 ghost use Rattle.sc_papers.specs.Assignment.{assigned};
 ghost use Rattle.sc_papers.specs.Market.{is_student, students_of};
 ghost use Rattle.sc_engine.specs.Proposals.{IsFirstProposal};
@@ -15,7 +15,7 @@ mod starting;
 mod taking;
 
 use crate::rank_table::RankTable;
-use crate::settled::{Settled, SettledPlaces};
+use crate::settled::Settled;
 use ranks::{assignment_of, next_in, next_near, places_of, position_near};
 use sc_papers::{Assignment, FlatPapers, Proposal, Rejection, SchoolNo, StudentNo};
 use sc_seats::Roll;
@@ -197,26 +197,23 @@ impl<R: Roll> Round<R> {
         Ok(standing)
     }
 
-    /// The choices at which the students of the round stand, in the papers' order of entry, and how many rejections and
-    /// proposals led there. A spent round answers the error, and so does want of memory. On an error the round is given
-    /// up. The cost is a look at each student of the papers.
-    pub(crate) fn into_places(self, papers: &FlatPapers) -> Result<SettledPlaces, AllocError>
+    /// The choices at which the students of the round stand, in the papers' order of entry. A spent round answers the
+    /// error, and so does want of memory. On an error the round is given up. The cost is a look at each student of the
+    /// papers.
+    pub(crate) fn into_places(
+        self,
+        papers: &FlatPapers,
+    ) -> Result<Vec<Option<SchoolNo>>, AllocError>
         requires { is_spent self ≡ false → Fits papers.now (view_of R.keys R.seats self) }
         ensures was_ready { OnOk result (is_spent self ≡ false) }
-        ensures places { IfOk result (λ settled. settled.places.items
+        ensures places { IfOk result (λ places. places.items
             ≡ map (next_of papers.now (view_of R.keys R.seats self).ranks) (students_of papers.now)) }
-        ensures rejections { IfOk result (λ settled. settled.rejections ≡ length (view_of R.keys R.seats self).log) }
-        ensures proposals { IfOk result (λ settled. settled.proposals ≡ (view_of R.keys R.seats self).proposals) }
     {
         if self.spent {
             return Err(AllocError);
         }
         let places = places_of(self.alloc, self.ranks.as_slice(), papers)?;
-        Ok(SettledPlaces {
-            places,
-            rejections: self.log.len(),
-            proposals: self.proposals,
-        })
+        Ok(places)
     }
 
     /// The log and the count of proposals of the round, and the choices at which its students stand. A

@@ -1,7 +1,6 @@
 //! What a whole round comes to.
 
-ghost use Rattle.std.specs.Prelude.{◌≡◌, ℕ, ◌+◌, ◌<◌, ◌≤◌, false, [], length, take, nat_eq, IfOk, OnOk, OnErr, if◌then◌else◌};
-ghost use Rattle.std.specs.List.{list_any};
+ghost use Rattle.std.specs.Prelude.{◌≡◌, ℕ, ◌+◌, false, length, IfOk, OnOk};
 ghost use Rattle.sc_papers.specs.Assignment.{assigned};
 ghost use Rattle.sc_papers.specs.Log.{next_choice, IsSettled};
 ghost use Rattle.sc_papers.specs.Market.{students_of};
@@ -9,7 +8,7 @@ ghost use Rattle.sc_papers.specs.Matching.{IsStudentOptimal};
 ghost use Rattle.sc_papers.specs.Progress.{placed};
 ghost use Rattle.sc_engine.specs.SettledPlaces.{AreSettledPlaces};
 ghost use Rattle.sc_engine.specs.Round.{view_of, is_spent};
-ghost use Rattle.sc_engine.specs.RoundView.{Fits, next_of, SettlesFirst, SettlesThese};
+ghost use Rattle.sc_engine.specs.RoundView.{SettlesFirst, SettlesThese};
 
 use crate::applicants::applicants_by_first_key;
 use crate::batches::enter_in_batches;
@@ -25,17 +24,6 @@ pub struct Settled {
     pub log: Vec<Rejection>,
     /// Who has which school.
     pub assignment: Assignment,
-    /// How many proposals were made.
-    pub proposals: u64,
-}
-
-/// What the proposals came to, for a caller that asks for no log.
-#[derive(Drop)]
-pub struct SettledPlaces {
-    /// The school that each student has, if any, in the papers' order of entry.
-    pub places: Vec<Option<SchoolNo>>,
-    /// How many rejections there were.
-    pub rejections: usize,
     /// How many proposals were made.
     pub proposals: u64,
 }
@@ -57,31 +45,22 @@ pub fn settle(alloc: Global, papers: &FlatPapers) -> Result<Settled, AllocError>
     settle_over::<HeapRoll>(alloc, papers)
 }
 
-/// Settles papers as `settle` does, to the same assignment and the same count of proposals, and answers no log: the
-/// students enter by their priority class at their first choice, and within a class by the first byte of their draw. So
-/// fewer of them are put out again, and most offers are refused while their rows are at hand. The cost is a sort of numbers
-/// more, and no student is put into a table.
-pub fn settle_by_first_keys(alloc: Global, papers: &FlatPapers) -> Result<SettledPlaces, AllocError>
-    ensures { IfOk result (AreSettledPlaces papers.now) }
+/// Settles papers as `settle` does, to the same matching, and answers the school that each student has, if any, in the
+/// papers' order of entry. The students enter by their priority class at their first choice, and within a class by the
+/// first byte of their draw. So fewer of them are put out again, and most offers are refused while their rows are at hand.
+/// The cost is a sort of numbers more; no log is kept, and no student is put into a table.
+pub fn settle_by_first_keys(
+    alloc: Global,
+    papers: &FlatPapers,
+) -> Result<Vec<Option<SchoolNo>>, AllocError>
+    ensures { IfOk result (λ places. AreSettledPlaces papers.now places.items) }
 {
     let mut round: Round<HeapRoll> = Round::start(alloc, papers)?;
     let applicants = applicants_by_first_key(alloc, papers)?;
     enter_in_batches(alloc, &mut round, papers, applicants.as_slice())?;
     drop(applicants);
-    let settled = settled_places_of(round, papers)?;
-    Ok(settled)
-}
-
-/// The settled places of a round in which all students have entered.
-fn settled_places_of<R: Roll>(
-    round: Round<R>,
-    papers: &FlatPapers,
-) -> Result<SettledPlaces, AllocError>
-    requires all { SettlesThese papers.now (view_of R.keys R.seats round) (students_of papers.now) }
-    ensures { IfOk result (AreSettledPlaces papers.now) }
-{
-    let settled = round.into_places(papers)?;
-    Ok(settled)
+    let places = round.into_places(papers)?;
+    Ok(places)
 }
 
 /// As `settle`, over a kind of roll.

@@ -8,7 +8,7 @@ ghost use Rattle.sc_engine.specs.RoundView.{Fits, has_entered, SettlesFirst};
 
 use crate::given::{expect_said, papers_of, school, student};
 use sc_checkpoint::Standing;
-use sc_engine::{Round, Settled, SettledPlaces, settle, settle_by_first_keys};
+use sc_engine::{Round, Settled, settle, settle_by_first_keys};
 use sc_markets::{
     FIVE_STUDENTS, Files, MARKET_A, MARKET_B, MARKET_B_AND_NEWCOMER, TWO_STUDENTS, log_text,
 };
@@ -17,9 +17,9 @@ use sc_seats::{HeapRoll, Roll, SortedRoll};
 use std::alloc::{AllocError, Global};
 use std::process::Abort;
 
-/// How many proposals there were, and who has which school, in order of entry, as a text.
+/// Who has which school, in order of entry, as a text.
 fn outcome_text(alloc: Global, settled: &Settled) -> Result<String, AllocError> {
-    let mut text = format!(in alloc; "{}:", settled.proposals)?;
+    let mut text = String::new(alloc);
     for place in 0..settled.assignment.len() {
         if let Some((student, school)) = settled.assignment.at(place) {
             write!(text, " {} at {}", student.get(), school.get())?;
@@ -28,14 +28,14 @@ fn outcome_text(alloc: Global, settled: &Settled) -> Result<String, AllocError> 
     Ok(text)
 }
 
-/// How many proposals there were by an outcome without a log, and who has which school, in order of entry, as a text.
+/// The same of the schools that the students have, in order of entry.
 fn placed_text(
     alloc: Global,
     papers: &FlatPapers,
-    outcome: &SettledPlaces,
+    places: &[Option<SchoolNo>],
 ) -> Result<String, AllocError> {
-    let mut text = format!(in alloc; "{}:", outcome.proposals)?;
-    for (position, place) in outcome.places.as_slice().iter().enumerate() {
+    let mut text = String::new(alloc);
+    for (position, place) in places.iter().enumerate() {
         if let (Some(student), Some(school)) = (papers.student_at(position), place) {
             write!(text, " {} at {}", student.get(), school.get())?;
         }
@@ -43,11 +43,12 @@ fn placed_text(
     Ok(text)
 }
 
-/// What the proposals came to, as a text: the log, and the outcome.
+/// What the proposals came to, as a text: the log, how many proposals there were, and the outcome.
 fn settled_text(alloc: Global, settled: &Settled) -> Result<String, AllocError> {
     let log = log_text(alloc, settled.log.as_slice())?;
+    let proposals = settled.proposals;
     let outcome = outcome_text(alloc, settled)?;
-    format!(in alloc; "{log} {outcome}")
+    format!(in alloc; "{log} {proposals}:{outcome}")
 }
 
 /// The proposals came to what is wanted.
@@ -93,9 +94,10 @@ fn a_newcomer(rt: HostRuntime) {
 
 /// The outcome by the keys at the first choices.
 fn expect_placed(rt: &impl Abort, alloc: Global, papers: &FlatPapers, want: &str) {
-    let outcome = settle_by_first_keys(alloc, papers).expect(rt, "memory");
-    expect_said(rt, "places", placed_text(alloc, papers, &outcome), want);
-    drop(outcome);
+    let places = settle_by_first_keys(alloc, papers).expect(rt, "memory");
+    let said = placed_text(alloc, papers, places.as_slice());
+    expect_said(rt, "places", said, want);
+    drop(places);
 }
 
 /// The outcome by the order of entry.
@@ -115,12 +117,12 @@ fn expect_by_first_keys(rt: &impl Abort, alloc: Global, files: Files<'_>, want: 
 
 #[test]
 fn entry_by_first_keys(rt: HostRuntime) {
-    expect_by_first_keys(&rt, rt.alloc(), TWO_STUDENTS, "2: 2 at 1");
-    expect_by_first_keys(&rt, rt.alloc(), MARKET_A, "2: 1 at 10 2 at 20");
-    expect_by_first_keys(&rt, rt.alloc(), MARKET_B, "2: 1 at 10 2 at 20");
-    let with_newcomer = "5: 1 at 20 3 at 10";
+    expect_by_first_keys(&rt, rt.alloc(), TWO_STUDENTS, " 2 at 1");
+    expect_by_first_keys(&rt, rt.alloc(), MARKET_A, " 1 at 10 2 at 20");
+    expect_by_first_keys(&rt, rt.alloc(), MARKET_B, " 1 at 10 2 at 20");
+    let with_newcomer = " 1 at 20 3 at 10";
     expect_by_first_keys(&rt, rt.alloc(), MARKET_B_AND_NEWCOMER, with_newcomer);
-    let of_five = "6: 1 at 10 4 at 20 5 at 20";
+    let of_five = " 1 at 10 4 at 20 5 at 20";
     expect_by_first_keys(&rt, rt.alloc(), FIVE_STUDENTS, of_five);
 }
 

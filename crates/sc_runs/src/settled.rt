@@ -24,11 +24,8 @@ pub fn report_papers<W: Write>(
     ensures failed { OutputFailsAsTold out.old out.new result }
 {
     match settle_by_first_keys(alloc, papers) {
-        Ok(outcome) => {
-            let matched = Matched {
-                papers,
-                places: outcome.places,
-            };
+        Ok(places) => {
+            let matched = Matched { papers, places };
             write_flushed_report(alloc, matched, out)
         }
         Err(_) => Err(RunFault::OutOfMemory),

@@ -1,8 +1,11 @@
-use Rattle.std.proofs.Common.{◌≡◌, ◌++◌, ap, ◌∙◌, rules}
+use Rattle.std.proofs.Common.{◌≡◌, ◌++◌, ap, subst, sym, ◌∙◌, rules}
 use Rattle.std.specs.Slice.Iter.{chunks_rest}
 use Rattle.sc_engine.specs.Applications.{applicants_of}
+use Rattle.sc_engine.specs.Applicants.{numbers_of}
 use Rattle.sc_engine.specs.Round.{view_of}
+use Rattle.sc_engine.specs.RoundView.{RoundView, HaveEntered}
 use Rattle.sc_engine.proofs.ApplicationsInTurn.{batch-comes, batch-whole, everybody-entered}
+use Rattle.sc_engine.proofs.Forgetting.{entered-without_log}
 use Rattle.sc_engine.proofs.batches.enter_in_batches.Goals as goal
 
 pub enter_batch-requires-clause-next : goal.enter_batch-requires-clause-next
@@ -21,16 +24,18 @@ loop-batch-preserved g c =
     let left = chunks_rest c.loop-batch.batch-iterator in
     let steps = c.in-Some.ensures.steps in
     let applications = c.as_slice.result.now in
-    let read : applicants_of applications ≡ batch = ap applicants_of c.as_slice.ensures.value ∙ c.in_ok-read_batch.ensures.applicants in (
+    let read : applicants_of applications ≡ batch = ap applicants_of c.as_slice.ensures.value ∙ c.in_ok-read_batch.ensures.applicants in
+    let comes = batch-comes c.args.applicants.now before batch left rest applications read steps.1.0 whole c.args.papers.now _ c.requires.everybody entered in (
       search rules,
       tt,
       steps.0 ∙ c.loop-batch.invariant.2,
-      c.in_ok-enter_batch.ensures.ready,
+      c.forget_log.ensures.spent ∙ c.in_ok-enter_batch.ensures.ready,
       (
         before ++ applicants_of applications,
         (
           batch-whole c.args.applicants.now before batch left rest applications read steps.1.0 whole,
-          c.in_ok-enter_batch.ensures.entered before rest (batch-comes c.args.applicants.now before batch left rest applications read steps.1.0 whole c.args.papers.now _ c.requires.everybody entered),
+          subst (λ (r : RoundView). HaveEntered c.args.papers.now r (numbers_of (before ++ applicants_of applications))) (sym c.forget_log.ensures.forgotten)
+              (entered-without_log c.args.papers.now _ _ (c.in_ok-enter_batch.ensures.entered before rest comes)),
         ),
       ),
     )

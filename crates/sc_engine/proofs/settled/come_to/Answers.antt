@@ -1,24 +1,27 @@
 use Rattle.std.proofs.Common.{sym, ap, subst, ◌∙◌, ◌+◌, length, List}
 use Rattle.sc_papers.specs.Assignment.{assigned}
 use Rattle.sc_papers.specs.Log.{next_choice, IsSettled}
+use Rattle.sc_papers.specs.Matching.{IsStudentOptimal}
 use Rattle.sc_papers.specs.Progress.{placed}
 use Rattle.sc_papers.specs.declared.rejection.Rejection.{Rejection}
+use Rattle.sc_papers.proofs.Optimality.{settled-optimal}
 use Rattle.sc_engine.specs.Round.{view_of}
-use Rattle.sc_engine.proofs.Settling.{settled-all, next-all, optimal-all, placed-all}
+use Rattle.sc_engine.proofs.Settling.{settled-entered, settled-all, next-all, placed-all}
 use Rattle.sc_engine.proofs.settled.come_to.Goals as goal
 
 pub returns-clause-settled : goal.returns-clause-settled
 returns-clause-settled g c =
-    subst (IsSettled c.args.papers.now) (sym c.in_ok-settled.ensures.log) (settled-all c.args.papers.now (view_of g.R.Roll.keys g.R.Roll.seats c.args.round) c.requires.all)
+    subst (IsSettled c.args.papers.now) (sym c.in_ok-settled.ensures.log) (settled-all c.args.papers.now (view_of g.R.Roll.keys g.R.Roll.seats c.args.round) (settled-entered _ _ _ c.requires.all))
 
 pub returns-clause-matching : goal.returns-clause-matching
 returns-clause-matching g c i =
-    c.in_ok-settled.ensures.given i ∙ next-all c.args.papers.now (view_of g.R.Roll.keys g.R.Roll.seats c.args.round) c.requires.all i
+    c.in_ok-settled.ensures.given i ∙ ap (λ next. next i) (next-all c.args.papers.now (view_of g.R.Roll.keys g.R.Roll.seats c.args.round) (settled-entered _ _ _ c.requires.all))
     ∙ ap (λ log. next_choice c.args.papers.now log i) (sym c.in_ok-settled.ensures.log)
 
 pub returns-clause-optimal : goal.returns-clause-optimal
 returns-clause-optimal g c =
-    optimal-all c.args.papers.now (view_of g.R.Roll.keys g.R.Roll.seats c.args.round) (assigned c.in_ok-settled.settled.assignment) c.requires.all c.in_ok-settled.ensures.given
+    subst (IsStudentOptimal c.args.papers.now) (λ t i. (sym (returns-clause-matching g c i)) t)
+    (settled-optimal c.args.papers.now c.requires.all.fits.well_formed c.in_ok-settled.settled.log.items (returns-clause-settled g c))
 
 pub returns-clause-proposals : goal.returns-clause-proposals
 returns-clause-proposals g c =

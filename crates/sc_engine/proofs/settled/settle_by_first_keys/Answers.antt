@@ -1,6 +1,14 @@
-use Rattle.sc_engine.proofs.Settling.{settles-none}
+use Rattle.std.proofs.Common.{[]}
+use Rattle.sc_engine.proofs.Settling.{settled-places}
 use Rattle.sc_engine.proofs.settled.settle_by_first_keys.Goals as goal
 
 pub enter_in_batches-requires-clause-first : goal.enter_in_batches-requires-clause-first
-enter_in_batches-requires-clause-first c =
-    settles-none c.args.papers.now _ c.in_ok-round.ensures.fits c.in_ok-round.ensures.nobody c.in_ok-round.ensures.settled c.in_ok-round.ensures.log c.in_ok-round.ensures.proposals
+enter_in_batches-requires-clause-first c = record {
+  fits = c.in_ok-round.ensures.fits;
+  entered = c.in_ok-round.ensures.nobody;
+  earlier = [];
+  continues = c.in_ok-round.ensures.settled;
+}
+
+pub returns : goal.returns
+returns c = settled-places c.args.papers.now _ _ c.in_ok-enter_in_batches.ensures.all c.in_ok-places.ensures.places
