@@ -111,7 +111,7 @@ fn a_line_written(rt: HostRuntime) -> Result<(), Fail> {
 }
 
 #[test]
-fn lines_both_ways(rt: HostRuntime) -> Result<(), AllocError> {
+fn lines_both_ways(rt: HostRuntime) {
     expect_reread(
         &rt,
         rt.alloc(),
@@ -135,10 +135,11 @@ fn lines_both_ways(rt: HostRuntime) -> Result<(), AllocError> {
             ),
         ],
     )
+    .expect(&rt, "memory");
 }
 
 #[test]
-fn spellings_refused(rt: HostRuntime) -> Result<(), AllocError> {
+fn spellings_refused(rt: HostRuntime) {
     expect_reread(
         &rt,
         rt.alloc(),
@@ -177,10 +178,11 @@ fn spellings_refused(rt: HostRuntime) -> Result<(), AllocError> {
             ("nonsense", ""),
         ],
     )
+    .expect(&rt, "memory");
 }
 
 #[test]
-fn replays(rt: HostRuntime) -> Result<(), AllocError> {
+fn replays(rt: HostRuntime) {
     expect_replays(
         &rt,
         rt.alloc(),
@@ -208,10 +210,11 @@ fn replays(rt: HostRuntime) -> Result<(), AllocError> {
             ("3,withdraw,9\n", "1 Number"),
         ],
     )
+    .expect(&rt, "memory");
 }
 
 #[test]
-fn a_journal_cut_short(rt: HostRuntime) -> Result<(), AllocError> {
+fn a_journal_cut_short(rt: HostRuntime) {
     let journal = b"1,enter,3,1,10,10\n2,withdraw,3\n";
     for end in 0..journal.len() + 1 {
         let want = match end {
@@ -220,7 +223,6 @@ fn a_journal_cut_short(rt: HostRuntime) -> Result<(), AllocError> {
             18 => "1:20 2:0 3:10 Whole",
             _ => "1:20 2:0 3:10 Torn",
         };
-        expect_replay(&rt, rt.alloc(), &journal[..end], want)?;
+        expect_replay(&rt, rt.alloc(), &journal[..end], want).expect(&rt, "memory");
     }
-    Ok(())
 }

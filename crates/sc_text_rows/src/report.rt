@@ -145,7 +145,7 @@ fn expect(
 }
 
 #[test]
-fn one_seat_two_students(rt: HostRuntime) -> Result<(), AllocError> {
+fn one_seat_two_students(rt: HostRuntime) {
     expect(
         &rt,
         rt.alloc(),
@@ -159,10 +159,11 @@ fn one_seat_two_students(rt: HostRuntime) -> Result<(), AllocError> {
             (View::Reasons, "student,school,reason\n1,1,lottery\n"),
         ],
     )
+    .expect(&rt, "memory");
 }
 
 #[test]
-fn zone_before_draw(rt: HostRuntime) -> Result<(), AllocError> {
+fn zone_before_draw(rt: HostRuntime) {
     expect(
         &rt,
         rt.alloc(),
@@ -175,10 +176,11 @@ fn zone_before_draw(rt: HostRuntime) -> Result<(), AllocError> {
             (View::Reasons, "student,school,reason\n2,1,class\n"),
         ],
     )
+    .expect(&rt, "memory");
 }
 
 #[test]
-fn market_a_opening(rt: HostRuntime) -> Result<(), AllocError> {
+fn market_a_opening(rt: HostRuntime) {
     expect(
         &rt,
         rt.alloc(),
@@ -190,10 +192,11 @@ fn market_a_opening(rt: HostRuntime) -> Result<(), AllocError> {
             (View::Counts, "2 cutoffs, 0 reasons"),
         ],
     )
+    .expect(&rt, "memory");
 }
 
 #[test]
-fn market_a_and_a_seat_closed(rt: HostRuntime) -> Result<(), AllocError> {
+fn market_a_and_a_seat_closed(rt: HostRuntime) {
     let report =
         "student,school\n1,20\n2,-\nschool,seats,held,class,draw,student\n10,0,0,closed,-,-\n20,1,1,2,e56a5d4028bd8653,1\nstudent,school,reason\n1,10,seats\n2,20,class\n2,10,seats\n";
     expect_after(
@@ -219,6 +222,7 @@ fn market_a_and_a_seat_closed(rt: HostRuntime) -> Result<(), AllocError> {
             (View::Counts, "2 cutoffs, 3 reasons"),
         ],
     )
+    .expect(&rt, "memory");
 }
 
 /// Market A with school 10 in the zone of a third student who has a sibling there, and with schools and
@@ -230,7 +234,7 @@ const MARKET_B_AND_A_NEWCOMER: Rows = (
 );
 
 #[test]
-fn a_newcomer_in_market_b(rt: HostRuntime) -> Result<(), AllocError> {
+fn a_newcomer_in_market_b(rt: HostRuntime) {
     expect(
         &rt,
         rt.alloc(),
@@ -240,6 +244,7 @@ fn a_newcomer_in_market_b(rt: HostRuntime) -> Result<(), AllocError> {
             "student,school\n1,20\n2,-\n3,10\nschool,seats,held,class,draw,student\n10,1,1,1,ccef36a8c70d778b,3\n20,1,1,2,e56a5d4028bd8653,1\nstudent,school,reason\n1,10,class\n2,20,class\n2,10,class\n",
         )],
     )
+    .expect(&rt, "memory");
 }
 
 /// The reply to a record is the line that is wanted.
@@ -256,7 +261,7 @@ fn expect_reply(
 }
 
 #[test]
-fn reply_lines(rt: HostRuntime) -> Result<(), AllocError> {
+fn reply_lines(rt: HostRuntime) {
     let school = SchoolNo::new(77).expect(&rt, "a school");
     let stamp = Stamp::new(1).expect(&rt, "a stamp");
     for (number, reply, want) in [
@@ -270,9 +275,8 @@ fn reply_lines(rt: HostRuntime) -> Result<(), AllocError> {
         (5, Err(Refusal::Stale { stamp }), "5,refused,12,Stale,1\n"),
         (6, Err(Refusal::Spent), "6,refused,13,Spent\n"),
     ] {
-        expect_reply(&rt, rt.alloc(), number, reply, want.as_bytes())?;
+        expect_reply(&rt, rt.alloc(), number, reply, want.as_bytes()).expect(&rt, "memory");
     }
-    Ok(())
 }
 
 /// The standing log has this text, which is read back as the log's entries.
@@ -291,11 +295,11 @@ fn expect_log(
 }
 
 #[test]
-fn audits(rt: HostRuntime) -> Result<(), AllocError> {
+fn audits(rt: HostRuntime) {
     let (schools, roster, lists) = MARKET_B;
     let mut clearing = clearing(rt.alloc(), schools, roster, lists).expect(&rt, "a clearing");
     amend(&rt, rt.alloc(), &mut clearing, "enter,3,1,10,10\n");
     let read = expect_log(&rt, rt.alloc(), &clearing, "1,10\n2,20\n2,10\n");
     drop(clearing);
-    read
+    read.expect(&rt, "memory");
 }

@@ -102,7 +102,7 @@ fn expect_runs(
 }
 
 #[test]
-fn the_whole_run(rt: HostRuntime) -> Result<(), AllocError> {
+fn the_whole_run(rt: HostRuntime) {
     expect_runs(
         &rt,
         rt.alloc(),
@@ -113,10 +113,11 @@ fn the_whole_run(rt: HostRuntime) -> Result<(), AllocError> {
             "1,ok\n2,refused,1,Shape\n3,refused,2,UnknownStudent\n4,refused,6,UnknownSchool,77\n5,ok\nstudent,school\n1,10\n2,20\nschool,seats,held,class,draw,student\n10,1,1,4,e56a5d4028bd8653,1\n20,1,1,4,b819d2bd1aed8da0,2\nstudent,school,reason\n|1,enter,3,1,10,10\n2,withdraw,3\n|Ok(())",
         )],
     )
+    .expect(&rt, "memory");
 }
 
 #[test]
-fn continuing_against_a_newcomer(rt: HostRuntime) -> Result<(), AllocError> {
+fn continuing_against_a_newcomer(rt: HostRuntime) {
     expect_runs(
         &rt,
         rt.alloc(),
@@ -127,15 +128,18 @@ fn continuing_against_a_newcomer(rt: HostRuntime) -> Result<(), AllocError> {
             "1,ok\n2,ok\n3,refused,6,UnknownSchool,77\n4,refused,6,UnknownSchool,77\n5,ok\nstudent,school\n1,20\n2,10\n3,-\nschool,seats,held,class,draw,student\n10,1,1,0,b819d2bd1aed8da0,2\n20,1,1,2,e56a5d4028bd8653,1\nstudent,school,reason\n1,10,class\n2,20,class\n3,10,class\n|1,enter,3,1,10,10\n2,correct,2,0,10\n3,correct,2,0,10,10\n|Ok(())",
         )],
     )
+    .expect(&rt, "memory");
 }
 
 // A journal that fails at its first write leaves no reply, and one that fails at its second line leaves the reply to the
 // first.
 #[test]
-fn failing_writers(rt: HostRuntime) -> Result<(), AllocError> {
+fn failing_writers(rt: HostRuntime) {
     let script = "0,enter,3,1,10,10\nnonsense\n0,withdraw,99\n0,add,77,1\n1,withdraw,3\n";
     let refused = "2,refused,1,Shape\n3,refused,2,UnknownStudent\n4,refused,6,UnknownSchool,77\n";
-    let second = format!(in rt.alloc(); "1,ok\n{refused}|1,enter,3,1,10,10\n2,|Err(WriteJournal)")?;
+    let second = format!(in rt.alloc();
+        "1,ok\n{refused}|1,enter,3,1,10,10\n2,|Err(WriteJournal)"
+    ).expect(&rt, "memory");
     expect_runs(
         &rt,
         rt.alloc(),
@@ -145,6 +149,7 @@ fn failing_writers(rt: HostRuntime) -> Result<(), AllocError> {
             (20, script, second.as_str()),
         ],
     )
+    .expect(&rt, "memory");
 }
 
 /// What the call on three files writes, the report or the log, and its answer.
@@ -177,7 +182,7 @@ fn expect_match(
 }
 
 #[test]
-fn three_files(rt: HostRuntime) -> Result<(), AllocError> {
+fn three_files(rt: HostRuntime) {
     let files = (
         "school,zone,seats\n1,0,1\n",
         "student,zone,siblings\n1,0,\n2,0,\n",
@@ -185,15 +190,15 @@ fn three_files(rt: HostRuntime) -> Result<(), AllocError> {
     );
     let want =
         "student,school\n1,-\n2,1\nschool,seats,held,class,draw,student\n1,1,1,4,b819d2bd1aed8da0,2\nstudent,school,reason\n1,1,lottery\n|Ok(())";
-    expect_match(&rt, rt.alloc(), files, false, want)
+    expect_match(&rt, rt.alloc(), files, false, want).expect(&rt, "memory");
 }
 
 #[test]
-fn the_log_of_an_opening(rt: HostRuntime) -> Result<(), AllocError> {
+fn the_log_of_an_opening(rt: HostRuntime) {
     let files = (
         "school,zone,seats\n10,1,1\n20,0,1\n",
         "student,zone,siblings\n1,0,20\n2,0,10\n3,1,10\n",
         "student,choices\n1,10 20\n2,20 10\n3,10\n",
     );
-    expect_match(&rt, rt.alloc(), files, true, "1,10\n2,20\n2,10\n|Ok(())")
+    expect_match(&rt, rt.alloc(), files, true, "1,10\n2,20\n2,10\n|Ok(())").expect(&rt, "memory");
 }

@@ -1,7 +1,7 @@
 //! Summaries, explanations, lists of schools, and changes of places.
 use super::{expect, ordered, ordered_after, ordering, performed, remove, write, write_files};
 use sc_words::Word;
-use std::{fs, io};
+use std::io;
 
 /// The summary of Market B.
 const SUMMARY: &str =

@@ -1,6 +1,5 @@
 //! Matches, their logs and audits, and tables of their reports.
 use super::{NEWCOMER, REPORT, expect, ordered, ordered_after, write, write_files};
-use std::{fs, io};
 
 /// Logs of Market B after its newcomer, and what an audit says of each.
 const AUDITS: &[(&str, &str)] = &[

@@ -30,25 +30,24 @@ fn expect_rows(
 }
 
 #[test]
-fn at_most_5000_schools(rt: HostRuntime) -> Result<(), AllocError> {
+fn at_most_5000_schools(rt: HostRuntime) {
     let header = "school,zone,seats\n";
-    expect_rows(&rt, rt.alloc(), View::Schools, header, 5_000, "5000 rows")?;
+    expect_rows(&rt, rt.alloc(), View::Schools, header, 5_000, "5000 rows").expect(&rt, "memory");
     let more = "schools row 5002: TooLong";
-    expect_rows(&rt, rt.alloc(), View::Schools, header, 5_001, more)
+    expect_rows(&rt, rt.alloc(), View::Schools, header, 5_001, more).expect(&rt, "memory");
 }
 
 #[test]
-fn at_most_200000_students(rt: HostRuntime) -> Result<(), AllocError> {
+fn at_most_200000_students(rt: HostRuntime) {
     let header = "student,zone,siblings\n";
     let more = "roster row 200002: TooLong";
-    expect_rows(&rt, rt.alloc(), View::Roster, header, 200_001, more)
+    expect_rows(&rt, rt.alloc(), View::Roster, header, 200_001, more).expect(&rt, "memory");
 }
 
 #[test]
-fn at_most_64_mebibytes(rt: HostRuntime) -> Result<(), AllocError> {
+fn at_most_64_mebibytes(rt: HostRuntime) {
     assert!(rt; MOST_BYTES == 67_108_864);
-    let newlines = vec![in rt.alloc(); b'\n'; 67_108_865]?;
-    let more = told(rt.alloc(), View::Log, newlines.as_slice())?;
+    let newlines = vec![in rt.alloc(); b'\n'; 67_108_865].expect(&rt, "memory");
+    let more = told(rt.alloc(), View::Log, newlines.as_slice()).expect(&rt, "memory");
     assert!(rt; more.as_str() == "log row 0: TooLong", "{more}");
-    Ok(())
 }

@@ -118,7 +118,7 @@ fn expect(
 }
 
 #[test]
-fn untidy_spellings(rt: HostRuntime) -> Result<(), AllocError> {
+fn untidy_spellings(rt: HostRuntime) {
     expect(
         &rt,
         rt.alloc(),
@@ -129,10 +129,11 @@ fn untidy_spellings(rt: HostRuntime) -> Result<(), AllocError> {
             "school 10 zone 1 seats 1; school 20 zone 0 seats 1; student 1 zone 0 siblings 20 choices 10 20; student 2 zone 0 siblings 10 choices 20 10; ",
         )],
     )
+    .expect(&rt, "memory");
 }
 
 #[test]
-fn each_fault_of_the_schools_once(rt: HostRuntime) -> Result<(), AllocError> {
+fn each_fault_of_the_schools_once(rt: HostRuntime) {
     expect(
         &rt,
         rt.alloc(),
@@ -213,10 +214,11 @@ fn each_fault_of_the_schools_once(rt: HostRuntime) -> Result<(), AllocError> {
             ),
         ],
     )
+    .expect(&rt, "memory");
 }
 
 #[test]
-fn each_fault_of_the_students_once(rt: HostRuntime) -> Result<(), AllocError> {
+fn each_fault_of_the_students_once(rt: HostRuntime) {
     expect(
         &rt,
         rt.alloc(),
@@ -289,10 +291,11 @@ fn each_fault_of_the_students_once(rt: HostRuntime) -> Result<(), AllocError> {
             ),
         ],
     )
+    .expect(&rt, "memory");
 }
 
 #[test]
-fn lists_in_another_order_than_the_roster(rt: HostRuntime) -> Result<(), AllocError> {
+fn lists_in_another_order_than_the_roster(rt: HostRuntime) {
     expect(
         &rt,
         rt.alloc(),
@@ -329,10 +332,11 @@ fn lists_in_another_order_than_the_roster(rt: HostRuntime) -> Result<(), AllocEr
             ),
         ],
     )
+    .expect(&rt, "memory");
 }
 
 #[test]
-fn numbers_twice_in_any_order(rt: HostRuntime) -> Result<(), AllocError> {
+fn numbers_twice_in_any_order(rt: HostRuntime) {
     expect(
         &rt,
         rt.alloc(),
@@ -363,4 +367,5 @@ fn numbers_twice_in_any_order(rt: HostRuntime) -> Result<(), AllocError> {
             ),
         ],
     )
+    .expect(&rt, "memory");
 }

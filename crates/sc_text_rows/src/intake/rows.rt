@@ -4,7 +4,7 @@ use std::alloc::{AllocError, Global};
 use std::process::Abort;
 
 #[test]
-fn openings_and_ends(rt: HostRuntime) -> Result<(), AllocError> {
+fn openings_and_ends(rt: HostRuntime) {
     expect(
         &rt,
         rt.alloc(),
@@ -32,6 +32,7 @@ fn openings_and_ends(rt: HostRuntime) -> Result<(), AllocError> {
             ),
         ],
     )
+    .expect(&rt, "memory");
 }
 
 /// A file of the schools reads as is wanted.
@@ -47,17 +48,17 @@ fn expect_bytes(
 }
 
 #[test]
-fn bytes_that_are_no_text(rt: HostRuntime) -> Result<(), AllocError> {
+fn bytes_that_are_no_text(rt: HostRuntime) {
     let (header, number) = ("schools row 1: Header", "schools row 2: Number");
     let alloc = rt.alloc();
-    expect_bytes(&rt, alloc, b"\xFFschool,zone,seats\n10,0,1\n", header)?;
-    expect_bytes(&rt, alloc, b"\xEF\xBBschool,zone,seats\n10,0,1\n", header)?;
-    expect_bytes(&rt, alloc, b"school,zone,seats\n10,\xFF,1\n", number)?;
-    expect_bytes(&rt, alloc, b"school,zone,seats\n10,0,1\x00\n", number)
+    expect_bytes(&rt, alloc, b"\xFFschool,zone,seats\n10,0,1\n", header).expect(&rt, "memory");
+    expect_bytes(&rt, alloc, b"\xEF\xBBschool,zone,seats\n10,0,1\n", header).expect(&rt, "memory");
+    expect_bytes(&rt, alloc, b"school,zone,seats\n10,\xFF,1\n", number).expect(&rt, "memory");
+    expect_bytes(&rt, alloc, b"school,zone,seats\n10,0,1\x00\n", number).expect(&rt, "memory");
 }
 
 #[test]
-fn fields_of_a_row(rt: HostRuntime) -> Result<(), AllocError> {
+fn fields_of_a_row(rt: HostRuntime) {
     expect(
         &rt,
         rt.alloc(),
@@ -81,10 +82,11 @@ fn fields_of_a_row(rt: HostRuntime) -> Result<(), AllocError> {
             ("\"10\" ,0,1\n", "1 rows"),
         ],
     )
+    .expect(&rt, "memory");
 }
 
 #[test]
-fn numbers(rt: HostRuntime) -> Result<(), AllocError> {
+fn numbers(rt: HostRuntime) {
     expect(
         &rt,
         rt.alloc(),
@@ -109,10 +111,11 @@ fn numbers(rt: HostRuntime) -> Result<(), AllocError> {
             ("10\u{B},0,1\n", "schools row 2: Number"),
         ],
     )
+    .expect(&rt, "memory");
 }
 
 #[test]
-fn ranges_and_order_of_causes(rt: HostRuntime) -> Result<(), AllocError> {
+fn ranges_and_order_of_causes(rt: HostRuntime) {
     expect(
         &rt,
         rt.alloc(),
@@ -134,10 +137,11 @@ fn ranges_and_order_of_causes(rt: HostRuntime) -> Result<(), AllocError> {
             ("10,0,1\n20,x,1\n30\n", "schools row 3: Number"),
         ],
     )
+    .expect(&rt, "memory");
 }
 
 #[test]
-fn rosters(rt: HostRuntime) -> Result<(), AllocError> {
+fn rosters(rt: HostRuntime) {
     expect(
         &rt,
         rt.alloc(),
@@ -163,10 +167,11 @@ fn rosters(rt: HostRuntime) -> Result<(), AllocError> {
             ("1,0,\n2,0,\n1,0,\n", "roster row 4: Twice"),
         ],
     )
+    .expect(&rt, "memory");
 }
 
 #[test]
-fn rosters_of_the_longer_form(rt: HostRuntime) -> Result<(), AllocError> {
+fn rosters_of_the_longer_form(rt: HostRuntime) {
     expect(
         &rt,
         rt.alloc(),
@@ -182,10 +187,11 @@ fn rosters_of_the_longer_form(rt: HostRuntime) -> Result<(), AllocError> {
             ("2,0,,10\n2,0,,\n", "roster row 3: Twice"),
         ],
     )
+    .expect(&rt, "memory");
 }
 
 #[test]
-fn lists_of_students(rt: HostRuntime) -> Result<(), AllocError> {
+fn lists_of_students(rt: HostRuntime) {
     expect(
         &rt,
         rt.alloc(),
@@ -204,10 +210,11 @@ fn lists_of_students(rt: HostRuntime) -> Result<(), AllocError> {
             ("student,choices\n1,10\n2,20\n1,30\n", "lists row 4: Twice"),
         ],
     )
+    .expect(&rt, "memory");
 }
 
 #[test]
-fn logs(rt: HostRuntime) -> Result<(), AllocError> {
+fn logs(rt: HostRuntime) {
     expect(
         &rt,
         rt.alloc(),
@@ -229,10 +236,11 @@ fn logs(rt: HostRuntime) -> Result<(), AllocError> {
             ("1,10\n\n\n2,100000\n3\n", "log row 2: Range"),
         ],
     )
+    .expect(&rt, "memory");
 }
 
 #[test]
-fn rows_are_counted(rt: HostRuntime) -> Result<(), AllocError> {
+fn rows_are_counted(rt: HostRuntime) {
     let alloc = rt.alloc();
     expect(
         &rt,
@@ -240,14 +248,16 @@ fn rows_are_counted(rt: HostRuntime) -> Result<(), AllocError> {
         View::Schools,
         "school,zone,seats\n",
         &[("10,0,1\n20,0,1\n", "2 rows")],
-    )?;
+    )
+    .expect(&rt, "memory");
     expect(
         &rt,
         alloc,
         View::Roster,
         "student,zone,siblings\n",
         &[("1,0,\n", "1 rows")],
-    )?;
+    )
+    .expect(&rt, "memory");
     expect(
         &rt,
         alloc,
@@ -255,4 +265,5 @@ fn rows_are_counted(rt: HostRuntime) -> Result<(), AllocError> {
         "student,choices\n",
         &[("", "0 rows")],
     )
+    .expect(&rt, "memory");
 }

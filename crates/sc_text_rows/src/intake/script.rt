@@ -1,9 +1,8 @@
 //! Scripts, and by hand from the format which of their records are amendments.
 use super::{View, expect};
-use std::alloc::AllocError;
 
 #[test]
-fn each_kind_of_record_once(rt: HostRuntime) -> Result<(), AllocError> {
+fn each_kind_of_record_once(rt: HostRuntime) {
     expect(
         &rt,
         rt.alloc(),
@@ -46,10 +45,11 @@ fn each_kind_of_record_once(rt: HostRuntime) -> Result<(), AllocError> {
             ("", "None"),
         ],
     )
+    .expect(&rt, "memory");
 }
 
 #[test]
-fn untidy_spellings_of_a_script(rt: HostRuntime) -> Result<(), AllocError> {
+fn untidy_spellings_of_a_script(rt: HostRuntime) {
     expect(
         &rt,
         rt.alloc(),
@@ -70,10 +70,11 @@ fn untidy_spellings_of_a_script(rt: HostRuntime) -> Result<(), AllocError> {
             ),
         ],
     )
+    .expect(&rt, "memory");
 }
 
 #[test]
-fn scripts(rt: HostRuntime) -> Result<(), AllocError> {
+fn scripts(rt: HostRuntime) {
     expect(
         &rt,
         rt.alloc(),
@@ -97,10 +98,11 @@ fn scripts(rt: HostRuntime) -> Result<(), AllocError> {
             ("0,\u{A0}withdraw,3\n0,withdraw\0,3\n", "--"),
         ],
     )
+    .expect(&rt, "memory");
 }
 
 #[test]
-fn stamps_of_a_script(rt: HostRuntime) -> Result<(), AllocError> {
+fn stamps_of_a_script(rt: HostRuntime) {
     expect(
         &rt,
         rt.alloc(),
@@ -120,10 +122,11 @@ fn stamps_of_a_script(rt: HostRuntime) -> Result<(), AllocError> {
             ("0,0,withdraw,3\nwithdraw,0,3\n0\n", "---"),
         ],
     )
+    .expect(&rt, "memory");
 }
 
 #[test]
-fn records_that_are_no_amendment(rt: HostRuntime) -> Result<(), AllocError> {
+fn records_that_are_no_amendment(rt: HostRuntime) {
     expect(
         &rt,
         rt.alloc(),
@@ -177,4 +180,5 @@ fn records_that_are_no_amendment(rt: HostRuntime) -> Result<(), AllocError> {
             ),
         ],
     )
+    .expect(&rt, "memory");
 }

@@ -85,8 +85,8 @@ const LISTS: &[ListedRow] = &[
 ];
 
 #[test]
-fn lists(rt: HostRuntime) -> Result<(), AllocError> {
-    expect_lists(&rt, rt.alloc(), LISTS_HEADER, LISTS)
+fn lists(rt: HostRuntime) {
+    expect_lists(&rt, rt.alloc(), LISTS_HEADER, LISTS).expect(&rt, "memory");
 }
 
 const UNLISTED: &[ListedRow] = &[
@@ -105,8 +105,8 @@ const UNLISTED: &[ListedRow] = &[
 ];
 
 #[test]
-fn nothing_of_unknown_schools(rt: HostRuntime) -> Result<(), AllocError> {
-    expect_lists(&rt, rt.alloc(), "", UNLISTED)
+fn nothing_of_unknown_schools(rt: HostRuntime) {
+    expect_lists(&rt, rt.alloc(), "", UNLISTED).expect(&rt, "memory");
 }
 
 /// Texts, and the number of the school that each names.

@@ -125,8 +125,8 @@ const WORKED_OPENINGS: &[(&str, Rows, &str)] = &[
 ];
 
 #[test]
-fn worked_openings(rt: HostRuntime) -> Result<(), AllocError> {
-    expect_openings(&rt, rt.alloc(), WORKED_OPENINGS)
+fn worked_openings(rt: HostRuntime) {
+    expect_openings(&rt, rt.alloc(), WORKED_OPENINGS).expect(&rt, "memory");
 }
 
 const INTAKE_FAULTS: &[(&str, Rows, &str)] = &[
@@ -172,8 +172,8 @@ const INTAKE_FAULTS: &[(&str, Rows, &str)] = &[
 ];
 
 #[test]
-fn each_intake_fault_once(rt: HostRuntime) -> Result<(), AllocError> {
-    expect_openings(&rt, rt.alloc(), INTAKE_FAULTS)
+fn each_intake_fault_once(rt: HostRuntime) {
+    expect_openings(&rt, rt.alloc(), INTAKE_FAULTS).expect(&rt, "memory");
 }
 
 /// Each bundle gives what is wanted.
@@ -190,7 +190,7 @@ fn expect_bundles(
 }
 
 #[test]
-fn faults_of_the_bundle(rt: HostRuntime) -> Result<(), AllocError> {
+fn faults_of_the_bundle(rt: HostRuntime) {
     expect_bundles(
         &rt,
         rt.alloc(),
@@ -210,4 +210,5 @@ fn faults_of_the_bundle(rt: HostRuntime) -> Result<(), AllocError> {
             ),
         ],
     )
+    .expect(&rt, "memory");
 }

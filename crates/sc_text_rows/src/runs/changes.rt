@@ -96,8 +96,8 @@ const CHANGES: &[ChangedRow] = &[
 ];
 
 #[test]
-fn changes(rt: HostRuntime) -> Result<(), AllocError> {
-    expect_changes(&rt, rt.alloc(), CHANGES_HEADER, CHANGES)
+fn changes(rt: HostRuntime) {
+    expect_changes(&rt, rt.alloc(), CHANGES_HEADER, CHANGES).expect(&rt, "memory");
 }
 
 const UNCHANGED: &[ChangedRow] = &[
@@ -138,8 +138,8 @@ const UNCHANGED: &[ChangedRow] = &[
 ];
 
 #[test]
-fn nothing_of_lines_that_are_not_there(rt: HostRuntime) -> Result<(), AllocError> {
-    expect_changes(&rt, rt.alloc(), "", UNCHANGED)
+fn nothing_of_lines_that_are_not_there(rt: HostRuntime) {
+    expect_changes(&rt, rt.alloc(), "", UNCHANGED).expect(&rt, "memory");
 }
 
 /// Texts, and how many lines each says.

@@ -109,8 +109,8 @@ const CHECKS: &[CheckedRow] = &[
 ];
 
 #[test]
-fn every_fault_of_files(rt: HostRuntime) -> Result<(), AllocError> {
-    expect_checks(&rt, rt.alloc(), CHECKS)
+fn every_fault_of_files(rt: HostRuntime) {
+    expect_checks(&rt, rt.alloc(), CHECKS).expect(&rt, "memory");
 }
 
 /// Texts of other ends of lines, with blank lines, quotes, bytes that are no printable ASCII, and headers as programs write
@@ -178,13 +178,13 @@ const REFUSALS: &[CheckedRow] = &[
 ];
 
 #[test]
-fn refusals_where_they_stand(rt: HostRuntime) -> Result<(), AllocError> {
-    expect_checks(&rt, rt.alloc(), REFUSALS)
+fn refusals_where_they_stand(rt: HostRuntime) {
+    expect_checks(&rt, rt.alloc(), REFUSALS).expect(&rt, "memory");
 }
 
 #[test]
-fn lines_that_are_told(rt: HostRuntime) -> Result<(), AllocError> {
-    expect_checks(&rt, rt.alloc(), LINES)
+fn lines_that_are_told(rt: HostRuntime) {
+    expect_checks(&rt, rt.alloc(), LINES).expect(&rt, "memory");
 }
 
 const SCRIPTS: &[CheckedRow] = &[
@@ -208,8 +208,8 @@ const SCRIPTS: &[CheckedRow] = &[
 ];
 
 #[test]
-fn every_fault_of_scripts(rt: HostRuntime) -> Result<(), AllocError> {
-    expect_checks(&rt, rt.alloc(), SCRIPTS)
+fn every_fault_of_scripts(rt: HostRuntime) {
+    expect_checks(&rt, rt.alloc(), SCRIPTS).expect(&rt, "memory");
 }
 
 /// A script, and the lines of its faults.
@@ -274,13 +274,13 @@ fn expect_beginning(rt: &impl Abort, alloc: Global, given: &Nonsense) -> Result<
 }
 
 #[test]
-fn lines_of_more_than_one_piece(rt: HostRuntime) -> Result<(), AllocError> {
-    let given = make_nonsense(rt.alloc())?;
-    expect_lines(&rt, rt.alloc(), &given)
+fn lines_of_more_than_one_piece(rt: HostRuntime) {
+    let given = make_nonsense(rt.alloc()).expect(&rt, "memory");
+    expect_lines(&rt, rt.alloc(), &given).expect(&rt, "memory");
 }
 
 #[test]
-fn an_output_that_fails_in_a_later_piece(rt: HostRuntime) -> Result<(), AllocError> {
-    let given = make_nonsense(rt.alloc())?;
-    expect_beginning(&rt, rt.alloc(), &given)
+fn an_output_that_fails_in_a_later_piece(rt: HostRuntime) {
+    let given = make_nonsense(rt.alloc()).expect(&rt, "memory");
+    expect_beginning(&rt, rt.alloc(), &given).expect(&rt, "memory");
 }

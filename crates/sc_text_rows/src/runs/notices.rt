@@ -89,8 +89,8 @@ const SUMMARIES: &[(Files, Option<&'static str>, &str)] = &[
 ];
 
 #[test]
-fn summaries(rt: HostRuntime) -> Result<(), AllocError> {
-    expect_summaries(&rt, rt.alloc(), SUMMARIES)
+fn summaries(rt: HostRuntime) {
+    expect_summaries(&rt, rt.alloc(), SUMMARIES).expect(&rt, "memory");
 }
 
 /// What explaining the choices of a student, or of all, writes after a journal, if there is one, and its answer.
@@ -193,8 +193,8 @@ const EXPLANATIONS: &[ExplainedRow] = &[
 ];
 
 #[test]
-fn explanations(rt: HostRuntime) -> Result<(), AllocError> {
-    expect_explanations(&rt, rt.alloc(), EXPLAINED_HEADER, EXPLANATIONS)
+fn explanations(rt: HostRuntime) {
+    expect_explanations(&rt, rt.alloc(), EXPLAINED_HEADER, EXPLANATIONS).expect(&rt, "memory");
 }
 
 const UNEXPLAINED: &[ExplainedRow] = &[
@@ -225,8 +225,8 @@ const UNEXPLAINED: &[ExplainedRow] = &[
 ];
 
 #[test]
-fn nothing_of_unknown_students(rt: HostRuntime) -> Result<(), AllocError> {
-    expect_explanations(&rt, rt.alloc(), "", UNEXPLAINED)
+fn nothing_of_unknown_students(rt: HostRuntime) {
+    expect_explanations(&rt, rt.alloc(), "", UNEXPLAINED).expect(&rt, "memory");
 }
 
 /// Texts, and the number of the student whom each names.

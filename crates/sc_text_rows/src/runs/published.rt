@@ -92,8 +92,8 @@ fn expect_findings(rt: &impl Abort, alloc: Global) -> Result<(), AllocError> {
 }
 
 #[test]
-fn published_reports(rt: HostRuntime) -> Result<(), AllocError> {
-    expect_findings(&rt, rt.alloc())
+fn published_reports(rt: HostRuntime) {
+    expect_findings(&rt, rt.alloc()).expect(&rt, "memory");
 }
 
 /// Journals over Market B, if there is one, tables, and what is written of them.
@@ -139,6 +139,6 @@ fn expect_tables(rt: &impl Abort, alloc: Global) -> Result<(), AllocError> {
 }
 
 #[test]
-fn tables_alone(rt: HostRuntime) -> Result<(), AllocError> {
-    expect_tables(&rt, rt.alloc())
+fn tables_alone(rt: HostRuntime) {
+    expect_tables(&rt, rt.alloc()).expect(&rt, "memory");
 }

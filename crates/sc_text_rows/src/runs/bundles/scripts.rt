@@ -92,8 +92,8 @@ const SCRIPTS: &[(&str, Rows, &str, &str)] = &[
 ];
 
 #[test]
-fn scripts(rt: HostRuntime) -> Result<(), AllocError> {
-    expect_scripts(&rt, rt.alloc(), false, SCRIPTS)
+fn scripts(rt: HostRuntime) {
+    expect_scripts(&rt, rt.alloc(), false, SCRIPTS).expect(&rt, "memory");
 }
 
 const WHOLE_REPORTS: &[(&str, Rows, &str, &str)] = &[
@@ -221,8 +221,8 @@ const WHOLE_REPORTS: &[(&str, Rows, &str, &str)] = &[
 ];
 
 #[test]
-fn whole_reports(rt: HostRuntime) -> Result<(), AllocError> {
-    expect_scripts(&rt, rt.alloc(), true, WHOLE_REPORTS)
+fn whole_reports(rt: HostRuntime) {
+    expect_scripts(&rt, rt.alloc(), true, WHOLE_REPORTS).expect(&rt, "memory");
 }
 
 /// A script of so many records, each of which reranks student 1 with the stamp that the record before gave.
@@ -244,11 +244,10 @@ fn many_replies(alloc: Global, count: u32) -> Result<String, AllocError> {
 }
 
 #[test]
-fn a_long_script(rt: HostRuntime) -> Result<(), AllocError> {
-    let script = many_records(rt.alloc(), 500)?;
-    let replies = many_replies(rt.alloc(), 500)?;
-    let left = scripted(rt.alloc(), false, MARKET_B, script.as_str())?;
+fn a_long_script(rt: HostRuntime) {
+    let script = many_records(rt.alloc(), 500).expect(&rt, "memory");
+    let replies = many_replies(rt.alloc(), 500).expect(&rt, "memory");
+    let left = scripted(rt.alloc(), false, MARKET_B, script.as_str()).expect(&rt, "memory");
     let told = left.as_str().strip_prefix(replies.as_str());
     assert!(rt; told == Some("student,school\n1,10\n2,20\n0"), "{left}");
-    Ok(())
 }
