@@ -10,9 +10,9 @@ use std::alloc::{AllocError, Global};
 use std::marker::Model;
 
 /// A roll kept as a list until it puts out a key that it held, and from then on as a heap with the last key on top.
-/// An offer with a free seat costs a comparison and the room of a key, which the first one takes for all seats of a roll
-/// that has few, and one that is refused a comparison. One that
-/// puts out another key costs the logarithm of the seats, and the first such one the seats, since it makes the heap.
+/// An offer with a free seat costs a comparison and the room of a key, which the first one takes for several, and one that
+/// is refused a comparison. One that puts out another key costs the logarithm of the seats, and the first such one the
+/// seats, since it makes the heap.
 /// A full roll takes no memory for an offer.
 #[derive(Drop)]
 pub struct HeapRoll {
@@ -33,13 +33,20 @@ impl Model for HeapRoll {
     ghost invariant = { IsKept };
 }
 
-/// For how many keys a roll takes room at most when its first key comes.
-const MOST_FIRST_ROOM: usize = 64;
+/// For how many keys a roll takes room when its first key comes, unless it has few seats. A block of so many the C
+/// library's allocator gives back whole. Of smaller ones it keeps some of each size for the next that are asked for, and
+/// as these lie among the others, what many rolls let go could not serve again in large pieces.
+const FIRST_ROOM: usize = 65;
 
-/// For how many keys a roll of so many seats takes room when its first key comes: for as many as it may hold, unless
-/// these are many.
+/// How many seats are no longer few.
+const MANY_SEATS: usize = 16;
+
+/// For how many keys a roll of so many seats takes room when its first key comes.
 fn first_room(capacity: Seats) -> usize {
-    (capacity.get() as usize).min(MOST_FIRST_ROOM)
+    match capacity.get() as usize {
+        few @ 0..MANY_SEATS => few,
+        _ => FIRST_ROOM,
+    }
 }
 
 /// Whether the key is ahead of the last of those held, if there is one.
