@@ -1,8 +1,8 @@
 -- A roster and lists whose rows are of the same students.
-use Rattle.std.proofs.Common.{◌≡◌, ℕ, suc, ◌<◌, true, false, nat_eq, List, [], ◌∷◌, ◌++◌, length, map, get_or, inl, inr, refl, sym, ap, ◌∙◌, arith, Ok, Err, Some, None, append_assoc}
-use Rattle.std.specs.Prelude.{Result}
-use Rattle.std.specs.List.{IsDistinct}
-use Rattle.std.proofs.lemmas.Bool.{cases_Bool}
+use Rattle.std.proofs.Common.{◌≡◌, ℕ, suc, ◌<◌, Bool, true, false, nat_eq, List, [], ◌∷◌, ◌++◌, length, map, get_or, refl, sym, ap, ◌∙◌, arith, Ok, Err, Some, None, append_assoc}
+use Rattle.std.specs.Prelude.{Result, ◌||◌}
+use Rattle.std.specs.List.{IsDistinct, list_any}
+use Rattle.std.proofs.Math.Bool.{or-true}
 use Rattle.std.proofs.lemmas.Bool.Decides.{nat_tests}
 use Rattle.std.proofs.lemmas.Cmp.{nat_eq_equiv}
 use Rattle.std.proofs.lemmas.Map.Keys.{IsDistinct-tail, apart_from_distinct}
@@ -15,6 +15,7 @@ use Rattle.sc_intake.specs.declared.fault.IntakeFault.{IntakeFault}
 use Rattle.sc_intake.specs.declared.lists.ListRow.{ListRow}
 use Rattle.sc_intake.specs.declared.roster.RosterRow.{RosterRow}
 use Rattle.sc_intake.proofs.PaperLemmas.{all_entered-more}
+use Rattle.sc_intake.proofs.SeenLemmas.{same-number}
 
 at-there : (earlier rest : List ListRow) (list : ListRow) → get_or (map list_number (earlier ++ list ∷ rest)) (length earlier) 0 ≡ list.student
 at-there [] rest list = refl
@@ -37,14 +38,17 @@ list-there (e ∷ es) rest list differ =
     let other : nat_eq list.student e.student ≡ false = nat_eq_equiv.symm list.student e.student ∙ rw (at-there es rest list) at apart in
     rw other (list-there es rest list (IsDistinct-tail nat_eq e.student (map list_number (es ++ list ∷ rest)) differ))
 
+-- the list that stands at a place is its student's
+pub list-at : (rows earlier rest : List ListRow) (row : ListRow) → rows ≡ earlier ++ row ∷ rest → IsDistinct nat_eq (map list_number rows) → list_of rows row.student ≡ Some row
+list-at rows earlier rest row parts differ = rw parts (list-there earlier rest row (rw parts at differ))
+
 module _ (lists earlier ls : List ListRow) (rows : List RosterRow) (row : RosterRow) (list : ListRow) (differ : IsDistinct nat_eq (map list_number lists))
     (parts : lists ≡ earlier ++ list ∷ ls) (step : map roster_number (row ∷ rows) ≡ map list_number (list ∷ ls)) where
   -- the row's student has this list
   is-theirs : list_of lists row.student ≡ Some list
   is-theirs =
       let same : row.student ≡ list.student = cc step in
-      let there : list_of lists list.student ≡ Some list = rw parts (list-there earlier ls list (rw parts at differ)) in
-      rw same there
+      rw same (list-at lists earlier ls list parts differ)
 
   -- one student more has entered
   pub in-step : (reading : Result Market IntakeFault) (m n : Market) → reading ≡ all_entered lists m (row ∷ rows) → entered_by m row (Some list) ≡ Ok n
@@ -55,25 +59,17 @@ module _ (lists earlier ls : List ListRow) (rows : List RosterRow) (row : Roster
   pub in-step-parts : lists ≡ (earlier ++ list ∷ []) ++ ls
   in-step-parts = parts ∙ sym (append_assoc earlier (list ∷ []) ls)
 
--- a row's student is in the roster
-is-there : (earlier rows : List RosterRow) (row : RosterRow) → is_in_roster (earlier ++ row ∷ rows) row.student ≡ true
-is-there [] rows row =
-    let same : nat_eq row.student row.student ≡ true = grind (arith, nat_tests) in
-    rw same refl
-is-there (r ∷ rs) rows row = elim (cases_Bool (nat_eq row.student r.student)) [
-  | inl same ↦ rw same refl
-  | inr other ↦ rw other (is-there rs rows row)
-]
+-- who is in a roster, by the numbers of its rows
+pub in-numbers : (roster : List RosterRow) (i : ℕ) → is_in_roster roster i ≡ list_any (nat_eq i) (map roster_number roster)
+in-numbers [] i = refl
+in-numbers (row ∷ rest) i = rw (in-numbers rest i) refl
 
--- no list is of somebody who is not in the roster
-none-outside : (roster earlier rows : List RosterRow) (ls : List ListRow) → roster ≡ earlier ++ rows → map roster_number rows ≡ map list_number ls
-    → first_not_in_roster roster ls ≡ None
-none-outside roster earlier rows [] parts step = refl
-none-outside roster earlier [] (list ∷ ls) parts step = cc step
-none-outside roster earlier (row ∷ rows) (list ∷ ls) parts step =
-    let same : row.student ≡ list.student = cc step in
-    let among : is_in_roster roster list.student ≡ true = rw (parts, ← same) (is-there earlier rows row) in
-    rw among (none-outside roster (earlier ++ row ∷ []) rows ls (parts ∙ sym (append_assoc earlier (row ∷ []) rows)) (cc step))
+-- rows whose numbers are all in the roster
+pub none-missing : (roster : List RosterRow) (rows : List ListRow) → ((i : ℕ) → list_any (nat_eq i) (map list_number rows) ≡ true → is_in_roster roster i ≡ true) → first_not_in_roster roster rows ≡ None
+none-missing roster [] known = refl
+none-missing roster (row ∷ rows) known =
+    let here : is_in_roster roster row.student ≡ true = known row.student (rw (same-number row.student) refl) in
+    rw here (none-missing roster rows (λ i among. known i (ap (λ (b : Bool). nat_eq i row.student || b) among ∙ or-true (nat_eq i row.student))))
 
 -- what the rows make is the papers after the roster has entered
 pub filled-in-step : (m : Market) (roster : List RosterRow) (lists : List ListRow) → map roster_number roster ≡ map list_number lists
@@ -83,5 +79,5 @@ filled-in-step m roster lists step = by (all_entered lists m roster) refl
   where
     by : (reading : Result Market IntakeFault) → all_entered lists m roster ≡ reading
         → (all_entered lists m roster >>= λ n. unless_not_in_roster n (first_not_in_roster roster lists)) ≡ all_entered lists m roster
-    by (Ok n) is = rw (is, none-outside roster [] roster lists refl step) refl
+    by (Ok n) is = rw (is, none-missing roster lists (λ i there. in-numbers roster i ∙ rw step there)) refl
     by (Err fault) is = rw is refl

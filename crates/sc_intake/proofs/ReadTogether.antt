@@ -16,7 +16,7 @@ use Rattle.sc_papers.proofs.Objections.{first_of-none, refuse_if-none}
 use Rattle.sc_intake.specs.Fault.{◌>>=◌}
 use Rattle.sc_intake.specs.File.{in_row, records_below, rows_after, rows_in}
 use Rattle.sc_intake.specs.Lists.{choices_of, is_list_header, list_number, lists_in, next_list}
-use Rattle.sc_intake.specs.Papers.{all_entered, entered_by, is_in_roster, list_of, opening, unless_refused}
+use Rattle.sc_intake.specs.Papers.{all_entered, entered_by, list_of, opening, unless_refused}
 use Rattle.sc_intake.specs.Roster.{is_roster_header, next_student, roster_in, roster_number, student_of}
 use Rattle.sc_intake.specs.Rows.{added, next_row_at, row_at}
 use Rattle.sc_intake.specs.Tidy.{TakesRow}
@@ -27,7 +27,7 @@ use Rattle.sc_intake.specs.declared.fault.Source.TheVariants.{Roster, Lists}
 use Rattle.sc_intake.specs.declared.lists.ListRow.{ListRow}
 use Rattle.sc_intake.specs.declared.roster.RosterRow.{RosterRow}
 use Rattle.sc_intake.specs.declared.schools.SchoolRow.{SchoolRow}
-use Rattle.sc_intake.proofs.InStep.{filled-in-step}
+use Rattle.sc_intake.proofs.InStep.{filled-in-step, in-numbers}
 use Rattle.sc_intake.proofs.PaperLemmas.{all-students}
 use Rattle.sc_intake.proofs.RowLemmas.{row-step}
 
@@ -98,11 +98,6 @@ all_entered-push lists list m n k (first ∷ rest) row entered found enters =
         rw here (more j done)
     by None has (Ok j) is done more = let no : entered_by m first None ≡ Ok j = rw has at is in cc no
     by theirs has (Err cause) is done more = cc done
-
--- who is in a roster, by the numbers of its rows
-in-numbers : (roster : List RosterRow) (i : ℕ) → is_in_roster roster i ≡ list_any (nat_eq i) (map roster_number roster)
-in-numbers [] i = refl
-in-numbers (row ∷ rest) i = rw (in-numbers rest i) refl
 
 -- who has none of the numbers has no list
 no-list : (lists : List ListRow) (i : ℕ) → list_any (nat_eq i) (map list_number lists) ≡ false → list_of lists i ≡ None

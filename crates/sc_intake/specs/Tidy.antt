@@ -10,6 +10,7 @@ use Rattle.sc_intake.specs.Plain.{after_line, ends_field, fields_from, first_lin
 use Rattle.sc_intake.specs.Rows.{row_at}
 use Rattle.sc_intake.specs.declared.blanks.Blanks.TheVariants.{InLine}
 use Rattle.sc_intake.specs.declared.fault.Cause.{Cause}
+use Rattle.sc_intake.specs.declared.lists.ListRow.{ListRow}
 
 -- a text begins with digits that write a number, and this comes after them
 pub record TakesNumber (text after : List ℕ) (n : ℕ) : Type 0 where
@@ -56,11 +57,18 @@ pub record TakesRow {R : Type 0} (read : ℕ → List (List ℕ) → Result R Ca
   pub reads : row_at read width row fields ≡ Ok found
 
 -- the first of these records is a row of the lists, of this student and these choices, and these are left
-abbrev pub TakesList : ℕ → List (List (List ℕ)) → List (List (List ℕ)) → ℕ → List ℕ → Type 0
-TakesList width records left student choices =
-    (row : ℕ) → TakesRow choices_of width row records left (record { row = row; student = student; choices = choices })
+pub record TakesList (width row : ℕ) (records left : List (List (List ℕ))) (student : ℕ) (choices : List ℕ) : Type 0 where
+  pub list : ListRow
+  pub takes : TakesRow choices_of width row records left list
+  pub theirs : list.student ≡ student
+  pub chosen : list.choices ≡ choices
 
 -- the first of these records, if there is one, is this row, and these are left
 abbrev pub IsNextRow : {R : Type 0} → (ℕ → List (List ℕ) → Result R Cause) → ℕ → ℕ → List (List (List ℕ)) → List (List (List ℕ)) → Option R → Type 0
 IsNextRow read width row records left None = records ≡ []
 IsNextRow read width row records left (Some found) = TakesRow read width row records left found
+
+-- the first of these records, if there is one, is a row of the lists, of this student and these choices, and these are left
+abbrev pub IsNextList : ℕ → ℕ → List (List (List ℕ)) → List (List (List ℕ)) → List ℕ → Option ℕ → Type 0
+IsNextList width row records left choices None = records ≡ []
+IsNextList width row records left choices (Some student) = TakesList width row records left student choices

@@ -1,28 +1,36 @@
 //! The papers of a roster and lists of the same students, in whatever order either stands.
 //!
-//! Each row is read once and kept. Both files' numbers are sorted, and who stands at the same place in both orders is
-//! taken for the same student. That is a guess: whether it is right is seen where a list is put into its slot, and that
-//! no number comes twice is seen where the students enter. So what is proved here does not rest on the sort.
+//! Each row is read once and kept, of a list where the schools of its choices stand. Both files' numbers are sorted, and
+//! who stands at the same place in both orders is taken for the same student. That is a guess: whether it is right is
+//! seen as the students enter, and so is that no number comes twice. So what is proved here does not rest on the sort.
+//! Where each student of the roster has a list, and there are as many lists as students, no list is left.
 
-ghost use Rattle.std.specs.Prelude.{◌≡◌, [], ◌++◌, ◌∷◌, List, length, map, nat_eq, IfSome, Ok};
+ghost use Rattle.std.specs.Prelude.{◌≡◌, [], All, List, map, nat_eq, IfSome, Ok};
 ghost use Rattle.std.specs.Bool.{OnTrue};
 ghost use Rattle.std.specs.List.{IsDistinct};
-ghost use Rattle.sc_intake.specs.AnyOrder.{each_list, AreDifferent, AreInSlots};
-ghost use Rattle.sc_intake.specs.File.{rows_after, rows_in};
-ghost use Rattle.sc_intake.specs.Papers.{all_entered};
-ghost use Rattle.sc_intake.specs.Rows.{next_row};
+ghost use Rattle.sc_intake.specs.AnyOrder.{AreDifferent, AreKept, AreTold};
+ghost use Rattle.sc_intake.specs.Lists.{list_number, lists_in};
+ghost use Rattle.sc_intake.specs.Papers.{filled};
+ghost use Rattle.sc_intake.specs.Roster.{roster_in};
 ghost use Rattle.sc_intake.specs.Together.{papers_below};
 ghost use Rattle.sc_intake.specs.declared.lists.ListRow.{ListRow as ListedRow};
+ghost use Rattle.sc_papers.specs.Market.{schools_of};
+ghost use Rattle.sc_papers.specs.Placed.{AreOfSchools};
 
-use crate::below::{Below, below_header, likely_students, next_row};
+use crate::below::{below_header, likely_students, next_placed, next_student};
 use crate::lists::ListRow;
-use crate::papers::{enter, open_with_room};
+use crate::papers::{enter_placed, open_with_room};
 use crate::roster::RosterRow;
-use crate::rows::Numbered;
 use crate::schools::SchoolRows;
-use crate::tidy_rows::TidyRow;
-use sc_papers::{FlatPapers, Seed};
+use sc_papers::{ChosenPositions, FlatPapers, MOST_STUDENTS, PlacedChoices, Seed, StudentNo};
 use std::alloc::Global;
+
+/// What is kept of a row of the lists.
+#[derive(Drop)]
+struct KeptList {
+    student: StudentNo,
+    choices: ChosenPositions,
+}
 
 /// A number of a file, and in which of its rows it stands.
 #[derive(Clone, Copy)]
@@ -31,16 +39,15 @@ struct Place {
     row: u32,
 }
 
-/// The rows that are left of a file, if their numbers differ, which is not looked at. `None` says nothing: one of them
-/// has a fault, there are too many, or memory is wanting.
-fn take_rows<R: TidyRow>(alloc: Global, below: &mut Below<'_>, room: usize) -> Option<Vec<R>>
-    ensures { IfSome result (λ rows. IsDistinct nat_eq (map R.number rows.items)
-        → rows_after 2 R.source (next_row R.MOST R.number R.reading below.old.width) [] below.old.records.left
-        ≡ Ok rows.items) }
+/// The rows of the text of a roster, if their numbers differ, which is not looked at. `None` says nothing of the text: a
+/// row has a fault, there are too many, or memory is wanting.
+fn students_in(alloc: Global, text: &[u8]) -> Option<Vec<RosterRow>>
+    ensures { IfSome result (λ rows. AreDifferent rows.items → roster_in text.now ≡ Ok rows.items) }
 {
-    let mut rows = Vec::with_capacity(alloc, room).ok()?;
-    'rows: while let Some(row) = next_row::<R>(alloc, rows.len() as u64 + 2, below)? {
-        if rows.len() >= R::MOST {
+    let mut below = below_header::<RosterRow>(alloc, text)?;
+    let mut rows = Vec::with_capacity(alloc, likely_students(text)).ok()?;
+    'rows: while let Some(row) = next_student(alloc, rows.len() as u64 + 2, &mut below)? {
+        if rows.len() >= MOST_STUDENTS {
             return None;
         }
         rows.push(row).ok()?;
@@ -48,101 +55,83 @@ fn take_rows<R: TidyRow>(alloc: Global, below: &mut Below<'_>, room: usize) -> O
     Some(rows)
 }
 
-/// The rows of the text of a file, if their numbers differ, which is not looked at. `None` says nothing of the text.
-fn rows_of_text<R: TidyRow>(alloc: Global, text: &[u8], room: usize) -> Option<Vec<R>>
-    ensures { IfSome result (λ rows. IsDistinct nat_eq (map R.number rows.items)
-        → rows_in R.source R.is_header (next_row R.MOST R.number R.reading) text.now ≡ Ok rows.items) }
+/// What is to be kept of the rows of the text of lists, if their numbers differ, which is not looked at. `None` says
+/// nothing of the text: a row has a fault, no student may have its choices, there are too many, or memory is wanting.
+fn lists_in(alloc: Global, papers: &FlatPapers, text: &[u8], room: usize) -> Option<Vec<KeptList>>
+    ensures kept { IfSome result (λ lists. AreKept (schools_of papers.now) lists.items (lists_in text.now) Ok) }
+    ensures within { IfSome result (λ lists. All (λ list. AreOfSchools papers.now list.choices) lists.items) }
 {
-    let mut below = below_header::<R>(alloc, text)?;
-    take_rows(alloc, &mut below, room)
+    let mut below = below_header::<ListRow>(alloc, text)?;
+    let mut placed = PlacedChoices::new();
+    let mut lists = Vec::with_capacity(alloc, room).ok()?;
+    'rows: while let Some(student) = next_placed(
+        alloc,
+        lists.len() as u64 + 2,
+        papers,
+        &mut below,
+        &mut placed,
+    )? {
+        if lists.len() >= MOST_STUDENTS {
+            return None;
+        }
+        let choices = placed.chosen().copy();
+        lists.push(KeptList { student, choices }).ok()?;
+    }
+    Some(lists)
 }
 
 /// Where the numbers of rows stand, by rising number. The sort is one pass where they rise already.
-fn places_by_number<R: Numbered>(alloc: Global, rows: &[R]) -> Option<Vec<Place>> {
+fn places_by_number<R, F: Fn(&R) -> u32>(alloc: Global, rows: &[R], number: F) -> Option<Vec<Place>>
+    requires { F.IsAlwaysCallable number }
+{
     let mut places = Vec::with_capacity(alloc, rows.len()).ok()?;
     for (row, found) in rows.iter().enumerate() {
         let row = u32::try_from(row).ok()?;
-        let number = found.number();
+        let number = number(found);
         places.push(Place { number, row }).ok()?;
     }
     places.sort_unstable_by_key(|place| place.number);
     Some(places)
 }
 
-/// For each list the row of the roster in which its student stands, if both files are of the same students; a guess
-/// otherwise. To search for each number would take longer than to sort them all.
-fn likely_rows(alloc: Global, roster: &[RosterRow], lists: &[ListRow]) -> Option<Vec<u32>> {
-    let students = places_by_number(alloc, roster)?;
-    let places = places_by_number(alloc, lists)?;
-    let mut rows = Vec::from_elem(alloc, 0, lists.len()).ok()?;
+/// For each student of the roster the place of their list, if both files are of the same students; a guess otherwise.
+/// To search for each number would take longer than to sort them all.
+fn likely_lists(alloc: Global, roster: &[RosterRow], lists: &[KeptList]) -> Option<Vec<u32>> {
+    let students = places_by_number(alloc, roster, |row| row.student.get())?;
+    let places = places_by_number(alloc, lists, |list| list.student.get())?;
+    let mut likely = Vec::from_elem(alloc, 0, roster.len()).ok()?;
     for (student, place) in students.iter().zip(places.iter()) {
-        *rows.get_mut(place.row as usize)? = student.row;
+        *likely.get_mut(student.row as usize)? = place.row;
     }
-    Some(rows)
+    Some(likely)
 }
 
-/// An empty slot for the list of each student of the roster.
-fn empty_slots(alloc: Global, roster: &[RosterRow]) -> Option<Vec<Option<ListRow>>>
-    ensures { IfSome result (λ slots. slots.items ≡ each_list [] roster.now) }
-{
-    let mut slots = Vec::with_capacity(alloc, roster.len()).ok()?;
-    for _row in roster {
-        slots.push(None).ok()?;
-    }
-    Some(slots)
-}
-
-/// Puts a list into this row's slot, if the row is its student's and the slot is empty, and says whether it did.
-fn put_list(roster: &[RosterRow], row: usize, list: ListRow, slots: &mut [Option<ListRow>]) -> bool
-    ensures put { OnTrue result (AreDifferent roster.now → (lists : List ListedRow)
-        → AreInSlots roster.now lists slots.old → AreInSlots roster.now (lists ++ list ∷ []) slots.new) }
-    ensures len { length slots.new ≡ length slots.old }
-{
-    let Some(found) = roster.get(row) else {
-        return false;
-    };
-    if found.student != list.student || row >= slots.len() || slots[row].is_some() {
-        return false;
-    }
-    slots[row] = Some(list);
-    true
-}
-
-/// The lists in the slots of their students, who stand in these rows of the roster. `None` says nothing: a row is
-/// another student's, a student has two lists, or memory is wanting.
-fn fill_slots(
-    alloc: Global,
-    roster: &[RosterRow],
-    rows: Vec<u32>,
-    lists: Vec<ListRow>,
-) -> Option<Vec<Option<ListRow>>>
-    ensures { IfSome result (λ slots. AreDifferent roster.now → AreInSlots roster.now lists.items slots.items) }
-{
-    let mut slots = empty_slots(alloc, roster)?;
-    let mut rows = rows.into_iter();
-    for list in lists {
-        let row = rows.next()?;
-        if !put_list(roster, row as usize, list, slots.as_mut_slice()) {
-            return None;
-        }
-    }
-    Some(slots)
-}
-
-/// Enters the students of the roster with the lists of their slots, and says whether each of them has one and may
-/// enter. Otherwise, or where memory is wanting, the papers are no longer to be used.
-fn enter_each(papers: &mut FlatPapers, roster: Vec<RosterRow>, slots: Vec<Option<ListRow>>) -> bool
-    requires { papers.old.students ≡ [] }
+/// Enters the students of the roster, each with the list at this place, and says whether it is theirs, each of them may
+/// enter, and no list is left. Otherwise, or where memory is wanting, the papers are no longer to be used.
+fn enter_each(
+    papers: &mut FlatPapers,
+    roster: Vec<RosterRow>,
+    lists: &[KeptList],
+    likely: Vec<u32>,
+) -> bool
+    requires fresh { papers.old.students ≡ [] }
+    requires within { All (λ list. AreOfSchools papers.old list.choices) lists.now }
     ensures different { OnTrue result (AreDifferent roster.items) }
-    ensures entered { OnTrue result ((lists : List ListedRow) → slots.items ≡ each_list lists roster.items
-        → all_entered lists papers.old roster.items ≡ Ok papers.new) }
+    ensures entered { OnTrue result ((rows : List ListedRow) → AreTold (schools_of papers.old) lists.now rows
+        → IsDistinct nat_eq (map list_number rows) × (filled papers.old roster.items rows ≡ Ok papers.new)) }
 {
-    let mut slots = slots.into_iter();
+    if roster.len() != lists.len() {
+        return false;
+    }
+    let mut likely = likely.into_iter();
     for row in roster {
-        let Some(Some(list)) = slots.next() else {
+        let Some(at) = likely.next() else {
             return false;
         };
-        if enter(papers, row, list.choices).is_err() {
+        let Some(list) = lists.get(at as usize) else {
+            return false;
+        };
+        if list.student != row.student || !enter_placed(papers, row, &list.choices) {
             return false;
         }
     }
@@ -159,13 +148,12 @@ pub(crate) fn papers_in_any_order(
 ) -> Option<FlatPapers>
     ensures { IfSome result (λ papers. papers_below seed schools.now roster.now lists.now ≡ Ok papers) }
 {
-    let students = rows_of_text::<RosterRow>(alloc, roster, likely_students(roster))?;
-    let choices = rows_of_text::<ListRow>(alloc, lists, students.len())?;
-    let rows = likely_rows(alloc, students.as_slice(), choices.as_slice())?;
-    let slots = fill_slots(alloc, students.as_slice(), rows, choices)?;
+    let students = students_in(alloc, roster)?;
     let opened = open_with_room(alloc, seed, schools.as_slice(), students.len());
     let mut papers = opened.ok()?;
-    if !enter_each(&mut papers, students, slots) {
+    let choices = lists_in(alloc, &papers, lists, students.len())?;
+    let likely = likely_lists(alloc, students.as_slice(), choices.as_slice())?;
+    if !enter_each(&mut papers, students, choices.as_slice(), likely) {
         return None;
     }
     Some(papers)

@@ -1,18 +1,21 @@
 //! A file below its header, row by row.
 
-ghost use Rattle.std.specs.Prelude.{◌≡◌, [], IfNone, IfSome, Ok};
+ghost use Rattle.std.specs.Prelude.{◌≡◌, ℕ, [], IfNone, IfSome, Ok};
 ghost use Rattle.std.specs.Bool.{OnTrue};
 ghost use Rattle.sc_intake.specs.File.{records_below};
+ghost use Rattle.sc_intake.specs.Roster.{student_of};
 ghost use Rattle.sc_intake.specs.Rows.{row_at};
-ghost use Rattle.sc_intake.specs.Tidy.{IsNextRow, TakesList, TakesRow};
+ghost use Rattle.sc_intake.specs.Tidy.{IsNextList, IsNextRow, TakesList, TakesRow};
 ghost use Rattle.sc_papers.specs.Market.{schools_of};
 ghost use Rattle.sc_papers.specs.Placed.{schools_at, AreOfSchools};
 
 use crate::byte_count::count_of;
 use crate::input::records_in;
+use crate::lists::ListRow;
 use crate::records::Records;
+use crate::roster::RosterRow;
 use crate::rows::{Row, take_header};
-use crate::tidy_rows::{TidyRow, take_placed};
+use crate::tidy_rows::{take_placed, take_student};
 use sc_papers::{FlatPapers, MOST_STUDENTS, PlacedChoices, StudentNo};
 use std::alloc::Global;
 
@@ -51,30 +54,30 @@ fn row_at<R: Row>(alloc: Global, row: u64, below: &Below<'_>) -> Option<R>
     }
 }
 
-/// The row that the next record of a file is, where that is tidy. `None` says nothing of it, and leaves the records as
-/// they were.
-fn tidy_row<R: TidyRow>(alloc: Global, row: u64, below: &mut Below<'_>) -> Option<R>
-    ensures row { IfSome result (TakesRow R.reading below.old.width row
+/// The row that the next record of the roster is, where that is tidy. `None` says nothing of it, and leaves the records
+/// as they were.
+fn tidy_student(alloc: Global, row: u64, below: &mut Below<'_>) -> Option<RosterRow>
+    ensures row { IfSome result (TakesRow student_of below.old.width row
         below.old.records.left below.new.records.left) }
     ensures unchanged { IfNone result (below.new ≡ below.old) }
     ensures width { below.new.width ≡ below.old.width }
 {
     let text = below.records.plain_text()?;
-    let (found, rest) = R::take(alloc, row, below.width, text)?;
+    let (found, rest) = take_student(alloc, row, below.width, text)?;
     below.records.go_on(alloc, rest);
     Some(found)
 }
 
 /// The student of the row that the next record of the lists is, where that is tidy and a student may have its choices;
 /// where their schools stand is put into `placed`. `None` says nothing of the record, and leaves the records as they were.
-pub(crate) fn placed_row(
+fn placed_row(
     alloc: Global,
     papers: &FlatPapers,
     below: &mut Below<'_>,
     placed: &mut PlacedChoices,
 ) -> Option<StudentNo>
-    ensures row { IfSome result (λ student. TakesList below.old.width below.old.records.left below.new.records.left
-        student (schools_at (schools_of papers.now) placed.new)) }
+    ensures row { IfSome result (λ student. (row : ℕ) → TakesList below.old.width row
+        below.old.records.left below.new.records.left student (schools_at (schools_of papers.now) placed.new)) }
     ensures within { IfSome result (λ _. AreOfSchools papers.now placed.new) }
     ensures unchanged { IfNone result (below.new ≡ below.old) }
     ensures width { below.new.width ≡ below.old.width }
@@ -89,7 +92,7 @@ pub(crate) fn placed_row(
 
 /// The row that the next record of a file is, if there is one, however it is written. `None` says nothing: it is none,
 /// or memory is wanting.
-pub(crate) fn any_row<R: Row>(alloc: Global, row: u64, below: &mut Below<'_>) -> Option<Option<R>>
+fn any_row<R: Row>(alloc: Global, row: u64, below: &mut Below<'_>) -> Option<Option<R>>
     ensures row { IfSome result (IsNextRow R.reading below.old.width row
         below.old.records.left below.new.records.left) }
     ensures width { below.new.width ≡ below.old.width }
@@ -101,20 +104,48 @@ pub(crate) fn any_row<R: Row>(alloc: Global, row: u64, below: &mut Below<'_>) ->
     }
 }
 
-/// The row that the next record of a file is, if there is one. `None` says nothing: it is none, or memory is wanting.
-pub(crate) fn next_row<R: TidyRow>(
+/// The row that the next record of the roster is, if there is one. `None` says nothing: it is none, or memory is wanting.
+pub(crate) fn next_student(
     alloc: Global,
     row: u64,
     below: &mut Below<'_>,
-) -> Option<Option<R>>
-    ensures row { IfSome result (IsNextRow R.reading below.old.width row
+) -> Option<Option<RosterRow>>
+    ensures row { IfSome result (IsNextRow student_of below.old.width row
         below.old.records.left below.new.records.left) }
     ensures width { below.new.width ≡ below.old.width }
 {
-    match tidy_row(alloc, row, below) {
+    match tidy_student(alloc, row, below) {
         Some(found) => Some(Some(found)),
         None => any_row(alloc, row, below),
     }
+}
+
+/// The student of the row that the next record of the lists is, if there is one; where the schools of its choices stand
+/// is put into `placed`, in place of what was there. `None` says nothing: it is none, no student may have its choices, or
+/// memory is wanting.
+pub(crate) fn next_placed(
+    alloc: Global,
+    row: u64,
+    papers: &FlatPapers,
+    below: &mut Below<'_>,
+    placed: &mut PlacedChoices,
+) -> Option<Option<StudentNo>>
+    ensures row { IfSome result (IsNextList below.old.width row below.old.records.left below.new.records.left
+        (schools_at (schools_of papers.now) placed.new)) }
+    ensures within { IfSome result (λ next. IfSome next (λ _. AreOfSchools papers.now placed.new)) }
+    ensures width { below.new.width ≡ below.old.width }
+{
+    if let Some(student) = placed_row(alloc, papers, below, placed) {
+        return Some(Some(student));
+    }
+    let Some(list) = any_row::<ListRow>(alloc, row, below)? else {
+        return Some(None);
+    };
+    *placed = PlacedChoices::new();
+    if !placed.push_all(papers, list.choices.as_slice()) {
+        return None;
+    }
+    Some(Some(list.student))
 }
 
 /// Whether no record of a file is left. `false` says nothing: there is one, or memory is wanting.

@@ -1,6 +1,7 @@
 //! The papers that the rows of the three files make.
 
-ghost use Rattle.std.specs.Prelude.{◌≡◌, [], not, IfErr, IfOk, OnErr};
+ghost use Rattle.std.specs.Prelude.{◌≡◌, [], not, IfErr, IfOk, Ok, OnErr};
+ghost use Rattle.std.specs.Bool.{OnTrue};
 ghost use Rattle.std.specs.Option.{option_copied};
 ghost use Rattle.sc_intake.specs.Fault.{Gives, no_memory};
 ghost use Rattle.sc_intake.specs.Lists.{list_number};
@@ -9,7 +10,8 @@ ghost use Rattle.sc_intake.specs.Rows.{AreRows};
 ghost use Rattle.sc_intake.specs.Schools.{school_number};
 ghost use Rattle.sc_intake.specs.declared.fault.Cause.TheVariants.{OutOfMemory};
 ghost use Rattle.sc_intake.specs.declared.fault.Source.TheVariants.{Roster};
-ghost use Rattle.sc_papers.specs.Market.{is_student};
+ghost use Rattle.sc_papers.specs.Market.{is_student, schools_of};
+ghost use Rattle.sc_papers.specs.Placed.{schools_at, AreOfSchools};
 ghost use Rattle.sc_papers.specs.declared.amendment.Amendment.TheVariants.{Enter};
 
 use crate::fault::{Cause, IntakeFault, Source};
@@ -18,8 +20,8 @@ use crate::roster::{RosterRow, RosterRows};
 use crate::school_list::judged_part;
 use crate::schools::{SchoolRow, SchoolRows};
 use sc_papers::{
-    FlatPapers, MOST_SCHOOLS, MOST_STUDENTS, Papers, Refusal, SchoolList, SchoolRefusal, Seed,
-    Student, StudentNo,
+    ChosenPositions, FlatPapers, MOST_SCHOOLS, MOST_STUDENTS, Papers, Refusal, SchoolList,
+    SchoolRefusal, Seed, Student, StudentNo,
 };
 use std::alloc::{AllocError, Global};
 use std::collections::BTreeMap;
@@ -122,11 +124,7 @@ pub(crate) fn enter_copied(
 }
 
 /// Enters a student of the roster with these choices.
-pub(crate) fn enter(
-    papers: &mut FlatPapers,
-    row: RosterRow,
-    choices: SchoolList,
-) -> Result<(), Cause>
+fn enter(papers: &mut FlatPapers, row: RosterRow, choices: SchoolList) -> Result<(), Cause>
     ensures entered { Gives (λ _. papers.new) OutOfMemory (amended papers.old
         (Enter row.student row.zone row.siblings choices row.continuing)) result }
     ensures unchanged { OnErr result (papers.new ≡ papers.old) }
@@ -141,6 +139,20 @@ pub(crate) fn enter(
         Ok(()) => Ok(()),
         Err(refusal) => Err(cause_of(refusal)),
     }
+}
+
+/// Enters a student of the roster with the choices whose schools stand at these positions, and says whether the student
+/// may enter. Otherwise, or where memory is wanting, the papers are no longer to be used.
+pub(crate) fn enter_placed(
+    papers: &mut FlatPapers,
+    row: RosterRow,
+    choices: &ChosenPositions,
+) -> bool
+    requires { AreOfSchools papers.old choices.now }
+    ensures { OnTrue result (amended papers.old (Enter row.student row.zone row.siblings
+        (schools_at (schools_of papers.old) choices.now) row.continuing) ≡ Ok papers.new) }
+{
+    papers.admit_placed(row.student, row.zone, row.siblings, row.continuing, choices)
 }
 
 /// Enters the students of the roster, in the order of its rows.

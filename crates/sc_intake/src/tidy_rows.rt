@@ -2,28 +2,18 @@
 //!
 //! Most rows are so, and are read where they stand: no end of a field or of a line is looked for before it is come to.
 
-ghost use Rattle.std.specs.Prelude.{◌≡◌, ◌∷◌, IfSome};
+ghost use Rattle.std.specs.Prelude.{◌≡◌, ◌∷◌, ℕ, IfSome};
 ghost use Rattle.sc_intake.specs.Plain.{plain_records};
+ghost use Rattle.sc_intake.specs.Roster.{student_of};
 ghost use Rattle.sc_intake.specs.Tidy.{AreSchools, EndsLine, EndsRow, IsSchoolOrNone, TakesField, TakesList, TakesNumber, TakesRow};
 ghost use Rattle.sc_papers.specs.Market.{schools_of};
 ghost use Rattle.sc_papers.specs.Placed.{schools_at, AreOfSchools};
 
-use crate::lists::ListRow;
 use crate::ranges;
 use crate::roster::RosterRow;
-use crate::rows::Row;
 use sc_decimal::number_at_front;
 use sc_papers::{FlatPapers, LONGEST_LIST, PlacedChoices, SchoolList, SchoolNo, StudentNo};
 use std::alloc::Global;
-
-/// A row that is read at the front of a text without a quote.
-pub(crate) trait TidyRow: Row {
-    /// The row that the first record of a text is, under a header of so many fields, and the text after it. `None` says
-    /// nothing of the text: the record is not tidy, or memory is wanting.
-    fn take<'a>(alloc: Global, row: u64, width: usize, text: &'a [u8]) -> Option<(Self, &'a [u8])>
-        ensures { IfSome result (λ taken. TakesRow Self.reading width row (plain_records text.now)
-            (plain_records taken.1.now) taken.0) };
-}
 
 /// The number whose digits a text begins with, and the text after them.
 #[inline(always)]
@@ -98,7 +88,7 @@ fn place_schools<'a>(
         (AreSchools (schools_at (schools_of papers.now) placed.new))) }
     ensures within { IfSome result (λ _. AreOfSchools papers.now placed.new) }
 {
-    placed.clear();
+    *placed = PlacedChoices::new();
     let mut rest = text;
     for _ in 0..LONGEST_LIST {
         let (number, after) = take_number(rest)?;
@@ -163,8 +153,8 @@ pub(crate) fn take_placed<'a>(
     text: &'a [u8],
     placed: &mut PlacedChoices,
 ) -> Option<(StudentNo, &'a [u8])>
-    ensures row { IfSome result (λ taken. TakesList width (plain_records text.now) (plain_records taken.1.now)
-        taken.0 (schools_at (schools_of papers.now) placed.new)) }
+    ensures row { IfSome result (λ taken. (row : ℕ) → TakesList width row (plain_records text.now)
+        (plain_records taken.1.now) taken.0 (schools_at (schools_of papers.now) placed.new)) }
     ensures within { IfSome result (λ _. AreOfSchools papers.now placed.new) }
 {
     if width != 2 {
@@ -179,51 +169,37 @@ pub(crate) fn take_placed<'a>(
     Some((student, rest))
 }
 
-impl TidyRow for ListRow {
-    fn take<'a>(alloc: Global, row: u64, width: usize, text: &'a [u8]) -> Option<(Self, &'a [u8])> {
-        if width != 2 {
-            return None;
-        }
-        let (number, after) = take_number(text)?;
-        let (choices, after) = take_schools(alloc, after_comma(after)?)?;
-        let rest = after_line_end(after)?;
-        let Ok(student) = ranges::student(number) else {
-            return None;
-        };
-        Some((
-            ListRow {
-                row,
-                student,
-                choices,
-            },
-            rest,
-        ))
-    }
-}
-
-impl TidyRow for RosterRow {
-    fn take<'a>(alloc: Global, row: u64, width: usize, text: &'a [u8]) -> Option<(Self, &'a [u8])> {
-        let (number, after) = take_number(text)?;
-        let (zone, after) = take_number(after_comma(after)?)?;
-        let (siblings, after) = take_siblings(alloc, after_comma(after)?)?;
-        let Some((continuing, rest)) = end_row(width, after) else {
-            return None;
-        };
-        let Ok(student) = ranges::student(number) else {
-            return None;
-        };
-        let Ok(zone) = ranges::zone(zone) else {
-            return None;
-        };
-        Some((
-            RosterRow {
-                row,
-                student,
-                zone,
-                siblings,
-                continuing,
-            },
-            rest,
-        ))
-    }
+/// The row of the roster that the first record of a text is, under a header of so many fields, and the text after it.
+/// `None` says nothing of the text: the record is not tidy, or memory is wanting.
+pub(crate) fn take_student(
+    alloc: Global,
+    row: u64,
+    width: usize,
+    text: &[u8],
+) -> Option<(RosterRow, &[u8])>
+    ensures { IfSome result (λ taken. TakesRow student_of width row (plain_records text.now)
+        (plain_records taken.1.now) taken.0) }
+{
+    let (number, after) = take_number(text)?;
+    let (zone, after) = take_number(after_comma(after)?)?;
+    let (siblings, after) = take_siblings(alloc, after_comma(after)?)?;
+    let Some((continuing, rest)) = end_row(width, after) else {
+        return None;
+    };
+    let Ok(student) = ranges::student(number) else {
+        return None;
+    };
+    let Ok(zone) = ranges::zone(zone) else {
+        return None;
+    };
+    Some((
+        RosterRow {
+            row,
+            student,
+            zone,
+            siblings,
+            continuing,
+        },
+        rest,
+    ))
 }

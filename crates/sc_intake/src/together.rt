@@ -1,42 +1,19 @@
 //! The papers of the texts of the three files.
 
-ghost use Rattle.std.specs.Prelude.{◌≡◌, ◌⊎◌, [], Err, IfErr, IfOk, IfSome, Ok, Some};
+ghost use Rattle.std.specs.Prelude.{◌≡◌, ◌⊎◌, [], Err, IfErr, IfOk, IfSome, Ok};
 ghost use Rattle.std.specs.Bool.{OnTrue};
-ghost use Rattle.sc_intake.specs.Papers.{amended, entered_by, papers_in, IsWantOfMemory};
+ghost use Rattle.sc_intake.specs.Papers.{papers_in, IsWantOfMemory};
 ghost use Rattle.sc_intake.specs.Together.{papers_below, AreReadTo, EntersNext};
-ghost use Rattle.sc_papers.specs.Market.{schools_of};
-ghost use Rattle.sc_papers.specs.Placed.{schools_at, AreOfSchools};
-ghost use Rattle.sc_papers.specs.declared.amendment.Amendment.TheVariants.{Enter};
 
 use crate::any_order::papers_in_any_order;
-use crate::below::{
-    Below, any_row, below_header, is_at_end, likely_students, next_row, placed_row,
-};
+use crate::below::{Below, below_header, is_at_end, likely_students, next_placed, next_student};
 use crate::fault::IntakeFault;
 use crate::lists::{ListRow, read_lists};
-use crate::papers::{enter, flat_papers_of, open_with_room, with_records};
+use crate::papers::{enter_placed, flat_papers_of, open_with_room, with_records};
 use crate::roster::{RosterRow, read_roster};
 use crate::schools::{SchoolRows, read_schools};
 use sc_papers::{FlatPapers, Papers, PlacedChoices, Seed};
 use std::alloc::Global;
-
-/// Enters the student of these rows, and says whether they are of one student who may enter. Otherwise, or where memory
-/// is wanting, the papers are no longer to be used.
-fn enter_both(papers: &mut FlatPapers, row: RosterRow, list: ListRow) -> bool
-    ensures { OnTrue result ((row.student ≡ list.student) × (entered_by papers.old row (Some list) ≡ Ok papers.new)) }
-{
-    row.student == list.student && enter(papers, row, list.choices).is_ok()
-}
-
-/// Enters a student of the roster with the choices whose schools stand at these positions, and says whether the student
-/// may enter. Otherwise, or where memory is wanting, the papers are no longer to be used.
-fn enter_placed(papers: &mut FlatPapers, row: RosterRow, choices: &PlacedChoices) -> bool
-    requires { AreOfSchools papers.old choices.now }
-    ensures { OnTrue result (amended papers.old (Enter row.student row.zone row.siblings
-        (schools_at (schools_of papers.old) choices.now) row.continuing) ≡ Ok papers.new) }
-{
-    papers.admit_placed(row.student, row.zone, row.siblings, row.continuing, choices)
-}
 
 /// Enters a student of the roster with the next list, whose number this is, and says whether the list is the student's,
 /// who may enter by it. Otherwise, or where memory is wanting, the papers are no longer to be used. What stands in
@@ -53,11 +30,10 @@ fn enter_next(
         papers.old row papers.new) }
     ensures width { lists.new.width ≡ lists.old.width }
 {
-    if let Some(student) = placed_row(alloc, papers, lists, placed) {
-        return student == row.student && enter_placed(papers, row, placed);
-    }
-    match any_row::<ListRow>(alloc, number, lists) {
-        Some(Some(list)) => enter_both(papers, row, list),
+    match next_placed(alloc, number, papers, lists, placed) {
+        Some(Some(student)) => {
+            student == row.student && enter_placed(papers, row, placed.chosen())
+        }
         _ => false,
     }
 }
@@ -77,7 +53,7 @@ fn enter_together(
     let mut placed = PlacedChoices::new();
     'rows: loop {
         let number = papers.students_len() as u64 + 2;
-        let Some(next) = next_row::<RosterRow>(alloc, number, roster) else {
+        let Some(next) = next_student(alloc, number, roster) else {
             return false;
         };
         let Some(row) = next else {
@@ -119,8 +95,8 @@ fn papers_together(
 /// There are three ways, each tried where the one before gave up. Where the lists stand in the order of the roster, row
 /// by row, and nothing is wrong, both are read together: no row is kept, no list is copied and none is looked up. Then
 /// the cost is the length of the texts, a look-up for each school named, and a draw of the lottery for each student.
-/// Where they stand in any other order and nothing is wrong, the rows of both are kept and their numbers sorted, and no
-/// list is copied. Where something is wrong, the roster and the lists are read once more, each alone, which finds the
+/// Where they stand in any other order and nothing is wrong, the roster's rows are kept, and of each list where its
+/// schools stand, and the numbers of both are sorted. Where something is wrong, the roster and the lists are read once more, each alone, which finds the
 /// first fault, and what is more than reading is the cost of `papers_of` without its records.
 pub fn read_flat_papers(
     alloc: Global,

@@ -44,7 +44,7 @@ pub use hints::Hints;
 pub use key::Key;
 pub use limits::{LONGEST_LIST, MOST_SCHOOLS, MOST_STUDENTS};
 pub use papers::Papers;
-pub use placed_choices::PlacedChoices;
+pub use placed_choices::{ChosenPositions, PlacedChoices};
 pub use proposal::Proposal;
 pub use records::{School, Student};
 pub use rejection::Rejection;

@@ -1,6 +1,6 @@
 //! Where the schools of a student's choices stand, found in the one pass that tests them.
 
-ghost use Rattle.std.specs.Prelude.{◌≡◌, ◌≤◌, ◌<◌, ◌==◌, ◌%◌, ◌++◌, [], ◌∷◌, length, None};
+ghost use Rattle.std.specs.Prelude.{◌≡◌, ◌≤◌, ◌<◌, ◌==◌, ◌%◌, ◌++◌, false, [], ◌∷◌, length, None};
 ghost use Rattle.std.specs.Bool.{OnTrue};
 ghost use Rattle.std.specs.List.{list_any};
 ghost use Rattle.sc_papers.specs.Market.{schools_of};
@@ -16,25 +16,72 @@ use crate::school_no::SchoolNo;
 use std::marker::Model;
 
 /// Where the schools of a student's choices stand in the papers' order of entry, best choice first: 20 at most, and none
-/// twice.
-///
-/// They are named one after the other, as a list is read, and take no memory.
+/// twice. They take no memory.
 #[derive(Drop)]
-pub struct PlacedChoices {
+pub struct ChosenPositions {
     list: PositionList,
-    marked: [bool; MARKS],
 }
 
-impl Model for PlacedChoices {
+impl Model for ChosenPositions {
     ghost use Rattle.std.specs.Prelude.{◌≡◌, ℕ, List, [], None};
-    ghost use Rattle.sc_papers.specs.Marks.{AreMarked};
     ghost use Rattle.sc_papers.specs.Verdict.{first_repeat};
 
     ghost Value = { List ℕ };
 
-    ghost view = { λ p. p.list };
+    ghost view = { λ c. c.list };
 
-    ghost invariant = { λ p. AreMarked p.marked p.list × (first_repeat [] p.list ≡ None) };
+    ghost invariant = { λ c. first_repeat [] c.list ≡ None };
+}
+
+impl ChosenPositions {
+    /// Adds a position last that is not one of them.
+    fn push(&mut self, position: u16)
+        requires room { length self.old < LONGEST_LIST }
+        requires once { list_any (λ p. p == position) self.old ≡ false }
+        ensures { self.new ≡ self.old ++ position ∷ [] }
+    {
+        self.list.push(position);
+    }
+
+    /// The positions, which are few and differ.
+    pub(crate) fn as_list(&self) -> &PositionList
+        ensures list { result.now ≡ self.now }
+        ensures short { length self.now ≤ LONGEST_LIST }
+        ensures once { first_repeat [] self.now ≡ None }
+    {
+        // This call tells that a list is short.
+        prove!(self.list.len() <= LONGEST_LIST);
+        &self.list
+    }
+
+    /// The same choices once more.
+    pub fn copy(&self) -> Self
+        ensures { result ≡ self.now }
+    {
+        ChosenPositions {
+            list: self.list.copy(),
+        }
+    }
+}
+
+/// The choices of a student as a list names them, each school placed by the papers and tested in one pass.
+///
+/// They are named one after the other, and take no memory.
+#[derive(Drop)]
+pub struct PlacedChoices {
+    chosen: ChosenPositions,
+    marked: [bool; MARKS],
+}
+
+impl Model for PlacedChoices {
+    ghost use Rattle.std.specs.Prelude.{ℕ, List};
+    ghost use Rattle.sc_papers.specs.Marks.{AreMarked};
+
+    ghost Value = { List ℕ };
+
+    ghost view = { λ p. p.chosen };
+
+    ghost invariant = { λ p. AreMarked p.marked p.chosen };
 }
 
 /// The mark of a position: two whose marks differ are different.
@@ -51,17 +98,11 @@ impl PlacedChoices {
         ensures { result ≡ [] }
     {
         PlacedChoices {
-            list: PositionList::empty(),
+            chosen: ChosenPositions {
+                list: PositionList::empty(),
+            },
             marked: [false; MARKS],
         }
-    }
-
-    /// Forgets all choices.
-    pub fn clear(&mut self)
-        ensures { self.new ≡ [] }
-    {
-        self.list = PositionList::empty();
-        self.marked = [false; MARKS];
     }
 
     /// Whether a school at a position is chosen. Where the position's mark is not set, they are not looked through.
@@ -69,7 +110,7 @@ impl PlacedChoices {
     fn has(&self, position: u16) -> bool
         ensures { result ≡ list_any (λ p. p == position) self.now }
     {
-        self.marked[mark_at(position)] && self.list.as_slice().contains(&position)
+        self.marked[mark_at(position)] && self.chosen.as_list().as_slice().contains(&position)
     }
 
     /// Adds a school last, and says whether it did: the school is in the papers, it is not chosen yet, and there are
@@ -87,16 +128,16 @@ impl PlacedChoices {
         let Some(position) = papers.position_of(school) else {
             return false;
         };
-        if self.list.len() >= LONGEST_LIST || self.has(position) {
+        if self.chosen.as_list().len() >= LONGEST_LIST || self.has(position) {
             return false;
         }
         self.marked[mark_at(position)] = true;
-        self.list.push(position);
+        self.chosen.push(position);
         true
     }
 
     /// Adds the schools of a list, in its order, and says whether it did. Otherwise some of them may have been added.
-    pub(crate) fn push_all(&mut self, papers: &FlatPapers, list: &[SchoolNo]) -> bool
+    pub fn push_all(&mut self, papers: &FlatPapers, list: &[SchoolNo]) -> bool
         ensures added { OnTrue result (schools_at (schools_of papers.now) self.new
             ≡ schools_at (schools_of papers.now) self.old ++ list.now) }
         ensures within { OnTrue result (AreOfSchools papers.now self.old → AreOfSchools papers.now self.new) }
@@ -109,21 +150,10 @@ impl PlacedChoices {
         true
     }
 
-    /// The positions, which are few and differ.
-    pub(crate) fn as_list(&self) -> &PositionList
-        ensures list { result.now ≡ self.now }
-        ensures short { length self.now ≤ LONGEST_LIST }
-        ensures once { first_repeat [] self.now ≡ None }
+    /// Where the schools stand.
+    pub fn chosen(&self) -> &ChosenPositions
+        ensures { result.now ≡ self.now }
     {
-        // This call tells that a list is short.
-        prove!(self.list.len() <= LONGEST_LIST);
-        &self.list
-    }
-
-    /// The positions, once they are all there.
-    pub(crate) fn into_list(self) -> PositionList
-        ensures { result ≡ self }
-    {
-        self.list
+        &self.chosen
     }
 }

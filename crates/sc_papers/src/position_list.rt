@@ -78,16 +78,23 @@ impl PositionList {
     {
         &self.positions[..self.count as usize]
     }
+
+    /// The same positions once more.
+    pub(crate) fn copy(&self) -> Self
+        ensures { result ≡ self.now }
+    {
+        PositionList {
+            count: self.count,
+            positions: self.positions,
+        }
+    }
 }
 
 impl Clone for PositionList {
     ghost is_clone = { λ x y. y ≡ x };
 
     fn clone(&self) -> Result<Self, AllocError> {
-        Ok(PositionList {
-            count: self.count,
-            positions: self.positions,
-        })
+        Ok(self.copy())
     }
 }
 

@@ -3,8 +3,8 @@
 use crate::amendment::Refusal;
 use crate::check::{check_enter, check_school, is_student, may_be_named};
 use crate::flat_papers::FlatPapers;
-use crate::limits::{LONGEST_LIST, MOST_SCHOOLS, MOST_STUDENTS};
-use crate::placed_choices::PlacedChoices;
+use crate::limits::{MOST_SCHOOLS, MOST_STUDENTS};
+use crate::placed_choices::{ChosenPositions, PlacedChoices};
 use crate::position_list::{PositionList, keep_siblings};
 use crate::records::{School, Student};
 use crate::school_list::SchoolList;
@@ -17,13 +17,13 @@ use sc_lottery::StudentNumber;
 use std::alloc::AllocError;
 
 impl FlatPapers {
-    ghost use Rattle.std.specs.Prelude.{◌≡◌, ◌≤◌, [], None, Some, length, OnOk, OnErr, IfErr, IfOk};
+    ghost use Rattle.std.specs.Prelude.{◌≡◌, ◌≤◌, [], None, Some, OnOk, OnErr, IfErr, IfOk};
     ghost use Rattle.std.specs.Bool.{OnFalse, OnTrue};
     ghost use Rattle.std.specs.Option.{IfSome};
     ghost use Rattle.sc_papers.specs.Entry.{with_choices_at, MayEnterAt};
     ghost use Rattle.sc_papers.specs.Market.{schools_of};
     ghost use Rattle.sc_papers.specs.Placed.{schools_at, AreOfSchools};
-    ghost use Rattle.sc_papers.specs.Verdict.{first_of, first_repeat, objections_to_enter, school_verdict, with_school, with_student, IsRefusal, IsSchoolRefusal};
+    ghost use Rattle.sc_papers.specs.Verdict.{first_of, objections_to_enter, school_verdict, with_school, with_student, IsRefusal, IsSchoolRefusal};
 
     /// Adds a school last, or answers the first refusal that applies: `SchoolExists`,
     /// `TooManySchools` where there are 5,000, `SchoolsClosed` once a student has entered, and last
@@ -82,13 +82,16 @@ impl FlatPapers {
 
     /// Whether nothing can be said against a student's entering, if the schools of their choices stand at these positions.
     /// `false` says nothing of the student: `check` tells what can be said.
-    fn may_enter_at(&self, number: StudentNumber, student: &Student, choices: &PositionList) -> bool
-        requires within { AreOfSchools self.now choices.now }
-        requires short { length choices.now ≤ LONGEST_LIST }
-        requires once { first_repeat [] choices.now ≡ None }
+    fn may_enter_at(
+        &self,
+        number: StudentNumber,
+        student: &Student,
+        choices: &ChosenPositions,
+    ) -> bool
+        requires { AreOfSchools self.now choices.now }
         ensures { OnTrue result (MayEnterAt self.now number student.now choices.now) }
     {
-        if self.students_len() >= MOST_STUDENTS || choices.len() == 0 {
+        if self.students_len() >= MOST_STUDENTS || choices.as_list().len() == 0 {
             return false;
         }
         if is_student(self, number) || !may_be_named(self, student.siblings.as_slice()) {
@@ -105,11 +108,11 @@ impl FlatPapers {
     {
         let mut placed = PlacedChoices::new();
         if !placed.push_all(self, student.choices.as_slice())
-            || !self.may_enter_at(number, student, placed.as_list())
+            || !self.may_enter_at(number, student, placed.chosen())
         {
             return None;
         }
-        Some(placed.into_list())
+        Some(placed.chosen().as_list().copy())
     }
 
     /// Where the schools of the choices stand of a student who may enter, or the first refusal that applies.
@@ -146,28 +149,6 @@ impl FlatPapers {
         PositionList::new(&self.positions, student.choices.as_slice())
     }
 
-    /// Puts a student against whose entering nothing can be said, with the choices whose schools stand at these positions,
-    /// last in the order of entry, and says whether it did. Otherwise, or where memory is wanting, the papers are as before.
-    fn put_placed(
-        &mut self,
-        number: StudentNumber,
-        student: &Student,
-        choices: &PositionList,
-    ) -> bool
-        requires within { AreOfSchools self.old choices.now }
-        requires short { length choices.now ≤ LONGEST_LIST }
-        requires once { first_repeat [] choices.now ≡ None }
-        ensures allowed { OnTrue result (MayEnterAt self.old number student.now choices.now) }
-        ensures entered { OnTrue result (self.new ≡ with_student self.old number
-            (with_choices_at self.old choices.now student.now)) }
-        ensures unchanged { OnFalse result (self.new ≡ self.old) }
-    {
-        if !self.may_enter_at(number, student, choices) {
-            return false;
-        }
-        self.put_last(number, student, choices).is_ok()
-    }
-
     /// Puts a student of this number, zone, siblings' schools and school at which they continue last in the order of entry,
     /// with the choices whose schools stand at these positions of the papers, and says whether it did. `false` says nothing
     /// of the student, and the papers are as before: `admit` tells what can be said, or takes the student.
@@ -180,7 +161,7 @@ impl FlatPapers {
         zone: Zone,
         siblings: SchoolList,
         continuing: Option<SchoolNo>,
-        choices: &PlacedChoices,
+        choices: &ChosenPositions,
     ) -> bool
         requires { AreOfSchools self.old choices.now }
         ensures allowed { OnTrue result (first_of (objections_to_enter self.old number siblings
@@ -199,7 +180,10 @@ impl FlatPapers {
             choices: SchoolList::from_vec(Vec::new(self.allocator())),
             continuing,
         };
-        self.put_placed(number, &student, choices.as_list())
+        if !self.may_enter_at(number, &student, choices) {
+            return false;
+        }
+        self.put_last(number, &student, choices.as_list()).is_ok()
     }
 
     /// Puts the student last in the order of entry, or answers the first refusal that applies. After a refusal the

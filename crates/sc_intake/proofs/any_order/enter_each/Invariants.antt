@@ -3,4 +3,4 @@ use Rattle.sc_intake.proofs.InAnyOrder.{AreEntered}
 use Rattle.sc_intake.proofs.any_order.enter_each.Given as goal
 
 abbrev pub invariant-loop-row : goal.invariant-loop-row
-invariant-loop-row l = AreEntered l.fn.roster.items l.fn.slots.items l.initial.papers (into_iter_items l.row-iterator) (into_iter_items l.slots) l.papers
+invariant-loop-row l = AreEntered l.fn.roster.items l.lists l.initial.papers (into_iter_items l.row-iterator) l.papers

@@ -1,4 +1,4 @@
-use Rattle.std.proofs.Common.{◌≡◌, ◌∷◌, Ok, rules, arith}
+use Rattle.std.proofs.Common.{◌≡◌, ◌∷◌, Ok, refl, rules, arith}
 use Rattle.sc_papers.specs.Market.{schools_of}
 use Rattle.sc_papers.specs.Placed.{schools_at}
 use Rattle.sc_intake.specs.Field.{as_student}
@@ -21,4 +21,9 @@ returns-clause-row c =
     let ends : EndsLine last rest = search rules in
     let student : as_student n ≡ Ok c.in-Ok.student = search rules in
     let width : c.args.width ≡ 2 = omega arith in
-    rw width (λ row. list-row row text after more last rest n c.in-Ok.student choices takes comma field ends student)
+    rw width (λ row. record {
+      list = record { row = row; student = c.in-Ok.student; choices = choices };
+      takes = list-row row text after more last rest n c.in-Ok.student choices takes comma field ends student;
+      theirs = refl;
+      chosen = refl;
+    })

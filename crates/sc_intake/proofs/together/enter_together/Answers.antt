@@ -14,16 +14,16 @@ rows-smaller c = let next = c.if-not-enter_next.ensures.entered in room-left c.r
 pub rows-preserved : goal.rows-preserved
 rows-preserved c =
     let (so_far, width, list_width) = c.rows.invariant in
-    let same = c.next_row.ensures.width in
+    let same = c.next_student.ensures.width in
     let list_same = c.enter_next.ensures.width in
     let number = c.students_len.ensures.count in
     let next = c.if-not-enter_next.ensures.entered in
-    let takes : TakesRow student_of c.next_row.new.below.width (length c.rows.papers.students + 2) c.rows.roster.records.left c.next_row.new.below.records.left c.in-Some-next.row =
+    let takes : TakesRow student_of c.next_student.new.below.width (length c.rows.papers.students + 2) c.rows.roster.records.left c.next_student.new.below.records.left c.in-Some-next.row =
     rw same (rw (c.in-Some-next.is, number) at c.in-Some.ensures.row) in
     let takes_list : TakesRow choices_of c.enter_next.new.lists.width (length c.rows.papers.students + 2) c.rows.lists.records.left c.enter_next.new.lists.records.left next.list =
     rw list_same (rw number at next.takes) in (
-      AreReadTo-more c.next_row.new.below.width c.enter_next.new.lists.width c.args.roster.now.records.left c.args.lists.now.records.left c.args.papers.now c.rows.roster.records.left c.rows.lists.records.left c.rows.papers
-          c.next_row.new.below.records.left c.enter_next.new.lists.records.left c.enter_next.new.papers c.in-Some-next.row next.list
+      AreReadTo-more c.next_student.new.below.width c.enter_next.new.lists.width c.args.roster.now.records.left c.args.lists.now.records.left c.args.papers.now c.rows.roster.records.left c.rows.lists.records.left c.rows.papers
+          c.next_student.new.below.records.left c.enter_next.new.lists.records.left c.enter_next.new.papers c.in-Some-next.row next.list
           c.requires (rw (same, list_same) so_far) takes takes_list next.same next.entered,
       same ∙ width,
       list_same ∙ list_width,

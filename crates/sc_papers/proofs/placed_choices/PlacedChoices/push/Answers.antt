@@ -1,24 +1,17 @@
 use Rattle.std.proofs.Common.{◌<◌, ◌++◌, [], ◌∷◌, true, length, ap, sym, subst, ◌∙◌, List, ℕ, rules}
-use Rattle.std.specs.List.{list_any}
-use Rattle.std.specs.Prelude.{◌==◌, slice_set}
+use Rattle.std.specs.Prelude.{slice_set}
 use Rattle.sc_papers.specs.Market.{schools_of}
 use Rattle.sc_papers.specs.Marks.{AreMarked}
 use Rattle.sc_papers.specs.Placed.{schools_at}
-use Rattle.sc_papers.specs.Verdict.{first_repeat}
 use Rattle.sc_papers.proofs.Placed.{schools_at-push}
-use Rattle.sc_papers.proofs.Repeats.{first_repeat-push, marked-push}
+use Rattle.sc_papers.proofs.Repeats.{marked-push}
 use Rattle.sc_papers.proofs.placed_choices.PlacedChoices.push.Goals as goal
 
 pub invariant_of-self : goal.invariant_of-self
 invariant_of-self c =
-    let position = c.in-Some.position in
-    let before = c.self.inside.list in
-    let within : c.mark_at.result < length c.self.inside.marked = search rules in (
-      subst (AreMarked (slice_set c.self.inside.marked c.mark_at.result true)) (sym c.push.ensures)
-          (marked-push before position c.self.inside.marked c.mark_at.result c.mark_at.ensures.mark within c.self.invariant.0),
-      ap (first_repeat []) c.push.ensures
-          ∙ first_repeat-push [] before position c.self.invariant.1 (ap (list_any (λ p. p == position)) c.self.view_is ∙ sym c.has.ensures ∙ c.if-has.false),
-    )
+    let within : c.mark_at.result < length c.self.inside.marked = search rules in
+    subst (AreMarked (slice_set c.self.inside.marked c.mark_at.result true)) (sym c.push.ensures)
+    (marked-push c.self.inside.chosen c.in-Some.position c.self.inside.marked c.mark_at.result c.mark_at.ensures.mark within c.self.invariant)
 
 pub returns-clause-added : goal.returns-clause-added
 returns-clause-added c =

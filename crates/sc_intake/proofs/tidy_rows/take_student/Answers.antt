@@ -2,7 +2,7 @@ use Rattle.std.proofs.Common.{◌≡◌, ◌∷◌, Ok, rules}
 use Rattle.sc_intake.specs.Field.{as_student, as_zone}
 use Rattle.sc_intake.specs.Tidy.{AreSchools, EndsRow, TakesField, TakesNumber}
 use Rattle.sc_intake.proofs.TidyRows.{roster-row}
-use Rattle.sc_intake.proofs.tidy_rows.RosterRowTidyRow.take.Goals as goal
+use Rattle.sc_intake.proofs.tidy_rows.take_student.Goals as goal
 
 pub returns : goal.returns
 returns c =
