@@ -94,7 +94,7 @@ fn places_by_number<R, F: Fn(&R) -> u32>(alloc: Global, rows: &[R], number: F) -
     Some(places)
 }
 
-/// For each student of the roster the place of their list, if both files are of the same students; a guess otherwise.
+/// For each student of the roster where their list stands, if both files are of the same students; a guess otherwise.
 /// To search for each number would take longer than to sort them all.
 fn likely_lists(alloc: Global, roster: &[RosterRow], lists: &[KeptList]) -> Option<Vec<u32>> {
     let students = places_by_number(alloc, roster, |row| row.student.get())?;
@@ -106,7 +106,7 @@ fn likely_lists(alloc: Global, roster: &[RosterRow], lists: &[KeptList]) -> Opti
     Some(likely)
 }
 
-/// Enters the students of the roster, each with the list at this place, and says whether it is theirs, each of them may
+/// Enters the students of the roster, each with the list that stands there, and says whether it is theirs, each of them may
 /// enter, and no list is left. Otherwise, or where memory is wanting, the papers are no longer to be used.
 fn enter_each(
     papers: &mut FlatPapers,
