@@ -139,14 +139,12 @@ fn find_audited<R: Read>(
     ensures ended { IfErr result
         (EndsFinding papers.now log.now (turn_of R.remaining input.Report report.old report.new)) }
 {
-    match audited.verdict {
+    let AuditedLog { verdict, places } = audited;
+    match verdict {
         Verdict::BadEntry { line } => Ok(Finding::BadEntry { line }),
         Verdict::Over { school } => Ok(Finding::Over { school }),
         Verdict::Certified => {
-            let matched = Matched {
-                papers,
-                places: audited.places,
-            };
+            let matched = Matched { papers, places };
             match compare(alloc, matched, report) {
                 Ok(difference) => Ok(finding_of(difference)),
                 Err(fault) => Err(fault),
