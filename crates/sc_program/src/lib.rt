@@ -8,7 +8,7 @@ mod exports;
 mod inputs;
 mod journal;
 mod messages;
-mod perform;
+mod performing;
 
 pub use exports::fill_made;
-pub use perform::{end_without_words, perform};
+pub use performing::{end_without_words, perform};
