@@ -1,5 +1,5 @@
 //! Exports of papers into a folder.
-use super::{expect, ordered, ordered_after, remove, write, write_files};
+use super::{expect, ordered, ordered_after, write, write_files};
 use std::process::Abort;
 use std::rt::Files;
 use std::{fs, io};
@@ -62,7 +62,7 @@ fn an_export(rt: HostRuntime) {
     }
     expect(&rt, ordered(&rt, "export", &["--to", "next"]), "", "0");
     for name in EXPORTED {
-        remove(&rt, *name);
+        fs::remove_file(&rt, *name).expect(&rt, "a file that was made");
     }
     let torn = "clearinghouse: journal torn\n0";
     expect(&rt, exported(&rt, "1,withdraw"), torn, MARKET_B_FILES);
@@ -88,7 +88,7 @@ fn an_export_says_what_stands(rt: HostRuntime) {
     expect(&rt, exporting(&rt), "", two);
     let first = "clearinghouse: cannot write schools.csv: it is there already; no file was made\n4";
     expect(&rt, exporting(&rt), "", first);
-    remove(&rt, "next/schools.csv");
+    fs::remove_file(&rt, "next/schools.csv").expect(&rt, "a file that was made");
     let one =
         "clearinghouse: cannot write roster.csv: it is there already; schools.csv is whole\n4";
     expect(&rt, exporting(&rt), "", one);
