@@ -141,7 +141,7 @@ pub(crate) fn next_placed(
     let Some(list) = any_row::<ListRow>(alloc, row, below)? else {
         return Some(None);
     };
-    *placed = PlacedChoices::new();
+    placed.clear();
     if !placed.push_all(papers, list.choices.as_slice()) {
         return None;
     }

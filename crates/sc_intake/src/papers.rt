@@ -152,7 +152,9 @@ pub(crate) fn enter_placed(
     ensures { OnTrue result (amended papers.old (Enter row.student row.zone row.siblings
         (schools_at (schools_of papers.old) choices.now) row.continuing) ≡ Ok papers.new) }
 {
-    papers.admit_placed(row.student, row.zone, row.siblings, row.continuing, choices)
+    papers
+        .admit_placed(row.student, row.zone, row.siblings, row.continuing, choices)
+        .is_ok()
 }
 
 /// Enters the students of the roster, in the order of its rows.

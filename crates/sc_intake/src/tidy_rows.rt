@@ -88,7 +88,7 @@ fn place_schools<'a>(
         (AreSchools (schools_at (schools_of papers.now) placed.new))) }
     ensures within { IfSome result (λ _. AreOfSchools papers.now placed.new) }
 {
-    *placed = PlacedChoices::new();
+    placed.clear();
     let mut rest = text;
     for _ in 0..LONGEST_LIST {
         let (number, after) = take_number(rest)?;

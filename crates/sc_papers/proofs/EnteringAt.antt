@@ -1,16 +1,14 @@
 -- A student who may enter, and where the schools of their choices stand.
-use Rattle.std.proofs.Common.{◌≡◌, ℕ, ◌<◌, ◌≤◌, nat_eq, false, List, [], ◌∷◌, length, map, position, Option, Some, None, Result, Ok, Err, Bool, true, refl, ap, subst, sym, ◌∙◌, arith}
-use Rattle.std.specs.Bool.{OnTrue}
-use Rattle.std.specs.Result.{is_ok, IfErr, IsErrAnd}
+use Rattle.std.proofs.Common.{◌≡◌, ℕ, ◌≤◌, nat_eq, List, [], ◌∷◌, length, map, position, Option, Some, None, Result, Ok, Err, refl, ap, subst, sym, ◌∙◌, arith}
+use Rattle.std.specs.Result.{IfErr, IsErrAnd, OnOk}
 use Rattle.std.specs.Option.{option_map}
 use Rattle.std.specs.Prelude.{nat_le, slice_index_or, unwrap_or}
-use Rattle.std.proofs.lemmas.Bool.Decides.{nat_tests}
 use Rattle.std.proofs.lemmas.List.{length-map}
 use Rattle.sc_papers.specs.Market.{Market, is_student, schools_of}
-use Rattle.sc_papers.specs.Entry.{MayEnterAt}
+use Rattle.sc_papers.specs.Entry.{objections_to_enter_at, MayEnterAt}
 use Rattle.sc_papers.specs.Placed.{schools_at, AreOfSchools}
 use Rattle.sc_papers.specs.StudentRow.{positions_in}
-use Rattle.sc_papers.specs.Verdict.{first_of, first_repeat, objections_to_enter, objections_to_list, unknown_school, unless_refused}
+use Rattle.sc_papers.specs.Verdict.{first_of, first_repeat, no_choices, objections_to_enter, refuse_if, too_long, twice_in, unknown_in, unknown_school, unless_refused}
 use Rattle.sc_papers.specs.WellFormed.{WellFormed}
 use Rattle.sc_papers.specs.declared.limits.TheConstants.{LONGEST_LIST, MOST_STUDENTS}
 use Rattle.sc_papers.specs.declared.records.Student.{Student}
@@ -18,58 +16,57 @@ use Rattle.sc_papers.specs.declared.amendment.Refusal.{Refusal}
 use Rattle.sc_papers.specs.declared.amendment.Refusal.TheVariants.{RosterFull, SchoolTwice, StudentExists}
 use Rattle.sc_papers.proofs.ChoicePositions.{known-places}
 use Rattle.sc_papers.proofs.Entering.{MayEnter-allowed}
-use Rattle.sc_papers.proofs.Objections.{first_of-none}
 use Rattle.sc_papers.proofs.Placed.{placed-known, placed-once, placed-there, places-back, places-low}
-use Rattle.sc_papers.proofs.Unobjected.{none-first_of, none-no_choices, none-refuse_if, none-too_long, none-unknown_in}
+use Rattle.sc_papers.proofs.Unobjected.{none-too_long, none-unknown_in}
 
 -- the table says where each school stands in the order of entry
 abbrev pub IsTable : Market → List (Option ℕ) → Type 0
 IsTable m table = (s : ℕ) → slice_index_or table s None ≡ position (nat_eq s) (schools_of m)
 
--- what the tests of a student and the pass over their choices tell
-pub MayEnterAt-tested : (m : Market) → WellFormed m → (i : ℕ) (student : Student) (positions : List ℕ)
-    → is_student m i ≡ false → length m.students < MOST_STUDENTS → first_of (objections_to_list m student.siblings) ≡ None → unknown_school m student.continuing ≡ None
-    → AreOfSchools m positions → 0 < length positions → length positions ≤ LONGEST_LIST → first_repeat [] positions ≡ None → MayEnterAt m i student positions
-MayEnterAt-tested m well i student positions new room siblings continuing within some short once =
+-- objections that do not apply can be left out
+skipped : {R : Type 0} (a b d f g h j : Option R)
+    → first_of (a ∷ b ∷ None ∷ d ∷ None ∷ f ∷ g ∷ None ∷ h ∷ j ∷ []) ≡ first_of (a ∷ b ∷ d ∷ f ∷ g ∷ h ∷ j ∷ [])
+skipped (Some r) b d f g h j = refl
+skipped None (Some r) d f g h j = refl
+skipped None None (Some r) f g h j = refl
+skipped None None None (Some r) g h j = refl
+skipped None None None None (Some r) h j = refl
+skipped None None None None None h j = refl
+
+-- nothing is said of choices whose schools stand at positions, but where there are none
+pub objections-at : (m : Market) → WellFormed m → (i : ℕ) (siblings positions : List ℕ) (continuing : Option ℕ)
+    → AreOfSchools m positions → length positions ≤ LONGEST_LIST → first_repeat [] positions ≡ None
+    → first_of (objections_to_enter m i siblings (schools_at (schools_of m) positions) continuing)
+    ≡ first_of (objections_to_enter_at m i siblings positions continuing)
+objections-at m well i siblings positions continuing within short once =
     let choices = schools_at (schools_of m) positions in
     let are = placed-there m well positions within in
     let many = length-map positions (λ p. slice_index_or (schools_of m) p 0) in
-    let named = first_of-none (objections_to_list m student.siblings) siblings in
-    let full : nat_le MOST_STUDENTS (length m.students) ≡ false = grind (arith, nat_tests) in
-    record {
-      within = within;
-      allowed = none-first_of (objections_to_enter m i student.siblings choices student.continuing) (
-        none-refuse_if (is_student m i) StudentExists new,
-        (
-          none-no_choices choices (omega (arith, some, many)),
-          (
-            none-too_long choices (omega (arith, short, many)),
-            (
-              named.0,
-              (
-                none-unknown_in m choices (placed-known m choices positions are),
-                (
-                  named.1.0,
-                  (
-                    continuing,
-                    (
-                      ap (option_map SchoolTwice) (placed-once m positions choices are once),
-                      (
-                        named.1.1.0,
-                        (
-                          none-refuse_if (nat_le MOST_STUDENTS (length m.students)) RosterFull full,
-                          tt,
-                        ),
-                      ),
-                    ),
-                  ),
-                ),
-              ),
-            ),
-          ),
-        ),
-      );
-    }
+    let long : too_long choices ≡ None = none-too_long choices (omega (arith, short, many)) in
+    let unknown : unknown_in m choices ≡ None = none-unknown_in m choices (placed-known m choices positions are) in
+    let twice : twice_in choices ≡ None = ap (option_map SchoolTwice) (placed-once m positions choices are once) in
+    rw (long, unknown, twice, many) (skipped (refuse_if (is_student m i) StudentExists) (no_choices positions)
+    (too_long siblings) (unknown_in m siblings) (unknown_school m continuing) (twice_in siblings)
+    (refuse_if (nat_le MOST_STUDENTS (length m.students)) RosterFull))
+
+-- what a test tells whose answer is a refusal, if there is one
+tested : {P : Type 0} (result : Result (Unit {0}) Refusal) (o : Option Refusal) → result ≡ unless_refused o → (o ≡ None → P)
+    → OnOk result P × IfErr result (λ e. Some e ≡ o)
+tested (Ok x) None same given = (given refl, tt)
+tested (Ok x) (Some r) same given = cc
+tested (Err e) None same given = cc
+tested (Err e) (Some r) same given = let one : e ≡ r = cc in (tt, ap Some one)
+
+-- and so the tests of an entry
+pub entry-tested : (m : Market) → WellFormed m → (i : ℕ) (student : Student) (positions : List ℕ) (result : Result (Unit {0}) Refusal)
+    → AreOfSchools m positions → length positions ≤ LONGEST_LIST → first_repeat [] positions ≡ None
+    → result ≡ unless_refused (first_of (objections_to_enter_at m i student.siblings positions student.continuing))
+    → OnOk result (MayEnterAt m i student positions)
+    × IfErr result (λ e. Some e ≡ first_of (objections_to_enter m i student.siblings (schools_at (schools_of m) positions) student.continuing))
+entry-tested m well i student positions result within short once same =
+    tested result (first_of (objections_to_enter m i student.siblings (schools_at (schools_of m) positions) student.continuing))
+    (same ∙ ap unless_refused (sym (objections-at m well i student.siblings positions student.continuing within short once)))
+    (λ allowed. record { within = within; allowed = allowed })
 
 -- a student who may enter, with the positions that the table gives
 pub MayEnterAt-filled : (m : Market) (table : List (Option ℕ)) → IsTable m table → (i : ℕ) (student : Student) (positions : List ℕ)
@@ -102,17 +99,7 @@ pub row-tabled : (m : Market) → WellFormed m → (table : List (Option ℕ)) �
 row-tabled m well table tabled positions within =
     places-tabled m table tabled (schools_at (schools_of m) positions) positions (placed-there m well positions within)
 
--- what a test of a list that may be named tells
-pub named-unobjected : (m : Market) (xs ys : List ℕ) (b : Bool) → OnTrue b (first_of (objections_to_list m xs) ≡ None) → b ≡ true → xs ≡ ys
-    → first_of (objections_to_list m ys) ≡ None
-named-unobjected m xs ys b told holds same = subst (λ (zs : List ℕ). first_of (objections_to_list m zs) ≡ None) same (rw holds at told)
-
--- a test that passes refuses nothing
-pub passed-unrefused : (o : Option Refusal) → is_ok (unless_refused o) ≡ true → o ≡ None
-passed-unrefused None passed = refl
-passed-unrefused (Some refusal) passed = cc
-
--- and the error of one that fails is the refusal
+-- the error of a test that fails is the refusal
 refused-same : (o : Option Refusal) (r : Refusal) → Err r ≡ unless_refused o → Some r ≡ o
 refused-same None r same = cc
 refused-same (Some refusal) r same = let one : r ≡ refusal = cc in ap Some one

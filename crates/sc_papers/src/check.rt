@@ -1,7 +1,7 @@
 //! What can be said against an amendment.
 
 ghost use Rattle.std.specs.Prelude.{◌≡◌, [], not, None, find};
-ghost use Rattle.std.specs.Bool.{OnTrue};
+ghost use Rattle.sc_papers.specs.Entry.{objections_to_enter_at};
 ghost use Rattle.sc_papers.specs.Market.{is_school, is_student, seats_of};
 ghost use Rattle.sc_papers.specs.Verdict.{first_of, first_repeat, no_choices, objections_to_add, objections_to_close, objections_to_correct, objections_to_enter, objections_to_list, objections_to_rerank, objections_to_withdraw, too_long, twice_in, unknown_in, unknown_school, unknown_student, unless_refused, verdict};
 
@@ -10,6 +10,7 @@ use crate::count::Count;
 use crate::flat_papers::FlatPapers;
 use crate::limits::{LONGEST_LIST, MOST_STUDENTS};
 use crate::marks::{MARKS, has_come, mark_of};
+use crate::position_list::PositionList;
 use crate::school_no::SchoolNo;
 use crate::seats::Seats;
 use sc_lottery::StudentNumber;
@@ -88,9 +89,14 @@ pub(crate) fn check_school(papers: &FlatPapers, school: Option<SchoolNo>) -> Res
     }
 }
 
+#[tactic(auto, using(crate::proofs::Unobjected::none_twice_short))]
 fn check_once(list: &[SchoolNo]) -> Result<(), Refusal>
     ensures { result ≡ unless_refused (twice_in list.now) }
 {
+    // Most have no siblings or one, and need no marks.
+    if list.len() < 2 {
+        return Ok(());
+    }
     match find_repeat(list) {
         Some(school) => Err(Refusal::SchoolTwice { school }),
         None => Ok(()),
@@ -116,13 +122,6 @@ fn check_list(papers: &FlatPapers, list: &[SchoolNo]) -> Result<(), Refusal>
     Ok(())
 }
 
-/// Whether nothing can be said against a list that comes alone.
-pub(crate) fn may_be_named(papers: &FlatPapers, list: &[SchoolNo]) -> bool
-    ensures { OnTrue result (first_of (objections_to_list papers.now list.now) ≡ None) }
-{
-    list.is_empty() || check_list(papers, list).is_ok()
-}
-
 /// The tests of an `Enter`, in the order of the refusals' codes.
 pub(crate) fn check_enter(
     papers: &FlatPapers,
@@ -144,6 +143,34 @@ pub(crate) fn check_enter(
     check_known(papers, siblings)?;
     check_school(papers, continuing)?;
     check_once(choices)?;
+    check_once(siblings)?;
+    if papers.students_len() >= MOST_STUDENTS {
+        return Err(Refusal::RosterFull);
+    }
+    Ok(())
+}
+
+/// The tests of an `Enter` whose choices' schools stand at these positions, in the order of the refusals' codes. They are in
+/// the papers, few, and differ, so that of the choices nothing is tested but whether there are any.
+pub(crate) fn check_enter_at(
+    papers: &FlatPapers,
+    student: StudentNumber,
+    siblings: &[SchoolNo],
+    choices: &PositionList,
+    continuing: Option<SchoolNo>,
+) -> Result<(), Refusal>
+    ensures { result ≡ unless_refused
+        (first_of (objections_to_enter_at papers.now student siblings.now choices.now continuing)) }
+{
+    if is_student(papers, student) {
+        return Err(Refusal::StudentExists);
+    }
+    if choices.len() == 0 {
+        return Err(Refusal::EmptyList);
+    }
+    check_length(siblings)?;
+    check_known(papers, siblings)?;
+    check_school(papers, continuing)?;
     check_once(siblings)?;
     if papers.students_len() >= MOST_STUDENTS {
         return Err(Refusal::RosterFull);

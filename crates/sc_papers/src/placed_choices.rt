@@ -105,6 +105,14 @@ impl PlacedChoices {
         }
     }
 
+    /// Forgets all choices.
+    pub fn clear(&mut self)
+        ensures { self.new ≡ [] }
+    {
+        self.chosen.list.clear();
+        self.marked = [false; MARKS];
+    }
+
     /// Whether a school at a position is chosen. Where the position's mark is not set, they are not looked through.
     #[inline(always)]
     fn has(&self, position: u16) -> bool

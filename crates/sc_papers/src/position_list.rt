@@ -63,6 +63,13 @@ impl PositionList {
         usize::from(self.count)
     }
 
+    /// Forgets all positions.
+    pub(crate) fn clear(&mut self)
+        ensures { self.new ≡ [] }
+    {
+        self.count = 0;
+    }
+
     /// Adds a position last.
     pub(crate) fn push(&mut self, position: u16)
         requires { length self.old < LONGEST_LIST }

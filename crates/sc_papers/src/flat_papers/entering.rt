@@ -1,7 +1,7 @@
 //! Schools and students who come to the papers.
 
 use crate::amendment::Refusal;
-use crate::check::{check_enter, check_school, is_student, may_be_named};
+use crate::check::{check_enter, check_enter_at};
 use crate::flat_papers::FlatPapers;
 use crate::limits::{MOST_SCHOOLS, MOST_STUDENTS};
 use crate::placed_choices::{ChosenPositions, PlacedChoices};
@@ -17,9 +17,7 @@ use sc_lottery::StudentNumber;
 use std::alloc::AllocError;
 
 impl FlatPapers {
-    ghost use Rattle.std.specs.Prelude.{◌≡◌, ◌≤◌, [], None, Some, OnOk, OnErr, IfErr, IfOk};
-    ghost use Rattle.std.specs.Bool.{OnFalse, OnTrue};
-    ghost use Rattle.std.specs.Option.{IfSome};
+    ghost use Rattle.std.specs.Prelude.{◌≡◌, ◌≤◌, None, Some, OnOk, OnErr, IfErr, IfOk};
     ghost use Rattle.sc_papers.specs.Entry.{with_choices_at, MayEnterAt};
     ghost use Rattle.sc_papers.specs.Market.{schools_of};
     ghost use Rattle.sc_papers.specs.Placed.{schools_at, AreOfSchools};
@@ -80,39 +78,28 @@ impl FlatPapers {
         Ok(())
     }
 
-    /// Whether nothing can be said against a student's entering, if the schools of their choices stand at these positions.
-    /// `false` says nothing of the student: `check` tells what can be said.
-    fn may_enter_at(
+    /// Tests whether a student may enter, if the schools of their choices stand at these positions, and answers the first
+    /// refusal that applies.
+    fn check_entry_at(
         &self,
         number: StudentNumber,
         student: &Student,
         choices: &ChosenPositions,
-    ) -> bool
+    ) -> Result<(), Refusal>
         requires { AreOfSchools self.now choices.now }
-        ensures { OnTrue result (MayEnterAt self.now number student.now choices.now) }
+        ensures may { OnOk result (MayEnterAt self.now number student.now choices.now) }
+        ensures refused { IfErr result (λ refusal. Some refusal ≡ first_of (objections_to_enter self.now number
+            student.now.siblings (schools_at (schools_of self.now) choices.now) student.now.continuing)) }
     {
-        if self.students_len() >= MOST_STUDENTS || choices.as_list().len() == 0 {
-            return false;
-        }
-        if is_student(self, number) || !may_be_named(self, student.siblings.as_slice()) {
-            return false;
-        }
-        check_school(self, student.continuing).is_ok()
-    }
-
-    /// Where the schools of the choices stand of a student against whose entering nothing can be said; found in one pass
-    /// over the choices. `None` says nothing of the student.
-    fn positions_to_enter(&self, number: StudentNumber, student: &Student) -> Option<PositionList>
-        ensures may { IfSome result (λ choices. MayEnterAt self.now number student.now choices) }
-        ensures choices { IfSome result (λ choices. schools_at (schools_of self.now) choices ≡ student.now.choices) }
-    {
-        let mut placed = PlacedChoices::new();
-        if !placed.push_all(self, student.choices.as_slice())
-            || !self.may_enter_at(number, student, placed.chosen())
-        {
-            return None;
-        }
-        Some(placed.chosen().as_list().copy())
+        // This call tells that the papers are well-formed.
+        prove!(self.students_len() <= MOST_STUDENTS);
+        check_enter_at(
+            self,
+            number,
+            student.siblings.as_slice(),
+            choices.as_list(),
+            student.continuing,
+        )
     }
 
     /// Where the schools of the choices stand of a student who may enter, or the first refusal that applies.
@@ -126,8 +113,10 @@ impl FlatPapers {
         ensures refused { IfErr result (λ refusal. Some refusal ≡ first_of
             (objections_to_enter self.now number student.now.siblings student.now.choices student.now.continuing)) }
     {
-        if let Some(choices) = self.positions_to_enter(number, student) {
-            return Ok(choices);
+        let mut placed = PlacedChoices::new();
+        if placed.push_all(self, student.choices.as_slice()) {
+            self.check_entry_at(number, student, placed.chosen())?;
+            return Ok(placed.chosen().as_list().copy());
         }
         check_enter(
             self,
@@ -150,8 +139,9 @@ impl FlatPapers {
     }
 
     /// Puts a student of this number, zone, siblings' schools and school at which they continue last in the order of entry,
-    /// with the choices whose schools stand at these positions of the papers, and says whether it did. `false` says nothing
-    /// of the student, and the papers are as before: `admit` tells what can be said, or takes the student.
+    /// with the choices whose schools stand at these positions of the papers, or answers the first refusal that applies:
+    /// those of `admit`, but for what it can say of the choices alone where there are some. After a refusal the papers are as
+    /// before.
     ///
     /// The cost is a draw of the lottery, and a look-up for each school of a sibling and the one at which the student
     /// continues: none of the choices is looked up. It takes the memory that `admit` takes.
@@ -162,17 +152,19 @@ impl FlatPapers {
         siblings: SchoolList,
         continuing: Option<SchoolNo>,
         choices: &ChosenPositions,
-    ) -> bool
+    ) -> Result<(), Refusal>
         requires { AreOfSchools self.old choices.now }
-        ensures allowed { OnTrue result (first_of (objections_to_enter self.old number siblings
+        ensures allowed { OnOk result (first_of (objections_to_enter self.old number siblings
             (schools_at (schools_of self.old) choices.now) continuing) ≡ None) }
-        ensures entered { OnTrue result (self.new ≡ with_student self.old number (record {
+        ensures entered { OnOk result (self.new ≡ with_student self.old number (record {
           zone = zone;
           continuing = continuing;
           siblings = siblings;
           choices = schools_at (schools_of self.old) choices.now;
         })) }
-        ensures unchanged { OnFalse result (self.new ≡ self.old) }
+        ensures refused { IfErr result (IsRefusal (first_of (objections_to_enter self.old number siblings
+            (schools_at (schools_of self.old) choices.now) continuing))) }
+        ensures unchanged { OnErr result (self.new ≡ self.old) }
     {
         let student = Student {
             zone,
@@ -180,10 +172,9 @@ impl FlatPapers {
             choices: SchoolList::from_vec(Vec::new(self.allocator())),
             continuing,
         };
-        if !self.may_enter_at(number, &student, choices) {
-            return false;
-        }
-        self.put_last(number, &student, choices.as_list()).is_ok()
+        self.check_entry_at(number, &student, choices)?;
+        self.put_last(number, &student, choices.as_list())?;
+        Ok(())
     }
 
     /// Puts the student last in the order of entry, or answers the first refusal that applies. After a refusal the
