@@ -14,7 +14,7 @@ use Rattle.sc_papers.proofs.Cutting.{cut-cut}
 use Rattle.sc_papers.proofs.Locality.{optimal-outside}
 use Rattle.sc_checkpoint.specs.Chains.{logs_in, students_in, Chain}
 use Rattle.sc_engine.specs.RoundView.{RoundView, next_of}
-use Rattle.sc_repair.specs.Changed.{HaveChanged}
+use Rattle.sc_repair.specs.Changed.{HaveChanged, IsResettled}
 use Rattle.sc_repair.specs.Course.{either_by, GoesOnInside, InStep}
 use Rattle.sc_repair.specs.Locality.{chains_of, ChangesInside}
 use Rattle.sc_repair.specs.Standing.{Standing, CountsInside, IsCertified}
@@ -155,17 +155,11 @@ module _ (p : Market) (places : List (ℕ × ℕ)) (old : List Chain) (test : �
       (subst (λ k. IsSegmented (cut (cut p end) k) (logs_in (take point old))) count
       (kept-segmented changed.before (cut p end) test old (take point old) point gap changes changed.stood.segmented refl count))
 
-  -- what the settling leaves
-  pub record Leaves (after : List (ℕ × ℕ)) (chains : List Chain) (made : ℕ) : Type 0 where
-    pub certified : IsCertified (record { papers = cut p end; places = after; segments = logs_in chains; proposals = made })
-    pub theirs : students_in chains ≡ students_of (cut p end)
-    pub stays : take point (logs_in chains) ≡ take point (logs_in old)
-    pub others : (i : ℕ) → test i ≡ false → assigned after i ≡ assigned places i
-    pub proposals : CountsInside test point (record { papers = cut p end; places = after; segments = logs_in chains; proposals = made })
-
-  pub changed-leaves : (r : RoundView) (chains : List Chain) (after : List (ℕ × ℕ)) (proposals : ℕ) → GoesOnInside p test old point gap r chains end
-      → ((i : ℕ) → assigned after i ≡ either_by test (next_of p r.ranks) (assigned places) i) → proposals ≡ r.proposals → Leaves after chains proposals
-  changed-leaves r chains after proposals on given made =
+  -- what the settling comes to
+  pub changed-resettled : (r : RoundView) (chains : List Chain) (after : List (ℕ × ℕ)) (proposals : ℕ) → GoesOnInside p test old point gap r chains end
+      → ((i : ℕ) → assigned after i ≡ either_by test (next_of p r.ranks) (assigned places) i) → proposals ≡ r.proposals
+      → IsResettled p test point end places after old chains proposals
+  changed-resettled r chains after proposals on given made =
       let come = comes changed.before p test old point gap point r chains end places after proposals
       changed.stood.well_formed changes changed.stood.theirs changed.stood.segmented changed.stood.optimal refl on given made in
       record {

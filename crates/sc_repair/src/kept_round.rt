@@ -1,6 +1,6 @@
 //! The round that is kept from amendment to amendment.
 
-ghost use Rattle.std.specs.Prelude.{◌≡◌, ◌<◌, ℕ, Bool, None, Some, false, length, true, Contains, IfSome, IsSome};
+ghost use Rattle.std.specs.Prelude.{◌≡◌, ◌<◌, ℕ, Bool, None, Some, false, length, true, Contains, IfSome};
 ghost use Rattle.std.specs.Option.{IsSomeAnd};
 ghost use Rattle.sc_papers.specs.Restriction.{AreApart};
 ghost use Rattle.sc_checkpoint.specs.Chains.{students_in};

@@ -1,25 +1,21 @@
 //! Settling the students of a region anew, while all others stay.
 
-ghost use Rattle.std.specs.Prelude.{◌≡◌, ◌≤◌, ◌<◌, ◌+◌, ◌-◌, ℕ, List, Some, [], nat_eq, false, true, length, slice_get, take, drop, ◌++◌, Contains, IfOk, IfSome, OnErr, OnOk};
-ghost use Rattle.std.specs.List.{IsDistinct};
-ghost use Rattle.sc_papers.specs.Assignment.{assigned};
-ghost use Rattle.sc_papers.specs.Market.{is_student, students_of};
-ghost use Rattle.sc_papers.specs.Restriction.{cut, outside, AreApart, IsSegmented};
-ghost use Rattle.sc_papers.specs.WellFormed.{WellFormed};
-ghost use Rattle.sc_checkpoint.specs.Chains.{logs_in, students_in, with_chain};
+ghost use Rattle.std.specs.Prelude.{◌≡◌, ◌<◌, ◌+◌, ◌-◌, ℕ, List, Some, [], false, true, length, take, ◌++◌, Contains, IfOk, IfSome, OnErr, OnOk};
+ghost use Rattle.sc_papers.specs.Market.{is_student};
+ghost use Rattle.sc_papers.specs.Restriction.{outside};
+ghost use Rattle.sc_checkpoint.specs.Chains.{students_in, with_chain};
 ghost use Rattle.sc_checkpoint.specs.Spans.{chains_in, AreWithin};
-ghost use Rattle.sc_checkpoint.specs.NextChoices.{stands, AreNextChoices};
+ghost use Rattle.sc_checkpoint.specs.NextChoices.{stands};
 ghost use Rattle.sc_papers.specs.declared.rejection.Rejection.{Rejection};
 ghost use Rattle.sc_engine.specs.Fresh.{CanResume, IsResumed};
 ghost use Rattle.sc_engine.specs.Round.{is_spent, view_of};
-ghost use Rattle.sc_engine.specs.RoundView.{has_entered, without_log, Continues, Enters, Fits};
-ghost use Rattle.sc_repair.specs.Changed.{standing_of, HaveChanged};
+ghost use Rattle.sc_engine.specs.RoundView.{has_entered, without_log, Enters, Fits};
+ghost use Rattle.sc_repair.specs.Changed.{HaveChanged, IsResettled};
 ghost use Rattle.sc_repair.specs.Course.{GoesOnInside};
-ghost use Rattle.sc_repair.specs.Locality.{chains_of, is_among, marked_in};
+ghost use Rattle.sc_repair.specs.Locality.{is_among, marked_in};
 ghost use Rattle.sc_repair.specs.Newcomer.{StandsAfter};
 ghost use Rattle.sc_repair.specs.Rejoining.{StandsInside};
-ghost use Rattle.sc_repair.specs.Standing.{CountsInside, IsCertified};
-ghost use Rattle.sc_repair.specs.Renewed.{marked_from, renewed_from, AreRenewed, CanBeRenewed, HaveTurns};
+ghost use Rattle.sc_repair.specs.Renewed.{marked_from, AreRenewed, CanBeRenewed, HaveTurns};
 
 use crate::part::Part;
 use crate::places::Places;
@@ -164,16 +160,9 @@ pub(crate) fn resettle<R: Roll>(
     requires changed { HaveChanged part.papers.now places.old segments.old
         (is_among (marked_in part.region.now segments.old)) part.point part.end }
     requires one_each { length part.region.now ≡ length segments.old }
-    ensures certified { IfOk result
-        (λ made. IsCertified (standing_of (cut part.entry.papers.now part.entry.end) places.new segments.new made)) }
-    ensures theirs { OnOk result (students_in segments.new ≡ students_of (cut part.entry.papers.now part.entry.end)) }
-    ensures stays { OnOk result (take part.entry.point (logs_in segments.new)
-        ≡ take part.entry.point (logs_in segments.old)) }
-    ensures others { OnOk result ((i : ℕ) → is_among (marked_in part.entry.region.now segments.old) i ≡ false
-        → assigned places.new i ≡ assigned places.old i) }
-    ensures proposals { IfOk result
-        (λ made. CountsInside (is_among (marked_in part.entry.region.now segments.old)) part.entry.point
-        (standing_of (cut part.entry.papers.now part.entry.end) places.new segments.new made)) }
+    ensures resettled { IfOk result (IsResettled part.entry.papers.now
+        (is_among (marked_in part.entry.region.now segments.old)) part.entry.point part.entry.end
+        places.old places.new segments.old segments.new) }
     ensures ready { OnOk result (IfSome spare.new (λ round. is_spent round ≡ false)) }
     ensures stands { OnOk result (IfSome spare.new (λ round. ((i : ℕ) → Contains (students_in segments.new) i
         → is_among (marked_in part.entry.region.now segments.old) i ≡ true)

@@ -1,7 +1,6 @@
 //! The papers settled: the standing assignment under them, and what it takes to keep it so.
 
-ghost use Rattle.std.specs.Prelude.{◌≡◌, ◌<◌, length, slice_index};
-ghost use Rattle.sc_papers.specs.Assignment.{assigned};
+ghost use Rattle.std.specs.Prelude.{◌≡◌, ◌<◌, length};
 ghost use Rattle.sc_papers.specs.Market.{students_of};
 ghost use Rattle.sc_papers.specs.Matching.{has, held};
 
@@ -55,12 +54,9 @@ impl Model for Settlement {
 }
 
 impl Settlement {
-    ghost use Rattle.std.specs.Prelude.{◌≡◌, ℕ, List, length, min, take, IfOk, IfErr};
+    ghost use Rattle.std.specs.Prelude.{◌≡◌, length, min, IfOk, IfErr};
     ghost use Rattle.sc_papers.specs.Market.{students_of};
     ghost use Rattle.sc_papers.specs.Matching.{IsStudentOptimal};
-    ghost use Rattle.sc_papers.specs.Restriction.{cut, IsSegmented};
-    ghost use Rattle.sc_papers.specs.WellFormed.{WellFormed};
-    ghost use Rattle.sc_checkpoint.specs.Chains.{logs_in, students_in};
     ghost use Rattle.sc_repair.specs.Standing.{IsCertified, IsOptimal, log_of, matching_of, place_of, held_at, proposals_from_scratch};
 
     /// Settles the papers, as `Clearing::open` says.

@@ -9,7 +9,7 @@ use Rattle.sc_repair.specs.Course.{GoesOnInside}
 use Rattle.sc_repair.specs.Locality.{is_among, marked_in}
 use Rattle.sc_repair.specs.Renewed.{renewed_from}
 use Rattle.sc_repair.proofs.Everybody.{stands-everybody}
-use Rattle.sc_repair.proofs.Resettled.{changed-differ, changed-leaves, changed-low, changed-outside, changed-segmented, changed-step, changed-theirs}
+use Rattle.sc_repair.proofs.Resettled.{changed-differ, changed-resettled, changed-low, changed-outside, changed-segmented, changed-step, changed-theirs}
 use Rattle.sc_repair.proofs.resettling.resettle.Goals as goal
 
 pub settle_region-requires-clause-given : goal.settle_region-requires-clause-given
@@ -34,49 +34,15 @@ place_inside-requires-clause-within g c =
     let low = changed-low c.args.part.papers.now c.args.places.now c.args.segments.now (is_among (marked_in c.args.part.region.now c.args.segments.now)) c.args.part.point c.args.part.end (length c.args.segments.now - c.args.part.end) c.requires.changed refl in
     omega (arith, low, c.len.ensures, c.requires.changed.nobody_new)
 
-pub returns-clause-certified : goal.returns-clause-certified
-returns-clause-certified g c =
+pub returns-clause-resettled : goal.returns-clause-resettled
+returns-clause-resettled g c =
     let old = c.args.segments.now in
     let chains_are : c.place_inside.new.chains ≡ renewed_from old c.args.part.region.now c.args.part.point (length old - c.args.part.end) (chains_in (view_of g.R.Roll.keys g.R.Roll.seats c.in_ok-round.round).log c.settle_region.new.renewed) =
     c.in_ok-place_inside.ensures.renewed ∙ ap (λ n. renewed_from old c.args.part.region.now c.args.part.point (n - c.args.part.end) (chains_in (view_of g.R.Roll.keys g.R.Roll.seats c.in_ok-round.round).log c.settle_region.new.renewed)) c.len.ensures in
-    let leaves = changed-leaves c.args.part.papers.now c.args.places.now c.args.segments.now (is_among (marked_in c.args.part.region.now c.args.segments.now)) c.args.part.point c.args.part.end (length c.args.segments.now - c.args.part.end) c.requires.changed refl
+    changed-resettled c.args.part.papers.now c.args.places.now c.args.segments.now (is_among (marked_in c.args.part.region.now c.args.segments.now)) c.args.part.point c.args.part.end (length c.args.segments.now - c.args.part.end) c.requires.changed refl
     (view_of g.R.Roll.keys g.R.Roll.seats c.in_ok-round.round) c.place_inside.new.chains c.place_inside.new.places c.proposals-proposals.result
     (subst (λ (cs : List Chain). GoesOnInside c.args.part.papers.now (is_among (marked_in c.args.part.region.now old)) old c.args.part.point (length old - c.args.part.end) (view_of g.R.Roll.keys g.R.Roll.seats c.in_ok-round.round) cs c.args.part.end) (sym chains_are) c.in_ok-round.ensures.on)
-    c.in_ok-place_inside.ensures.given c.proposals-proposals.ensures in
-    leaves.certified
-
-pub returns-clause-theirs : goal.returns-clause-theirs
-returns-clause-theirs g c =
-    let old = c.args.segments.now in
-    let chains_are : c.place_inside.new.chains ≡ renewed_from old c.args.part.region.now c.args.part.point (length old - c.args.part.end) (chains_in (view_of g.R.Roll.keys g.R.Roll.seats c.in_ok-round.round).log c.settle_region.new.renewed) =
-    c.in_ok-place_inside.ensures.renewed ∙ ap (λ n. renewed_from old c.args.part.region.now c.args.part.point (n - c.args.part.end) (chains_in (view_of g.R.Roll.keys g.R.Roll.seats c.in_ok-round.round).log c.settle_region.new.renewed)) c.len.ensures in
-    let leaves = changed-leaves c.args.part.papers.now c.args.places.now c.args.segments.now (is_among (marked_in c.args.part.region.now c.args.segments.now)) c.args.part.point c.args.part.end (length c.args.segments.now - c.args.part.end) c.requires.changed refl
-    (view_of g.R.Roll.keys g.R.Roll.seats c.in_ok-round.round) c.place_inside.new.chains c.place_inside.new.places c.proposals-proposals.result
-    (subst (λ (cs : List Chain). GoesOnInside c.args.part.papers.now (is_among (marked_in c.args.part.region.now old)) old c.args.part.point (length old - c.args.part.end) (view_of g.R.Roll.keys g.R.Roll.seats c.in_ok-round.round) cs c.args.part.end) (sym chains_are) c.in_ok-round.ensures.on)
-    c.in_ok-place_inside.ensures.given c.proposals-proposals.ensures in
-    leaves.theirs
-
-pub returns-clause-stays : goal.returns-clause-stays
-returns-clause-stays g c =
-    let old = c.args.segments.now in
-    let chains_are : c.place_inside.new.chains ≡ renewed_from old c.args.part.region.now c.args.part.point (length old - c.args.part.end) (chains_in (view_of g.R.Roll.keys g.R.Roll.seats c.in_ok-round.round).log c.settle_region.new.renewed) =
-    c.in_ok-place_inside.ensures.renewed ∙ ap (λ n. renewed_from old c.args.part.region.now c.args.part.point (n - c.args.part.end) (chains_in (view_of g.R.Roll.keys g.R.Roll.seats c.in_ok-round.round).log c.settle_region.new.renewed)) c.len.ensures in
-    let leaves = changed-leaves c.args.part.papers.now c.args.places.now c.args.segments.now (is_among (marked_in c.args.part.region.now c.args.segments.now)) c.args.part.point c.args.part.end (length c.args.segments.now - c.args.part.end) c.requires.changed refl
-    (view_of g.R.Roll.keys g.R.Roll.seats c.in_ok-round.round) c.place_inside.new.chains c.place_inside.new.places c.proposals-proposals.result
-    (subst (λ (cs : List Chain). GoesOnInside c.args.part.papers.now (is_among (marked_in c.args.part.region.now old)) old c.args.part.point (length old - c.args.part.end) (view_of g.R.Roll.keys g.R.Roll.seats c.in_ok-round.round) cs c.args.part.end) (sym chains_are) c.in_ok-round.ensures.on)
-    c.in_ok-place_inside.ensures.given c.proposals-proposals.ensures in
-    leaves.stays
-
-pub returns-clause-proposals : goal.returns-clause-proposals
-returns-clause-proposals g c =
-    let old = c.args.segments.now in
-    let chains_are : c.place_inside.new.chains ≡ renewed_from old c.args.part.region.now c.args.part.point (length old - c.args.part.end) (chains_in (view_of g.R.Roll.keys g.R.Roll.seats c.in_ok-round.round).log c.settle_region.new.renewed) =
-    c.in_ok-place_inside.ensures.renewed ∙ ap (λ n. renewed_from old c.args.part.region.now c.args.part.point (n - c.args.part.end) (chains_in (view_of g.R.Roll.keys g.R.Roll.seats c.in_ok-round.round).log c.settle_region.new.renewed)) c.len.ensures in
-    let leaves = changed-leaves c.args.part.papers.now c.args.places.now c.args.segments.now (is_among (marked_in c.args.part.region.now c.args.segments.now)) c.args.part.point c.args.part.end (length c.args.segments.now - c.args.part.end) c.requires.changed refl
-    (view_of g.R.Roll.keys g.R.Roll.seats c.in_ok-round.round) c.place_inside.new.chains c.place_inside.new.places c.proposals-proposals.result
-    (subst (λ (cs : List Chain). GoesOnInside c.args.part.papers.now (is_among (marked_in c.args.part.region.now old)) old c.args.part.point (length old - c.args.part.end) (view_of g.R.Roll.keys g.R.Roll.seats c.in_ok-round.round) cs c.args.part.end) (sym chains_are) c.in_ok-round.ensures.on)
-    c.in_ok-place_inside.ensures.given c.proposals-proposals.ensures in
-    leaves.proposals
+    c.in_ok-place_inside.ensures.given c.proposals-proposals.ensures
 
 pub returns-clause-stands : goal.returns-clause-stands
 returns-clause-stands g c = λ all.

@@ -129,7 +129,7 @@ round_of_everybody-requires-clause-kept c =
     gone (λ l r. waits m c.apply_reversibly.new.self c.args.amendment test _ chains l r changed students c.self.invariant.theirs) in
     let n = c.apply_reversibly.new.self in
     let cut_all = ap (λ p. cut p c.students_len-end.result) c.deref-5.ensures ∙ whole-cut-of n c.students_len-end.result (c.students_len-end.ensures.count ∙ ap (λ (p : Market). length p.students) c.deref-4.ensures) in
-    let certified = subst (λ p. IsCertified (standing_of p c.resettle-settled.new.places c.resettle-settled.new.segments c.in-Ok-settled.proposals)) cut_all c.in-Ok-settled.ensures.certified in
+    let certified = subst (λ p. IsCertified (standing_of p c.resettle-settled.new.places c.resettle-settled.new.segments c.in-Ok-settled.proposals)) cut_all c.in-Ok-settled.ensures.resettled.certified in
     subst (λ p. IfSome c.take.result (λ r. (is_spent r ≡ false) × StandsAfter p c.resettle-settled.new.segments (view_of keys seats r))) (sym c.deref-in-Ok-settled-3.ensures)
     (subst (λ o. IfSome o (λ r. (is_spent r ≡ false) × StandsAfter n c.resettle-settled.new.segments (view_of keys seats r))) (sym c.take.ensures.value)
     (rejoined-some keys seats m n test chains c.resettle-settled.new.segments c.resettle-settled.new.places c.reseat.new.round c.resettle-settled.new.spare c.rejoin.new.round
@@ -137,8 +137,8 @@ round_of_everybody-requires-clause-kept c =
     → IfSome c.rejoin.new.round (λ new. IsSomeAnd c.reseat.new.round (λ old. IsSomeAnd c.resettle-settled.new.spare (λ other. HasJoined keys seats p test old other new))))
     c.deref-in-Ok-settled-2.ensures (c.rejoin.ensures.joined test) (stand-still m n test c.positions-positions.result.now students changed.at) changed.apart) waiting
     (if-some _ _ c.resettle-settled.new.spare (λ other. joins-inside n test c.resettle-settled.new.places c.students_len-end.result (view_of keys seats other) (take_all c.students_len-end.result (students_of n) (omega (arith, (c.students_len-end.ensures.count ∙ ap (λ (p : Market). length p.students) c.deref-4.ensures), length-students n)))) (subst (λ p. IfSome c.resettle-settled.new.spare (λ other. StandsInside p test c.resettle-settled.new.places c.students_len-end.result (view_of keys seats other))) c.deref-5.ensures c.in-Ok-settled.ensures.inside))
-    (λ r other r'. rejoined m n test chains c.resettle-settled.new.segments c.self.inside.places c.resettle-settled.new.places r other r' c.self.invariant.theirs (c.in-Ok-settled.ensures.theirs ∙ ap students_of cut_all) changed.same_outside
-    certified.settled certified.matching c.self.invariant.certified.matching c.in-Ok-settled.ensures.others)))
+    (λ r other r'. rejoined m n test chains c.resettle-settled.new.segments c.self.inside.places c.resettle-settled.new.places r other r' c.self.invariant.theirs (c.in-Ok-settled.ensures.resettled.theirs ∙ ap students_of cut_all) changed.same_outside
+    certified.settled certified.matching c.self.invariant.certified.matching c.in-Ok-settled.ensures.resettled.others)))
 
 pub round_of_everybody-requires-clause-ready : goal.round_of_everybody-requires-clause-ready
 round_of_everybody-requires-clause-ready c none =
@@ -148,7 +148,7 @@ pub round_of_everybody-requires-clause-stands : goal.round_of_everybody-requires
 round_of_everybody-requires-clause-stands c none =
     let new = c.resettle-settled.new.segments in
     let theirs : students_in new ≡ students_in c.self.inside.segments =
-    c.in-Ok-settled.ensures.theirs
+    c.in-Ok-settled.ensures.resettled.theirs
     ∙ ap students_of (ap (λ p. cut p c.students_len-end.result) c.deref-5.ensures ∙ whole-cut-of c.apply_reversibly.new.self c.students_len-end.result (c.students_len-end.ensures.count ∙ ap (λ (p : Market). length p.students) c.deref-4.ensures) ∙ c.in-Ok.ensures.accepted)
     ∙ students-stay c.self.inside.papers c.args.amendment c.requires.no_entry c.requires.no_withdrawal
     ∙ sym c.self.invariant.theirs in
@@ -161,8 +161,8 @@ round_of_everybody-requires-clause-stands c none =
 
 pub invariant_of-self-in-Ok-settled : goal.invariant_of-self-in-Ok-settled
 invariant_of-self-in-Ok-settled c = record {
-  certified = subst (λ n. IsCertified (standing_of n c.resettle-settled.new.places c.resettle-settled.new.segments c.in-Ok-settled.proposals)) (ap (λ p. cut p c.students_len-end.result) c.deref-5.ensures ∙ whole-cut-of c.apply_reversibly.new.self c.students_len-end.result (c.students_len-end.ensures.count ∙ ap (λ (p : Market). length p.students) c.deref-4.ensures)) c.in-Ok-settled.ensures.certified;
-  theirs = c.in-Ok-settled.ensures.theirs ∙ ap students_of (ap (λ p. cut p c.students_len-end.result) c.deref-5.ensures ∙ whole-cut-of c.apply_reversibly.new.self c.students_len-end.result (c.students_len-end.ensures.count ∙ ap (λ (p : Market). length p.students) c.deref-4.ensures));
+  certified = subst (λ n. IsCertified (standing_of n c.resettle-settled.new.places c.resettle-settled.new.segments c.in-Ok-settled.proposals)) (ap (λ p. cut p c.students_len-end.result) c.deref-5.ensures ∙ whole-cut-of c.apply_reversibly.new.self c.students_len-end.result (c.students_len-end.ensures.count ∙ ap (λ (p : Market). length p.students) c.deref-4.ensures)) c.in-Ok-settled.ensures.resettled.certified;
+  theirs = c.in-Ok-settled.ensures.resettled.theirs ∙ ap students_of (ap (λ p. cut p c.students_len-end.result) c.deref-5.ensures ∙ whole-cut-of c.apply_reversibly.new.self c.students_len-end.result (c.students_len-end.ensures.count ∙ ap (λ (p : Market). length p.students) c.deref-4.ensures));
   round = subst (λ p. IfSome c.round_of_everybody.result (IsKept p c.resettle-settled.new.segments)) c.deref-in-Ok-settled-3.ensures c.round_of_everybody.ensures;
   districts = subst (λ m. IfSome c.region_of.new.districts (AreDistricts m)) (ap (λ p. after p c.args.amendment) c.deref.ensures ∙ sym c.in-Ok.ensures.accepted) c.in_ok-region.ensures.in_step;
 }
@@ -185,12 +185,12 @@ returns-clause-certified c =
 
 pub returns-in-Ok-settled-clause-certified : goal.returns-in-Ok-settled-clause-certified
 returns-in-Ok-settled-clause-certified c =
-    subst (λ n. IsCertified (standing_of n c.resettle-settled.new.places c.resettle-settled.new.segments c.in-Ok-settled.proposals)) (ap (λ p. cut p c.students_len-end.result) c.deref-5.ensures ∙ whole-cut-of c.apply_reversibly.new.self c.students_len-end.result (c.students_len-end.ensures.count ∙ ap (λ (p : Market). length p.students) c.deref-4.ensures)) c.in-Ok-settled.ensures.certified
+    subst (λ n. IsCertified (standing_of n c.resettle-settled.new.places c.resettle-settled.new.segments c.in-Ok-settled.proposals)) (ap (λ p. cut p c.students_len-end.result) c.deref-5.ensures ∙ whole-cut-of c.apply_reversibly.new.self c.students_len-end.result (c.students_len-end.ensures.count ∙ ap (λ (p : Market). length p.students) c.deref-4.ensures)) c.in-Ok-settled.ensures.resettled.certified
 
 pub returns-in-Ok-settled-clause-stays : goal.returns-in-Ok-settled-clause-stays
 returns-in-Ok-settled-clause-stays c =
     subst (λ (s : Standing). take (rewind_point s.papers c.args.amendment) (logs_in c.resettle-settled.new.segments) ≡ take (rewind_point s.papers c.args.amendment) s.segments) c.self.view_is
-    (subst (λ k. take k (logs_in c.resettle-settled.new.segments) ≡ take k (logs_in c.self.inside.segments)) (c.point_in-point.ensures ∙ ap (λ p. rewind_point p c.args.amendment) c.deref-2.ensures) c.in-Ok-settled.ensures.stays)
+    (subst (λ k. take k (logs_in c.resettle-settled.new.segments) ≡ take k (logs_in c.self.inside.segments)) (c.point_in-point.ensures ∙ ap (λ p. rewind_point p c.args.amendment) c.deref-2.ensures) c.in-Ok-settled.ensures.resettled.stays)
 
 pub returns-in-Ok-settled-clause-others : goal.returns-in-Ok-settled-clause-others
 returns-in-Ok-settled-clause-others c =
@@ -202,7 +202,7 @@ returns-in-Ok-settled-clause-others c =
     let old : Standing = record { papers = m; places = c.self.inside.places; segments = logs_in c.self.inside.segments; proposals = c.self.inside.proposals } in
     let new : Standing = record { papers = c.apply_reversibly.new.self; places = c.resettle-settled.new.places; segments = logs_in c.resettle-settled.new.segments; proposals = c.in-Ok-settled.proposals } in
     subst (λ (s : Standing). KeepsOthers s c.args.amendment new) c.self.view_is
-    (keeps-others old new c.args.amendment (marked_in c.in_ok-region.region c.self.inside.segments) tells c.in-Ok.ensures.accepted c.in-Ok-settled.ensures.others)
+    (keeps-others old new c.args.amendment (marked_in c.in_ok-region.region c.self.inside.segments) tells c.in-Ok.ensures.accepted c.in-Ok-settled.ensures.resettled.others)
 
 pub returns-in-Ok-settled-clause-proposals : goal.returns-in-Ok-settled-clause-proposals
 returns-in-Ok-settled-clause-proposals c =
@@ -215,7 +215,7 @@ returns-in-Ok-settled-clause-proposals c =
     subst (λ (s : Standing). CountsRegion s.papers c.args.amendment new) c.self.view_is
     (counts-region m c.args.amendment (marked_in c.in_ok-region.region c.self.inside.segments) new tells
     (subst (λ k. CountsInside test k new) (c.point_in-point.ensures ∙ ap (λ p. rewind_point p c.args.amendment) c.deref-2.ensures)
-    (subst (λ n. CountsInside test c.point_in-point.result (standing_of n c.resettle-settled.new.places c.resettle-settled.new.segments c.in-Ok-settled.proposals)) (ap (λ p. cut p c.students_len-end.result) c.deref-5.ensures ∙ whole-cut-of c.apply_reversibly.new.self c.students_len-end.result (c.students_len-end.ensures.count ∙ ap (λ (p : Market). length p.students) c.deref-4.ensures)) c.in-Ok-settled.ensures.proposals)))
+    (subst (λ n. CountsInside test c.point_in-point.result (standing_of n c.resettle-settled.new.places c.resettle-settled.new.segments c.in-Ok-settled.proposals)) (ap (λ p. cut p c.students_len-end.result) c.deref-5.ensures ∙ whole-cut-of c.apply_reversibly.new.self c.students_len-end.result (c.students_len-end.ensures.count ∙ ap (λ (p : Market). length p.students) c.deref-4.ensures)) c.in-Ok-settled.ensures.resettled.proposals)))
 
 pub returns-clause-unchanged : goal.returns-clause-unchanged
 returns-clause-unchanged c =

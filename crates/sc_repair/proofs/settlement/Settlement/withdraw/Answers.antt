@@ -142,16 +142,16 @@ invariant_of-self-in-Ok c =
     let joins = if-some _ _ c.resettle-settled.new.spare
     (λ other. joins-withdrawn m n c.args.student c.point_in-point.result test c.positions-in-Ok.result.now changed left.inside left.fewer left.low c.move_student.new.self last c.resettle-settled.new.places (view_of keys seats other) left.well_moved left.gone left.cut_is left.count)
     (subst (λ p. IfSome c.resettle-settled.new.spare (λ other. StandsInside p test c.resettle-settled.new.places last (view_of keys seats other))) c.deref-5.ensures c.in-Ok.ensures.inside) in
-    let certified = subst (λ n. IsCertified (standing_of n c.resettle-settled.new.places c.resettle-settled.new.segments c.in-Ok.proposals)) same c.in-Ok.ensures.certified in
+    let certified = subst (λ n. IsCertified (standing_of n c.resettle-settled.new.places c.resettle-settled.new.segments c.in-Ok.proposals)) same c.in-Ok.ensures.resettled.certified in
     record {
       certified = certified;
-      theirs = c.in-Ok.ensures.theirs ∙ ap students_of same;
+      theirs = c.in-Ok.ensures.resettled.theirs ∙ ap students_of same;
       round = rejoined-some keys seats m n test chains c.resettle-settled.new.segments c.resettle-settled.new.places c.move_up.new.round c.resettle-settled.new.spare c.rejoin_without.new.round
           (subst (λ p. StandBehind p test c.positions-in-Ok.result.now c.point_in-point.result → AreApart p test
           → IfSome c.rejoin_without.new.round (λ new. IsSomeAnd c.move_up.new.round (λ old. IsSomeAnd c.resettle-settled.new.spare (λ other. HasJoined keys seats p test old other new))))
           c.deref-in-Ok-2.ensures (c.rejoin_without.ensures test) behind changed.apart) waiting joins
-          (λ r other r'. rejoined m n test chains c.resettle-settled.new.segments c.self.inside.places c.resettle-settled.new.places r other r' c.self.invariant.theirs (c.in-Ok.ensures.theirs ∙ ap students_of same) changed.same_outside
-          certified.settled certified.matching c.self.invariant.certified.matching c.in-Ok.ensures.others);
+          (λ r other r'. rejoined m n test chains c.resettle-settled.new.segments c.self.inside.places c.resettle-settled.new.places r other r' c.self.invariant.theirs (c.in-Ok.ensures.resettled.theirs ∙ ap students_of same) changed.same_outside
+          certified.settled certified.matching c.self.invariant.certified.matching c.in-Ok.ensures.resettled.others);
       districts = subst (λ m. IfSome c.region_of.new.districts (AreDistricts m)) (ap (λ p. after p (Withdraw c.args.student)) c.deref.ensures ∙ sym papers) c.in_ok-region.ensures.in_step;
     }
 
@@ -168,7 +168,7 @@ returns-in-Ok-clause-certified c =
     let same : cut c.deref-5.result.now (c.students_len-last.result - 1) ≡ c.withdraw.new.self =
     ap (λ p. cut p (c.students_len-last.result - 1)) c.deref-5.ensures
     ∙ leaver-others c.self.inside.papers c.move_student.new.self (Withdraw c.args.student) c.args.student c.point_in-point.result (c.students_len-last.result - 1) c.self.invariant.certified.well_formed (ap (λ (s : Standing). verdict s.papers (Withdraw c.args.student)) c.self.view_is ∙ c.requires) refl (c.point_in-point.ensures ∙ ap (λ p. rewind_point p (Withdraw c.args.student)) c.deref-2.ensures) (ap (λ n. n - 1) (c.students_len-last.ensures.count ∙ ap (λ (p : Market). length p.students) c.deref-4.ensures)) c.move_student.ensures ∙ sym papers in
-    subst (λ n. IsCertified (standing_of n c.resettle-settled.new.places c.resettle-settled.new.segments c.in-Ok.proposals)) same c.in-Ok.ensures.certified
+    subst (λ n. IsCertified (standing_of n c.resettle-settled.new.places c.resettle-settled.new.segments c.in-Ok.proposals)) same c.in-Ok.ensures.resettled.certified
 
 pub returns-in-Ok-clause-others : goal.returns-in-Ok-clause-others
 returns-in-Ok-clause-others c =
@@ -182,7 +182,7 @@ returns-in-Ok-clause-others c =
     let old : Standing = record { papers = m; places = c.self.inside.places; segments = logs_in c.self.inside.segments; proposals = c.self.inside.proposals } in
     let new : Standing = record { papers = c.withdraw.new.self; places = c.resettle-settled.new.places; segments = logs_in c.resettle-settled.new.segments; proposals = c.in-Ok.proposals } in
     subst (λ (s : Standing). KeepsOthers s (Withdraw c.args.student) new) c.self.view_is
-    (keeps-others old new (Withdraw c.args.student) (marked_in c.in_ok-region.region c.self.inside.segments) tells papers c.in-Ok.ensures.others)
+    (keeps-others old new (Withdraw c.args.student) (marked_in c.in_ok-region.region c.self.inside.segments) tells papers c.in-Ok.ensures.resettled.others)
 
 pub returns-in-Ok-clause-proposals : goal.returns-in-Ok-clause-proposals
 returns-in-Ok-clause-proposals c =
@@ -200,7 +200,7 @@ returns-in-Ok-clause-proposals c =
     subst (λ (s : Standing). CountsRegion s.papers (Withdraw c.args.student) new) c.self.view_is
     (counts-region m (Withdraw c.args.student) (marked_in c.in_ok-region.region c.self.inside.segments) new tells
     (subst (λ k. CountsInside test k new) (c.point_in-point.ensures ∙ ap (λ p. rewind_point p (Withdraw c.args.student)) c.deref-2.ensures)
-    (subst (λ n. CountsInside test c.point_in-point.result (standing_of n c.resettle-settled.new.places c.resettle-settled.new.segments c.in-Ok.proposals)) same c.in-Ok.ensures.proposals)))
+    (subst (λ n. CountsInside test c.point_in-point.result (standing_of n c.resettle-settled.new.places c.resettle-settled.new.segments c.in-Ok.proposals)) same c.in-Ok.ensures.resettled.proposals)))
 
 pub move_student-requires-in-Err-clause-to : goal.move_student-requires-in-Err-clause-to
 move_student-requires-in-Err-clause-to c =
