@@ -1,5 +1,5 @@
 //! What the auditor keeps while it reads a log.
-ghost use Rattle.std.specs.Prelude.{◌≡◌, ℕ, ◌<◌, ◌≤◌, All, List, [], length, map, slice_get, None, Some, IfOk, OnOk, IfSome, IfNone};
+ghost use Rattle.std.specs.Prelude.{◌≡◌, ℕ, ◌<◌, All, List, [], length, map, slice_get, None, Some, IfOk, OnOk, IfSome, IfNone};
 ghost use Rattle.sc_papers.specs.Log.{IsValidLog};
 ghost use Rattle.sc_papers.specs.Market.{schools_of, seats_of, students_of, student_at};
 ghost use Rattle.sc_papers.specs.Matching.{WithinSeats};

@@ -1,5 +1,5 @@
 //! Every fault of the files of an opening and of a script, from their texts.
-ghost use Rattle.std.specs.Prelude.{◌≡◌, ◌++◌, ◌∷◌, [], ℕ, List, IfNone, IfOk, MatchOption, OnOk};
+ghost use Rattle.std.specs.Prelude.{◌≡◌, ◌∷◌, [], ℕ, List, IfNone, IfOk, MatchOption, OnOk};
 ghost use Rattle.sc_intake.specs.Checking.{known_schools};
 ghost use Rattle.sc_checks.specs.Checks.{every_fault, faults_of_good};
 ghost use Rattle.sc_checks.specs.Left.{left_alone, left_found, left_together, AreJudged, AreSameGood};

@@ -1,5 +1,5 @@
 //! The fields of a line: what stands between its commas.
-ghost use Rattle.std.specs.Prelude.{◌≡◌, ◌≤◌, ◌^◌, ◌==◌, [], length, option_map};
+ghost use Rattle.std.specs.Prelude.{◌≡◌, ◌==◌, [], length, option_map};
 ghost use Rattle.std.specs.List.{count_by};
 ghost use Rattle.csv.specs.Records.{field_at};
 ghost use Rattle.sc_intake.specs.File.{text_at};

@@ -1,18 +1,18 @@
 -- Papers that are read back from their files.
-use Rattle.std.proofs.Common.{◌≡◌, ◌∙◌, ◌<◌, ◌≤◌, ◌==◌, ◌||◌, ◌&&◌, ◌+◌, ◌^◌, ℕ, suc, Bool, true, false, nat_eq, List, [], ◌∷◌, ◌++◌, length, map, Option, Some, None, Ok, Err, refl, sym, ap, arith, inl, inr, append_assoc, append-nil, length-append}
+use Rattle.std.proofs.Common.{◌≡◌, ◌∙◌, ◌≤◌, ◌||◌, ◌+◌, ℕ, Bool, true, false, nat_eq, List, [], ◌∷◌, ◌++◌, length, map, Option, Some, None, Ok, refl, sym, ap, arith, inl, inr, append_assoc, append-nil, length-append}
 use Rattle.std.proofs.lemmas.List.{length-map}
-use Rattle.std.specs.Prelude.{nat_le, Result, ⊤, codes, is_some, if◌then◌else◌}
+use Rattle.std.specs.Prelude.{nat_le, codes, is_some}
 use Rattle.std.specs.Fmt.{decimal}
-use Rattle.std.specs.List.{All, AllByRecursion, AllPass, IsDistinct, list_all, list_any}
+use Rattle.std.specs.List.{All, AllByRecursion, IsDistinct, list_any}
 use Rattle.std.specs.Map.{keys_of, lookup}
 use Rattle.std.specs.Option.{IfSome}
 use Rattle.std.proofs.lemmas.Bool.{cases_Bool}
 use Rattle.std.proofs.lemmas.Bool.Decides.{nat_tests}
 use Rattle.std.proofs.lemmas.Cmp.{nat_eq_equiv}
-use Rattle.std.proofs.lemmas.List.Elements.{All-cons, All-head, All-nil, All-tail}
+use Rattle.std.proofs.lemmas.List.Elements.{All-head, All-tail}
 use Rattle.csv.specs.Records.{field_at}
-use Rattle.sc_papers.specs.Market.{Market, is_school, is_student, schools_of, students_of}
-use Rattle.sc_papers.specs.Verdict.{after, first_of, objections_to_enter, refuse_if, too_long, twice_in, unknown_in, unknown_school, no_choices, verdict}
+use Rattle.sc_papers.specs.Market.{Market, is_school, is_student}
+use Rattle.sc_papers.specs.Verdict.{after, objections_to_enter, verdict}
 use Rattle.sc_papers.specs.WellFormed.{IsProper, IsShort, WellFormed, WithinLimits}
 use Rattle.sc_papers.specs.declared.amendment.Amendment.TheVariants.{Enter}
 use Rattle.sc_papers.specs.declared.amendment.Refusal.TheVariants.{RosterFull, StudentExists}
@@ -20,27 +20,21 @@ use Rattle.sc_papers.specs.declared.limits.TheConstants.{MOST_SCHOOLS, MOST_STUD
 use Rattle.sc_papers.specs.declared.records.School.{School}
 use Rattle.sc_papers.specs.declared.records.Student.{Student}
 use Rattle.sc_papers.proofs.Unobjected.{none-first_of, none-no_choices, none-refuse_if, none-too_long, none-twice_in, none-unknown_in, none-unknown_school}
-use Rattle.sc_intake.specs.Blanks.{trimmed}
 use Rattle.sc_intake.specs.Fault.{◌>>=◌}
-use Rattle.sc_intake.specs.Field.{all_schools, as_school, as_school_or_none, as_seats, as_student, as_zone, numbers_in, number_of, number_or_none}
-use Rattle.sc_intake.specs.File.{after_header, records_in, rows_after, rows_in, text_at}
+use Rattle.sc_intake.specs.File.{after_header}
 use Rattle.sc_intake.specs.Lists as lists
-use Rattle.sc_intake.specs.Lists.{choices_of, list_number, lists_in, next_list}
-use Rattle.sc_intake.specs.Papers.{all_entered, amended, entered_by, filled, opening, papers_in, papers_of, unless_refused}
-use Rattle.sc_intake.specs.Roster.{is_roster_header, next_student, roster_in, roster_number, student_of}
-use Rattle.sc_intake.specs.Rows.{next_row}
-use Rattle.sc_intake.specs.Schools.{next_school, school_number, school_of, schools_in}
-use Rattle.sc_intake.specs.declared.blanks.Blanks.TheVariants.{InLine}
-use Rattle.sc_intake.specs.declared.fault.Cause.{Cause}
-use Rattle.sc_intake.specs.declared.fault.IntakeFault.{IntakeFault}
+use Rattle.sc_intake.specs.Lists.{choices_of, list_number, lists_in}
+use Rattle.sc_intake.specs.Papers.{all_entered, entered_by, filled, opening, papers_in, papers_of}
+use Rattle.sc_intake.specs.Roster.{is_roster_header, roster_in, roster_number, student_of}
+use Rattle.sc_intake.specs.Schools.{school_number, school_of, schools_in}
 use Rattle.sc_intake.specs.declared.fault.Source.TheVariants.{Lists, Roster, Schools}
 use Rattle.sc_intake.specs.declared.lists.ListRow.{ListRow}
 use Rattle.sc_intake.specs.declared.roster.RosterRow.{RosterRow}
 use Rattle.sc_intake.specs.declared.schools.SchoolRow.{SchoolRow}
 use Rattle.sc_intake.proofs.InStep.{filled-in-step, in-step, in-step-parts}
 use Rattle.sc_journal.specs.Line.{list_text}
-use Rattle.sc_journal.specs.Spelling.{IsSchool, IsSchoolOrNone, IsStudent, IsZone}
-use Rattle.sc_export.specs.Files.{continues, continuing_text, file_text, further_field, is_longer, list_fields, list_header, lists_text, roster_fields, roster_header, roster_text, row_text, school_fields, school_header, schools_text}
+use Rattle.sc_journal.specs.Spelling.{IsSchool, IsSchoolOrNone}
+use Rattle.sc_export.specs.Files.{continues, continuing_text, file_text, is_longer, list_fields, list_header, lists_text, roster_fields, roster_header, roster_text, school_fields, school_header, schools_text}
 use Rattle.sc_export.specs.Ranges.{AreInRange, IsSchoolInRange, IsStudentInRange}
 use Rattle.sc_export.proofs.Fields.{continuing-ok, continuing-reads, continuing-tidy, decimal-tidy, kept, list-ok, list-reads, list-tidy, number-reads, within-ok}
 use Rattle.sc_export.proofs.Plain.{AllRows, IsRow, continuing-plain, decimal-plain, list-plain, is_plain}

@@ -1,11 +1,11 @@
 -- Fields that are read as what was written in them.
-use Rattle.std.proofs.Common.{◌≡◌, ◌∙◌, ◌<◌, ◌≤◌, ◌==◌, ◌||◌, ◌&&◌, ◌^◌, ◌+◌, ℕ, Bool, true, false, List, [], ◌∷◌, ◌++◌, length, map, Option, Some, None, Ok, refl, sym, ap, arith, append_assoc, reverse}
-use Rattle.std.specs.Prelude.{nat_le, flat_map, Result, ok_or, if◌then◌else◌, ⊤}
+use Rattle.std.proofs.Common.{◌≡◌, ◌∙◌, ◌<◌, ◌≤◌, ◌==◌, ◌&&◌, ◌^◌, ◌+◌, ℕ, Bool, true, false, List, [], ◌∷◌, ◌++◌, length, map, Option, Some, None, Ok, refl, sym, ap, arith, append_assoc, reverse}
+use Rattle.std.specs.Prelude.{nat_le, flat_map, ok_or, if◌then◌else◌, ⊤}
 use Rattle.std.specs.Char.{is_ascii_digit}
 use Rattle.std.specs.Fmt.{decimal}
 use Rattle.std.specs.Int.{IsInRange}
-use Rattle.std.specs.List.{All, list_all, slice_split}
-use Rattle.std.proofs.lemmas.Bool.{and_from, and_parts, and_right}
+use Rattle.std.specs.List.{All, list_all}
+use Rattle.std.proofs.lemmas.Bool.{and_from, and_parts}
 use Rattle.std.proofs.lemmas.Bool.Decides.{nat_tests}
 use Rattle.std.proofs.lemmas.Fmt.{decimal_nonempty, digits_decimal}
 use Rattle.std.proofs.lemmas.Grind.{reverse_onto}
@@ -14,9 +14,9 @@ use Rattle.std.proofs.lemmas.List.Folds.{list_all-append}
 use Rattle.std.proofs.lemmas.List.Elements.{All-head, All-tail}
 use Rattle.sc_decimal.specs.Number.{has_leading_zero, read_number, read_plain_number}
 use Rattle.sc_decimal.proofs.Spelling.{number-decimal, own}
-use Rattle.sc_intake.specs.Blanks.{is_blank, trim_end, trim_start, trimmed}
+use Rattle.sc_intake.specs.Blanks.{is_blank, trim_start, trimmed}
 use Rattle.sc_intake.specs.Fault.{◌>>=◌}
-use Rattle.sc_intake.specs.Field.{all_schools, as_school, as_school_or_none, is_within, numbers_in, number_of, number_or_none, numbers_after, within, word_of, words, words_after}
+use Rattle.sc_intake.specs.Field.{all_schools, as_school_or_none, is_within, numbers_in, number_of, number_or_none, numbers_after, within, word_of, words, words_after}
 use Rattle.sc_intake.specs.declared.blanks.Blanks.TheVariants.{InLine}
 use Rattle.sc_intake.specs.declared.fault.Cause.{Cause}
 use Rattle.sc_intake.specs.declared.fault.Cause.TheVariants.{Number}

@@ -1,5 +1,5 @@
 -- Texts without a mark of the format, and files of rows of such texts.
-use Rattle.std.proofs.Common.{◌≡◌, ◌∙◌, ◌<◌, ◌≤◌, ◌==◌, ◌||◌, ◌&&◌, ◌^◌, ◌+◌, ℕ, Bool, true, false, List, [], ◌∷◌, ◌++◌, length, Option, Some, None, refl, sym, ap, arith, append_assoc}
+use Rattle.std.proofs.Common.{◌≡◌, ◌∙◌, ◌<◌, ◌==◌, ◌||◌, ◌^◌, ◌+◌, ℕ, Bool, true, false, List, [], ◌∷◌, ◌++◌, Option, Some, None, refl, ap, arith}
 use Rattle.std.specs.Prelude.{nat_le, flat_map, ⊤}
 use Rattle.std.specs.Char.{is_ascii_digit}
 use Rattle.std.specs.Fmt.{decimal}
@@ -10,8 +10,8 @@ use Rattle.std.proofs.lemmas.Fmt.{digits_decimal}
 use Rattle.std.proofs.lemmas.List.{append-nil}
 use Rattle.std.proofs.lemmas.List.Folds.{list_all-append}
 use Rattle.std.proofs.lemmas.List.Elements.{All-head, All-tail}
-use Rattle.csv.specs.Machine.{Read, next_record}
-use Rattle.csv.specs.Reading.{default_config, records, records_from}
+use Rattle.csv.specs.Machine.{next_record}
+use Rattle.csv.specs.Reading.{default_config, records}
 use Rattle.csv.specs.Writing as writing
 use Rattle.csv.specs.Writing.{default_writer, field_text, fields_text, is_blank, needs_byte}
 use Rattle.csv.specs.declared.parser.State.TheVariants as st
@@ -20,7 +20,7 @@ use Rattle.sc_decimal.proofs.Spelling.{own}
 use Rattle.sc_intake.proofs.Cutting.{records_from-more, records_from-none}
 use Rattle.sc_journal.specs.Line.{further_text, list_text}
 use Rattle.sc_journal.specs.Spelling.{IsSchool, IsSchoolOrNone}
-use Rattle.sc_export.specs.Files.{continuing_text, file_text, row_text}
+use Rattle.sc_export.specs.Files.{continuing_text, row_text}
 
 -- a digit, a letter, or a space
 unfoldable pub is_plain : ℕ → Bool

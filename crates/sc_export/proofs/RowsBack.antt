@@ -1,19 +1,18 @@
 -- Rows that are read back from a file, one after the other.
-use Rattle.std.proofs.Common.{◌≡◌, ◌∙◌, ◌<◌, ◌≤◌, ◌==◌, ◌||◌, ◌+◌, ℕ, Bool, true, false, nat_eq, List, [], ◌∷◌, ◌++◌, length, map, Option, Some, None, Ok, Err, refl, sym, ap, arith, append_assoc, subst}
-use Rattle.std.specs.Prelude.{nat_le, nat_lt, flat_map, Result, ⊤, if◌then◌else◌}
+use Rattle.std.proofs.Common.{◌≡◌, ◌∙◌, ◌<◌, ◌≤◌, ◌==◌, ◌+◌, ℕ, Bool, true, false, nat_eq, List, [], ◌∷◌, ◌++◌, length, map, Ok, refl, sym, ap, arith, append_assoc}
+use Rattle.std.specs.Prelude.{nat_le, nat_lt, Result}
 use Rattle.std.specs.List.{IsDistinct, list_any, AllByRecursion}
 use Rattle.std.proofs.lemmas.Bool.Decides.{nat_tests}
 use Rattle.std.proofs.lemmas.Cmp.{nat_eq_equiv}
 use Rattle.std.proofs.lemmas.List.{append-nil, length-append, map-append}
-use Rattle.csv.specs.Reading.{default_config, is_bom, records, strip_bom}
-use Rattle.sc_intake.specs.Fault.{◌>>=◌, fault_at}
-use Rattle.sc_intake.specs.File.{after_header, in_row, is_marked, records_in, rows_after, rows_in}
+use Rattle.csv.specs.Reading.{default_config, records, strip_bom}
+use Rattle.sc_intake.specs.Fault.{◌>>=◌}
+use Rattle.sc_intake.specs.File.{is_marked, records_in, rows_after}
 use Rattle.sc_intake.specs.Rows.{next_row}
 use Rattle.sc_intake.specs.declared.fault.Cause.{Cause}
-use Rattle.sc_intake.specs.declared.fault.IntakeFault.{IntakeFault}
 use Rattle.sc_intake.specs.declared.fault.Source.{Source}
-use Rattle.sc_export.specs.Files.{file_text, row_text}
-use Rattle.sc_export.proofs.Plain.{AllRows, IsRow, rows-read}
+use Rattle.sc_export.specs.Files.{file_text}
+use Rattle.sc_export.proofs.Plain.{AllRows, rows-read}
 
 -- a number is none of those before it
 distinct-apart : (xs : List ℕ) (y : ℕ) (ys : List ℕ) → IsDistinct nat_eq (xs ++ y ∷ ys) → list_any (nat_eq y) xs ≡ false

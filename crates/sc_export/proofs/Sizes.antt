@@ -1,15 +1,13 @@
 -- No exported file is too long to be read.
-use Rattle.std.proofs.Common.{◌≡◌, ◌∙◌, ◌<◌, ◌≤◌, ◌+◌, ◌*◌, ◌^◌, ℕ, Bool, true, false, List, [], ◌∷◌, ◌++◌, length, map, Option, Some, None, refl, ap, arith, length-append}
+use Rattle.std.proofs.Common.{◌≤◌, ◌+◌, ◌*◌, ℕ, List, [], ◌∷◌, ◌++◌, length, Option, Some, None, arith, length-append}
 use Rattle.std.specs.Prelude.{flat_map, ⊤}
 use Rattle.std.specs.Fmt.{decimal}
-use Rattle.std.specs.List.{All, join_with_byte}
+use Rattle.std.specs.List.{All}
 use Rattle.std.proofs.lemmas.Fmt.{length-decimal-le}
 use Rattle.std.proofs.lemmas.List.Elements.{All-head, All-tail}
-use Rattle.sc_papers.specs.declared.records.School.{School}
-use Rattle.sc_papers.specs.declared.records.Student.{Student}
 use Rattle.sc_journal.specs.Line.{further_text, list_text}
 use Rattle.sc_journal.specs.Spelling.{IsSchool, IsSchoolOrNone}
-use Rattle.sc_export.specs.Files.{continuing_text, file_text, further_field, list_fields, roster_fields, row_text, school_fields}
+use Rattle.sc_export.specs.Files.{continuing_text, row_text}
 
 -- a number of at most nine digits
 pub decimal-short : (n : ℕ) → n ≤ 999999999 → length (decimal n) ≤ 9

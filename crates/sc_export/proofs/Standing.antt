@@ -1,5 +1,5 @@
 -- Entries by their positions, where no two have one key.
-use Rattle.std.proofs.Common.{◌≡◌, ◌∙◌, ℕ, suc, zero, ◌<◌, Bool, true, false, nat_eq, List, [], ◌∷◌, Option, Some, None, refl, sym, arith, cond}
+use Rattle.std.proofs.Common.{◌≡◌, ◌∙◌, ℕ, suc, zero, Bool, true, false, nat_eq, List, [], ◌∷◌, Option, Some, None, refl, sym, arith, cond}
 use Rattle.std.specs.Prelude.{slice_get}
 use Rattle.std.specs.List.{AllByRecursion, IsDistinct}
 use Rattle.std.specs.Map.{keys_of, lookup}

@@ -1,6 +1,5 @@
 -- Numbers of papers that are in their ranges, as those of every value of the types are.
 use Rattle.std.specs.Prelude.{ℕ, All}
-use Rattle.std.specs.Int.{IsInRange}
 use Rattle.sc_papers.specs.Market.{Market}
 use Rattle.sc_papers.specs.declared.records.School.{School}
 use Rattle.sc_papers.specs.declared.records.Student.{Student}

@@ -1,9 +1,7 @@
 //! The three files of papers.
-ghost use Rattle.std.specs.Prelude.{◌≡◌, IfOk, Ok, OnOk};
-ghost use Rattle.sc_papers.specs.WellFormed.{WellFormed};
+ghost use Rattle.std.specs.Prelude.{◌≡◌, IfOk, Ok};
 ghost use Rattle.sc_intake.specs.Papers.{papers_in};
 ghost use Rattle.sc_export.specs.Files.{lists_text, roster_text, schools_text};
-ghost use Rattle.sc_export.specs.Ranges.{AreInRange};
 
 use crate::lists::push_lists;
 use crate::roster::push_roster;

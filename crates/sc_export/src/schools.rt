@@ -1,5 +1,5 @@
 //! The file of the schools.
-ghost use Rattle.std.specs.Prelude.{◌≡◌, ◌++◌, OnOk, All, flat_map, map};
+ghost use Rattle.std.specs.Prelude.{◌≡◌, ◌++◌, OnOk, All};
 ghost use Rattle.sc_papers.specs.WellFormed.{WellFormed};
 ghost use Rattle.sc_export.specs.Files.{row_text, school_fields, schools_text};
 ghost use Rattle.sc_export.specs.Ranges.{IsSchoolInRange};

@@ -1,6 +1,5 @@
 //! The rank-order lists: the schools that each student chooses, best first.
 
-ghost use Rattle.std.specs.Prelude.{◌≡◌};
 ghost use Rattle.sc_intake.specs.Fault.{Gives, no_memory};
 ghost use Rattle.sc_intake.specs.Lists.{lists_in};
 ghost use Rattle.sc_intake.specs.declared.fault.Source.TheVariants.{Lists};

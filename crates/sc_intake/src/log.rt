@@ -1,6 +1,6 @@
 //! The log: rejections, one a record.
 
-ghost use Rattle.std.specs.Prelude.{◌≡◌, []};
+ghost use Rattle.std.specs.Prelude.{[]};
 ghost use Rattle.sc_intake.specs.Fault.{Gives, no_memory};
 ghost use Rattle.sc_intake.specs.File.{rows_after};
 ghost use Rattle.sc_intake.specs.Log.{log_in, next_rejection, rejection_of};

@@ -1,6 +1,6 @@
 //! The fields that are lists of schools.
 
-ghost use Rattle.std.specs.Prelude.{◌≡◌, ◌+◌, ◌<◌, ◌≤◌, ◌==◌, [], length, take, if◌then◌else◌, vec_capacity, Ok, Err, IfErr, IfOk, IfSome};
+ghost use Rattle.std.specs.Prelude.{◌≡◌, ◌+◌, ◌<◌, ◌==◌, [], length, take, if◌then◌else◌, vec_capacity, Ok, Err, IfErr, IfOk, IfSome};
 ghost use Rattle.std.specs.List.{count_by};
 ghost use Rattle.sc_intake.specs.Fault.{Gives};
 ghost use Rattle.sc_intake.specs.Field.{listed};

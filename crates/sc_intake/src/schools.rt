@@ -1,6 +1,5 @@
 //! The file of the schools.
 
-ghost use Rattle.std.specs.Prelude.{◌≡◌};
 ghost use Rattle.sc_intake.specs.Fault.{Gives, no_memory};
 ghost use Rattle.sc_intake.specs.Schools.{schools_in};
 ghost use Rattle.sc_intake.specs.declared.fault.Source.TheVariants.{Schools};

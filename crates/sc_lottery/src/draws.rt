@@ -1,5 +1,4 @@
 ghost use Rattle.std.specs.Prelude.{◌≡◌, ℕ, List, ◌<◌, ◌^◌};
-ghost use Rattle.rand_chacha.specs.ChaCha.{ChaCha};
 ghost use Rattle.sc_lottery.specs.Draw as lottery;
 ghost use Rattle.sc_lottery.specs.Stream.{moved_to, IsStreamOf};
 

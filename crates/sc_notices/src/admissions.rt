@@ -1,5 +1,5 @@
 //! The class lists and the waiting lists as text.
-ghost use Rattle.std.specs.Prelude.{◌≡◌, ◌+◌, ◌^◌, ◌<◌, ◌++◌, ◌≤◌, true, length, is_some, All, IfOk, IfSome, OnOk};
+ghost use Rattle.std.specs.Prelude.{◌≡◌, ◌+◌, ◌^◌, ◌<◌, ◌++◌, true, length, is_some, All, IfOk, IfSome, OnOk};
 ghost use Rattle.sc_papers.specs.Market.{is_school, schools_of, students_of};
 ghost use Rattle.sc_papers.specs.Matching.{Matching};
 ghost use Rattle.sc_repair.specs.Standing.{matching_of};

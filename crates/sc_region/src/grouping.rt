@@ -1,7 +1,7 @@
 //! The groups of schools that students' lists join.
 
 ghost use Rattle.std.specs.Prelude.{◌≡◌, ◌<◌, ◌==◌, ℕ, true, length, map, slice_index, Contains, IfOk, if◌then◌else◌};
-ghost use Rattle.sc_papers.specs.Market.{choices_of, is_school, schools_of, student_at, students_of};
+ghost use Rattle.sc_papers.specs.Market.{is_school, schools_of, student_at, students_of};
 ghost use Rattle.sc_papers.specs.WellFormed.{WellFormed};
 ghost use Rattle.sc_region.specs.Groups.{first_choice, joined, joined_choices, joined_list, joined_students, moved, position_of, students_at};
 

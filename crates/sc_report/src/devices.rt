@@ -1,5 +1,5 @@
 //! Devices for tests: they pass a set number of bytes or calls, in pieces of a set size, and then fail, for ever or once.
-ghost use Rattle.std.specs.Prelude.{◌≡◌, ◌≢◌, ℕ, ◌+◌, ◌-◌, ◌<◌, ◌≤◌, max, Some, IfOk, IfSome, IsErr, IsOk, IsSome, Ok, ◌↔◌, true, false};
+ghost use Rattle.std.specs.Prelude.{◌≡◌, ◌-◌, ◌<◌, ◌≤◌, max, Some, IfOk, IfSome, IsErr, IsOk, IsSome, Ok, ◌↔◌, true, false};
 ghost use Rattle.std.specs.Io.{ReadsAtMost, WritesAtMost};
 ghost use Rattle.std.specs.Io.KnownBytes.{Keeps, ReadConsumes, WriteAppends};
 ghost use Rattle.sc_report.specs.Devices.{after_fault, bytes_left, bytes_taken, ending_of, gives_left, is_once, is_spent, passes_after, moves, reader_fails_once, reader_piece, takes_left, writer_piece};

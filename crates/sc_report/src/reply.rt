@@ -1,5 +1,5 @@
 //! What a script's record is answered.
-ghost use Rattle.std.specs.Prelude.{◌≡◌, ◌++◌, IfOk, OnOk, codes, decimal};
+ghost use Rattle.std.specs.Prelude.{◌≡◌, ◌++◌, IfOk, OnOk};
 ghost use Rattle.sc_report.specs.Reply.{number_text, refusal_text, reply_text};
 
 use sc_decimal::push_number;

@@ -1,5 +1,5 @@
 //! Writing a text whole and reading an input whole.
-ghost use Rattle.std.specs.Prelude.{◌≡◌, ℕ, ◌++◌, ◌-◌, ◌<◌, ◌≤◌, ◌||◌, length, vec_items, vec_len, IfOk, OnErr, is_err};
+ghost use Rattle.std.specs.Prelude.{◌≡◌, ◌-◌, ◌<◌, ◌≤◌, ◌||◌, length, vec_items, vec_len, IfOk, OnErr, is_err};
 ghost use Rattle.std.specs.Io.KnownBytes.{IsAtEnd};
 ghost use Rattle.sc_report.specs.Steps.{GivesMore};
 ghost use Rattle.sc_report.specs.Watched.{device_of, has_failed};

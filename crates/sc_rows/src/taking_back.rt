@@ -1,5 +1,5 @@
 //! Amendments taken back, and an assignment whose students move.
-ghost use Rattle.std.specs.Prelude.{◌≡◌, not};
+ghost use Rattle.std.specs.Prelude.{◌≡◌};
 ghost use Rattle.sc_papers.specs.TakingBack.{is_withdrawal};
 
 use crate::given::{amendment_of, papers_of, school, student};

@@ -1,5 +1,5 @@
 //! Marker lines: where one stands, and what is before and after it.
-ghost use Rattle.std.specs.Prelude.{◌≡◌, ℕ, ◌<◌, ◌≤◌, nat_eq, true, None, drop, length, if◌then◌else◌};
+ghost use Rattle.std.specs.Prelude.{◌≡◌, ◌<◌, ◌≤◌, nat_eq, true, None, drop, length, if◌then◌else◌};
 ghost use Rattle.std.specs.List.{starts_with};
 ghost use Rattle.std.specs.Option.{option_copied, option_map};
 ghost use Rattle.memchr.specs.Find.{IsFirst};

@@ -1,6 +1,6 @@
 //! From four files to replies and an assignment.
 
-ghost use Rattle.std.specs.Prelude.{◌≡◌, ℕ, ◌∷◌, [], All, IfOk, MatchResult, Ok, ◌≤◌, ◌+◌, length};
+ghost use Rattle.std.specs.Prelude.{◌≡◌, ◌∷◌, [], All, IfOk, MatchResult, Ok, ◌≤◌, ◌+◌, length};
 ghost use Rattle.sc_papers.specs.WellFormed.{WellFormed};
 ghost use Rattle.sc_intake.specs.Script.{script_in};
 ghost use Rattle.sc_intake.specs.declared.input.TheConstants.{MOST_BYTES};

@@ -1,6 +1,6 @@
 //! A script's records answered, one after the other.
 
-ghost use Rattle.std.specs.Prelude.{◌≡◌, ℕ, ◌+◌, ◌<◌, ◌≤◌, List, length, ◌∷◌, [], ◌++◌, Option, None, Ok, false, IfOk, OnOk};
+ghost use Rattle.std.specs.Prelude.{◌≡◌, ℕ, ◌+◌, ◌<◌, ◌≤◌, List, length, ◌∷◌, [], Option, None, Ok, false, IfOk, OnOk};
 ghost use Rattle.sc_intake.specs.declared.input.TheConstants.{MOST_BYTES};
 ghost use Rattle.sc_papers.specs.declared.stamp.TheConstants.Stamp.{GREATEST};
 ghost use Rattle.sc_stamps.specs.Verdict.{stamped_verdict};

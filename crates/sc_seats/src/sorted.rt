@@ -1,4 +1,4 @@
-ghost use Rattle.std.specs.Prelude.{◌≡◌, ◌↔◌, ℕ, ◌+◌, ◌<◌, ◌≤◌, true, List, [], length, slice_index_or, Contains, vec_len, insert, All, IsTrue, OnOk, OnErr, IsSome, ◌++◌};
+ghost use Rattle.std.specs.Prelude.{◌≡◌, ◌↔◌, ℕ, ◌+◌, ◌<◌, ◌≤◌, true, length, slice_index_or, Contains, vec_len, insert, All, IsTrue, OnOk, OnErr, IsSome, ◌++◌};
 ghost use Rattle.std.specs.Option.{option_to_list};
 ghost use Rattle.sc_papers.specs.Key.{is_before};
 ghost use Rattle.sc_seats.specs.Roll.{IsAscending};

@@ -1,4 +1,4 @@
-ghost use Rattle.std.specs.Prelude.{◌≡◌, ℕ, ◌<◌, List, length, replicate, swap, IfOk, OnOk, OnErr};
+ghost use Rattle.std.specs.Prelude.{◌≡◌, ◌<◌, length, replicate, swap, IfOk, OnOk, OnErr};
 ghost use Rattle.sc_stamps.specs.Stamps.{stamp_at, with_stamp, without_stamp};
 
 use crate::marking::{Marking, marking_of};

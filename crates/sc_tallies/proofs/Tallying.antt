@@ -1,5 +1,5 @@
 -- What one more student changes in the schools' tallies.
-use Rattle.std.proofs.Common.{◌≡◌, refl, sym, ◌∙◌, ap, inl, inr, ℕ, zero, suc, ◌+◌, ◌<◌, ◌≤◌, ◌==◌, nat_eq, true, false, cond, List, [], ◌∷◌, ◌++◌, length, get_or, set, map, filter, replicate, take, Option, None, Some, Contains, count_by, position, slice_get, add-one, arith}
+use Rattle.std.proofs.Common.{◌≡◌, refl, sym, ◌∙◌, ap, inl, inr, ℕ, zero, suc, ◌+◌, ◌<◌, ◌==◌, nat_eq, true, false, cond, List, [], ◌∷◌, ◌++◌, length, get_or, set, map, filter, replicate, take, Option, None, Some, Contains, count_by, position, slice_get, add-one, arith}
 use Rattle.std.specs.List.{IsDistinct}
 use Rattle.std.specs.Option.{option_and_then, option_map, option_map_or}
 use Rattle.std.proofs.lemmas.Bool.{cases_Bool, cond-true, cond-false, eq-eqb, ne_eqb, false≢true}

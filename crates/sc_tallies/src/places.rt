@@ -1,6 +1,6 @@
 //! The school that each student has, in order of entry.
 
-ghost use Rattle.std.specs.Prelude.{◌≡◌, IfOk};
+ghost use Rattle.std.specs.Prelude.{IfOk};
 ghost use Rattle.sc_papers.specs.Assignment.{assigned};
 ghost use Rattle.sc_tallies.specs.Places.{ArePlaces};
 

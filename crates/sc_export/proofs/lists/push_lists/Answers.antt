@@ -1,4 +1,4 @@
-use Rattle.std.proofs.Common.{◌≡◌, ◌∙◌, ◌++◌, ℕ, List, sym, ap, Some, None, rules, arith, append_assoc, map, length, ◌≤◌, ◌<◌, Bor, Option}
+use Rattle.std.proofs.Common.{◌≡◌, ◌∙◌, ◌++◌, ℕ, List, sym, ap, Some, None, arith, append_assoc, map, Bor}
 use Rattle.std.specs.Prelude.{option_map, flat_map, slice_get, codes}
 use Rattle.sc_papers.specs.declared.records.Student.{Student}
 use Rattle.sc_export.specs.Files.{list_fields, row_text}

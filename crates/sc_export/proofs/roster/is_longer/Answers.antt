@@ -1,5 +1,5 @@
-use Rattle.std.proofs.Common.{◌≡◌, ◌∙◌, ◌++◌, ℕ, List, sym, ap, Some, None, rules, arith, append_assoc, map, length, ◌≤◌, ◌<◌, Bor, Option}
-use Rattle.std.specs.Prelude.{option_map, flat_map, slice_get, codes}
+use Rattle.std.proofs.Common.{◌≡◌, ◌∙◌, ℕ, sym, ap, Some, None, rules, arith, Bor}
+use Rattle.std.specs.Prelude.{option_map, slice_get}
 use Rattle.sc_papers.specs.declared.records.Student.{Student}
 use Rattle.sc_export.specs.Files.{continues}
 use Rattle.sc_export.proofs.Growing.{none-more, not-past, some-passes}

@@ -1,5 +1,5 @@
-use Rattle.std.proofs.Common.{◌≡◌, ◌∙◌, ◌++◌, ℕ, List, sym, ap, Some, None, rules, arith, append_assoc, map, length, ◌≤◌, ◌<◌, Bor, Option}
-use Rattle.std.specs.Prelude.{option_map, flat_map, slice_get, codes}
+use Rattle.std.proofs.Common.{◌≡◌, ◌∙◌, ◌++◌, ℕ, List, sym, ap, None, arith, append_assoc, map}
+use Rattle.std.specs.Prelude.{flat_map, slice_get, codes}
 use Rattle.sc_export.specs.Files.{row_text, school_fields}
 use Rattle.sc_export.specs.Ranges.{IsSchoolInRange}
 use Rattle.sc_export.proofs.Growing.{all-more, all-of, not-past, row-more, rows-all}
