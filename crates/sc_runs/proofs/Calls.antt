@@ -1,5 +1,9 @@
 -- Calls that read their inputs, by what reading them and then using them did.
-use Rattle.std.proofs.Common.{◌≡◌, ℕ, inl, inr, ap, Bool, List, [], ◌∷◌, ◌++◌, Option, Result, ◌∙◌, subst}
+use Rattle.std.proofs.Common.{◌≡◌, ℕ, inl, inr, ap, Bool, List, [], ◌∷◌, ◌++◌, Option, Result, Ok, Err, ◌∙◌, subst}
+use Rattle.std.specs.Result.{MatchResult}
+use Rattle.sc_papers.specs.Market.{Market}
+use Rattle.sc_intake.specs.declared.fault.IntakeFault.{IntakeFault}
+use Rattle.sc_runs.specs.Steps.{IsOpeningFault, IsReadingOf}
 use Rattle.std.proofs.lemmas.List.Elements.{All-nil}
 use Rattle.sc_intake.specs.Log.{log_in}
 use Rattle.sc_intake.specs.Script.{script_in}
@@ -62,13 +66,17 @@ ReplaysFiles-read seed turns texts journal given old new result read is wrote = 
 )
 
 -- the files and the script were read, and run
-pub RunsFiles-read : (seed : List ℕ) (turns : List Turn) (texts : Texts) (script schools roster lists given : List ℕ) (old new : Contents) (result : Result (Unit {0}) RunFault)
-    → AreRead turns (in_order texts ++ script ∷ []) → AreTexts texts schools roster lists → given ≡ script
-    → WritesRun (opened_in (papers_in seed schools roster lists) (script_in given)) old new result → RunsFiles seed turns old new result
-RunsFiles-read seed turns texts script schools roster lists given old new result read same is wrote = inr (
+pub RunsFiles-read : (seed : List ℕ) (turns : List Turn) (texts : Texts) (script given : List ℕ) (old new : Contents) (result : Result (Unit {0}) RunFault)
+    → AreRead turns (in_order texts ++ script ∷ []) → given ≡ script
+    → WritesRun (opened_in (opening_in seed texts) (script_in given)) old new result → RunsFiles seed turns old new result
+RunsFiles-read seed turns texts script given old new result read is wrote = inr (
   texts,
   script,
   read,
-  subst (λ reading. WritesRun (opened_in reading (script_in script)) old new result) (papers_in-texts seed texts schools roster lists same)
-      (subst (λ text. WritesRun (opened_in (papers_in seed schools roster lists) (script_in text)) old new result) is wrote),
+  subst (λ text. WritesRun (opened_in (opening_in seed texts) (script_in text)) old new result) is wrote,
 )
+
+-- what reading papers came to
+pub is-reading : (reading : Result Market IntakeFault) (read : Result Market RunFault) → MatchResult read (λ papers. reading ≡ Ok papers) (IsOpeningFault reading) → IsReadingOf reading read
+is-reading reading (Ok papers) came = came
+is-reading reading (Err fault) came = came

@@ -19,9 +19,9 @@ use crate::bundle::{Bundle, split_bundle};
 use crate::ending::Ending;
 use crate::fault::RunFault;
 use crate::inputs::{OpeningSlices, read_input};
-use crate::opening::read_flat;
+use crate::opening::{read_flat, read_papers};
 use crate::recorder::Unkept;
-use crate::running::run_texts;
+use crate::running::run_read;
 use crate::settled::report_papers;
 use sc_intake::Source;
 use sc_papers::{FlatPapers, Seed};
@@ -112,8 +112,8 @@ fn run_text<W: Write>(alloc: Global, text: Vec<u8>, out: &mut Watched<W>) -> End
     };
     let opening = opening_of(&bundle);
     if let Some(script) = bundle.script {
-        let settling = Settling::AtTheEnd;
-        let done = run_texts(alloc, &seed, opening, script, settling, out, &mut Unkept);
+        let read = read_papers(alloc, &seed, opening);
+        let done = run_read(alloc, read, script, Settling::AtTheEnd, out, &mut Unkept);
         return ending_of(done);
     }
     let read = read_flat(alloc, &seed, opening);

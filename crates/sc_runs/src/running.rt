@@ -1,23 +1,25 @@
 //! From four files to replies and an assignment.
 
-ghost use Rattle.std.specs.Prelude.{◌≡◌, ◌∷◌, [], All, IfOk, MatchResult, Ok, ◌≤◌, ◌+◌, length};
+ghost use Rattle.std.specs.Prelude.{◌≡◌, ◌∷◌, [], All, IfOk, MatchResult, Ok, Result, ◌≤◌, ◌+◌, length};
+ghost use Rattle.sc_papers.specs.Market.{Market};
 ghost use Rattle.sc_papers.specs.WellFormed.{WellFormed};
 ghost use Rattle.sc_intake.specs.Script.{script_in};
 ghost use Rattle.sc_intake.specs.declared.input.TheConstants.{MOST_BYTES};
+ghost use Rattle.sc_intake.specs.declared.fault.IntakeFault.{IntakeFault};
 ghost use Rattle.sc_intake.specs.declared.fault.Source.TheVariants as input;
 ghost use Rattle.sc_repair.specs.Standing.{matching_of};
 ghost use Rattle.sc_report.specs.Text.{report_text};
 ghost use Rattle.sc_report.specs.Watched.{device_of, has_failed};
 ghost use Rattle.sc_runs.specs.Failing.{JournalFailsAsTold, OutputFailsAsTold};
 ghost use Rattle.sc_runs.specs.Inputs.{turns_with, TakesWithin};
-ghost use Rattle.sc_runs.specs.Steps.{papers_held, IsOpeningFault, WritesLastReport, WritesSession};
+ghost use Rattle.sc_runs.specs.Steps.{IsOpeningFault, IsReadingOf, WritesLastReport, WritesSession};
 ghost use Rattle.sc_runs.specs.TwoWriters.{to_output};
 ghost use Rattle.sc_runs.specs.Run.{opened_in, RunsFiles, Writes, WritesRun};
 
 use crate::amendable::{Amendable, Settling};
 use crate::fault::RunFault;
-use crate::inputs::{Inputs, OpeningSlices, read_inputs};
-use crate::opening::read_papers;
+use crate::inputs::{InputTexts, Inputs, read_inputs};
+use crate::opening::read_kept;
 use crate::recorder::Recorder;
 use crate::script::Session;
 use crate::writing::{flush_output, write_standing_report};
@@ -134,24 +136,25 @@ fn run_papers<A: Amendable + Drop, W: Write, J: Recorder>(
     }
 }
 
-/// Opens the papers that the texts hold, answers the records of the script in turn, and writes the
-/// report of the papers as they then stand.
-pub fn run_texts<W: Write, J: Recorder>(
+/// Opens papers that were read, answers the records of the script in turn, and writes the report of the papers as they then
+/// stand; or answers why they were not read.
+pub fn run_read<W: Write, J: Recorder>(
     alloc: Global,
-    seed: &Seed,
-    texts: OpeningSlices<'_>,
+    read: Result<Papers, RunFault>,
     script: &[u8],
     settling: Settling,
     out: &mut Watched<W>,
     journal: &mut J,
 ) -> Result<(), RunFault>
-    ensures writes { WritesRun (opened_in (papers_held seed.now texts.entry) (script_in script.now))
+    requires { (reading : Result Market IntakeFault) × IsReadingOf reading read }
+    ensures writes { (reading : Result Market IntakeFault) → IsReadingOf reading read
+        → WritesRun (opened_in reading (script_in script.now))
         (record { journal = J.contents journal.old; output = W.contents (device_of out.old) })
         (record { journal = J.contents journal.new; output = W.contents (device_of out.new) }) result }
     ensures failed { OutputFailsAsTold out.old out.new result }
     ensures journal_failed { JournalFailsAsTold (J.has_failed journal.old) (J.has_failed journal.new) result }
 {
-    let papers = match read_papers(alloc, seed, texts) {
+    let papers = match read {
         Ok(papers) => papers,
         Err(fault) => return Err(fault),
     };
@@ -202,13 +205,7 @@ pub fn run<R: Read, W: Write, J: Write>(
         Ok(texts) => texts,
         Err(fault) => return Err(fault),
     };
-    run_texts(
-        alloc,
-        seed,
-        texts.opening.as_slices(),
-        texts.last.as_slice(),
-        settling,
-        out,
-        journal,
-    )
+    let InputTexts { opening, last } = texts;
+    let read = read_kept(alloc, seed, opening);
+    run_read(alloc, read, last.as_slice(), settling, out, journal)
 }

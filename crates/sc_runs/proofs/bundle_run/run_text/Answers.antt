@@ -1,17 +1,15 @@
 use Rattle.std.proofs.Common.{◌≡◌, ◌≢◌, ℕ, List, Option, None, Some, Result, false, Ok, Err, ap, subst, sym, ◌∙◌}
 use Rattle.std.specs.Option.{option_copied}
-use Rattle.std.specs.Result.{MatchResult}
 use Rattle.sc_report.specs.Watched.{device_of}
 use Rattle.sc_runs.specs.Bundle.{bundle_of, sections_of}
 use Rattle.sc_runs.specs.BundleRun.{EndsBundle, RunsSections, WritesWith}
-use Rattle.sc_papers.specs.Market.{Market}
-use Rattle.sc_intake.specs.declared.fault.IntakeFault.{IntakeFault}
 use Rattle.sc_runs.specs.Failing.{is_journal_fault}
 use Rattle.sc_runs.specs.Opening.{papers_in}
-use Rattle.sc_runs.specs.Steps.{ending_of, IsOpeningFault, IsReadingOf}
+use Rattle.sc_runs.specs.Steps.{ending_of}
 use Rattle.sc_runs.specs.declared.ending.Ending.TheVariants.{Fault}
 use Rattle.sc_runs.specs.declared.fault.RunFault.{RunFault}
 use Rattle.sc_runs.specs.declared.fault.RunFault.TheVariants.{Read, Intake, Journal, WriteOut, WriteJournal, OutOfMemory}
+use Rattle.sc_runs.proofs.Calls.{is-reading}
 use Rattle.sc_runs.proofs.Openings.{Keeps-refl}
 use Rattle.sc_runs.proofs.bundle_run.run_text.Goals as goal
 
@@ -29,11 +27,6 @@ ends-bundle : (text : List ℕ) (old new : Option (List ℕ)) (done : Result (Un
 ends-bundle text old new (Ok end) runs = runs
 ends-bundle text old new (Err fault) runs = runs
 
--- what reading papers came to
-is-reading : (reading : Result Market IntakeFault) (read : Result Market RunFault) → MatchResult read (λ papers. reading ≡ Ok papers) (IsOpeningFault reading) → IsReadingOf reading read
-is-reading reading (Ok papers) came = came
-is-reading reading (Err fault) came = came
-
 -- no journal ended what no journal failed in
 no-journal : (done : Result (Unit {0}) RunFault) → is_journal_fault done ≡ false → ending_of done ≢ Fault WriteJournal
 no-journal (Ok end) is = λ same. cc
@@ -49,16 +42,19 @@ returns-in-Some-script-clause-ending g c =
     let script : sections.script ≡ Some c.in-Some-script.script.now = ap option_copied c.in-Some-script.is in
     let texts = c.opening_of-opening.ensures in
     let old = g.W.Write.contents (device_of c.args.out.now) in
-    let new = g.W.Write.contents (device_of c.run_texts-done.new.out) in
+    let new = g.W.Write.contents (device_of c.run_read-done.new.out) in
     subst (EndsBundle c.args.text.items old new) (sym c.ending_of.ensures)
-    (ends-bundle c.args.text.items old new c.run_texts-done.result (record {
+    (ends-bundle c.args.text.items old new c.run_read-done.result (record {
       sections = sections;
       seed = c.in-Ok.seed;
       split = ap bundle_of (sym c.as_slice.ensures.value) ∙ sym c.in-Some.ensures;
       seeded = sym c.in-Ok.ensures;
-      written = subst (λ (script : Option (List ℕ)). WritesWith script (papers_in c.in-Ok.seed sections.schools sections.roster sections.lists) old new c.run_texts-done.result) (sym script)
-          (rw (← texts.schools) (rw (← texts.roster) (rw (← texts.lists) c.run_texts-done.ensures.writes)));
+      written = subst (λ (script : Option (List ℕ)). WritesWith script (papers_in c.in-Ok.seed sections.schools sections.roster sections.lists) old new c.run_read-done.result) (sym script)
+          (c.run_read-done.ensures.writes _ (rw (← texts.schools) (rw (← texts.roster) (rw (← texts.lists) (is-reading _ c.read_papers-read.result c.read_papers-read.ensures)))));
     }))
+
+pub run_read-done-requires : goal.run_read-done-requires
+run_read-done-requires g c = (_, is-reading _ c.read_papers-read.result c.read_papers-read.ensures)
 
 pub report_read-requires : goal.report_read-requires
 report_read-requires g c = (_, is-reading _ c.read_flat-read.result c.read_flat-read.ensures)
