@@ -22,5 +22,4 @@ pub mod Leaving
 pub mod Taking
 pub mod Changing
 pub mod Proposing
-pub mod ApplicationsInTurn
 mod Clearing

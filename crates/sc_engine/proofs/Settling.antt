@@ -38,7 +38,7 @@ length-take-le zero xs = omega arith
 length-take-le (suc k) [] = omega arith
 length-take-le (suc k) (x ∷ xs) = omega (arith, length-take-le k xs)
 
-take-all : (xs : List ℕ) → take (length xs) xs ≡ xs
+pub take-all : (xs : List ℕ) → take (length xs) xs ≡ xs
 take-all [] = refl
 take-all (x ∷ xs) = ap (λ ys. x ∷ ys) (take-all xs)
 

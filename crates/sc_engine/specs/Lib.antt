@@ -4,7 +4,6 @@ pub mod Round
 pub mod Counting
 pub mod Applicants
 pub mod Proposals
-pub mod Applications
 pub mod SettledPlaces
 pub mod Noted
 pub mod Fresh

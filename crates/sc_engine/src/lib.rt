@@ -4,7 +4,6 @@
 #![tactic(auto)]
 
 mod applicants;
-mod batches;
 pub mod laws;
 mod rank_table;
 mod round;

@@ -3,7 +3,6 @@
 ghost use Rattle.std.specs.Prelude.{◌≡◌, ℕ, true, false, Some, position, nat_eq, map, IfOk, OnOk, OnErr};
 ghost use Rattle.sc_papers.specs.Assignment.{assigned};
 ghost use Rattle.sc_papers.specs.Market.{is_student, students_of};
-ghost use Rattle.sc_engine.specs.Proposals.{IsFirstProposal};
 ghost use Rattle.sc_engine.specs.RoundView.{next_of, Fits, Enters, has_entered, without_log};
 
 mod chains;
@@ -17,7 +16,7 @@ mod taking;
 use crate::rank_table::RankTable;
 use crate::settled::Settled;
 use ranks::{assignment_of, next_in, next_near, places_of, position_near};
-use sc_papers::{Assignment, FlatPapers, Proposal, Rejection, SchoolNo, StudentNo};
+use sc_papers::{Assignment, FlatPapers, Rejection, SchoolNo, StudentNo};
 use sc_seats::Roll;
 use std::alloc::{AllocError, Global};
 
@@ -89,23 +88,20 @@ impl<R: Roll> Round<R> {
             return Err(AllocError);
         }
         let at = position_near(papers, student, guess);
-        self.enter_with(papers, student, at, papers.proposal(at, 0))
+        self.enter_at(papers, student, at)
     }
 
-    /// Does what `enter_one` does, where it is known at which position of the order of entry the student stands
-    /// and what they propose first.
-    pub(crate) fn enter_with(
+    /// Does what `enter_one` does, where it is known at which position of the order of entry the student stands.
+    pub(crate) fn enter_at(
         &mut self,
         papers: &FlatPapers,
         student: StudentNo,
         at: usize,
-        first: Option<Proposal>,
     ) -> Result<(), AllocError>
         requires fits { is_spent self.old ≡ false → Fits papers.now (view_of R.keys R.seats self.old) }
         requires stands { is_spent self.old ≡ false → position (nat_eq student) (students_of papers.now) ≡ Some at }
         requires absent { is_spent self.old ≡ false
             → has_entered papers.now (view_of R.keys R.seats self.old).ranks student ≡ false }
-        requires first { is_spent self.old ≡ false → IsFirstProposal papers.now student first }
         ensures enters { OnOk result (Enters papers.now (view_of R.keys R.seats self.old)
             (view_of R.keys R.seats self.new) student) }
         ensures was_ready { OnOk result (is_spent self.old ≡ false) }
@@ -115,7 +111,7 @@ impl<R: Roll> Round<R> {
         if self.spent {
             return Err(AllocError);
         }
-        let entered = self.enter(papers, student, at, first);
+        let entered = self.enter(papers, student, at);
         self.spent = entered.is_err();
         entered
     }

@@ -10,8 +10,7 @@ ghost use Rattle.sc_engine.specs.SettledPlaces.{AreSettledPlaces};
 ghost use Rattle.sc_engine.specs.Round.{view_of, is_spent};
 ghost use Rattle.sc_engine.specs.RoundView.{SettlesFirst, SettlesThese};
 
-use crate::applicants::applicants_by_first_key;
-use crate::batches::enter_in_batches;
+use crate::applicants::{applicants_by_first_key, enter_applicants};
 use crate::round::Round;
 use sc_papers::{Assignment, FlatPapers, Rejection, SchoolNo};
 use sc_seats::{HeapRoll, Roll};
@@ -47,8 +46,8 @@ pub fn settle(alloc: Global, papers: &FlatPapers) -> Result<Settled, AllocError>
 
 /// Settles papers as `settle` does, to the same matching, and answers the school that each student has, if any, in the
 /// papers' order of entry. The students enter by their priority class at their first choice, and within a class by the
-/// first byte of their draw. So fewer of them are put out again, and most offers are refused while their rows are at hand.
-/// The cost is a sort of numbers more; no log is kept, and no student is put into a table.
+/// first byte of their draw, so that fewer of them are put out again. The cost is a sort of numbers more; no log is kept,
+/// and no student is put into a table.
 pub fn settle_by_first_keys(
     alloc: Global,
     papers: &FlatPapers,
@@ -57,7 +56,7 @@ pub fn settle_by_first_keys(
 {
     let mut round: Round<HeapRoll> = Round::start(alloc, papers)?;
     let applicants = applicants_by_first_key(alloc, papers)?;
-    enter_in_batches(alloc, &mut round, papers, applicants.as_slice())?;
+    enter_applicants(&mut round, papers, applicants.as_slice())?;
     drop(applicants);
     let places = round.into_places(papers)?;
     Ok(places)

@@ -3,7 +3,7 @@
 ghost use Rattle.std.specs.Prelude.{◌≡◌, ℕ, ◌+◌, ◌^◌, ◌<◌, false, [], ◌∷◌, ◌++◌, Contains, None, Some, length, position, nat_eq, slice_index_or, slice_set, IfOk, IfSome, OnOk};
 ghost use Rattle.std.specs.Option.{option_map};
 ghost use Rattle.sc_papers.specs.Market.{students_of, student_at};
-ghost use Rattle.sc_engine.specs.Proposals.{IsFirstProposal, IsProposal};
+ghost use Rattle.sc_engine.specs.Proposals.{IsProposal};
 ghost use Rattle.sc_engine.specs.RoundView.{OffersAt, roll_at, next_of, Fits, FitsBut, only, PassedOver, Proposes, ChainEnds, Enters, has_entered};
 
 use super::Round;
@@ -136,44 +136,22 @@ impl<R: Roll> Round<R> {
         Ok(())
     }
 
-    /// Does what `chain` does, where the proposal that the student is to make is known, or that there is none.
-    fn chain_with(
-        &mut self,
-        papers: &FlatPapers,
-        first: usize,
-        proposal: Option<Proposal>,
-    ) -> Result<(), AllocError>
-        requires within { first < length papers.now.students }
-        requires fits { FitsBut papers.now (view_of R.keys R.seats self.old) (only (student_at papers.now first)) }
-        requires next { IsProposal papers.now (student_at papers.now first)
-            (next_of papers.now self.old.ranks (student_at papers.now first)) proposal }
-        ensures { OnOk result (ChainEnds papers.now (view_of R.keys R.seats self.old) (view_of R.keys R.seats self.new)
-            (student_at papers.now first)) }
-    {
-        if let Some(out) = self.propose_with(papers, first, proposal)? {
-            self.chain(papers, out)?;
-        }
-        Ok(())
-    }
-
-    /// The student at the position goes to their first choice by this proposal, and their chain follows.
+    /// The student at the position goes to their first choice, and their chain follows.
     pub(super) fn enter(
         &mut self,
         papers: &FlatPapers,
         student: StudentNo,
         at: usize,
-        first: Option<Proposal>,
     ) -> Result<(), AllocError>
         requires fits { Fits papers.now (view_of R.keys R.seats self.old) }
         requires stands { position (nat_eq student) (students_of papers.now) ≡ Some at }
         requires absent { has_entered papers.now self.old.ranks student ≡ false }
-        requires first { IsFirstProposal papers.now student first }
         ensures { OnOk result (Enters papers.now (view_of R.keys R.seats self.old)
             (view_of R.keys R.seats self.new) student) }
     {
         self.ranks.make_room(at)?;
         self.ranks.put(at, 0)?;
-        self.chain_with(papers, at, first)?;
+        self.chain(papers, at)?;
         Ok(())
     }
 }
