@@ -76,18 +76,16 @@ fn told(alloc: Global, view: View, text: &[u8]) -> Result<String, AllocError> {
     }
 }
 
+/// A text shows what is wanted.
+fn expect_told(rt: &impl Abort, alloc: Global, view: View, text: &str, want: &str) {
+    let told = told(alloc, view, text.as_bytes()).expect(rt, "memory");
+    assert!(rt; told.as_str() == want, "{text}: {told}");
+}
+
 /// Each text below the header shows what is wanted.
-fn expect(
-    rt: &impl Abort,
-    alloc: Global,
-    view: View,
-    header: &str,
-    table: &[(&str, &str)],
-) -> Result<(), AllocError> {
+fn expect(rt: &impl Abort, alloc: Global, view: View, header: &str, table: &[(&str, &str)]) {
     for (rows, want) in table {
-        let text = format!(in alloc; "{header}{rows}")?;
-        let told = told(alloc, view, text.as_bytes())?;
-        assert!(rt; told.as_str() == *want, "{text}: {told}");
+        let text = format!(in alloc; "{header}{rows}").expect(rt, "memory");
+        expect_told(rt, alloc, view, text.as_str(), want);
     }
-    Ok(())
 }

@@ -5,7 +5,6 @@ use sc_papers::Amendment;
 use sc_repair::Clearing;
 use std::alloc::{AllocError, Global};
 use std::process::Abort;
-use std::test::Fail;
 
 /// The line of an amendment.
 fn written(alloc: Global, number: LineNo, amendment: &Amendment) -> Result<String, AllocError> {
@@ -23,12 +22,11 @@ fn reread(alloc: Global, text: &str) -> Result<String, AllocError> {
 }
 
 /// Each text is written again as is wanted.
-fn expect_reread(rt: &impl Abort, alloc: Global, table: &[(&str, &str)]) -> Result<(), AllocError> {
+fn expect_reread(rt: &impl Abort, alloc: Global, table: &[(&str, &str)]) {
     for (text, want) in table {
-        let again = reread(alloc, text)?;
+        let again = reread(alloc, text).expect(rt, "memory");
         assert!(rt; again.as_str() == *want, "{text}: {again}");
     }
-    Ok(())
 }
 
 /// Each student's place in order of entry, 0 for none, and the tail.
@@ -61,31 +59,20 @@ fn replayed(alloc: Global, journal: &[u8]) -> Result<String, AllocError> {
 }
 
 /// The replay of a journal answers what is wanted.
-fn expect_replay(
-    rt: &impl Abort,
-    alloc: Global,
-    journal: &[u8],
-    want: &str,
-) -> Result<(), AllocError> {
-    let told = replayed(alloc, journal)?;
+fn expect_replay(rt: &impl Abort, alloc: Global, journal: &[u8], want: &str) {
+    let told = replayed(alloc, journal).expect(rt, "memory");
     assert!(rt;
         told.as_str() == want,
         "after {} bytes: {told}",
         journal.len()
     );
-    Ok(())
 }
 
 /// The replay of each journal answers what is wanted.
-fn expect_replays(
-    rt: &impl Abort,
-    alloc: Global,
-    table: &[(&str, &str)],
-) -> Result<(), AllocError> {
+fn expect_replays(rt: &impl Abort, alloc: Global, table: &[(&str, &str)]) {
     for (journal, want) in table {
-        expect_replay(rt, alloc, journal.as_bytes(), want)?;
+        expect_replay(rt, alloc, journal.as_bytes(), want);
     }
-    Ok(())
 }
 
 #[test]
@@ -102,12 +89,11 @@ fn line_numbers(rt: HostRuntime) {
 }
 
 #[test]
-fn a_line_written(rt: HostRuntime) -> Result<(), Fail> {
-    let newcomer = amendment(rt.alloc(), "enter,3,1,10,10")?;
+fn a_line_written(rt: HostRuntime) {
+    let newcomer = amendment(rt.alloc(), "enter,3,1,10,10").expect(&rt, "an amendment");
     let number = LineNo::new(1).expect(&rt, "a line");
-    let text = line(rt.alloc(), number, &newcomer)?;
+    let text = line(rt.alloc(), number, &newcomer).expect(&rt, "memory");
     assert!(rt; text.as_slice() == b"1,enter,3,1,10,10\n".as_slice());
-    Ok(())
 }
 
 #[test]
@@ -134,8 +120,7 @@ fn lines_both_ways(rt: HostRuntime) {
                 "999999999,correct,1,9999,20 10\n",
             ),
         ],
-    )
-    .expect(&rt, "memory");
+    );
 }
 
 #[test]
@@ -177,8 +162,7 @@ fn spellings_refused(rt: HostRuntime) {
             ("\u{FEFF}1,withdraw,3", ""),
             ("nonsense", ""),
         ],
-    )
-    .expect(&rt, "memory");
+    );
 }
 
 #[test]
@@ -209,8 +193,7 @@ fn replays(rt: HostRuntime) {
             ),
             ("3,withdraw,9\n", "1 Number"),
         ],
-    )
-    .expect(&rt, "memory");
+    );
 }
 
 #[test]
@@ -223,6 +206,6 @@ fn a_journal_cut_short(rt: HostRuntime) {
             18 => "1:20 2:0 3:10 Whole",
             _ => "1:20 2:0 3:10 Torn",
         };
-        expect_replay(&rt, rt.alloc(), &journal[..end], want).expect(&rt, "memory");
+        expect_replay(&rt, rt.alloc(), &journal[..end], want);
     }
 }

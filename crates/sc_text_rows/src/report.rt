@@ -95,17 +95,11 @@ fn told(alloc: Global, view: View, clearing: &Clearing) -> Result<Vec<u8>, Alloc
 }
 
 /// The clearing shows what is wanted.
-fn expect_told(
-    rt: &impl Abort,
-    alloc: Global,
-    clearing: &Clearing,
-    table: &[(View, &str)],
-) -> Result<(), AllocError> {
+fn expect_told(rt: &impl Abort, alloc: Global, clearing: &Clearing, table: &[(View, &str)]) {
     for (view, want) in table {
-        let told = told(alloc, *view, clearing)?;
+        let told = told(alloc, *view, clearing).expect(rt, "memory");
         assert!(rt; told.as_slice() == want.as_bytes(), "wanted {want}");
     }
-    Ok(())
 }
 
 /// The amendments of these records are accepted, each with the stamp that its record has.
@@ -126,22 +120,16 @@ fn expect_after(
     (schools, roster, lists): Rows,
     records: &str,
     table: &[(View, &str)],
-) -> Result<(), AllocError> {
+) {
     let mut clearing = clearing(alloc, schools, roster, lists).expect(rt, "a clearing");
     amend(rt, alloc, &mut clearing, records);
-    let told = expect_told(rt, alloc, &clearing, table);
+    expect_told(rt, alloc, &clearing, table);
     drop(clearing);
-    told
 }
 
 /// The clearing of these papers shows what is wanted.
-fn expect(
-    rt: &impl Abort,
-    alloc: Global,
-    rows: Rows,
-    table: &[(View, &str)],
-) -> Result<(), AllocError> {
-    expect_after(rt, alloc, rows, "", table)
+fn expect(rt: &impl Abort, alloc: Global, rows: Rows, table: &[(View, &str)]) {
+    expect_after(rt, alloc, rows, "", table);
 }
 
 #[test]
@@ -158,8 +146,7 @@ fn one_seat_two_students(rt: HostRuntime) {
             ),
             (View::Reasons, "student,school,reason\n1,1,lottery\n"),
         ],
-    )
-    .expect(&rt, "memory");
+    );
 }
 
 #[test]
@@ -175,8 +162,7 @@ fn zone_before_draw(rt: HostRuntime) {
             ),
             (View::Reasons, "student,school,reason\n2,1,class\n"),
         ],
-    )
-    .expect(&rt, "memory");
+    );
 }
 
 #[test]
@@ -191,8 +177,7 @@ fn market_a_opening(rt: HostRuntime) {
             (View::Log, ""),
             (View::Counts, "2 cutoffs, 0 reasons"),
         ],
-    )
-    .expect(&rt, "memory");
+    );
 }
 
 #[test]
@@ -221,8 +206,7 @@ fn market_a_and_a_seat_closed(rt: HostRuntime) {
             (View::Papers, "2 schools, 2 students"),
             (View::Counts, "2 cutoffs, 3 reasons"),
         ],
-    )
-    .expect(&rt, "memory");
+    );
 }
 
 /// Market A with school 10 in the zone of a third student who has a sibling there, and with schools and
@@ -243,8 +227,7 @@ fn a_newcomer_in_market_b(rt: HostRuntime) {
             View::Report,
             "student,school\n1,20\n2,-\n3,10\nschool,seats,held,class,draw,student\n10,1,1,1,ccef36a8c70d778b,3\n20,1,1,2,e56a5d4028bd8653,1\nstudent,school,reason\n1,10,class\n2,20,class\n2,10,class\n",
         )],
-    )
-    .expect(&rt, "memory");
+    );
 }
 
 /// The reply to a record is the line that is wanted.
@@ -254,44 +237,43 @@ fn expect_reply(
     number: u64,
     reply: Result<(), Refusal>,
     want: &[u8],
-) -> Result<(), AllocError> {
-    let line = reply_line(alloc, number, &reply)?;
+) {
+    let line = reply_line(alloc, number, &reply).expect(rt, "memory");
     assert!(rt; line.as_slice() == want);
-    Ok(())
 }
 
 #[test]
 fn reply_lines(rt: HostRuntime) {
     let school = SchoolNo::new(77).expect(&rt, "a school");
     let stamp = Stamp::new(1).expect(&rt, "a stamp");
-    for (number, reply, want) in [
-        (1, Ok(()), "1,ok\n"),
-        (2, Err(Refusal::Shape), "2,refused,1,Shape\n"),
-        (
-            4,
-            Err(Refusal::UnknownSchool { school }),
-            "4,refused,6,UnknownSchool,77\n",
-        ),
-        (5, Err(Refusal::Stale { stamp }), "5,refused,12,Stale,1\n"),
-        (6, Err(Refusal::Spent), "6,refused,13,Spent\n"),
-    ] {
-        expect_reply(&rt, rt.alloc(), number, reply, want.as_bytes()).expect(&rt, "memory");
-    }
+    let alloc = rt.alloc();
+    let unknown = Refusal::UnknownSchool { school };
+    expect_reply(&rt, alloc, 1, Ok(()), b"1,ok\n");
+    expect_reply(&rt, alloc, 2, Err(Refusal::Shape), b"2,refused,1,Shape\n");
+    expect_reply(
+        &rt,
+        alloc,
+        4,
+        Err(unknown),
+        b"4,refused,6,UnknownSchool,77\n",
+    );
+    expect_reply(
+        &rt,
+        alloc,
+        5,
+        Err(Refusal::Stale { stamp }),
+        b"5,refused,12,Stale,1\n",
+    );
+    expect_reply(&rt, alloc, 6, Err(Refusal::Spent), b"6,refused,13,Spent\n");
 }
 
 /// The standing log has this text, which is read back as the log's entries.
-fn expect_log(
-    rt: &impl Abort,
-    alloc: Global,
-    clearing: &Clearing,
-    want: &str,
-) -> Result<(), AllocError> {
-    let log = clearing.log()?;
-    let text = log_text(alloc, log.as_slice())?;
+fn expect_log(rt: &impl Abort, alloc: Global, clearing: &Clearing, want: &str) {
+    let log = clearing.log().expect(rt, "memory");
+    let text = log_text(alloc, log.as_slice()).expect(rt, "memory");
     assert!(rt; text.as_slice() == want.as_bytes());
     let read = read_log(alloc, text.as_slice()).expect(rt, "a log");
     assert!(rt; read.as_slice() == log.as_slice());
-    Ok(())
 }
 
 #[test]
@@ -299,7 +281,6 @@ fn audits(rt: HostRuntime) {
     let (schools, roster, lists) = MARKET_B;
     let mut clearing = clearing(rt.alloc(), schools, roster, lists).expect(&rt, "a clearing");
     amend(&rt, rt.alloc(), &mut clearing, "enter,3,1,10,10\n");
-    let read = expect_log(&rt, rt.alloc(), &clearing, "1,10\n2,20\n2,10\n");
+    expect_log(&rt, rt.alloc(), &clearing, "1,10\n2,20\n2,10\n");
     drop(clearing);
-    read.expect(&rt, "memory");
 }

@@ -12,8 +12,9 @@ mod sections;
 use sc_papers::Seed;
 use sc_report::Watched;
 use sc_report::devices::{Ending, FailingWriter};
-use sc_runs::{FileNames, Inputs, Opening, Settling, match_files, run};
+use sc_runs::{FileNames, Inputs, Opening, RunFault, Settling, match_files, run};
 use std::alloc::{AllocError, Global};
+use std::fmt::Debug;
 use std::process::Abort;
 
 const ZEROS: &str = "0000000000000000000000000000000000000000000000000000000000000000";
@@ -28,6 +29,34 @@ fn opening((schools, roster, lists): Files) -> Opening<&'static [u8]> {
         roster: Watched::new(roster.as_bytes()),
         lists: Watched::new(lists.as_bytes()),
     }
+}
+
+/// The seed of zeros.
+fn seed(rt: &impl Abort) -> Seed {
+    Seed::from_hex(ZEROS.as_bytes()).expect(rt, "a seed")
+}
+
+/// A file in memory, if there is one.
+fn watched(text: Option<&'static str>) -> Option<Watched<&'static [u8]>> {
+    Some(Watched::new(text?.as_bytes()))
+}
+
+/// What a call wrote, and its answer.
+fn told<T: Debug>(alloc: Global, output: &[u8], answer: &T) -> Result<String, AllocError> {
+    let output = String::from_utf8_lossy(alloc, output)?;
+    format!(in alloc; "{output}|{answer:?}")
+}
+
+/// What a run wrote to its output and its journal, and its answer.
+fn run_told(
+    alloc: Global,
+    output: &[u8],
+    journal: &[u8],
+    answer: &Result<(), RunFault>,
+) -> Result<String, AllocError> {
+    let journal = told(alloc, journal, answer)?;
+    let output = String::from_utf8_lossy(alloc, output)?;
+    format!(in alloc; "{output}|{journal}")
 }
 
 /// The names of files that are checked.
@@ -69,9 +98,20 @@ fn ran(
     let mut out = Watched::new(Vec::new(alloc));
     let mut journal = Watched::new(FailingWriter::new(taken, room, 99, Ending::Fails));
     let answer = run(alloc, seed, &mut inputs, settling, &mut out, &mut journal);
-    let output = String::from_utf8_lossy(alloc, out.inner().as_slice())?;
-    let journal = String::from_utf8_lossy(alloc, journal.inner().taken())?;
-    format!(in alloc; "{output}|{journal}|{answer:?}")
+    let (output, journal) = (out.inner().as_slice(), journal.inner().taken());
+    run_told(alloc, output, journal, &answer)
+}
+
+/// What was left is what is wanted.
+fn expect_left(rt: &impl Abort, left: Result<String, AllocError>, want: &str) {
+    let left = left.expect(rt, "memory");
+    assert!(rt; left.as_str() == want, "{left}");
+}
+
+/// What was left is what is wanted, below a header.
+fn expect_below(rt: &impl Abort, left: Result<String, AllocError>, header: &str, want: &str) {
+    let left = left.expect(rt, "memory");
+    assert!(rt; left.as_str().strip_prefix(header) == Some(want), "{left}");
 }
 
 /// Each script over the opening leaves what is wanted, where the journal takes so many bytes.
@@ -81,13 +121,12 @@ fn expect_settled(
     files: Files,
     settling: Settling,
     table: &[(usize, &'static str, &str)],
-) -> Result<(), AllocError> {
-    let seed = Seed::from_hex(ZEROS.as_bytes()).expect(rt, "a seed");
+) {
+    let seed = seed(rt);
     for (room, script, want) in table {
-        let left = ran(alloc, &seed, files, settling, (*room, script))?;
+        let left = ran(alloc, &seed, files, settling, (*room, script)).expect(rt, "memory");
         assert!(rt; left.as_str() == *want, "{settling:?}: {left}");
     }
-    Ok(())
 }
 
 /// The same whenever the papers are settled.
@@ -96,9 +135,9 @@ fn expect_runs(
     alloc: Global,
     files: Files,
     table: &[(usize, &'static str, &str)],
-) -> Result<(), AllocError> {
-    expect_settled(rt, alloc, files, Settling::EachTime, table)?;
-    expect_settled(rt, alloc, files, Settling::AtTheEnd, table)
+) {
+    expect_settled(rt, alloc, files, Settling::EachTime, table);
+    expect_settled(rt, alloc, files, Settling::AtTheEnd, table);
 }
 
 #[test]
@@ -112,8 +151,7 @@ fn the_whole_run(rt: HostRuntime) {
             "0,enter,3,1,10,10\nnonsense\n0,withdraw,99\n0,add,77,1\n1,withdraw,3\n",
             "1,ok\n2,refused,1,Shape\n3,refused,2,UnknownStudent\n4,refused,6,UnknownSchool,77\n5,ok\nstudent,school\n1,10\n2,20\nschool,seats,held,class,draw,student\n10,1,1,4,e56a5d4028bd8653,1\n20,1,1,4,b819d2bd1aed8da0,2\nstudent,school,reason\n|1,enter,3,1,10,10\n2,withdraw,3\n|Ok(())",
         )],
-    )
-    .expect(&rt, "memory");
+    );
 }
 
 #[test]
@@ -127,8 +165,7 @@ fn continuing_against_a_newcomer(rt: HostRuntime) {
             "0,enter,3,1,10,10\n0,correct,2,0,10\n2,correct,2,0,10,77\n0,enter,4,0,77,10,78\n2,correct,2,0,10,10\n",
             "1,ok\n2,ok\n3,refused,6,UnknownSchool,77\n4,refused,6,UnknownSchool,77\n5,ok\nstudent,school\n1,20\n2,10\n3,-\nschool,seats,held,class,draw,student\n10,1,1,0,b819d2bd1aed8da0,2\n20,1,1,2,e56a5d4028bd8653,1\nstudent,school,reason\n1,10,class\n2,20,class\n3,10,class\n|1,enter,3,1,10,10\n2,correct,2,0,10\n3,correct,2,0,10,10\n|Ok(())",
         )],
-    )
-    .expect(&rt, "memory");
+    );
 }
 
 // A journal that fails at its first write leaves no reply, and one that fails at its second line leaves the reply to the
@@ -148,8 +185,7 @@ fn failing_writers(rt: HostRuntime) {
             (0, script, "||Err(WriteJournal)"),
             (20, script, second.as_str()),
         ],
-    )
-    .expect(&rt, "memory");
+    );
 }
 
 /// What the call on three files writes, the report or the log, and its answer.
@@ -163,22 +199,13 @@ fn matched(alloc: Global, seed: &Seed, files: Files, show_log: bool) -> Result<S
         }
         Err(fault) => Err(fault),
     };
-    let output = String::from_utf8_lossy(alloc, out.inner().as_slice())?;
-    format!(in alloc; "{output}|{answer:?}")
+    told(alloc, out.inner().as_slice(), &answer)
 }
 
 /// The call on three files writes and answers what is wanted.
-fn expect_match(
-    rt: &impl Abort,
-    alloc: Global,
-    files: Files,
-    show_log: bool,
-    want: &str,
-) -> Result<(), AllocError> {
-    let seed = Seed::from_hex(ZEROS.as_bytes()).expect(rt, "a seed");
-    let left = matched(alloc, &seed, files, show_log)?;
-    assert!(rt; left.as_str() == want, "{left}");
-    Ok(())
+fn expect_match(rt: &impl Abort, alloc: Global, files: Files, show_log: bool, want: &str) {
+    let seed = seed(rt);
+    expect_left(rt, matched(alloc, &seed, files, show_log), want);
 }
 
 #[test]
@@ -190,7 +217,7 @@ fn three_files(rt: HostRuntime) {
     );
     let want =
         "student,school\n1,-\n2,1\nschool,seats,held,class,draw,student\n1,1,1,4,b819d2bd1aed8da0,2\nstudent,school,reason\n1,1,lottery\n|Ok(())";
-    expect_match(&rt, rt.alloc(), files, false, want).expect(&rt, "memory");
+    expect_match(&rt, rt.alloc(), files, false, want);
 }
 
 #[test]
@@ -200,5 +227,5 @@ fn the_log_of_an_opening(rt: HostRuntime) {
         "student,zone,siblings\n1,0,20\n2,0,10\n3,1,10\n",
         "student,choices\n1,10 20\n2,20 10\n3,10\n",
     );
-    expect_match(&rt, rt.alloc(), files, true, "1,10\n2,20\n2,10\n|Ok(())").expect(&rt, "memory");
+    expect_match(&rt, rt.alloc(), files, true, "1,10\n2,20\n2,10\n|Ok(())");
 }

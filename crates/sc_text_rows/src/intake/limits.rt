@@ -15,33 +15,25 @@ fn rows_under(alloc: Global, header: &str, count: u32) -> Result<String, AllocEr
 }
 
 /// An input of so many rows reads as is wanted.
-fn expect_rows(
-    rt: &impl Abort,
-    alloc: Global,
-    view: View,
-    header: &str,
-    count: u32,
-    want: &str,
-) -> Result<(), AllocError> {
-    let text = rows_under(alloc, header, count)?;
-    let told = told(alloc, view, text.as_bytes())?;
+fn expect_rows(rt: &impl Abort, alloc: Global, view: View, header: &str, count: u32, want: &str) {
+    let text = rows_under(alloc, header, count).expect(rt, "memory");
+    let told = told(alloc, view, text.as_bytes()).expect(rt, "memory");
     assert!(rt; told.as_str() == want, "{told}");
-    Ok(())
 }
 
 #[test]
 fn at_most_5000_schools(rt: HostRuntime) {
     let header = "school,zone,seats\n";
-    expect_rows(&rt, rt.alloc(), View::Schools, header, 5_000, "5000 rows").expect(&rt, "memory");
+    expect_rows(&rt, rt.alloc(), View::Schools, header, 5_000, "5000 rows");
     let more = "schools row 5002: TooLong";
-    expect_rows(&rt, rt.alloc(), View::Schools, header, 5_001, more).expect(&rt, "memory");
+    expect_rows(&rt, rt.alloc(), View::Schools, header, 5_001, more);
 }
 
 #[test]
 fn at_most_200000_students(rt: HostRuntime) {
     let header = "student,zone,siblings\n";
     let more = "roster row 200002: TooLong";
-    expect_rows(&rt, rt.alloc(), View::Roster, header, 200_001, more).expect(&rt, "memory");
+    expect_rows(&rt, rt.alloc(), View::Roster, header, 200_001, more);
 }
 
 #[test]

@@ -92,29 +92,27 @@ fn told(alloc: Global, opened: Result<Papers, IntakeFault>) -> Result<String, Al
     }
 }
 
+/// The papers, or the fault, are what is wanted.
+fn expect_papers(rt: &impl Abort, alloc: Global, opened: Result<Papers, IntakeFault>, want: &str) {
+    let told = told(alloc, opened).expect(rt, "memory");
+    assert!(rt; told.as_str() == want, "{told}");
+}
+
 /// Each three files make the papers that are wanted, or have that fault, by either call.
-fn expect(
-    rt: &impl Abort,
-    alloc: Global,
-    table: &[(&str, &str, &str, &str)],
-) -> Result<(), AllocError> {
+fn expect(rt: &impl Abort, alloc: Global, table: &[(&str, &str, &str, &str)]) {
     let seed = Seed::from_hex(&[b'0'; 64]).expect(rt, "a seed");
     for (schools, roster, lists, want) in table {
-        let lent = told(alloc, opened(alloc, seed, schools, roster, lists))?;
-        assert!(rt; lent.as_str() == *want, "{lent}");
-        let read = told(
+        let lent = opened(alloc, seed, schools, roster, lists);
+        expect_papers(rt, alloc, lent, want);
+        let read = read_papers(
             alloc,
-            read_papers(
-                alloc,
-                seed,
-                schools.as_bytes(),
-                roster.as_bytes(),
-                lists.as_bytes(),
-            ),
-        )?;
-        assert!(rt; read.as_str() == *want, "{read}");
+            seed,
+            schools.as_bytes(),
+            roster.as_bytes(),
+            lists.as_bytes(),
+        );
+        expect_papers(rt, alloc, read, want);
     }
-    Ok(())
 }
 
 #[test]
@@ -128,8 +126,7 @@ fn untidy_spellings(rt: HostRuntime) {
             "student,choices\n2,20  10\n1,\"10 20\"",
             "school 10 zone 1 seats 1; school 20 zone 0 seats 1; student 1 zone 0 siblings 20 choices 10 20; student 2 zone 0 siblings 10 choices 20 10; ",
         )],
-    )
-    .expect(&rt, "memory");
+    );
 }
 
 #[test]
@@ -213,8 +210,7 @@ fn each_fault_of_the_schools_once(rt: HostRuntime) {
                 "schools row 3: Twice",
             ),
         ],
-    )
-    .expect(&rt, "memory");
+    );
 }
 
 #[test]
@@ -290,8 +286,7 @@ fn each_fault_of_the_students_once(rt: HostRuntime) {
                 "roster row 3: Refused 4 EmptyList",
             ),
         ],
-    )
-    .expect(&rt, "memory");
+    );
 }
 
 #[test]
@@ -331,8 +326,7 @@ fn lists_in_another_order_than_the_roster(rt: HostRuntime) {
                 "roster row 2: Refused 4 EmptyList",
             ),
         ],
-    )
-    .expect(&rt, "memory");
+    );
 }
 
 #[test]
@@ -366,6 +360,5 @@ fn numbers_twice_in_any_order(rt: HostRuntime) {
                 "schools row 5: Twice",
             ),
         ],
-    )
-    .expect(&rt, "memory");
+    );
 }

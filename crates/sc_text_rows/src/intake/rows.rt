@@ -1,6 +1,6 @@
 //! The files and the log: how many rows each has, or its first fault.
 use super::{View, expect, told};
-use std::alloc::{AllocError, Global};
+use std::alloc::Global;
 use std::process::Abort;
 
 #[test]
@@ -31,30 +31,23 @@ fn openings_and_ends(rt: HostRuntime) {
                 "schools row 3: Number",
             ),
         ],
-    )
-    .expect(&rt, "memory");
+    );
 }
 
 /// A file of the schools reads as is wanted.
-fn expect_bytes(
-    rt: &impl Abort,
-    alloc: Global,
-    bytes: &[u8],
-    want: &str,
-) -> Result<(), AllocError> {
-    let told = told(alloc, View::Schools, bytes)?;
+fn expect_bytes(rt: &impl Abort, alloc: Global, bytes: &[u8], want: &str) {
+    let told = told(alloc, View::Schools, bytes).expect(rt, "memory");
     assert!(rt; told.as_str() == want, "{told}");
-    Ok(())
 }
 
 #[test]
 fn bytes_that_are_no_text(rt: HostRuntime) {
     let (header, number) = ("schools row 1: Header", "schools row 2: Number");
     let alloc = rt.alloc();
-    expect_bytes(&rt, alloc, b"\xFFschool,zone,seats\n10,0,1\n", header).expect(&rt, "memory");
-    expect_bytes(&rt, alloc, b"\xEF\xBBschool,zone,seats\n10,0,1\n", header).expect(&rt, "memory");
-    expect_bytes(&rt, alloc, b"school,zone,seats\n10,\xFF,1\n", number).expect(&rt, "memory");
-    expect_bytes(&rt, alloc, b"school,zone,seats\n10,0,1\x00\n", number).expect(&rt, "memory");
+    expect_bytes(&rt, alloc, b"\xFFschool,zone,seats\n10,0,1\n", header);
+    expect_bytes(&rt, alloc, b"\xEF\xBBschool,zone,seats\n10,0,1\n", header);
+    expect_bytes(&rt, alloc, b"school,zone,seats\n10,\xFF,1\n", number);
+    expect_bytes(&rt, alloc, b"school,zone,seats\n10,0,1\x00\n", number);
 }
 
 #[test]
@@ -81,8 +74,7 @@ fn fields_of_a_row(rt: HostRuntime) {
             ("\"10\n\",0,1\n", "schools row 2: Number"),
             ("\"10\" ,0,1\n", "1 rows"),
         ],
-    )
-    .expect(&rt, "memory");
+    );
 }
 
 #[test]
@@ -110,8 +102,7 @@ fn numbers(rt: HostRuntime) {
             ("\u{FEFF}10,0,1\n", "schools row 2: Number"),
             ("10\u{B},0,1\n", "schools row 2: Number"),
         ],
-    )
-    .expect(&rt, "memory");
+    );
 }
 
 #[test]
@@ -136,8 +127,7 @@ fn ranges_and_order_of_causes(rt: HostRuntime) {
             ("10,0\n20,x,1\n", "schools row 2: Fields"),
             ("10,0,1\n20,x,1\n30\n", "schools row 3: Number"),
         ],
-    )
-    .expect(&rt, "memory");
+    );
 }
 
 #[test]
@@ -166,8 +156,7 @@ fn rosters(rt: HostRuntime) {
             ("1,0,10 100000\n", "roster row 2: Range"),
             ("1,0,\n2,0,\n1,0,\n", "roster row 4: Twice"),
         ],
-    )
-    .expect(&rt, "memory");
+    );
 }
 
 #[test]
@@ -186,8 +175,7 @@ fn rosters_of_the_longer_form(rt: HostRuntime) {
             ("2,0,10,10,\n", "roster row 2: Fields"),
             ("2,0,,10\n2,0,,\n", "roster row 3: Twice"),
         ],
-    )
-    .expect(&rt, "memory");
+    );
 }
 
 #[test]
@@ -209,8 +197,7 @@ fn lists_of_students(rt: HostRuntime) {
             ("student,choices\n\n\n1,10\n\n2,0\n", "lists row 3: Range"),
             ("student,choices\n1,10\n2,20\n1,30\n", "lists row 4: Twice"),
         ],
-    )
-    .expect(&rt, "memory");
+    );
 }
 
 #[test]
@@ -235,8 +222,7 @@ fn logs(rt: HostRuntime) {
             ("1,0\n", "log row 1: Range"),
             ("1,10\n\n\n2,100000\n3\n", "log row 2: Range"),
         ],
-    )
-    .expect(&rt, "memory");
+    );
 }
 
 #[test]
@@ -248,22 +234,19 @@ fn rows_are_counted(rt: HostRuntime) {
         View::Schools,
         "school,zone,seats\n",
         &[("10,0,1\n20,0,1\n", "2 rows")],
-    )
-    .expect(&rt, "memory");
+    );
     expect(
         &rt,
         alloc,
         View::Roster,
         "student,zone,siblings\n",
         &[("1,0,\n", "1 rows")],
-    )
-    .expect(&rt, "memory");
+    );
     expect(
         &rt,
         alloc,
         View::Lists,
         "student,choices\n",
         &[("", "0 rows")],
-    )
-    .expect(&rt, "memory");
+    );
 }

@@ -44,8 +44,7 @@ fn each_kind_of_record_once(rt: HostRuntime) {
             ("nonsense\n", "Some(Err(Shape))"),
             ("", "None"),
         ],
-    )
-    .expect(&rt, "memory");
+    );
 }
 
 #[test]
@@ -69,8 +68,7 @@ fn untidy_spellings_of_a_script(rt: HostRuntime) {
                 "Some(Ok(Stamped { stamp: Stamp { number: 999999999 }, amendment: Add { school: SchoolNo { number: 20 }, count: Count { number: 4 } } }))",
             ),
         ],
-    )
-    .expect(&rt, "memory");
+    );
 }
 
 #[test]
@@ -97,8 +95,7 @@ fn scripts(rt: HostRuntime) {
             ),
             ("0,\u{A0}withdraw,3\n0,withdraw\0,3\n", "--"),
         ],
-    )
-    .expect(&rt, "memory");
+    );
 }
 
 #[test]
@@ -121,8 +118,7 @@ fn stamps_of_a_script(rt: HostRuntime) {
             ),
             ("0,0,withdraw,3\nwithdraw,0,3\n0\n", "---"),
         ],
-    )
-    .expect(&rt, "memory");
+    );
 }
 
 #[test]
@@ -179,6 +175,5 @@ fn records_that_are_no_amendment(rt: HostRuntime) {
                 "++--",
             ),
         ],
-    )
-    .expect(&rt, "memory");
+    );
 }

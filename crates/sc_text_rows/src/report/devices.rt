@@ -6,40 +6,56 @@ use sc_report::{
     DeviceFailed, ReadFault, ReportFault, Watched, first_difference, read_whole, write_report,
     write_whole,
 };
+use std::alloc::Global;
 use std::io::{self, ErrorKind, Read, Write};
-use std::test::Fail;
+use std::process::Abort;
 
-#[test]
-fn written_whole_in_pieces(rt: HostRuntime) -> Result<(), Fail> {
-    let room = Vec::with_capacity(rt.alloc(), 20)?;
-    let mut to = Watched::new(FailingWriter::new(room, 20, 3, Ending::Fails));
-    write_whole(&mut to, b"student,school\n")?;
-    write_whole(&mut to, b"")?;
-    to.flush()?;
+/// A writer over memory with room for what the tests write, which takes so many bytes in pieces of this size and then
+/// ends so.
+fn writer(
+    rt: &impl Abort,
+    alloc: Global,
+    passes: usize,
+    piece: usize,
+    ending: Ending,
+) -> Watched<FailingWriter> {
+    let room = Vec::with_capacity(alloc, 20).expect(rt, "memory");
+    Watched::new(FailingWriter::new(room, passes, piece, ending))
+}
+
+/// A line, nothing and a flush are all taken.
+fn expect_whole(rt: &impl Abort, to: &mut Watched<FailingWriter>) {
+    assert_eq!(rt; write_whole(to, b"student,school\n"), Ok(()));
+    assert_eq!(rt; write_whole(to, b""), Ok(()));
+    assert_eq!(rt; to.flush(), Ok(()));
     assert_eq!(rt; to.inner().taken(), b"student,school\n".as_slice());
     assert!(rt; !to.failed());
-    Ok(())
 }
 
 #[test]
-fn a_prefix_after_a_fault(rt: HostRuntime) -> Result<(), Fail> {
-    for ending in [Ending::Fails, Ending::TakesNone] {
-        let room = Vec::with_capacity(rt.alloc(), 10)?;
-        let mut to = Watched::new(FailingWriter::new(room, 10, 4, ending));
-        assert_eq!(rt;
-            write_whole(&mut to, b"student,school\n"),
-            Err(DeviceFailed)
-        );
-        assert_eq!(rt; to.inner().taken(), b"student,sc".as_slice());
-        assert!(rt; to.failed());
+fn written_whole_in_pieces(rt: HostRuntime) {
+    let mut to = writer(&rt, rt.alloc(), 20, 3, Ending::Fails);
+    expect_whole(&rt, &mut to);
+}
+
+/// A writer that fails in these bytes has taken so many of them.
+fn expect_prefix(rt: &impl Abort, to: &mut Watched<FailingWriter>, bytes: &[u8], taken: &[u8]) {
+    assert_eq!(rt; write_whole(to, bytes), Err(DeviceFailed));
+    assert_eq!(rt; to.inner().taken(), taken);
+    assert!(rt; to.failed());
+}
+
+#[test]
+fn a_prefix_after_a_fault(rt: HostRuntime) {
+    for ending in &[Ending::Fails, Ending::TakesNone] {
+        let mut to = writer(&rt, rt.alloc(), 10, 4, *ending);
+        expect_prefix(&rt, &mut to, b"student,school\n", b"student,sc");
     }
-    Ok(())
 }
 
 #[test]
 fn failing_writers(rt: HostRuntime) {
-    let room = Vec::with_capacity(rt.alloc(), 10).expect(&rt, "memory");
-    let mut to = Watched::new(FailingWriter::new(room, 10, 999, Ending::Fails));
+    let mut to = writer(&rt, rt.alloc(), 10, 999, Ending::Fails);
     let (schools, students, lists) = MARKET_B;
     let mut opened = clearing(rt.alloc(), schools, students, lists).expect(&rt, "a clearing");
     amend(
@@ -55,139 +71,152 @@ fn failing_writers(rt: HostRuntime) {
 }
 
 #[test]
-fn failed_by_its_flush(rt: HostRuntime) -> Result<(), Fail> {
-    let room = Vec::with_capacity(rt.alloc(), 2)?;
-    let mut to = Watched::new(FailingWriter::new(room, 2, 2, Ending::Fails));
-    write_whole(&mut to, b"ok")?;
+fn failed_by_its_flush(rt: HostRuntime) {
+    let mut to = writer(&rt, rt.alloc(), 2, 2, Ending::Fails);
+    assert_eq!(rt; write_whole(&mut to, b"ok"), Ok(()));
     assert!(rt; !to.failed());
     assert_eq!(rt; to.flush(), Err(DeviceFailed));
     assert!(rt; to.failed());
-    Ok(())
+}
+
+/// So many bytes are read at most, and the others are left.
+fn expect_up_to(rt: &impl Abort, alloc: Global, limit: usize, given: &[u8], left: &[u8]) {
+    let mut from = Watched::new(b"abcdef".as_slice());
+    let bytes = read_whole(alloc, &mut from, limit).expect(rt, "a device");
+    assert_eq!(rt; bytes.as_slice(), given, "at {limit}");
+    assert_eq!(rt; *from.inner(), left, "at {limit}");
+    assert!(rt; !from.failed());
 }
 
 #[test]
-fn read_up_to_a_limit(rt: HostRuntime) -> Result<(), Fail> {
-    for (limit, given, left) in [
-        (0, "", "abcdef"),
-        (4, "abcd", "ef"),
-        (6, "abcdef", ""),
-        (9, "abcdef", ""),
-    ] {
-        let mut from = Watched::new(b"abcdef".as_slice());
-        let bytes = read_whole(rt.alloc(), &mut from, limit)?;
-        assert_eq!(rt; bytes.as_slice(), given.as_bytes(), "at {limit}");
-        assert_eq!(rt; *from.inner(), left.as_bytes(), "at {limit}");
-        assert!(rt; !from.failed());
-    }
-    Ok(())
+fn read_up_to_a_limit(rt: HostRuntime) {
+    let alloc = rt.alloc();
+    expect_up_to(&rt, alloc, 0, b"", b"abcdef");
+    expect_up_to(&rt, alloc, 4, b"abcd", b"ef");
+    expect_up_to(&rt, alloc, 6, b"abcdef", b"");
+    expect_up_to(&rt, alloc, 9, b"abcdef", b"");
+}
+
+/// A reader gives these bytes, where so many are read at most.
+fn expect_read(
+    rt: &impl Abort,
+    alloc: Global,
+    from: &mut Watched<FailingReader<'_>>,
+    limit: usize,
+    want: &[u8],
+) {
+    let bytes = read_whole(alloc, from, limit).expect(rt, "a device");
+    assert_eq!(rt; bytes.as_slice(), want);
+}
+
+/// A reader fails before it has given what is asked of it.
+fn expect_fault(
+    rt: &impl Abort,
+    alloc: Global,
+    from: &mut Watched<FailingReader<'_>>,
+    limit: usize,
+) {
+    let fault = read_whole(alloc, from, limit).err();
+    assert_eq!(rt; fault, Some(ReadFault::Device));
 }
 
 #[test]
-fn read_in_pieces(rt: HostRuntime) -> Result<(), Fail> {
+fn read_in_pieces(rt: HostRuntime) {
     let reader = FailingReader::new(b"abcdef", 6, 4, ErrorKind::Interrupted);
     let mut from = Watched::new(reader);
-    let bytes = read_whole(rt.alloc(), &mut from, 6)?;
-    assert_eq!(rt; bytes.as_slice(), b"abcdef".as_slice());
+    expect_read(&rt, rt.alloc(), &mut from, 6, b"abcdef");
     assert!(rt; !from.failed());
     // No read is tried again, an interrupted one neither.
     let mut from = Watched::new(reader);
-    let fault = read_whole(rt.alloc(), &mut from, 7).err();
-    assert_eq!(rt; fault, Some(ReadFault::Device));
+    expect_fault(&rt, rt.alloc(), &mut from, 7);
     assert!(rt; from.failed());
-    Ok(())
+}
+
+/// The first difference of a text from what is read, also where the device fails once its bytes are given.
+fn expect_difference(rt: &impl Abort, alloc: Global, text: &str, difference: Option<u64>) {
+    let reader = FailingReader::new(b"ab\ncd\n", 6, 2, ErrorKind::Other);
+    let mut from = Watched::new(reader);
+    let found = first_difference(alloc, &mut from, text.as_bytes()).ok();
+    // It is asked for more only where all were alike so far.
+    let fails = difference.is_none() || difference == Some(3);
+    assert!(rt; from.failed() == fails, "{text}");
+    assert!(rt;
+        found == if fails { None } else { Some(difference) },
+        "{text}"
+    );
+    let mut from = Watched::new(b"ab\ncd\n".as_slice());
+    let found = first_difference(alloc, &mut from, text.as_bytes()).ok();
+    assert!(rt; found == Some(difference), "{text}");
 }
 
 #[test]
-fn compared_in_pieces(rt: HostRuntime) -> Result<(), Fail> {
-    for (text, difference) in [
-        ("ab\ncd\n", None),
-        ("ab\ncx\n", Some(2)),
-        ("xb\ncd\n", Some(1)),
-        ("ab\n", Some(2)),
-        ("ab\ncd\ne", Some(3)),
-    ] {
-        let reader = FailingReader::new(b"ab\ncd\n", 6, 2, ErrorKind::Other);
-        let mut from = Watched::new(reader);
-        let found = first_difference(rt.alloc(), &mut from, text.as_bytes()).ok();
-        // The device fails once its bytes are given, and is asked for more only where all were alike so far.
-        let fails = difference.is_none() || difference == Some(3);
-        assert!(rt; from.failed() == fails, "{text}");
-        assert!(rt;
-            found == if fails { None } else { Some(difference) },
-            "{text}"
-        );
-        let mut from = Watched::new(b"ab\ncd\n".as_slice());
-        let found = first_difference(rt.alloc(), &mut from, text.as_bytes())?;
-        assert!(rt; found == difference, "{text}");
-    }
-    Ok(())
+fn compared_in_pieces(rt: HostRuntime) {
+    let alloc = rt.alloc();
+    expect_difference(&rt, alloc, "ab\ncd\n", None);
+    expect_difference(&rt, alloc, "ab\ncx\n", Some(2));
+    expect_difference(&rt, alloc, "xb\ncd\n", Some(1));
+    expect_difference(&rt, alloc, "ab\n", Some(2));
+    expect_difference(&rt, alloc, "ab\ncd\ne", Some(3));
+}
+
+/// A reader gives two bytes, and then fails with an error of this kind.
+fn expect_kind(rt: &impl Abort, from: &mut FailingReader<'_>, room: &mut [u8], kind: ErrorKind) {
+    assert_eq!(rt; from.read(room).ok(), Some(2));
+    assert_eq!(rt; from.read(room).err().map(|error| error.kind()), Some(kind));
 }
 
 #[test]
 fn each_kind_of_error(rt: HostRuntime) {
-    for kind in [
+    for kind in &[
         ErrorKind::Interrupted,
         ErrorKind::UnexpectedEof,
         ErrorKind::PermissionDenied,
         ErrorKind::Other,
     ] {
-        for reader in [
-            FailingReader::new(b"abcdef", 2, 4, kind),
-            FailingReader::after_calls(b"abcdef", 1, 2, kind),
-        ] {
-            let mut from = reader;
-            let mut room = [0; 4];
-            assert_eq!(rt; from.read(&mut room).ok(), Some(2));
-            assert_eq!(rt;
-                from.read(&mut room).err().map(|error| error.kind()),
-                Some(kind)
-            );
-        }
+        let mut from = FailingReader::new(b"abcdef", 2, 4, *kind);
+        expect_kind(&rt, &mut from, &mut [0; 4], *kind);
+        let mut from = FailingReader::after_calls(b"abcdef", 1, 2, *kind);
+        expect_kind(&rt, &mut from, &mut [0; 4], *kind);
     }
 }
 
 // A device that fails once goes on after it: only a caller that does not try again tells the fault.
 #[test]
 fn readers_that_fail_once(rt: HostRuntime) {
-    for kind in [ErrorKind::Other, ErrorKind::Interrupted] {
-        let reader = FailingReader::new(b"abcdef", 2, 4, kind).once();
+    for kind in &[ErrorKind::Other, ErrorKind::Interrupted] {
+        let reader = FailingReader::new(b"abcdef", 2, 4, *kind).once();
         let mut from = Watched::new(reader);
-        let fault = read_whole(rt.alloc(), &mut from, 6).err();
-        assert_eq!(rt; fault, Some(ReadFault::Device));
+        expect_fault(&rt, rt.alloc(), &mut from, 6);
         assert!(rt; from.failed());
         let mut from = reader;
         let mut room = [0; 9];
-        assert_eq!(rt; from.read(&mut room).ok(), Some(2));
-        assert_eq!(rt;
-            from.read(&mut room).err().map(|error| error.kind()),
-            Some(kind)
-        );
+        expect_kind(&rt, &mut from, &mut room, *kind);
         assert_eq!(rt; from.read(&mut room).ok(), Some(4));
         assert_eq!(rt; from.read(&mut room).ok(), Some(0));
     }
 }
 
+/// A writer that has failed takes all that comes after, and still says that it has failed.
+fn expect_more(rt: &impl Abort, to: &mut Watched<FailingWriter>) {
+    assert_eq!(rt; write_whole(to, b"nt"), Ok(()));
+    assert_eq!(rt; to.flush(), Ok(()));
+    assert_eq!(rt; to.inner().taken(), b"student".as_slice());
+    assert!(rt; to.failed());
+}
+
 #[test]
-fn writers_that_fail_once(rt: HostRuntime) -> Result<(), Fail> {
-    for kind in [ErrorKind::Other, ErrorKind::Interrupted] {
-        let room = Vec::with_capacity(rt.alloc(), 20)?;
-        let mut to = Watched::new(FailingWriter::new(room, 5, 9, Ending::FailsOnce(kind)));
-        assert_eq!(rt; write_whole(&mut to, b"student"), Err(DeviceFailed));
-        assert_eq!(rt; to.inner().taken(), b"stude".as_slice());
-        assert!(rt; to.failed());
-        assert_eq!(rt; write_whole(&mut to, b"nt"), Ok(()));
-        assert_eq!(rt; to.flush(), Ok(()));
-        assert_eq!(rt; to.inner().taken(), b"student".as_slice());
-        assert!(rt; to.failed());
+fn writers_that_fail_once(rt: HostRuntime) {
+    for kind in &[ErrorKind::Other, ErrorKind::Interrupted] {
+        let mut to = writer(&rt, rt.alloc(), 5, 9, Ending::FailsOnce(*kind));
+        expect_prefix(&rt, &mut to, b"student", b"stude");
+        expect_more(&rt, &mut to);
     }
-    Ok(())
 }
 
 #[test]
 fn flushes_that_fail_once(rt: HostRuntime) {
-    for kind in [ErrorKind::Other, ErrorKind::Interrupted] {
-        let device = FailingWriter::new(Vec::new(rt.alloc()), 0, 9, Ending::FailsOnce(kind));
-        let mut to = Watched::new(device);
+    for kind in &[ErrorKind::Other, ErrorKind::Interrupted] {
+        let mut to = writer(&rt, rt.alloc(), 0, 9, Ending::FailsOnce(*kind));
         assert_eq!(rt; to.flush(), Err(DeviceFailed));
         assert_eq!(rt; to.flush(), Ok(()));
         assert!(rt; to.failed());
@@ -257,18 +286,13 @@ fn no_call_is_made_again(rt: HostRuntime) {
 }
 
 #[test]
-fn failed_after_calls(rt: HostRuntime) -> Result<(), Fail> {
+fn failed_after_calls(rt: HostRuntime) {
     let mut from = Watched::new(FailingReader::after_calls(b"abcdef", 2, 2, ErrorKind::Other));
-    let bytes = read_whole(rt.alloc(), &mut from, 4)?;
-    assert_eq!(rt; bytes.as_slice(), b"abcd".as_slice());
-    let fault = read_whole(rt.alloc(), &mut from, 1).err();
-    assert_eq!(rt; fault, Some(ReadFault::Device));
-    for ending in [Ending::Fails, Ending::TakesNone] {
-        let room = Vec::with_capacity(rt.alloc(), 10)?;
-        let mut to = Watched::new(FailingWriter::after_calls(room, 1, 5, ending));
-        assert_eq!(rt; write_whole(&mut to, b"student"), Err(DeviceFailed));
-        assert_eq!(rt; to.inner().taken(), b"stude".as_slice());
-        assert!(rt; to.failed());
+    expect_read(&rt, rt.alloc(), &mut from, 4, b"abcd");
+    expect_fault(&rt, rt.alloc(), &mut from, 1);
+    for ending in &[Ending::Fails, Ending::TakesNone] {
+        let room = Vec::with_capacity(rt.alloc(), 10).expect(&rt, "memory");
+        let mut to = Watched::new(FailingWriter::after_calls(room, 1, 5, *ending));
+        expect_prefix(&rt, &mut to, b"student", b"stude");
     }
-    Ok(())
 }

@@ -1,6 +1,6 @@
 //! Whom schools admit and who waits for them, in the worked markets.
 use super::notices::{CLOSED_AND_FREE, CONTINUING, HEADERS, ONE_SEAT};
-use super::{Files, MARKET_B_FILES, ZEROS, opening};
+use super::{Files, MARKET_B_FILES, expect_below, opening, seed, told, watched};
 use sc_papers::{SchoolNo, Seed};
 use sc_report::Watched;
 use sc_runs::{admissions_files, read_school};
@@ -16,30 +16,27 @@ fn listed(
     school: Option<SchoolNo>,
 ) -> Result<String, AllocError> {
     let mut out = Watched::new(Vec::new(alloc));
-    let mut journal = journal.map(|text| Watched::new(text.as_bytes()));
+    let mut journal = watched(journal);
     let mut files = opening(files);
     let answer = admissions_files(alloc, seed, &mut files, &mut journal, school, &mut out);
-    let output = String::from_utf8_lossy(alloc, out.inner().as_slice())?;
-    format!(in alloc; "{output}|{answer:?}")
+    told(alloc, out.inner().as_slice(), &answer)
 }
 
 /// Files, a journal and a school's number, if there are any, and below the header what is written and answered.
 type ListedRow = (Files, Option<&'static str>, Option<u32>, &'static str);
 
+/// The school of a number, if there is one.
+fn school_of(rt: &impl Abort, number: Option<u32>) -> Option<SchoolNo> {
+    Some(SchoolNo::new(number?).expect(rt, "a school"))
+}
+
 /// The files, the journals and the schools have these lists and answers.
-fn expect_lists(
-    rt: &impl Abort,
-    alloc: Global,
-    header: &str,
-    table: &[ListedRow],
-) -> Result<(), AllocError> {
-    let seed = Seed::from_hex(ZEROS.as_bytes()).expect(rt, "a seed");
+fn expect_lists(rt: &impl Abort, alloc: Global, header: &str, table: &[ListedRow]) {
+    let seed = seed(rt);
     for (files, journal, school, want) in table {
-        let school = school.map(|number| SchoolNo::new(number).expect(rt, "a school"));
-        let left = listed(alloc, &seed, *files, *journal, school)?;
-        assert!(rt; left.as_str().strip_prefix(header) == Some(*want), "{left}");
+        let left = listed(alloc, &seed, *files, *journal, school_of(rt, *school));
+        expect_below(rt, left, header, want);
     }
-    Ok(())
 }
 
 const LISTS_HEADER: &str = "school,rank,student,class,draw,status\n";
@@ -86,7 +83,7 @@ const LISTS: &[ListedRow] = &[
 
 #[test]
 fn lists(rt: HostRuntime) {
-    expect_lists(&rt, rt.alloc(), LISTS_HEADER, LISTS).expect(&rt, "memory");
+    expect_lists(&rt, rt.alloc(), LISTS_HEADER, LISTS);
 }
 
 const UNLISTED: &[ListedRow] = &[
@@ -106,7 +103,7 @@ const UNLISTED: &[ListedRow] = &[
 
 #[test]
 fn nothing_of_unknown_schools(rt: HostRuntime) {
-    expect_lists(&rt, rt.alloc(), "", UNLISTED).expect(&rt, "memory");
+    expect_lists(&rt, rt.alloc(), "", UNLISTED);
 }
 
 /// Texts, and the number of the school that each names.
@@ -122,10 +119,15 @@ const NAMED: &[(&str, Option<u32>)] = &[
     ("x", None),
 ];
 
+/// The number of the school that a text names, if it names one.
+fn named(text: &str) -> Option<u32> {
+    Some(read_school(text.as_bytes())?.get())
+}
+
 #[test]
 fn schools_named_by_texts(rt: HostRuntime) {
     for (text, want) in NAMED {
-        let found = read_school(text.as_bytes()).map(|school| school.get());
+        let found = named(text);
         assert!(rt; found == *want, "{text}: {found:?}");
     }
 }

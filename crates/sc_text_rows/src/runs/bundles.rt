@@ -1,7 +1,7 @@
 //! Openings in a bundle, and the faults of bundles.
 mod scripts;
 
-use super::ZEROS;
+use super::{ZEROS, expect_left};
 use crate::markets::{MARKET_A, MARKET_B, Rows};
 use sc_markets::{LISTS_A, SCHOOLS_B, roster_header};
 use sc_report::Watched;
@@ -62,18 +62,23 @@ fn bundle(alloc: Global, (schools, roster, lists): Rows) -> Result<String, Alloc
     )
 }
 
+/// What the bundle of rows gives.
+fn opened(alloc: Global, rows: Rows) -> Result<String, AllocError> {
+    let input = bundle(alloc, rows)?;
+    told(alloc, input.as_str())
+}
+
+/// A row gives what is wanted.
+fn expect_row(rt: &impl Abort, row: &str, told: Result<String, AllocError>, want: &str) {
+    let told = told.expect(rt, "memory");
+    assert!(rt; told.as_str() == want, "{row}: {told}");
+}
+
 /// Each opening gives what is wanted.
-fn expect_openings(
-    rt: &impl Abort,
-    alloc: Global,
-    table: &[(&str, Rows, &str)],
-) -> Result<(), AllocError> {
+fn expect_openings(rt: &impl Abort, alloc: Global, table: &[(&str, Rows, &str)]) {
     for (row, rows, want) in table {
-        let input = bundle(alloc, *rows)?;
-        let told = told(alloc, input.as_str())?;
-        assert!(rt; told.as_str() == *want, "{row}: {told}");
+        expect_row(rt, row, opened(alloc, *rows), want);
     }
-    Ok(())
 }
 
 const WORKED_OPENINGS: &[(&str, Rows, &str)] = &[
@@ -126,7 +131,7 @@ const WORKED_OPENINGS: &[(&str, Rows, &str)] = &[
 
 #[test]
 fn worked_openings(rt: HostRuntime) {
-    expect_openings(&rt, rt.alloc(), WORKED_OPENINGS).expect(&rt, "memory");
+    expect_openings(&rt, rt.alloc(), WORKED_OPENINGS);
 }
 
 const INTAKE_FAULTS: &[(&str, Rows, &str)] = &[
@@ -173,20 +178,14 @@ const INTAKE_FAULTS: &[(&str, Rows, &str)] = &[
 
 #[test]
 fn each_intake_fault_once(rt: HostRuntime) {
-    expect_openings(&rt, rt.alloc(), INTAKE_FAULTS).expect(&rt, "memory");
+    expect_openings(&rt, rt.alloc(), INTAKE_FAULTS);
 }
 
 /// Each bundle gives what is wanted.
-fn expect_bundles(
-    rt: &impl Abort,
-    alloc: Global,
-    table: &[(&str, &str)],
-) -> Result<(), AllocError> {
+fn expect_bundles(rt: &impl Abort, alloc: Global, table: &[(&str, &str)]) {
     for (input, want) in table {
-        let told = told(alloc, input)?;
-        assert!(rt; told.as_str() == *want, "{told}");
+        expect_left(rt, told(alloc, input), want);
     }
-    Ok(())
 }
 
 #[test]
@@ -209,6 +208,5 @@ fn faults_of_the_bundle(rt: HostRuntime) {
                 "clearinghouse: schools row 1: Header\n3",
             ),
         ],
-    )
-    .expect(&rt, "memory");
+    );
 }

@@ -1,6 +1,6 @@
 //! Whose place the amendments of a journal changed, in the worked markets.
 use super::notices::{CLOSED_AND_FREE, HEADERS};
-use super::{Files, MARKET_B_FILES, ZEROS, opening};
+use super::{Files, MARKET_B_FILES, expect_below, opening, seed, told};
 use sc_papers::Seed;
 use sc_report::Watched;
 use sc_runs::{changes_files, read_since};
@@ -19,26 +19,19 @@ fn changed(
     let mut journal = Watched::new(journal.as_bytes());
     let mut files = opening(files);
     let answer = changes_files(alloc, seed, &mut files, &mut journal, since, &mut out);
-    let output = String::from_utf8_lossy(alloc, out.inner().as_slice())?;
-    format!(in alloc; "{output}|{answer:?}")
+    told(alloc, out.inner().as_slice(), &answer)
 }
 
 /// Files, a journal and how many lines of it went before, and below the header what is written and answered.
 type ChangedRow = (Files, &'static str, u32, &'static str);
 
 /// The files and the journals have these changes and answers.
-fn expect_changes(
-    rt: &impl Abort,
-    alloc: Global,
-    header: &str,
-    table: &[ChangedRow],
-) -> Result<(), AllocError> {
-    let seed = Seed::from_hex(ZEROS.as_bytes()).expect(rt, "a seed");
+fn expect_changes(rt: &impl Abort, alloc: Global, header: &str, table: &[ChangedRow]) {
+    let seed = seed(rt);
     for (files, journal, since, want) in table {
-        let left = changed(alloc, &seed, *files, *journal, *since)?;
-        assert!(rt; left.as_str().strip_prefix(header) == Some(*want), "{left}");
+        let left = changed(alloc, &seed, *files, *journal, *since);
+        expect_below(rt, left, header, want);
     }
-    Ok(())
 }
 
 const CHANGES_HEADER: &str = "student,before,after\n";
@@ -97,7 +90,7 @@ const CHANGES: &[ChangedRow] = &[
 
 #[test]
 fn changes(rt: HostRuntime) {
-    expect_changes(&rt, rt.alloc(), CHANGES_HEADER, CHANGES).expect(&rt, "memory");
+    expect_changes(&rt, rt.alloc(), CHANGES_HEADER, CHANGES);
 }
 
 const UNCHANGED: &[ChangedRow] = &[
@@ -139,7 +132,7 @@ const UNCHANGED: &[ChangedRow] = &[
 
 #[test]
 fn nothing_of_lines_that_are_not_there(rt: HostRuntime) {
-    expect_changes(&rt, rt.alloc(), "", UNCHANGED).expect(&rt, "memory");
+    expect_changes(&rt, rt.alloc(), "", UNCHANGED);
 }
 
 /// Texts, and how many lines each says.

@@ -1,5 +1,5 @@
 //! Every fault of files and scripts.
-use super::{Files, MARKET_B_FILES, NAMES, ZEROS, opening};
+use super::{Files, MARKET_B_FILES, NAMES, expect_left, opening, seed, told, watched};
 use sc_papers::Seed;
 use sc_report::Watched;
 use sc_report::devices::{Ending, FailingWriter};
@@ -16,24 +16,21 @@ fn checked(
     script: Option<&'static str>,
 ) -> Result<String, AllocError> {
     let mut out = Watched::new(Vec::new(alloc));
-    let mut script = script.map(|text| Watched::new(text.as_bytes()));
+    let mut script = watched(script);
     let files = &mut opening(files);
     let answer = check_files(alloc, seed, &NAMES, files, &mut script, &mut out);
-    let output = String::from_utf8_lossy(alloc, out.inner().as_slice())?;
-    format!(in alloc; "{output}|{answer:?}")
+    told(alloc, out.inner().as_slice(), &answer)
 }
 
 /// Files and a script, if there is one, and what is written and answered.
 type CheckedRow = (Files, Option<&'static str>, &'static str);
 
 /// The files and the scripts have these faults and answers.
-fn expect_checks(rt: &impl Abort, alloc: Global, table: &[CheckedRow]) -> Result<(), AllocError> {
-    let seed = Seed::from_hex(ZEROS.as_bytes()).expect(rt, "a seed");
+fn expect_checks(rt: &impl Abort, alloc: Global, table: &[CheckedRow]) {
+    let seed = seed(rt);
     for (files, script, want) in table {
-        let left = checked(alloc, &seed, *files, *script)?;
-        assert!(rt; left.as_str() == *want, "{left}");
+        expect_left(rt, checked(alloc, &seed, *files, *script), want);
     }
-    Ok(())
 }
 
 /// Rows with each cause that a row alone can have, in each file, and rows that have a fault together.
@@ -110,7 +107,7 @@ const CHECKS: &[CheckedRow] = &[
 
 #[test]
 fn every_fault_of_files(rt: HostRuntime) {
-    expect_checks(&rt, rt.alloc(), CHECKS).expect(&rt, "memory");
+    expect_checks(&rt, rt.alloc(), CHECKS);
 }
 
 /// Texts of other ends of lines, with blank lines, quotes, bytes that are no printable ASCII, and headers as programs write
@@ -179,12 +176,12 @@ const REFUSALS: &[CheckedRow] = &[
 
 #[test]
 fn refusals_where_they_stand(rt: HostRuntime) {
-    expect_checks(&rt, rt.alloc(), REFUSALS).expect(&rt, "memory");
+    expect_checks(&rt, rt.alloc(), REFUSALS);
 }
 
 #[test]
 fn lines_that_are_told(rt: HostRuntime) {
-    expect_checks(&rt, rt.alloc(), LINES).expect(&rt, "memory");
+    expect_checks(&rt, rt.alloc(), LINES);
 }
 
 const SCRIPTS: &[CheckedRow] = &[
@@ -209,7 +206,7 @@ const SCRIPTS: &[CheckedRow] = &[
 
 #[test]
 fn every_fault_of_scripts(rt: HostRuntime) {
-    expect_checks(&rt, rt.alloc(), SCRIPTS).expect(&rt, "memory");
+    expect_checks(&rt, rt.alloc(), SCRIPTS);
 }
 
 /// A script, and the lines of its faults.
@@ -251,36 +248,34 @@ fn check_script<W: Write>(
 }
 
 /// All lines of the script are written.
-fn expect_lines(rt: &impl Abort, alloc: Global, given: &Nonsense) -> Result<(), AllocError> {
-    let seed = Seed::from_hex(ZEROS.as_bytes()).expect(rt, "a seed");
+fn expect_lines(rt: &impl Abort, alloc: Global, given: &Nonsense) {
+    let seed = seed(rt);
     let mut out = Watched::new(Vec::new(alloc));
     let answer = check_script(alloc, &seed, given.script.as_slice(), &mut out);
     assert_eq!(rt; answer.ok(), Some(Checked::Faulty));
     assert!(rt; out.inner().as_slice() == given.lines.as_slice());
-    Ok(())
 }
 
 /// A writer that fails in the second piece has the lines up to there.
-fn expect_beginning(rt: &impl Abort, alloc: Global, given: &Nonsense) -> Result<(), AllocError> {
-    let seed = Seed::from_hex(ZEROS.as_bytes()).expect(rt, "a seed");
-    let room = Vec::with_capacity(alloc, 70_000)?;
+fn expect_beginning(rt: &impl Abort, alloc: Global, given: &Nonsense) {
+    let seed = seed(rt);
+    let room = Vec::with_capacity(alloc, 70_000).expect(rt, "memory");
     let mut out = Watched::new(FailingWriter::new(room, 66_000, 999, Ending::Fails));
     let answer = check_script(alloc, &seed, given.script.as_slice(), &mut out);
     assert_eq!(rt; answer.err(), Some(RunFault::WriteOut));
     let taken = out.inner().taken();
     assert_eq!(rt; taken.len(), 66_000);
     assert!(rt; given.lines.as_slice().starts_with(taken));
-    Ok(())
 }
 
 #[test]
 fn lines_of_more_than_one_piece(rt: HostRuntime) {
     let given = make_nonsense(rt.alloc()).expect(&rt, "memory");
-    expect_lines(&rt, rt.alloc(), &given).expect(&rt, "memory");
+    expect_lines(&rt, rt.alloc(), &given);
 }
 
 #[test]
 fn an_output_that_fails_in_a_later_piece(rt: HostRuntime) {
     let given = make_nonsense(rt.alloc()).expect(&rt, "memory");
-    expect_beginning(&rt, rt.alloc(), &given).expect(&rt, "memory");
+    expect_beginning(&rt, rt.alloc(), &given);
 }

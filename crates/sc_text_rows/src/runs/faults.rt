@@ -1,5 +1,5 @@
 //! Runs whose devices fail: a script cut short, slow and failing outputs, bundles cut at each byte.
-use super::ZEROS;
+use super::{run_told, seed, told};
 use sc_papers::Seed;
 use sc_report::Watched;
 use sc_report::devices::{Ending, FailingReader, FailingWriter};
@@ -80,9 +80,7 @@ fn left(
     let mut out = writer(alloc, output)?;
     let mut journal = writer(alloc, journal)?;
     let answer = run(alloc, seed, &mut inputs, settling, &mut out, &mut journal);
-    let output = String::from_utf8_lossy(alloc, out.inner().taken())?;
-    let journal = String::from_utf8_lossy(alloc, journal.inner().taken())?;
-    format!(in alloc; "{output}|{journal}|{answer:?}")
+    run_told(alloc, out.inner().taken(), journal.inner().taken(), &answer)
 }
 
 /// A run leaves this output, this journal and this answer.
@@ -94,7 +92,7 @@ fn expect(
     takings: (Taking, Taking),
     want: (&str, &str, &str),
 ) {
-    let seed = Seed::from_hex(ZEROS.as_bytes()).ok().expect(rt, "a seed");
+    let seed = seed(rt);
     let left = left(alloc, &seed, script, settling, takings).expect(rt, "memory");
     let (output, journal, answer) = want;
     let want = format!(in alloc; "{output}|{journal}|{answer}").expect(rt, "memory");
@@ -223,13 +221,12 @@ fn replayed(alloc: Global, seed: &Seed, journal: &'static [u8]) -> Result<String
         Ok(replayed) => Ok(replayed.tail),
         Err(fault) => Err(fault),
     };
-    let output = String::from_utf8_lossy(alloc, out.inner().as_slice())?;
-    format!(in alloc; "{output}|{answer:?}")
+    told(alloc, out.inner().as_slice(), &answer)
 }
 
 /// A replay over Market B writes this report, and answers so.
 fn expect_replay(rt: &impl Abort, alloc: Global, journal: &'static [u8], want: (&str, &str)) {
-    let seed = Seed::from_hex(ZEROS.as_bytes()).ok().expect(rt, "a seed");
+    let seed = seed(rt);
     let left = replayed(alloc, &seed, journal).expect(rt, "memory");
     let want = format!(in alloc; "{}|Ok({})", want.0, want.1).expect(rt, "memory");
     assert!(rt;

@@ -1,5 +1,5 @@
 //! That each text is flushed, and in which order: no clause can say it, since `Write` says nothing of a flush.
-use super::{MARKET_B_FILES, NAMES, ZEROS, opening};
+use super::{MARKET_B_FILES, NAMES, opening, seed};
 use sc_papers::{SchoolNo, Seed, StudentNo};
 use sc_report::Watched;
 use sc_runs::{
@@ -56,7 +56,7 @@ impl Write for Timed<'_> {
 
 /// A run flushes its journal after its last line, and then the output after its last byte.
 fn expect_order(rt: &impl Abort, alloc: Global, settling: Settling) {
-    let seed = Seed::from_hex(ZEROS.as_bytes()).ok().expect(rt, "a seed");
+    let seed = seed(rt);
     let script = b"0,enter,3,1,10,10\n1,withdraw,3\n".as_slice();
     let mut inputs = Inputs {
         opening: opening(MARKET_B_FILES),
@@ -166,7 +166,7 @@ fn fault_of(alloc: Global, seed: &Seed, call: Call) -> Option<RunFault> {
 
 #[test]
 fn each_text_is_flushed(rt: HostRuntime) {
-    let seed = Seed::from_hex(ZEROS.as_bytes()).ok().expect(&rt, "a seed");
+    let seed = seed(&rt);
     for call in &[
         Call::Report,
         Call::Log,

@@ -1,5 +1,5 @@
 //! What is told of papers as they stand, in the worked markets.
-use super::{Files, MARKET_B_FILES, ZEROS, opening};
+use super::{Files, MARKET_B_FILES, expect_below, expect_left, opening, seed, told, watched};
 use sc_papers::{Seed, StudentNo};
 use sc_report::Watched;
 use sc_runs::{explain_files, read_student, summary_files};
@@ -14,24 +14,17 @@ fn summed(
     journal: Option<&'static str>,
 ) -> Result<String, AllocError> {
     let mut out = Watched::new(Vec::new(alloc));
-    let mut journal = journal.map(|text| Watched::new(text.as_bytes()));
+    let mut journal = watched(journal);
     let answer = summary_files(alloc, seed, &mut opening(files), &mut journal, &mut out);
-    let output = String::from_utf8_lossy(alloc, out.inner().as_slice())?;
-    format!(in alloc; "{output}|{answer:?}")
+    told(alloc, out.inner().as_slice(), &answer)
 }
 
 /// The files and the journals have these summaries and answers.
-fn expect_summaries(
-    rt: &impl Abort,
-    alloc: Global,
-    table: &[(Files, Option<&'static str>, &str)],
-) -> Result<(), AllocError> {
-    let seed = Seed::from_hex(ZEROS.as_bytes()).expect(rt, "a seed");
+fn expect_summaries(rt: &impl Abort, alloc: Global, table: &[(Files, Option<&'static str>, &str)]) {
+    let seed = seed(rt);
     for (files, journal, want) in table {
-        let left = summed(alloc, &seed, *files, *journal)?;
-        assert!(rt; left.as_str() == *want, "{left}");
+        expect_left(rt, summed(alloc, &seed, *files, *journal), want);
     }
-    Ok(())
 }
 
 /// The headers of the three files alone.
@@ -90,7 +83,7 @@ const SUMMARIES: &[(Files, Option<&'static str>, &str)] = &[
 
 #[test]
 fn summaries(rt: HostRuntime) {
-    expect_summaries(&rt, rt.alloc(), SUMMARIES).expect(&rt, "memory");
+    expect_summaries(&rt, rt.alloc(), SUMMARIES);
 }
 
 /// What explaining the choices of a student, or of all, writes after a journal, if there is one, and its answer.
@@ -102,30 +95,27 @@ fn explained(
     student: Option<StudentNo>,
 ) -> Result<String, AllocError> {
     let mut out = Watched::new(Vec::new(alloc));
-    let mut journal = journal.map(|text| Watched::new(text.as_bytes()));
+    let mut journal = watched(journal);
     let mut files = opening(files);
     let answer = explain_files(alloc, seed, &mut files, &mut journal, student, &mut out);
-    let output = String::from_utf8_lossy(alloc, out.inner().as_slice())?;
-    format!(in alloc; "{output}|{answer:?}")
+    told(alloc, out.inner().as_slice(), &answer)
 }
 
 /// Files, a journal and a student's number, if there are any, and below the header what is written and answered.
 type ExplainedRow = (Files, Option<&'static str>, Option<u32>, &'static str);
 
+/// The student of a number, if there is one.
+fn student_of(rt: &impl Abort, number: Option<u32>) -> Option<StudentNo> {
+    Some(StudentNo::new(number?).expect(rt, "a student"))
+}
+
 /// The files, the journals and the students have these explanations and answers.
-fn expect_explanations(
-    rt: &impl Abort,
-    alloc: Global,
-    header: &str,
-    table: &[ExplainedRow],
-) -> Result<(), AllocError> {
-    let seed = Seed::from_hex(ZEROS.as_bytes()).expect(rt, "a seed");
+fn expect_explanations(rt: &impl Abort, alloc: Global, header: &str, table: &[ExplainedRow]) {
+    let seed = seed(rt);
     for (files, journal, student, want) in table {
-        let student = student.map(|number| StudentNo::new(number).expect(rt, "a student"));
-        let left = explained(alloc, &seed, *files, *journal, student)?;
-        assert!(rt; left.as_str().strip_prefix(header) == Some(*want), "{left}");
+        let left = explained(alloc, &seed, *files, *journal, student_of(rt, *student));
+        expect_below(rt, left, header, want);
     }
-    Ok(())
 }
 
 const EXPLAINED_HEADER: &str =
@@ -194,7 +184,7 @@ const EXPLANATIONS: &[ExplainedRow] = &[
 
 #[test]
 fn explanations(rt: HostRuntime) {
-    expect_explanations(&rt, rt.alloc(), EXPLAINED_HEADER, EXPLANATIONS).expect(&rt, "memory");
+    expect_explanations(&rt, rt.alloc(), EXPLAINED_HEADER, EXPLANATIONS);
 }
 
 const UNEXPLAINED: &[ExplainedRow] = &[
@@ -226,7 +216,7 @@ const UNEXPLAINED: &[ExplainedRow] = &[
 
 #[test]
 fn nothing_of_unknown_students(rt: HostRuntime) {
-    expect_explanations(&rt, rt.alloc(), "", UNEXPLAINED).expect(&rt, "memory");
+    expect_explanations(&rt, rt.alloc(), "", UNEXPLAINED);
 }
 
 /// Texts, and the number of the student whom each names.
@@ -244,10 +234,15 @@ const NAMED: &[(&str, Option<u32>)] = &[
     ("x", None),
 ];
 
+/// The number of the student whom a text names, if it names one.
+fn named(text: &str) -> Option<u32> {
+    Some(read_student(text.as_bytes())?.get())
+}
+
 #[test]
 fn students_named_by_texts(rt: HostRuntime) {
     for (text, want) in NAMED {
-        let found = read_student(text.as_bytes()).map(|student| student.get());
+        let found = named(text);
         assert!(rt; found == *want, "{text}: {found:?}");
     }
 }

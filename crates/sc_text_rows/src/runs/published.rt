@@ -1,5 +1,5 @@
 //! Reports that were published with a log, and tables of a report alone.
-use super::{Files, MARKET_B_FILES, ZEROS, opening};
+use super::{Files, MARKET_B_FILES, expect_left, opening, seed, told, watched};
 use sc_papers::Seed;
 use sc_report::Watched;
 use sc_runs::{Table, audit_report_files, table_files, table_named};
@@ -77,23 +77,20 @@ fn audited(
     let mut report = Watched::new(report.as_bytes());
     let mut files = opening(NEWCOMER_FILES);
     let answer = audit_report_files(alloc, seed, &mut files, &mut log, &mut report, &mut out);
-    let output = String::from_utf8_lossy(alloc, out.inner().as_slice())?;
-    format!(in alloc; "{output}|{answer:?}")
+    told(alloc, out.inner().as_slice(), &answer)
 }
 
 /// The logs and reports are found to be so.
-fn expect_findings(rt: &impl Abort, alloc: Global) -> Result<(), AllocError> {
-    let seed = Seed::from_hex(ZEROS.as_bytes()).expect(rt, "a seed");
+fn expect_findings(rt: &impl Abort, alloc: Global) {
+    let seed = seed(rt);
     for (log, report, want) in PUBLISHED {
-        let found = audited(alloc, &seed, *log, *report)?;
-        assert!(rt; found.as_str() == *want, "{found}");
+        expect_left(rt, audited(alloc, &seed, *log, *report), want);
     }
-    Ok(())
 }
 
 #[test]
 fn published_reports(rt: HostRuntime) {
-    expect_findings(&rt, rt.alloc()).expect(&rt, "memory");
+    expect_findings(&rt, rt.alloc());
 }
 
 /// Journals over Market B, if there is one, tables, and what is written of them.
@@ -120,25 +117,22 @@ fn tabulated(
     table: Table,
 ) -> Result<String, AllocError> {
     let mut out = Watched::new(Vec::new(alloc));
-    let mut journal = journal.map(|text| Watched::new(text.as_bytes()));
+    let mut journal = watched(journal);
     let mut files = opening(MARKET_B_FILES);
     let answer = table_files(alloc, seed, &mut files, &mut journal, table, &mut out);
-    let output = String::from_utf8_lossy(alloc, out.inner().as_slice())?;
-    format!(in alloc; "{output}|{answer:?}")
+    told(alloc, out.inner().as_slice(), &answer)
 }
 
 /// The tables are written so.
-fn expect_tables(rt: &impl Abort, alloc: Global) -> Result<(), AllocError> {
-    let seed = Seed::from_hex(ZEROS.as_bytes()).expect(rt, "a seed");
+fn expect_tables(rt: &impl Abort, alloc: Global) {
+    let seed = seed(rt);
     for (journal, name, want) in TABLES {
         let table = table_named(*name).expect(rt, "a table");
-        let found = tabulated(alloc, &seed, *journal, table)?;
-        assert!(rt; found.as_str() == *want, "{found}");
+        expect_left(rt, tabulated(alloc, &seed, *journal, table), want);
     }
-    Ok(())
 }
 
 #[test]
 fn tables_alone(rt: HostRuntime) {
-    expect_tables(&rt, rt.alloc()).expect(&rt, "memory");
+    expect_tables(&rt, rt.alloc());
 }

@@ -1,7 +1,7 @@
 //! Scripts in a bundle.
 use super::{
     CONTINUING_FIRST, FIVE_STUDENTS, FREE_SEATS, MARKET_B_CONTINUING, TWO_STUDENTS, ZONE_FIRST,
-    bundle, told, written,
+    bundle, expect_row, told, written,
 };
 use crate::markets::{MARKET_A, MARKET_B, Rows};
 use std::alloc::{AllocError, Global};
@@ -25,12 +25,11 @@ fn expect_scripts(
     alloc: Global,
     is_whole: bool,
     table: &[(&str, Rows, &str, &str)],
-) -> Result<(), AllocError> {
+) {
     for (row, rows, script, want) in table {
-        let text = scripted(alloc, is_whole, *rows, script)?;
-        assert!(rt; text.as_str() == *want, "{row}: {text}");
+        let text = scripted(alloc, is_whole, *rows, script);
+        expect_row(rt, row, text, want);
     }
-    Ok(())
 }
 
 const SCRIPTS: &[(&str, Rows, &str, &str)] = &[
@@ -93,7 +92,7 @@ const SCRIPTS: &[(&str, Rows, &str, &str)] = &[
 
 #[test]
 fn scripts(rt: HostRuntime) {
-    expect_scripts(&rt, rt.alloc(), false, SCRIPTS).expect(&rt, "memory");
+    expect_scripts(&rt, rt.alloc(), false, SCRIPTS);
 }
 
 const WHOLE_REPORTS: &[(&str, Rows, &str, &str)] = &[
@@ -222,7 +221,7 @@ const WHOLE_REPORTS: &[(&str, Rows, &str, &str)] = &[
 
 #[test]
 fn whole_reports(rt: HostRuntime) {
-    expect_scripts(&rt, rt.alloc(), true, WHOLE_REPORTS).expect(&rt, "memory");
+    expect_scripts(&rt, rt.alloc(), true, WHOLE_REPORTS);
 }
 
 /// A script of so many records, each of which reranks student 1 with the stamp that the record before gave.
