@@ -8,9 +8,8 @@ use crate::plain::{Market, School, Student};
 use sc_audit::{Stability, Verdict, audit, check_stable};
 use sc_engine::{Settled, settle};
 use sc_papers::{Assignment, Papers, Rejection};
-use std::alloc::{AllocError, Global};
+use std::alloc::Global;
 use std::process::Abort;
-use std::test::Fail;
 
 /// Pairs of a student and a school: a log, or an assignment.
 type Pairs = Vec<(u32, u32)>;
@@ -22,66 +21,65 @@ const STUDENTS: u32 = 6;
 const SCHOOLS: u32 = 5;
 
 /// The pairs without the one at a place.
-fn without(alloc: Global, pairs: &[(u32, u32)], at: usize) -> Result<Pairs, AllocError> {
+fn without(rt: &impl Abort, alloc: Global, pairs: &[(u32, u32)], at: usize) -> Pairs {
     let mut changed = Vec::new(alloc);
     for (position, pair) in pairs.iter().enumerate() {
         if position != at {
-            changed.push(*pair)?;
+            changed.push(*pair).expect(rt, "memory");
         }
     }
-    Ok(changed)
+    changed
 }
 
 /// The pairs with the one at a place twice.
-fn with_repeat(alloc: Global, pairs: &[(u32, u32)], at: usize) -> Result<Pairs, AllocError> {
+fn with_repeat(rt: &impl Abort, alloc: Global, pairs: &[(u32, u32)], at: usize) -> Pairs {
     let mut changed = Vec::new(alloc);
     for (position, pair) in pairs.iter().enumerate() {
-        changed.push(*pair)?;
+        changed.push(*pair).expect(rt, "memory");
         if position == at {
-            changed.push(*pair)?;
+            changed.push(*pair).expect(rt, "memory");
         }
     }
-    Ok(changed)
+    changed
 }
 
 /// The pairs with another at a place.
 fn with_pair(
+    rt: &impl Abort,
     alloc: Global,
     pairs: &[(u32, u32)],
     at: usize,
     other: (u32, u32),
-) -> Result<Pairs, AllocError> {
+) -> Pairs {
     let mut changed = Vec::new(alloc);
     for (position, pair) in pairs.iter().enumerate() {
-        changed.push(if position == at { other } else { *pair })?;
+        let kept = if position == at { other } else { *pair };
+        changed.push(kept).expect(rt, "memory");
     }
-    Ok(changed)
+    changed
 }
 
 /// The pairs with the one at a place and the next in each other's places, if there is a next.
-fn with_swap(alloc: Global, pairs: &[(u32, u32)], at: usize) -> Result<Pairs, AllocError> {
-    let mut changed = Vec::from_slice(alloc, pairs)?;
+fn with_swap(rt: &impl Abort, alloc: Global, pairs: &[(u32, u32)], at: usize) -> Pairs {
+    let mut changed = Vec::from_slice(alloc, pairs).expect(rt, "memory");
     let slice = changed.as_mut_slice();
     if at < slice.len() && slice.len() - at > 1 {
         slice.swap(at, at + 1);
     }
-    Ok(changed)
+    changed
 }
 
 /// A log as the auditor reads it.
-fn rejections(
-    rt: &impl Abort,
-    alloc: Global,
-    log: &[(u32, u32)],
-) -> Result<Vec<Rejection>, AllocError> {
+fn rejections(rt: &impl Abort, alloc: Global, log: &[(u32, u32)]) -> Vec<Rejection> {
     let mut entries = Vec::new(alloc);
     for (student, school) in log {
-        entries.push(Rejection {
+        let entry = Rejection {
             student: student_no(rt, *student),
             school: school_no(rt, *school),
-        })?;
+        };
+        entries.push(entry).expect(rt, "memory");
     }
-    Ok(entries)
+    entries
 }
 
 /// The verdict of the plain program on a log.
@@ -90,18 +88,18 @@ fn plain_verdict(
     alloc: Global,
     market: &Market<'_>,
     log: &[(u32, u32)],
-) -> Result<Verdict, AllocError> {
+) -> Verdict {
     if let Some(at) = market.first_bad_entry(log) {
-        return Ok(Verdict::BadEntry {
+        return Verdict::BadEntry {
             line: (at as u64).saturating_add(1),
-        });
+        };
     }
-    let matching = market.matching_of(alloc, log)?;
+    let matching = market.matching_of(rt, alloc, log);
     match market.first_over(&matching) {
-        Some(school) => Ok(Verdict::Over {
+        Some(school) => Verdict::Over {
             school: school_no(rt, school),
-        }),
-        None => Ok(Verdict::Certified),
+        },
+        None => Verdict::Certified,
     }
 }
 
@@ -112,11 +110,23 @@ fn judge_log(
     market: &Market<'_>,
     papers: &Papers,
     log: &[(u32, u32)],
-) -> Result<(), Fail> {
-    let entries = rejections(rt, alloc, log)?;
-    let verdict = audit(alloc, papers, entries.as_slice())?;
-    assert_eq!(rt; verdict, plain_verdict(rt, alloc, market, log)?);
-    Ok(())
+) {
+    let entries = rejections(rt, alloc, log);
+    let verdict = audit(alloc, papers, entries.as_slice()).expect(rt, "memory");
+    drop(entries);
+    assert_eq!(rt; verdict, plain_verdict(rt, alloc, market, log));
+}
+
+/// The same for a changed log, which ends here.
+fn judge_changed(
+    rt: &impl Abort,
+    alloc: Global,
+    market: &Market<'_>,
+    papers: &Papers,
+    changed: Pairs,
+) {
+    judge_log(rt, alloc, market, papers, &changed);
+    drop(changed);
 }
 
 /// The auditor judges each change of a log's entry at a place as the plain program does.
@@ -127,21 +137,34 @@ fn judge_changes_at(
     papers: &Papers,
     log: &[(u32, u32)],
     at: usize,
-) -> Result<(), Fail> {
+) {
     assert!(rt; at < log.len());
     let entry = log[at];
-    judge_log(rt, alloc, market, papers, &without(alloc, log, at)?)?;
-    judge_log(rt, alloc, market, papers, &with_repeat(alloc, log, at)?)?;
-    judge_log(rt, alloc, market, papers, &with_swap(alloc, log, at)?)?;
+    judge_changed(rt, alloc, market, papers, without(rt, alloc, log, at));
+    judge_changed(rt, alloc, market, papers, with_repeat(rt, alloc, log, at));
+    judge_changed(rt, alloc, market, papers, with_swap(rt, alloc, log, at));
     for student in 1..STUDENTS {
-        let altered = with_pair(alloc, log, at, (student, entry.1))?;
-        judge_log(rt, alloc, market, papers, &altered)?;
+        let altered = with_pair(rt, alloc, log, at, (student, entry.1));
+        judge_changed(rt, alloc, market, papers, altered);
     }
     for school in 1..SCHOOLS {
-        let altered = with_pair(alloc, log, at, (entry.0, school))?;
-        judge_log(rt, alloc, market, papers, &altered)?;
+        let altered = with_pair(rt, alloc, log, at, (entry.0, school));
+        judge_changed(rt, alloc, market, papers, altered);
     }
-    Ok(())
+}
+
+/// The auditor judges a log and each single change of it as the plain program does.
+fn judge_log_and_changes(
+    rt: &impl Abort,
+    alloc: Global,
+    market: &Market<'_>,
+    papers: &Papers,
+    log: &[(u32, u32)],
+) {
+    judge_log(rt, alloc, market, papers, log);
+    for at in 0..log.len() {
+        judge_changes_at(rt, alloc, market, papers, log, at);
+    }
 }
 
 /// The auditor certifies the log of the proposals, and judges each single change of it as the plain
@@ -152,28 +175,38 @@ fn judge_settled_log(
     market: &Market<'_>,
     papers: &Papers,
     settled: &Settled,
-) -> Result<(), Fail> {
-    let verdict = audit(alloc, papers, settled.log.as_slice())?;
+) {
+    let verdict = audit(alloc, papers, settled.log.as_slice()).expect(rt, "memory");
     assert_eq!(rt; verdict, Verdict::Certified);
-    let log = plain_log(alloc, settled)?;
-    judge_log(rt, alloc, market, papers, &log)?;
-    for at in 0..log.len() {
-        judge_changes_at(rt, alloc, market, papers, &log, at)?;
-    }
-    Ok(())
+    let log = plain_log(rt, alloc, settled);
+    judge_log_and_changes(rt, alloc, market, papers, &log);
+    drop(log);
 }
 
 /// An assignment as the auditor reads it.
-fn assignment_of(
-    rt: &impl Abort,
-    alloc: Global,
-    pairs: &[(u32, u32)],
-) -> Result<Assignment, AllocError> {
+fn assignment_of(rt: &impl Abort, alloc: Global, pairs: &[(u32, u32)]) -> Assignment {
     let mut assignment = Assignment::new(alloc);
     for (student, school) in pairs {
-        assignment.put(student_no(rt, *student), school_no(rt, *school))?;
+        let put = assignment.put(student_no(rt, *student), school_no(rt, *school));
+        put.ok().expect(rt, "memory");
     }
-    Ok(assignment)
+    assignment
+}
+
+/// The verdict of the plain program on a matching.
+fn matching_stability(rt: &impl Abort, market: &Market<'_>, matching: &[Option<u32>]) -> Stability {
+    if let Some(school) = market.first_over(matching) {
+        return Stability::OverSeats {
+            school: school_no(rt, school),
+        };
+    }
+    match market.first_block(matching) {
+        Some((student, school)) => Stability::Blocked {
+            student: student_no(rt, student),
+            school: school_no(rt, school),
+        },
+        None => Stability::Stable,
+    }
 }
 
 /// The verdict of the plain program on an assignment.
@@ -182,23 +215,14 @@ fn plain_stability(
     alloc: Global,
     market: &Market<'_>,
     pairs: &[(u32, u32)],
-) -> Result<Stability, AllocError> {
+) -> Stability {
     if !market.is_matching(pairs) {
-        return Ok(Stability::NotAMatching);
+        return Stability::NotAMatching;
     }
-    let matching = market.matching_of_pairs(alloc, pairs)?;
-    if let Some(school) = market.first_over(&matching) {
-        return Ok(Stability::OverSeats {
-            school: school_no(rt, school),
-        });
-    }
-    match market.first_block(&matching) {
-        Some((student, school)) => Ok(Stability::Blocked {
-            student: student_no(rt, student),
-            school: school_no(rt, school),
-        }),
-        None => Ok(Stability::Stable),
-    }
+    let matching = market.matching_of_pairs(rt, alloc, pairs);
+    let stability = matching_stability(rt, market, &matching);
+    drop(matching);
+    stability
 }
 
 /// The auditor judges an assignment as the plain program does.
@@ -208,43 +232,45 @@ fn judge_assignment(
     market: &Market<'_>,
     papers: &Papers,
     pairs: &[(u32, u32)],
-) -> Result<(), Fail> {
-    let assignment = assignment_of(rt, alloc, pairs)?;
-    let stability = check_stable(alloc, papers, &assignment)?;
-    assert_eq!(rt; stability, plain_stability(rt, alloc, market, pairs)?);
-    Ok(())
+) {
+    let assignment = assignment_of(rt, alloc, pairs);
+    let stability = check_stable(alloc, papers, &assignment).expect(rt, "memory");
+    drop(assignment);
+    assert_eq!(rt; stability, plain_stability(rt, alloc, market, pairs));
 }
 
 /// Who has which school, in pairs.
 fn pairs_of(
+    rt: &impl Abort,
     alloc: Global,
     students: &[Student],
     matching: &[Option<u32>],
-) -> Result<Pairs, AllocError> {
+) -> Pairs {
     let mut pairs = Vec::new(alloc);
     for (student, has) in students.iter().zip(matching) {
         if let Some(school) = has {
-            pairs.push((student.number, *school))?;
+            pairs.push((student.number, *school)).expect(rt, "memory");
         }
     }
-    Ok(pairs)
+    pairs
 }
 
 /// The pairs, in which the student has the school and no other.
 fn with_school(
+    rt: &impl Abort,
     alloc: Global,
     pairs: &[(u32, u32)],
     student: u32,
     school: u32,
-) -> Result<Pairs, AllocError> {
+) -> Pairs {
     let mut changed = Vec::new(alloc);
-    changed.push((student, school))?;
+    changed.push((student, school)).expect(rt, "memory");
     for pair in pairs {
         if pair.0 != student {
-            changed.push(*pair)?;
+            changed.push(*pair).expect(rt, "memory");
         }
     }
-    Ok(changed)
+    changed
 }
 
 /// The auditor judges each assignment in which one student has another school as the plain program
@@ -255,29 +281,31 @@ fn judge_other_schools(
     market: &Market<'_>,
     papers: &Papers,
     pairs: &[(u32, u32)],
-) -> Result<(), Fail> {
+) {
     for student in 1..STUDENTS {
         for school in 1..SCHOOLS {
-            let changed = with_school(alloc, pairs, student, school)?;
-            judge_assignment(rt, alloc, market, papers, &changed)?;
+            let changed = with_school(rt, alloc, pairs, student, school);
+            judge_assignment(rt, alloc, market, papers, &changed);
         }
     }
-    Ok(())
 }
 
 /// The auditor judges each matching of the papers as the plain program does.
-fn judge_matchings(
-    rt: &impl Abort,
-    alloc: Global,
-    market: &Market<'_>,
-    papers: &Papers,
-) -> Result<(), Fail> {
-    let matchings = market.matchings(alloc)?;
+fn judge_matchings(rt: &impl Abort, alloc: Global, market: &Market<'_>, papers: &Papers) {
+    let matchings = market.matchings(rt, alloc);
     for matching in &matchings {
-        let pairs = pairs_of(alloc, market.students, matching)?;
-        judge_assignment(rt, alloc, market, papers, &pairs)?;
+        let pairs = pairs_of(rt, alloc, market.students, matching);
+        judge_assignment(rt, alloc, market, papers, &pairs);
     }
-    Ok(())
+    drop(matchings);
+}
+
+/// Who has which school by the log of the proposals.
+fn settled_pairs(rt: &impl Abort, alloc: Global, market: &Market<'_>, settled: &Settled) -> Pairs {
+    let log = plain_log(rt, alloc, settled);
+    let matching = market.matching_of(rt, alloc, &log);
+    drop(log);
+    pairs_of(rt, alloc, market.students, &matching)
 }
 
 /// The auditor finds the assignment of the proposals stable, and judges each in which one student has
@@ -288,13 +316,13 @@ fn judge_assignments(
     market: &Market<'_>,
     papers: &Papers,
     settled: &Settled,
-) -> Result<(), Fail> {
-    let stability = check_stable(alloc, papers, &settled.assignment)?;
+) {
+    let stability = check_stable(alloc, papers, &settled.assignment).expect(rt, "memory");
     assert_eq!(rt; stability, Stability::Stable);
-    let matching = market.matching_of(alloc, &plain_log(alloc, settled)?)?;
-    let pairs = pairs_of(alloc, market.students, &matching)?;
-    judge_other_schools(rt, alloc, market, papers, &pairs)?;
-    judge_matchings(rt, alloc, market, papers)
+    let pairs = settled_pairs(rt, alloc, market, settled);
+    judge_other_schools(rt, alloc, market, papers, &pairs);
+    drop(pairs);
+    judge_matchings(rt, alloc, market, papers);
 }
 
 /// Compares the auditor's verdicts on a settling of the papers with those of the plain program.
@@ -304,51 +332,52 @@ fn judge_settled(
     market: &Market<'_>,
     papers: &Papers,
     settled: &Settled,
-) -> Result<(), Fail> {
-    judge_settled_log(rt, alloc, market, papers, settled)?;
-    judge_assignments(rt, alloc, market, papers, settled)
+) {
+    judge_settled_log(rt, alloc, market, papers, settled);
+    judge_assignments(rt, alloc, market, papers, settled);
 }
 
 /// Settles the papers of a market, and compares the auditor's verdicts.
+fn judge_market(rt: &impl Abort, alloc: Global, market: &Market<'_>, papers: &Papers) {
+    let settled = settle(alloc, papers).ok().expect(rt, "memory");
+    judge_settled(rt, alloc, market, papers, &settled);
+    drop(settled);
+}
+
+/// The same for the papers of these schools and families.
 fn judge_papers(
     rt: &impl Abort,
     alloc: Global,
     schools: &[School],
     families: &[Family],
     papers: &Papers,
-) -> Result<(), Fail> {
-    let students = plain_students(alloc, families)?;
+) {
+    let students = plain_students(rt, alloc, families);
     let market = Market {
         schools,
         students: students.as_slice(),
     };
-    let settled = settle(alloc, papers)?;
-    judge_settled(rt, alloc, &market, papers, &settled)
+    judge_market(rt, alloc, &market, papers);
 }
 
 /// Settles the market of these schools and families, and compares the auditor's verdicts.
-fn judge_market(
-    rt: &impl Abort,
-    alloc: Global,
-    schools: &[School],
-    families: &[Family],
-) -> Result<(), Fail> {
-    let papers = papers_of(rt, alloc, schools, families)?;
-    judge_papers(rt, alloc, schools, families, &papers)
+fn judge_families(rt: &impl Abort, alloc: Global, schools: &[School], families: &[Family]) {
+    let papers = papers_of(rt, alloc, schools, families);
+    judge_papers(rt, alloc, schools, families, &papers);
+    drop(papers);
 }
 
 /// Settles a random market, and compares the auditor's verdicts with those of the plain program.
-fn one_market(rt: &impl Abort, alloc: Global, dice: &mut Dice) -> Result<(), Fail> {
-    let schools = random_schools(dice, alloc)?;
-    let families = random_families(dice, alloc, (schools.len() % 1_000) as u32)?;
-    judge_market(rt, alloc, schools.as_slice(), families.as_slice())
+fn one_market(rt: &impl Abort, alloc: Global, dice: &mut Dice) {
+    let schools = random_schools(rt, alloc, dice);
+    let families = random_families(rt, alloc, dice, (schools.len() % 1_000) as u32);
+    judge_families(rt, alloc, schools.as_slice(), families.as_slice());
 }
 
 #[test]
-fn audits_of_random_markets(rt: HostRuntime) -> Result<(), Fail> {
+fn audits_of_random_markets(rt: HostRuntime) {
     let mut dice = Dice { state: 1962 };
     for _market in 0..4_000 {
-        one_market(&rt, rt.alloc(), &mut dice)?;
+        one_market(&rt, rt.alloc(), &mut dice);
     }
-    Ok(())
 }

@@ -1,16 +1,15 @@
 //! Random lists of stamped amendments of three desks, woven in many ways: each amendment is answered by the
 //! stamp that stands, and weavings that leave the same papers leave the same report.
-use crate::amendments::{STUDENTS, random_amendment};
-use crate::markets::{Dice, papers_of, random_families, random_schools, student_no};
+use crate::amendments::{STUDENTS, random_amendment, random_clearing};
+use crate::markets::{Dice, random_schools, student_no};
 use crate::plain::School;
 use sc_markets::stamp_of;
-use sc_papers::{Papers, Refusal, Stamp, Stamped};
+use sc_papers::{Papers, Refusal, Stamp, Stamped, StudentNo};
 use sc_repair::Clearing;
 use sc_report::report_text;
 use sc_stamps::record_of;
 use std::alloc::{AllocError, Global};
 use std::process::Abort;
-use std::test::Fail;
 
 /// Which of the desks a, b and c hands in its next amendment, one after the other.
 const WEAVINGS: [&str; 12] = [
@@ -54,16 +53,11 @@ impl Desks {
 }
 
 /// A desk's next amendment, with a stamp that may be old.
-fn random_stamped(
-    rt: &impl Abort,
-    alloc: Global,
-    dice: &mut Dice,
-    schools: u32,
-) -> Result<Stamped, AllocError> {
-    let amendment = random_amendment(rt, alloc, dice, schools)?;
+fn random_stamped(rt: &impl Abort, alloc: Global, dice: &mut Dice, schools: u32) -> Stamped {
+    let amendment = random_amendment(rt, alloc, dice, schools);
     let number = dice.roll(4).saturating_sub(1);
     let stamp = Stamp::new(number).expect(rt, "a stamp");
-    Ok(Stamped { stamp, amendment })
+    Stamped { stamp, amendment }
 }
 
 /// An amendment is accepted only with the stamp that stands, which a stale one is told.
@@ -89,21 +83,33 @@ fn hand_in(rt: &impl Abort, clearing: &mut Clearing, stamped: Stamped) {
     expect_answer(rt, answer, carried, stood);
 }
 
-/// The papers as a text that does not tell the order of entry.
-fn papers_text(rt: &impl Abort, alloc: Global, papers: &Papers) -> Result<String, AllocError> {
-    let mut text = String::new(alloc);
-    for below in 0..STUDENTS {
-        let number = below.saturating_add(1);
-        if let Some(student) = papers.student(student_no(rt, number)) {
-            write!(text, "{number} {student:?} ")?;
-        }
+/// Writes a student, if the papers have the student.
+fn write_student(text: &mut String, papers: &Papers, student: StudentNo) -> Result<(), AllocError> {
+    match papers.student(student) {
+        Some(row) => write!(text, "{} {row:?} ", student.get()),
+        None => Ok(()),
     }
+}
+
+/// Writes the schools in their order.
+fn write_schools(text: &mut String, papers: &Papers) -> Result<(), AllocError> {
     for position in 0..papers.schools_len() {
         if let Some(school) = papers.school_at(position) {
             write!(text, "{:?} ", papers.school(school))?;
         }
     }
-    Ok(text)
+    Ok(())
+}
+
+/// The papers as a text that does not tell the order of entry.
+fn papers_text(rt: &impl Abort, alloc: Global, papers: &Papers) -> String {
+    let mut text = String::new(alloc);
+    for below in 0..STUDENTS {
+        let student = student_no(rt, below.saturating_add(1));
+        write_student(&mut text, papers, student).expect(rt, "memory");
+    }
+    write_schools(&mut text, papers).expect(rt, "memory");
+    text
 }
 
 /// Lets the desks amend the clearing in turn, as they are woven.
@@ -114,7 +120,7 @@ fn weave(
     seed: u32,
     schools: u32,
     weaving: &str,
-) -> Result<Left, AllocError> {
+) {
     let mut desks = Desks {
         a: Dice {
             state: u64::from(seed),
@@ -127,13 +133,17 @@ fn weave(
         },
     };
     for desk in weaving.bytes() {
-        let stamped = random_stamped(rt, alloc, desks.dice(desk), schools)?;
+        let stamped = random_stamped(rt, alloc, desks.dice(desk), schools);
         hand_in(rt, clearing, stamped);
     }
-    Ok(Left {
-        papers: papers_text(rt, alloc, clearing.papers())?,
-        report: report_text(alloc, clearing)?,
-    })
+}
+
+/// The papers and the report of the clearing.
+fn left_in(rt: &impl Abort, alloc: Global, clearing: &Clearing) -> Left {
+    Left {
+        papers: papers_text(rt, alloc, clearing.papers()),
+        report: report_text(alloc, clearing).ok().expect(rt, "memory"),
+    }
 }
 
 /// Opens the clearing of a market, and lets the desks amend it.
@@ -143,17 +153,16 @@ fn weave_market(
     seed: u32,
     schools: &[School],
     weaving: &str,
-) -> Result<Left, Fail> {
+) -> Left {
     let mut dice = Dice {
         state: u64::from(seed),
     };
     let count = (schools.len() % 1_000) as u32;
-    let families = random_families(&mut dice, alloc, count)?;
-    let papers = papers_of(rt, alloc, schools, families.as_slice())?;
-    let mut clearing = Clearing::open(alloc, papers).ok().expect(rt, "memory");
-    let left = weave(rt, alloc, &mut clearing, seed, count, weaving);
+    let mut clearing = random_clearing(rt, alloc, &mut dice, schools);
+    weave(rt, alloc, &mut clearing, seed, count, weaving);
+    let left = left_in(rt, alloc, &clearing);
     drop(clearing);
-    Ok(left?)
+    left
 }
 
 /// Whether two weavings leave the same papers.
@@ -174,27 +183,31 @@ fn count_same(rt: &impl Abort, earlier: &[Left], left: &Left) -> u32 {
 }
 
 /// Weaves the lists that the seed gives in each way, and counts the pairs that leave the same papers.
-fn weave_all(rt: &impl Abort, alloc: Global, seed: u32) -> Result<u32, Fail> {
-    let mut dice = Dice {
-        state: u64::from(seed),
-    };
-    let schools = random_schools(&mut dice, alloc)?;
+fn weave_each_way(rt: &impl Abort, alloc: Global, seed: u32, schools: &[School]) -> u32 {
     let mut earlier = Vec::new(alloc);
     let mut same: u32 = 0;
     for weaving in &WEAVINGS {
-        let left = weave_market(rt, alloc, seed, schools.as_slice(), weaving)?;
+        let left = weave_market(rt, alloc, seed, schools, weaving);
         same = same.saturating_add(count_same(rt, earlier.as_slice(), &left));
-        earlier.push(left)?;
+        earlier.push(left).ok().expect(rt, "memory");
     }
-    Ok(same)
+    same
+}
+
+/// Draws the schools that the seed gives, and weaves the lists in each way.
+fn weave_all(rt: &impl Abort, alloc: Global, seed: u32) -> u32 {
+    let mut dice = Dice {
+        state: u64::from(seed),
+    };
+    let schools = random_schools(rt, alloc, &mut dice);
+    weave_each_way(rt, alloc, seed, schools.as_slice())
 }
 
 #[test]
-fn weavings_of_three_desks(rt: HostRuntime) -> Result<(), Fail> {
+fn weavings_of_three_desks(rt: HostRuntime) {
     let mut same: u32 = 0;
     for seed in 0..60 {
-        same = same.saturating_add(weave_all(&rt, rt.alloc(), seed)?);
+        same = same.saturating_add(weave_all(&rt, rt.alloc(), seed));
     }
     assert!(rt; same > 0);
-    Ok(())
 }

@@ -1,10 +1,10 @@
-//! Small markets drawn at random, as papers and for the plain program.
+//! Small markets drawn at random, as papers and for the plain program. Where memory is refused these helpers end
+//! the test: an answer handed on instead would have every owner's freeing proved once more for each call.
 use crate::plain::{School, Student};
 use sc_engine::Settled;
 use sc_papers::{Amendment, Papers, SchoolList, SchoolNo, Seats, Seed, StudentNo, Zone};
-use std::alloc::{AllocError, Global};
+use std::alloc::Global;
 use std::process::Abort;
-use std::test::Fail;
 
 /// Dice that fall the same way in every run.
 #[derive(Drop)]
@@ -46,19 +46,20 @@ fn draw_of(number: u32) -> u64 {
 
 /// Some of the schools numbered from 1, each once, in an order of their own.
 pub fn some_schools(
-    dice: &mut Dice,
+    rt: &impl Abort,
     alloc: Global,
+    dice: &mut Dice,
     schools: u32,
     tries: u32,
-) -> Result<Vec<u32>, AllocError> {
+) -> Vec<u32> {
     let mut list = Vec::new(alloc);
     for _try in 0..tries {
         let school = dice.roll(schools).saturating_add(1);
         if !list.as_slice().contains(&school) {
-            list.push(school)?;
+            list.push(school).expect(rt, "memory");
         }
     }
-    Ok(list)
+    list
 }
 
 /// One of the schools numbered from 1, or more often none.
@@ -71,43 +72,57 @@ fn at_most_one_school(dice: &mut Dice, schools: u32) -> Option<u32> {
 
 /// Up to three schools, numbered from 1, in one of two zones or in none, with no seat up to two, entering
 /// from the first or from the last.
-pub fn random_schools(dice: &mut Dice, alloc: Global) -> Result<Vec<School>, AllocError> {
+pub fn random_schools(rt: &impl Abort, alloc: Global, dice: &mut Dice) -> Vec<School> {
     let mut schools = Vec::new(alloc);
     for number in 1..dice.roll(3).saturating_add(2) {
-        schools.push(School {
+        let school = School {
             number,
             zone: dice.roll(3),
             seats: dice.roll(3) as usize,
-        })?;
+        };
+        schools.push(school).expect(rt, "memory");
     }
     if dice.roll(2) == 0 {
         schools.as_mut_slice().reverse();
     }
-    Ok(schools)
+    schools
+}
+
+/// The student of this number.
+fn random_family(
+    rt: &impl Abort,
+    alloc: Global,
+    dice: &mut Dice,
+    schools: u32,
+    number: u32,
+) -> Family {
+    let siblings = dice.roll(2);
+    let choices = dice.roll(4).saturating_add(1);
+    Family {
+        number,
+        zone: dice.roll(3),
+        siblings: some_schools(rt, alloc, dice, schools, siblings),
+        choices: some_schools(rt, alloc, dice, schools, choices),
+        continuing: at_most_one_school(dice, schools),
+    }
 }
 
 /// Up to four students, numbered from 1, entering from the first or from the last.
 pub fn random_families(
-    dice: &mut Dice,
+    rt: &impl Abort,
     alloc: Global,
+    dice: &mut Dice,
     schools: u32,
-) -> Result<Vec<Family>, AllocError> {
+) -> Vec<Family> {
     let mut families = Vec::new(alloc);
     for number in 1..dice.roll(4).saturating_add(2) {
-        let siblings = dice.roll(2);
-        let choices = dice.roll(4).saturating_add(1);
-        families.push(Family {
-            number,
-            zone: dice.roll(3),
-            siblings: some_schools(dice, alloc, schools, siblings)?,
-            choices: some_schools(dice, alloc, schools, choices)?,
-            continuing: at_most_one_school(dice, schools),
-        })?;
+        let family = random_family(rt, alloc, dice, schools, number);
+        families.push(family).ok().expect(rt, "memory");
     }
     if dice.roll(2) == 0 {
         families.as_mut_slice().reverse();
     }
-    Ok(families)
+    families
 }
 
 pub fn student_no(rt: &impl Abort, number: u32) -> StudentNo {
@@ -130,32 +145,32 @@ pub fn zone(rt: &impl Abort, number: u32) -> Zone {
     Zone::new(number).expect(rt, "a zone")
 }
 
-pub fn list_of(rt: &impl Abort, alloc: Global, numbers: &[u32]) -> Result<SchoolList, AllocError> {
+pub fn list_of(rt: &impl Abort, alloc: Global, numbers: &[u32]) -> SchoolList {
     let mut schools = Vec::new(alloc);
     for number in numbers {
-        schools.push(school_no(rt, *number))?;
+        schools.push(school_no(rt, *number)).expect(rt, "memory");
     }
-    Ok(SchoolList::from_vec(schools))
+    SchoolList::from_vec(schools)
 }
 
 /// Adds the schools to papers without students.
-fn add_schools(rt: &impl Abort, papers: &mut Papers, schools: &[School]) -> Result<(), Fail> {
+fn add_schools(rt: &impl Abort, papers: &mut Papers, schools: &[School]) {
     for school in schools {
         let seats = Seats::new((school.seats % 10_001) as u32).expect(rt, "seats");
-        papers.add_school(school_no(rt, school.number), zone(rt, school.zone), seats)?;
+        let added = papers.add_school(school_no(rt, school.number), zone(rt, school.zone), seats);
+        added.expect(rt, "a school that can be added");
     }
-    Ok(())
 }
 
 /// The amendment by which a family enters.
-fn entry_of(rt: &impl Abort, alloc: Global, family: &Family) -> Result<Amendment, AllocError> {
-    Ok(Amendment::Enter {
+fn entry_of(rt: &impl Abort, alloc: Global, family: &Family) -> Amendment {
+    Amendment::Enter {
         student: student_no(rt, family.number),
         zone: zone(rt, family.zone),
-        siblings: list_of(rt, alloc, family.siblings.as_slice())?,
-        choices: list_of(rt, alloc, family.choices.as_slice())?,
+        siblings: list_of(rt, alloc, family.siblings.as_slice()),
+        choices: list_of(rt, alloc, family.choices.as_slice()),
         continuing: school_or_none(rt, family.continuing),
-    })
+    }
 }
 
 fn fill(
@@ -164,12 +179,17 @@ fn fill(
     papers: &mut Papers,
     schools: &[School],
     families: &[Family],
-) -> Result<(), Fail> {
-    add_schools(rt, papers, schools)?;
+) {
+    add_schools(rt, papers, schools);
     for family in families {
-        papers.apply(entry_of(rt, alloc, family)?)?;
+        let entered = papers.apply(entry_of(rt, alloc, family));
+        entered.expect(rt, "a student who can enter");
     }
-    Ok(())
+}
+
+/// The seed of 64 zeros.
+fn zero_seed(rt: &impl Abort) -> Seed {
+    Seed::from_hex(&[b'0'; 64]).ok().expect(rt, "a seed")
 }
 
 /// The market as papers under the zero seed.
@@ -178,33 +198,43 @@ pub fn papers_of(
     alloc: Global,
     schools: &[School],
     families: &[Family],
-) -> Result<Papers, Fail> {
-    let mut papers = Papers::new(alloc, Seed::from_hex(&[b'0'; 64])?);
-    fill(rt, alloc, &mut papers, schools, families)?;
-    Ok(papers)
+) -> Papers {
+    let mut papers = Papers::new(alloc, zero_seed(rt));
+    fill(rt, alloc, &mut papers, schools, families);
+    papers
+}
+
+/// A student of the market, for the plain program.
+fn plain_student(family: &Family) -> Student<'_> {
+    Student {
+        number: family.number,
+        draw: draw_of(family.number),
+        zone: family.zone,
+        siblings: family.siblings.as_slice(),
+        choices: family.choices.as_slice(),
+        continuing: family.continuing,
+    }
 }
 
 /// The students of the market, for the plain program.
-pub fn plain_students(alloc: Global, families: &[Family]) -> Result<Vec<Student<'_>>, AllocError> {
+pub fn plain_students<'a>(
+    rt: &impl Abort,
+    alloc: Global,
+    families: &'a [Family],
+) -> Vec<Student<'a>> {
     let mut students = Vec::new(alloc);
     for family in families {
-        students.push(Student {
-            number: family.number,
-            draw: draw_of(family.number),
-            zone: family.zone,
-            siblings: family.siblings.as_slice(),
-            choices: family.choices.as_slice(),
-            continuing: family.continuing,
-        })?;
+        students.push(plain_student(family)).expect(rt, "memory");
     }
-    Ok(students)
+    students
 }
 
 /// The rejections of a log in plain numbers.
-pub fn plain_log(alloc: Global, settled: &Settled) -> Result<Vec<(u32, u32)>, AllocError> {
+pub fn plain_log(rt: &impl Abort, alloc: Global, settled: &Settled) -> Vec<(u32, u32)> {
     let mut log = Vec::new(alloc);
     for entry in &settled.log {
-        log.push((entry.student.get(), entry.school.get()))?;
+        let pair = (entry.student.get(), entry.school.get());
+        log.push(pair).expect(rt, "memory");
     }
-    Ok(log)
+    log
 }

@@ -1,6 +1,7 @@
 //! The definitions of `specs/` once more, as a slow plain program for tests: it lists every matching
 //! of small papers, and finds the stable ones and the student-optimal one by the definitions alone.
-use std::alloc::{AllocError, Global};
+use std::alloc::Global;
+use std::process::Abort;
 
 /// A school of small papers.
 #[derive(Clone, Copy)]
@@ -155,15 +156,16 @@ impl Market<'_> {
     /// What pairs of a student and a school give each student.
     pub fn matching_of_pairs(
         &self,
+        rt: &impl Abort,
         alloc: Global,
         pairs: &[(u32, u32)],
-    ) -> Result<Matching, AllocError> {
+    ) -> Matching {
         let mut matching = Vec::new(alloc);
         for student in self.students {
             let pair = pairs.iter().find(|pair| pair.0 == student.number);
-            matching.push(pair.map(|pair| pair.1))?;
+            matching.push(pair.map(|pair| pair.1)).expect(rt, "memory");
         }
-        Ok(matching)
+        matching
     }
 
     /// Whether each school is within its seats.
@@ -188,31 +190,24 @@ impl Market<'_> {
     }
 
     /// Every matching of the papers, within seats or not.
-    pub fn matchings(&self, alloc: Global) -> Result<Vec<Matching>, AllocError> {
+    pub fn matchings(&self, rt: &impl Abort, alloc: Global) -> Vec<Matching> {
         let mut all = Vec::new(alloc);
-        all.push(Vec::new(alloc))?;
+        all.push(Vec::new(alloc)).ok().expect(rt, "memory");
         for student in self.students {
-            let mut longer = Vec::new(alloc);
-            for matching in &all {
-                longer.push(with_one(alloc, matching, None)?)?;
-                for school in student.choices {
-                    longer.push(with_one(alloc, matching, Some(*school))?)?;
-                }
-            }
-            all = longer;
+            all = with_student(rt, alloc, &all, student);
         }
-        Ok(all)
+        all
     }
 
     /// Every stable matching of the papers.
-    pub fn stable_matchings(&self, alloc: Global) -> Result<Vec<Matching>, AllocError> {
+    pub fn stable_matchings(&self, rt: &impl Abort, alloc: Global) -> Vec<Matching> {
         let mut stable = Vec::new(alloc);
-        for matching in self.matchings(alloc)? {
+        for matching in self.matchings(rt, alloc) {
             if self.is_stable(&matching) {
-                stable.push(matching)?;
+                stable.push(matching).ok().expect(rt, "memory");
             }
         }
-        Ok(stable)
+        stable
     }
 
     /// Whether no student prefers what one of the stable matchings gives.
@@ -263,30 +258,54 @@ impl Market<'_> {
     }
 
     /// What a log gives each student.
-    pub fn matching_of(&self, alloc: Global, log: &[(u32, u32)]) -> Result<Matching, AllocError> {
+    pub fn matching_of(&self, rt: &impl Abort, alloc: Global, log: &[(u32, u32)]) -> Matching {
         let mut matching = Vec::new(alloc);
         for student in self.students {
-            matching.push(student.next_choice(log))?;
+            matching.push(student.next_choice(log)).expect(rt, "memory");
         }
-        Ok(matching)
+        matching
     }
 
     /// Whether a log is settled.
-    pub fn is_settled(&self, alloc: Global, log: &[(u32, u32)]) -> Result<bool, AllocError> {
-        Ok(
-            self.first_bad_entry(log).is_none()
-                && self.is_within_seats(&self.matching_of(alloc, log)?),
-        )
+    pub fn is_settled(&self, rt: &impl Abort, alloc: Global, log: &[(u32, u32)]) -> bool {
+        self.first_bad_entry(log).is_none()
+            && self.is_within_seats(&self.matching_of(rt, alloc, log))
     }
 }
 
 /// A matching of one more student.
 fn with_one(
+    rt: &impl Abort,
     alloc: Global,
     matching: &[Option<u32>],
     has: Option<u32>,
-) -> Result<Matching, AllocError> {
-    let mut longer = Vec::from_slice(alloc, matching)?;
-    longer.push(has)?;
-    Ok(longer)
+) -> Matching {
+    let mut longer = Vec::from_slice(alloc, matching).expect(rt, "memory");
+    longer.push(has).expect(rt, "memory");
+    longer
+}
+
+/// The matchings of one more student, who has nothing or any of the choices.
+fn with_student(
+    rt: &impl Abort,
+    alloc: Global,
+    matchings: &[Matching],
+    student: &Student,
+) -> Vec<Matching> {
+    let mut longer = Vec::new(alloc);
+    for matching in matchings {
+        add_matching(rt, &mut longer, with_one(rt, alloc, matching, None));
+        for school in student.choices {
+            add_matching(
+                rt,
+                &mut longer,
+                with_one(rt, alloc, matching, Some(*school)),
+            );
+        }
+    }
+    longer
+}
+
+fn add_matching(rt: &impl Abort, matchings: &mut Vec<Matching>, matching: Matching) {
+    matchings.push(matching).ok().expect(rt, "memory");
 }
