@@ -4,9 +4,9 @@ use Rattle.std.specs.Prelude.{◌==◌, ◌&&◌, ◌||◌, nat_lt}
 use Rattle.std.specs.List.{slice_get, list_any}
 use Rattle.sc_lottery.specs.Draw.{draw}
 use Rattle.sc_papers.specs.Key.{class_by, has_sibling_at, same_zone, key_of, key_at}
-use Rattle.sc_papers.specs.Market.{Market, continuing_of, siblings_of, student_at, student_of, students_of, school_of, schools_of, seats_of, is_student, is_school, zone_of}
+use Rattle.sc_papers.specs.Market.{Market, student_at, student_of, students_of, school_of, schools_of, seats_of, is_student, is_school}
 use Rattle.sc_papers.specs.Representation.{rows_of}
-use Rattle.sc_papers.specs.StudentRow.{Row, row_of}
+use Rattle.sc_papers.specs.StudentRow.{IsRowAt, Row, row_of}
 use Rattle.sc_papers.specs.WellFormed.{WellFormed}
 use Rattle.sc_papers.specs.declared.records.School.{School}
 use Rattle.sc_papers.specs.declared.records.Student.{Student}
@@ -115,32 +115,23 @@ module _ (m : Market) (table : List (Option ℕ)) (rows : List Row) (place : ℕ
       ap (student_of m) (get_or_from_slice_get (students_of m) place whose.0.0 0 (key-there m.students place whose.0.0 whose.0.1 whose.1))
       ∙ lookup_from_place nat_eq_equiv m.students place whose.0.0 whose.0.1 well.students_differ whose.1
 
-  pub row-within : place < length m.students
-  row-within = slice_get_within m.students place whose.0 whose.1
-
   -- the row tells the number
   pub row-number : row.number ≡ student_at m place
   row-number = ap (λ (r : Row). r.number) whose.2 ∙ sym (get_or_from_slice_get (students_of m) place whose.0.0 0 (key-there m.students place whose.0.0 whose.0.1 whose.1))
 
-  -- the zone
-  pub row-zone : row.zone ≡ zone_of m (student_at m place)
-  row-zone = ap (λ (r : Row). r.zone) whose.2 ∙ ap (λ o. option_map_or (λ (student : Student). student.zone) o 0) (sym theirs)
-
-  -- the school at which the student continues
-  pub row-continuing : row.continuing ≡ continuing_of m (student_at m place)
-  row-continuing = ap (λ (r : Row). r.continuing) whose.2 ∙ ap (λ o. option_and_then (λ (student : Student). student.continuing) o) (sym theirs)
-
-  -- the school of the first sibling
-  pub row-sibling : row.sibling ≡ slice_get (siblings_of m (student_at m place)) 0
-  row-sibling =
-      ap (λ (r : Row). r.sibling) whose.2
-      ∙ ap (λ o. slice_get (option_map_or (λ (student : Student). student.siblings) o []) 0) (sym theirs)
-
-  -- and whether there are more
-  pub row-more_siblings : row.more_siblings ≡ nat_lt 1 (length (siblings_of m (student_at m place)))
-  row-more_siblings =
-      ap (λ (r : Row). r.more_siblings) whose.2
-      ∙ ap (λ o. nat_lt 1 (length (option_map_or (λ (student : Student). student.siblings) o []))) (sym theirs)
+  -- and what else is asked of it beside draw and choices
+  pub row-told : IsRowAt m place row
+  row-told = record {
+    within = slice_get_within m.students place whose.0 whose.1;
+    zone = ap (λ (r : Row). r.zone) whose.2 ∙ ap (λ o. option_map_or (λ (student : Student). student.zone) o 0) (sym theirs);
+    continuing = ap (λ (r : Row). r.continuing) whose.2 ∙ ap (λ o. option_and_then (λ (student : Student). student.continuing) o) (sym theirs);
+    sibling =
+        ap (λ (r : Row). r.sibling) whose.2
+        ∙ ap (λ o. slice_get (option_map_or (λ (student : Student). student.siblings) o []) 0) (sym theirs);
+    more_siblings =
+        ap (λ (r : Row). r.more_siblings) whose.2
+        ∙ ap (λ o. nat_lt 1 (length (option_map_or (λ (student : Student). student.siblings) o []))) (sym theirs);
+  }
 
   -- and a key is put together from it
   pub key-of_row : (at s class : ℕ) (sibling : Bool) (school : School) → slice_get m.schools at ≡ Some (s, school) → school_of m s ≡ Some school

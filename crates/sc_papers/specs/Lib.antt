@@ -1,6 +1,7 @@
 pub use Rattle.sc_lottery.specs.Draw
 pub mod Market
 pub mod Key
+pub mod Change
 pub mod Refusal
 pub mod Verdict
 pub mod TakingBack

@@ -1,5 +1,6 @@
 -- What the papers keep of a student in one row, beside the student's record.
-use Rattle.std.specs.Prelude.{ℕ, ◌==◌, Bool, nat_lt, List, Option, None, Some, length, map, take, slice_get, slice_index_or, unwrap_or, if◌then◌else◌}
+use Rattle.std.specs.Prelude.{◌≡◌, ◌<◌, ℕ, ◌==◌, Bool, nat_lt, List, Option, None, Some, length, map, take, slice_get, slice_index_or, unwrap_or, if◌then◌else◌}
+use Rattle.sc_papers.specs.Market.{Market, continuing_of, siblings_of, student_at, zone_of}
 use Rattle.sc_papers.specs.declared.records.Student.{Student}
 use Rattle.sc_papers.specs.declared.student_row.StudentRow.TheInside.{Inside}
 
@@ -49,3 +50,11 @@ row_at positions number draw student = record {
 -- the row of a student with this number and this draw, whose choices' schools stand where the table says
 abbrev pub row_of : List (Option ℕ) → ℕ → ℕ → Student → Row
 row_of table number draw student = row_at (positions_in table student.choices) number draw student
+
+-- the row tells of the student at a position of the order of entry, but for their draw and their choices
+pub record IsRowAt (m : Market) (at : ℕ) (row : Row) : Type 0 where
+  pub within : at < length m.students
+  pub zone : row.zone ≡ zone_of m (student_at m at)
+  pub continuing : row.continuing ≡ continuing_of m (student_at m at)
+  pub sibling : row.sibling ≡ slice_get (siblings_of m (student_at m at)) 0
+  pub more_siblings : row.more_siblings ≡ nat_lt 1 (length (siblings_of m (student_at m at)))

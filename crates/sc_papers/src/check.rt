@@ -165,7 +165,7 @@ pub(crate) fn check_enter_at(
     if is_student(papers, student) {
         return Err(Refusal::StudentExists);
     }
-    if choices.len() == 0 {
+    if choices.as_slice().is_empty() {
         return Err(Refusal::EmptyList);
     }
     check_length(siblings)?;

@@ -6,10 +6,10 @@ ghost use Rattle.indexmap.specs.IndexMap.{spare};
 mod amending;
 mod entering;
 mod keys;
-mod numbers;
+pub(crate) mod numbers;
 pub(crate) mod order;
 
-use crate::flat_papers::numbers::Numbers;
+use crate::flat_papers::numbers::{Finding, Numbers};
 use crate::position_list::PositionList;
 use crate::records::School;
 use crate::school_no::SchoolNo;
@@ -99,20 +99,11 @@ impl FlatPapers {
         ensures schools { result.schools ≡ [] }
         ensures students { result.students ≡ [] }
     {
-        FlatPapers::empty(alloc, seed, Numbers::rising(alloc, SeededHash::new(seed)))
+        FlatPapers::finding(Finding::ByOrder, alloc, seed)
     }
 
-    /// The same, with a table of the students' numbers from the first on, for papers that are amended.
-    pub(crate) fn tabled(alloc: Global, seed: Seed) -> Self
-        ensures seed { result.seed ≡ seed }
-        ensures schools { result.schools ≡ [] }
-        ensures students { result.students ≡ [] }
-    {
-        FlatPapers::empty(alloc, seed, Numbers::tabled(alloc, SeededHash::new(seed)))
-    }
-
-    fn empty(alloc: Global, seed: Seed, numbers: Numbers) -> Self
-        requires { numbers ≡ [] }
+    /// The same, whose students' numbers are found in this way: papers that are amended have a table from the first on.
+    pub(crate) fn finding(finding: Finding, alloc: Global, seed: Seed) -> Self
         ensures seed { result.seed ≡ seed }
         ensures schools { result.schools ≡ [] }
         ensures students { result.students ≡ [] }
@@ -121,18 +112,24 @@ impl FlatPapers {
             lottery: Draws::new(seed),
             schools: IndexMap::with_hasher(alloc, SeededHash::new(seed)),
             positions: SchoolPositions::new(alloc),
-            numbers,
+            numbers: Numbers::new(finding, alloc, SeededHash::new(seed)),
             rows: Vec::new(alloc),
             siblings: IndexMap::with_hasher(alloc, SeededHash::new(seed)),
         }
     }
 
-    /// Makes a table of the students' numbers, for papers that are amended. Nothing else changes, also where the growth
-    /// is refused.
-    pub(crate) fn table_numbers(&mut self) -> Result<(), AllocError>
-        ensures { self.new ≡ self.old }
+    /// The same papers with a table of the students' numbers, for papers that are amended, or the error of a refused
+    /// growth.
+    pub(crate) fn with_table(mut self) -> Result<Self, AllocError>
+        ensures { IfOk result (λ papers. papers ≡ self) }
     {
-        self.numbers.make_table()
+        match self.numbers.make_table() {
+            Ok(()) => Ok(self),
+            Err(refused) => {
+                drop(self);
+                Err(refused)
+            }
+        }
     }
 
     /// Equal papers, or the error of a refused growth. One pass over the schools and the students; no

@@ -2,6 +2,7 @@
 
 ghost use Rattle.std.specs.Prelude.{◌≡◌, ◌+◌, ◌-◌, ◌<◌, ◌≤◌, [], length, slice_get, IfOk, IfErr, OnOk, OnErr, None};
 ghost use Rattle.std.specs.Option.{option_and_then, option_copied};
+ghost use Rattle.sc_papers.specs.Change.{ChangesTo};
 ghost use Rattle.sc_papers.specs.Entry.{MayEnterAt};
 ghost use Rattle.sc_papers.specs.Market.{choices_of, continuing_of, seats_of, schools_of, siblings_of, student_at, student_of, students_of, zone_of};
 ghost use Rattle.sc_papers.specs.Placed.{schools_at};
@@ -11,6 +12,7 @@ ghost use Rattle.sc_papers.specs.EntryOrder.{with_moved_student, with_swapped_st
 use crate::amendment::Refusal;
 use crate::count::Count;
 use crate::flat_papers::FlatPapers;
+use crate::flat_papers::numbers::Finding;
 use crate::flat_papers::order::{move_item, swap_items};
 use crate::limits::{LONGEST_LIST, MOST_STUDENTS};
 use crate::position_list::PositionList;
@@ -75,7 +77,7 @@ impl Papers {
         ensures students { result.students ≡ [] }
     {
         Papers {
-            flat: FlatPapers::tabled(alloc, seed),
+            flat: FlatPapers::finding(Finding::ByTable, alloc, seed),
             records: Vec::new(alloc),
         }
     }
@@ -83,10 +85,10 @@ impl Papers {
     /// Papers that hold a record of each student of flat ones. The only error is want of memory, after which the flat
     /// papers are given up. The cost is one pass over the students and their lists. A table of the students' numbers is
     /// made, if there is none.
-    pub fn from_flat(mut flat: FlatPapers) -> Result<Self, AllocError>
+    pub fn from_flat(flat: FlatPapers) -> Result<Self, AllocError>
         ensures { IfOk result (λ papers. papers ≡ flat) }
     {
-        flat.table_numbers()?;
+        let flat = flat.with_table()?;
         match records_of(&flat) {
             Ok(records) => Ok(Papers { flat, records }),
             Err(refused) => {
@@ -189,8 +191,7 @@ impl Papers {
     ) -> Result<(), AllocError>
         requires { first_of (objections_to_enter self.old number student.siblings student.choices student.continuing)
             ≡ None }
-        ensures entered { OnOk result (self.new ≡ with_student self.old number student) }
-        ensures unchanged { OnErr result (self.new ≡ self.old) }
+        ensures { ChangesTo self.old self.new (with_student self.old number student) result }
     {
         let choices = self.flat.entry_positions(number, &student);
         self.put_last(number, student, &choices)
@@ -205,8 +206,7 @@ impl Papers {
     ) -> Result<(), AllocError>
         requires may { MayEnterAt self.old number student choices.now }
         requires choices { schools_at (schools_of self.old) choices.now ≡ student.choices }
-        ensures entered { OnOk result (self.new ≡ with_student self.old number student) }
-        ensures unchanged { OnErr result (self.new ≡ self.old) }
+        ensures { ChangesTo self.old self.new (with_student self.old number student) result }
     {
         self.records.reserve(1)?;
         self.flat.put_last(number, &student, choices)?;

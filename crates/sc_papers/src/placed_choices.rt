@@ -50,7 +50,7 @@ impl ChosenPositions {
         ensures once { first_repeat [] self.now ≡ None }
     {
         // This call tells that a list is short.
-        prove!(self.list.len() <= LONGEST_LIST);
+        prove!(self.list.as_slice().len() <= LONGEST_LIST);
         &self.list
     }
 
@@ -99,7 +99,7 @@ impl PlacedChoices {
     {
         PlacedChoices {
             chosen: ChosenPositions {
-                list: PositionList::empty(),
+                list: PositionList::default(),
             },
             marked: [false; MARKS],
         }
@@ -136,7 +136,7 @@ impl PlacedChoices {
         let Some(position) = papers.position_of(school) else {
             return false;
         };
-        if self.chosen.as_list().len() >= LONGEST_LIST || self.has(position) {
+        if self.chosen.as_list().as_slice().len() >= LONGEST_LIST || self.has(position) {
             return false;
         }
         self.marked[mark_at(position)] = true;

@@ -15,7 +15,7 @@ use std::alloc::AllocError;
 use std::marker::Model;
 
 /// Where the schools of a list stand in the order of entry, in one piece of memory: as many as a list may name at most.
-#[derive(Drop)]
+#[derive(Default, Drop)]
 pub(crate) struct PositionList {
     pub(crate) count: u8,
     pub(crate) positions: [u16; 20],
@@ -34,16 +34,6 @@ impl Model for PositionList {
 impl PositionList {
     ghost use Rattle.std.specs.Prelude.{◌≡◌, ◌≤◌, ◌<◌, ◌++◌, [], ◌∷◌, length};
 
-    /// No positions.
-    pub(crate) fn empty() -> Self
-        ensures { result ≡ [] }
-    {
-        PositionList {
-            count: 0,
-            positions: [0; 20],
-        }
-    }
-
     /// The positions of the schools of a list.
     pub(crate) fn new(table: &SchoolPositions, schools: &[SchoolNo]) -> Self
         requires { length schools.now ≤ LONGEST_LIST }
@@ -53,14 +43,6 @@ impl PositionList {
             count: schools.len() as u8,
             positions: fill_positions(table, schools),
         }
-    }
-
-    /// How many there are.
-    pub(crate) fn len(&self) -> usize
-        ensures len { result ≡ length self.now }
-        ensures short { result ≤ LONGEST_LIST }
-    {
-        usize::from(self.count)
     }
 
     /// Forgets all positions.
@@ -81,7 +63,8 @@ impl PositionList {
 
     /// The positions, in the list's order.
     pub(crate) fn as_slice(&self) -> &[u16]
-        ensures { result.now ≡ self.now }
+        ensures positions { result.now ≡ self.now }
+        ensures short { length self.now ≤ LONGEST_LIST }
     {
         &self.positions[..self.count as usize]
     }

@@ -4,12 +4,14 @@ ghost use Rattle.std.specs.Prelude.{◌≡◌, ◌<◌, All, Some, length, IfOk}
 ghost use Rattle.sc_papers.specs.Market.{schools_of, siblings_of, student_at, student_of};
 ghost use Rattle.sc_papers.specs.Records.{AreRecords};
 ghost use Rattle.sc_papers.specs.Placed.{schools_at};
+ghost use Rattle.sc_papers.specs.StudentRow.{IsRowAt};
 
 use crate::flat_papers::FlatPapers;
 use crate::limits::MOST_STUDENTS;
 use crate::records::Student;
 use crate::school_list::SchoolList;
 use crate::school_no::SchoolNo;
+use crate::student_row::StudentRow;
 use crate::zone::Zone;
 use std::alloc::AllocError;
 use std::mem;
@@ -29,33 +31,38 @@ fn schools_at(papers: &FlatPapers, positions: &[u16]) -> Result<SchoolList, Allo
     Ok(SchoolList::from_vec(schools))
 }
 
-/// The schools of the siblings of the student at a position of the order of entry, from 0.
-fn siblings_at(papers: &FlatPapers, position: usize) -> Result<SchoolList, AllocError>
-    requires { position < length papers.now.students }
+/// The schools of the siblings of the student at a position of the order of entry, from 0, who has this row.
+fn siblings_at(
+    papers: &FlatPapers,
+    position: usize,
+    row: &StudentRow,
+) -> Result<SchoolList, AllocError>
+    requires { IsRowAt papers.now position row.now }
     ensures { IfOk result (λ list. list ≡ siblings_of papers.now (student_at papers.now position)) }
 {
-    if papers.has_more_siblings_at(position) {
+    if row.has_more_siblings() {
         return schools_at(papers, papers.sibling_positions_at(position));
     }
     let mut schools = Vec::new(papers.allocator());
-    if let Some(school) = papers.first_sibling_at(position) {
+    if let Some(school) = row.sibling() {
         schools.push(school)?;
     }
     Ok(SchoolList::from_vec(schools))
 }
 
-/// The record of the student at a position of the order of entry, from 0. The only error is want of memory.
-fn record_of(papers: &FlatPapers, position: usize) -> Result<Student, AllocError>
-    requires { position < length papers.now.students }
+/// The record of the student at a position of the order of entry, from 0, who has this row. The only error is want of
+/// memory.
+fn record_of(papers: &FlatPapers, position: usize, row: &StudentRow) -> Result<Student, AllocError>
+    requires { IsRowAt papers.now position row.now }
     ensures { IfOk result (λ student. student_of papers.now (student_at papers.now position) ≡ Some student) }
 {
     // This call tells that the papers are well-formed, and so are their lists.
     prove!(papers.students_len() <= MOST_STUDENTS);
-    let siblings = siblings_at(papers, position)?;
+    let siblings = siblings_at(papers, position, row)?;
     let choices = schools_at(papers, papers.choice_positions_at(position))?;
     Ok(Student {
-        zone: papers.zone_at(position),
-        continuing: papers.continuing_at(position),
+        zone: row.zone(),
+        continuing: row.continuing(),
         siblings,
         choices,
     })
@@ -67,7 +74,7 @@ pub(crate) fn records_of(papers: &FlatPapers) -> Result<Vec<Student>, AllocError
 {
     let mut records = Vec::with_capacity(papers.allocator(), papers.students_len())?;
     for position in 0..papers.students_len() {
-        records.push(record_of(papers, position)?)?;
+        records.push(record_of(papers, position, papers.row_at(position))?)?;
     }
     Ok(records)
 }

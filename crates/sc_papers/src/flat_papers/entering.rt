@@ -18,6 +18,7 @@ use std::alloc::AllocError;
 
 impl FlatPapers {
     ghost use Rattle.std.specs.Prelude.{◌≡◌, ◌≤◌, None, Some, OnOk, OnErr, IfErr, IfOk};
+    ghost use Rattle.sc_papers.specs.Change.{ChangesTo};
     ghost use Rattle.sc_papers.specs.Entry.{with_choices_at, MayEnterAt};
     ghost use Rattle.sc_papers.specs.Market.{schools_of};
     ghost use Rattle.sc_papers.specs.Placed.{schools_at, AreOfSchools};
@@ -56,8 +57,7 @@ impl FlatPapers {
     fn put_school(&mut self, number: SchoolNo, school: School) -> Result<(), AllocError>
         requires allowed { school_verdict self.old number ≡ None }
         requires seats { school.seats ≤ Seats.GREATEST }
-        ensures added { OnOk result (self.new ≡ with_school self.old number school) }
-        ensures unchanged { OnErr result (self.new ≡ self.old) }
+        ensures { ChangesTo self.old self.new (with_school self.old number school) result }
     {
         self.positions.reserve(number)?;
         let position = self.schools.len() as u16;
@@ -211,9 +211,8 @@ impl FlatPapers {
         choices: &PositionList,
     ) -> Result<(), AllocError>
         requires { MayEnterAt self.old number student.now choices.now }
-        ensures entered { OnOk result (self.new ≡ with_student self.old number
-            (with_choices_at self.old choices.now student.now)) }
-        ensures unchanged { OnErr result (self.new ≡ self.old) }
+        ensures { ChangesTo self.old self.new
+            (with_student self.old number (with_choices_at self.old choices.now student.now)) result }
     {
         self.rows.reserve(1)?;
         let room = (self.rows.len() + 1).saturating_sub(self.siblings.len());

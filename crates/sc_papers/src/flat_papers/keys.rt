@@ -1,6 +1,6 @@
 //! The keys of the students at the schools.
 
-ghost use Rattle.std.specs.Prelude.{◌≡◌, ◌<◌, ◌==◌, length, map, nat_eq, position, slice_get, nat_lt, true, ◌&&◌, Some, None, if◌then◌else◌};
+ghost use Rattle.std.specs.Prelude.{◌≡◌, ◌<◌, ◌==◌, length, map, nat_eq, position, nat_lt, true, ◌&&◌, Some, None, if◌then◌else◌};
 ghost use Rattle.std.specs.List.{list_any};
 ghost use Rattle.sc_papers.specs.Key.{class_by, same_zone};
 
@@ -35,7 +35,8 @@ fn is_among(positions: &[u16], at: usize) -> bool
 }
 
 impl FlatPapers {
-    ghost use Rattle.sc_papers.specs.Market.{continuing_of, student_at, schools_of, siblings_of, is_school, is_student, zone_of};
+    ghost use Rattle.sc_papers.specs.Market.{student_at, schools_of, siblings_of, is_school, is_student};
+    ghost use Rattle.sc_papers.specs.StudentRow.{IsRowAt};
     ghost use Rattle.sc_papers.specs.Key.{has_sibling_at, key_at, key_of};
 
     /// The student's key at the school, or `None` where either is not in the papers. The student
@@ -69,36 +70,12 @@ impl FlatPapers {
         })
     }
 
-    /// The zone of the student at a position of the order of entry, from 0.
-    pub(crate) fn zone_at(&self, student: usize) -> Zone
+    /// What a proposal reads of the student at a position of the order of entry, from 0.
+    pub(crate) fn row_at(&self, student: usize) -> &StudentRow
         requires { student < length self.now.students }
-        ensures { result ≡ zone_of self.now (student_at self.now student) }
+        ensures { IsRowAt self.now student result.now }
     {
-        self.rows[student].zone()
-    }
-
-    /// The school at which the student at a position of the order of entry, from 0, continues, if there is one.
-    pub(crate) fn continuing_at(&self, student: usize) -> Option<SchoolNo>
-        requires { student < length self.now.students }
-        ensures { result ≡ continuing_of self.now (student_at self.now student) }
-    {
-        self.rows[student].continuing()
-    }
-
-    /// The school of the first sibling of the student at a position of the order of entry, from 0, if there is one.
-    pub(crate) fn first_sibling_at(&self, student: usize) -> Option<SchoolNo>
-        requires { student < length self.now.students }
-        ensures { result ≡ slice_get (siblings_of self.now (student_at self.now student)) 0 }
-    {
-        self.rows[student].sibling()
-    }
-
-    /// Whether the student at a position of the order of entry, from 0, has more than one sibling.
-    pub(crate) fn has_more_siblings_at(&self, student: usize) -> bool
-        requires { student < length self.now.students }
-        ensures { result ≡ nat_lt 1 (length (siblings_of self.now (student_at self.now student))) }
-    {
-        self.rows[student].has_more_siblings()
+        &self.rows[student]
     }
 
     /// Where the schools of the siblings of the student at a position of the order of entry, from 0, stand, who has more
@@ -131,10 +108,8 @@ impl FlatPapers {
     /// siblings are looked at only where the student's row tells of more than one.
     #[inline]
     fn has_sibling_at(&self, row: &StudentRow, student: usize, school: SchoolNo, at: usize) -> bool
-        requires student { student < length self.now.students }
+        requires row { IsRowAt self.now student row.now }
         requires school { position (nat_eq school) (schools_of self.now) ≡ Some at }
-        requires sibling { row.now.sibling ≡ slice_get (siblings_of self.now (student_at self.now student)) 0 }
-        requires more { row.now.more_siblings ≡ nat_lt 1 (length (siblings_of self.now (student_at self.now student))) }
         ensures { result ≡ has_sibling_at self.now (student_at self.now student) school }
     {
         row.has_first_sibling_at(school)

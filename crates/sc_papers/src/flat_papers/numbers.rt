@@ -24,6 +24,15 @@ pub(crate) struct Numbers {
     hash: SeededHash,
 }
 
+/// How a number is found among others.
+#[derive(Clone, Copy)]
+pub(crate) enum Finding {
+    /// By a search, as long as they rise.
+    ByOrder,
+    /// In a table.
+    ByTable,
+}
+
 #[derive(Drop)]
 enum Kept {
     Listed(Vec<StudentNumber>),
@@ -94,30 +103,20 @@ fn table_with(
 }
 
 impl Numbers {
-    ghost use Rattle.std.specs.Prelude.{◌≡◌, ◌<◌, ◌++◌, ◌∷◌, [], false, length, nat_eq, position, remove, swap, IfOk, OnErr, OnOk};
+    ghost use Rattle.std.specs.Prelude.{◌≡◌, ◌<◌, ◌++◌, ◌∷◌, [], false, length, nat_eq, position, remove, swap, IfOk};
     ghost use Rattle.std.specs.List.{list_any};
     ghost use Rattle.indexmap.specs.IndexMap.{move_index};
+    ghost use Rattle.sc_papers.specs.Change.{ChangesTo};
 
-    /// No numbers, and no table while they rise. It takes no memory.
-    pub(crate) fn rising(alloc: Global, hash: SeededHash) -> Self
+    /// No numbers. It takes no memory.
+    pub(crate) fn new(finding: Finding, alloc: Global, hash: SeededHash) -> Self
         ensures { result ≡ [] }
     {
-        Numbers {
-            kept: Kept::Listed(Vec::new(alloc)),
-            rising: true,
-            hash,
-        }
-    }
-
-    /// No numbers, and a table for them. It takes no memory.
-    pub(crate) fn tabled(alloc: Global, hash: SeededHash) -> Self
-        ensures { result ≡ [] }
-    {
-        Numbers {
-            kept: Kept::Tabled(IndexSet::with_hasher(alloc, hash)),
-            rising: false,
-            hash,
-        }
+        let (kept, rising) = match finding {
+            Finding::ByOrder => (Kept::Listed(Vec::new(alloc)), true),
+            Finding::ByTable => (Kept::Tabled(IndexSet::with_hasher(alloc, hash)), false),
+        };
+        Numbers { kept, rising, hash }
     }
 
     /// Equal numbers, kept alike, or the error of a refused growth.
@@ -166,8 +165,7 @@ impl Numbers {
     /// of them before anything changes, so a refused growth leaves everything as it was.
     pub(crate) fn push(&mut self, number: StudentNumber) -> Result<(), AllocError>
         requires { list_any (nat_eq number) self.old ≡ false }
-        ensures pushed { OnOk result (self.new ≡ self.old ++ number ∷ []) }
-        ensures unchanged { OnErr result (self.new ≡ self.old) }
+        ensures { ChangesTo self.old self.new (self.old ++ number ∷ []) result }
     {
         match &mut self.kept {
             Kept::Tabled(table) => {

@@ -12,6 +12,6 @@ schools_at-requires c =
 pub returns : goal.returns
 returns c =
     let m = c.args.papers.now in
-    made-record m c.args.position c.zone_at.result c.continuing_at.result c.in_ok-siblings.siblings c.in_ok-choices.choices c.requires c.zone_at.ensures c.continuing_at.ensures
+    made-record m c.args.position c.zone.result c.continuing.result c.in_ok-siblings.siblings c.in_ok-choices.choices c.requires.within (c.zone.ensures ∙ c.requires.zone) (c.continuing.ensures ∙ c.requires.continuing)
     c.in_ok-siblings.ensures
     (c.in_ok-choices.ensures ∙ places-back m (choices_of m (student_at m c.args.position)) c.choice_positions_at.result.now c.choice_positions_at.ensures)

@@ -1,9 +1,9 @@
-use Rattle.std.proofs.Common.{◌<◌, Some, length, nat_eq, position, sym, ◌∙◌, ap, subst}
-use Rattle.std.specs.Prelude.{nat_lt, slice_get}
+use Rattle.std.proofs.Common.{Some, nat_eq, position, sym, ◌∙◌, ap, subst}
 use Rattle.sc_papers.specs.Representation.{market_of}
 use Rattle.sc_papers.specs.Key.{class_by, has_sibling_at, key_at, same_zone}
-use Rattle.sc_papers.specs.Market.{Market, schools_of, siblings_of, student_at}
-use Rattle.sc_papers.proofs.Keys.{key-of_row, key-there, row-more_siblings, row-read, row-sibling, row-within}
+use Rattle.sc_papers.specs.Market.{Market, schools_of, student_at}
+use Rattle.sc_papers.specs.StudentRow.{IsRowAt}
+use Rattle.sc_papers.proofs.Keys.{key-of_row, key-there, row-read, row-told}
 use Rattle.sc_papers.proofs.Positions.{school-place_position}
 use Rattle.sc_papers.proofs.flat_papers.FlatPapers.key_at.Goals as goal
 
@@ -25,29 +25,13 @@ returns c =
     c.args.school name c.class_of-class.result c.has_sibling_at-sibling.result c.in_ok-name.entry.now (sym school.entry) school.value sibling class_is
     ∙ ap (λ (n : Market). key_at n c.args.student c.args.school) c.self.view_is
 
-pub has_sibling_at-sibling-requires-clause-student : goal.has_sibling_at-sibling-requires-clause-student
-has_sibling_at-sibling-requires-clause-student c =
+pub has_sibling_at-sibling-requires-clause-row : goal.has_sibling_at-sibling-requires-clause-row
+has_sibling_at-sibling-requires-clause-row c =
     let m = market_of c.self.inside in
     let read = c.in_ok-row.ensures.lookup in
     let here = row-read c.deref.result.now c.args.student c.in_ok-row.row.now read.0 read.1 in
-    subst (λ (n : Market). c.args.student < length n.students) c.self.view_is
-    (row-within m c.self.inside.positions c.deref.result.now c.args.student c.in_ok-row.row.now c.self.invariant.well_formed (c.deref.ensures.value ∙ c.self.invariant.rows) here)
-
-pub has_sibling_at-sibling-requires-clause-sibling : goal.has_sibling_at-sibling-requires-clause-sibling
-has_sibling_at-sibling-requires-clause-sibling c =
-    let m = market_of c.self.inside in
-    let read = c.in_ok-row.ensures.lookup in
-    let here = row-read c.deref.result.now c.args.student c.in_ok-row.row.now read.0 read.1 in
-    row-sibling m c.self.inside.positions c.deref.result.now c.args.student c.in_ok-row.row.now c.self.invariant.well_formed (c.deref.ensures.value ∙ c.self.invariant.rows) here
-    ∙ ap (λ (n : Market). slice_get (siblings_of n (student_at n c.args.student)) 0) c.self.view_is
-
-pub has_sibling_at-sibling-requires-clause-more : goal.has_sibling_at-sibling-requires-clause-more
-has_sibling_at-sibling-requires-clause-more c =
-    let m = market_of c.self.inside in
-    let read = c.in_ok-row.ensures.lookup in
-    let here = row-read c.deref.result.now c.args.student c.in_ok-row.row.now read.0 read.1 in
-    row-more_siblings m c.self.inside.positions c.deref.result.now c.args.student c.in_ok-row.row.now c.self.invariant.well_formed (c.deref.ensures.value ∙ c.self.invariant.rows) here
-    ∙ ap (λ (n : Market). nat_lt 1 (length (siblings_of n (student_at n c.args.student)))) c.self.view_is
+    subst (λ (n : Market). IsRowAt n c.args.student c.in_ok-row.row.now) c.self.view_is
+    (row-told m c.self.inside.positions c.deref.result.now c.args.student c.in_ok-row.row.now c.self.invariant.well_formed (c.deref.ensures.value ∙ c.self.invariant.rows) here)
 
 pub has_sibling_at-sibling-requires-clause-school : goal.has_sibling_at-sibling-requires-clause-school
 has_sibling_at-sibling-requires-clause-school c =

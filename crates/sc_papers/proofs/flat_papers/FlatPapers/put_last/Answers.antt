@@ -17,20 +17,20 @@ invariant_of-self-2 c =
     let may = subst (λ (m : Market). MayEnterAt m i c.args.student.now c.args.choices.now) (sym c.self.view_is) c.requires in
     let student = with_choices_at (market_of c.self.inside) c.args.choices.now c.args.student.now in
     let row = row-made c.self.inside i c.args.student.now c.args.choices.now c.self.invariant may.within c.draw-draw.result c.with_choices-row.result c.draw-draw.ensures.draw c.with_choices-row.ensures in
-    IsSound-entered c.self.inside _ i student c.self.invariant (MayEnter-allowed (market_of c.self.inside) i student may.allowed) c.draw-draw.ensures.seed refl refl c.in_ok-push.ensures.pushed
+    IsSound-entered c.self.inside _ i student c.self.invariant (MayEnter-allowed (market_of c.self.inside) i student may.allowed) c.draw-draw.ensures.seed refl refl c.in_ok-push.ensures
     (c.push_reserved.ensures.items ∙ ap (λ (rows : List Row). rows ++ c.with_choices-row.result ∷ []) c.in_ok-reserve.ensures.items ∙ ap (λ (r : Row). c.self.inside.rows.items ++ r ∷ []) row)
     (λ q apart. c.keep_siblings.ensures.others q apart ∙ ap (lookup (nat_eq q)) c.in_ok-reserve-2.ensures.entries) c.keep_siblings.ensures.own
     (omega (arith, c.keep_siblings.ensures.room, c.in_ok-reserve-2.ensures.ok, c.saturating_sub-room.ensures, c.len.ensures, c.len-2.ensures.len, ap length c.in_ok-reserve-2.ensures.entries, c.push_reserved.ensures.len, c.push_reserved.new.self.ok, c.reserve.new.self.ok))
 
-pub returns-clause-entered : goal.returns-clause-entered
-returns-clause-entered c =
+pub returns : goal.returns
+returns c =
     let i = c.args.number in
     let may = subst (λ (m : Market). MayEnterAt m i c.args.student.now c.args.choices.now) (sym c.self.view_is) c.requires in
     let student = with_choices_at (market_of c.self.inside) c.args.choices.now c.args.student.now in
     let row = row-made c.self.inside i c.args.student.now c.args.choices.now c.self.invariant may.within c.draw-draw.result c.with_choices-row.result c.draw-draw.ensures.draw c.with_choices-row.ensures in
     market_of-entered c.self.inside
     (record { lottery = c.draw-draw.new.self; schools = c.self.inside.schools; positions = c.self.inside.positions; numbers = c.push.new.self; rows = c.push_reserved.new.self; siblings = c.keep_siblings.new.kept })
-    i student c.self.invariant (MayEnter-allowed (market_of c.self.inside) i student may.allowed) c.draw-draw.ensures.seed refl refl c.in_ok-push.ensures.pushed
+    i student c.self.invariant (MayEnter-allowed (market_of c.self.inside) i student may.allowed) c.draw-draw.ensures.seed refl refl c.in_ok-push.ensures
     (c.push_reserved.ensures.items ∙ ap (λ (rows : List Row). rows ++ c.with_choices-row.result ∷ []) c.in_ok-reserve.ensures.items ∙ ap (λ (r : Row). c.self.inside.rows.items ++ r ∷ []) row)
     (λ q apart. c.keep_siblings.ensures.others q apart ∙ ap (lookup (nat_eq q)) c.in_ok-reserve-2.ensures.entries) c.keep_siblings.ensures.own
     (omega (arith, c.keep_siblings.ensures.room, c.in_ok-reserve-2.ensures.ok, c.saturating_sub-room.ensures, c.len.ensures, c.len-2.ensures.len, ap length c.in_ok-reserve-2.ensures.entries, c.push_reserved.ensures.len, c.push_reserved.new.self.ok, c.reserve.new.self.ok))

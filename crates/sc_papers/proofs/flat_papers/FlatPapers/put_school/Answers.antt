@@ -13,8 +13,8 @@ invariant_of-self-2 c =
     let allowed : school_verdict (market_of c.self.inside) c.args.number ≡ None = ap (λ (m : Market). school_verdict m c.args.number) c.self.view_is ∙ c.requires.allowed in
     IsSound-opened c.self.inside _ c.args.number c.args.school c.self.invariant (MayOpen-allowed (market_of c.self.inside) c.args.number allowed) c.requires.seats refl c.in_ok-insert.ensures.entries put refl refl refl
 
-pub returns-clause-added : goal.returns-clause-added
-returns-clause-added c =
+pub returns : goal.returns
+returns c =
     let put : (k : ℕ) → slice_index_or c.put.new.self k None ≡ cond (nat_eq k c.args.number) (Some (length c.self.inside.schools.entries)) (slice_index_or c.self.inside.positions k None) =
     λ k. c.put.ensures k ∙ ap (λ (n : ℕ). cond (nat_eq k c.args.number) (Some n) (slice_index_or c.reserve.new.self k None)) c.len-position.ensures.len
     ∙ ap (cond (nat_eq k c.args.number) (Some (length c.self.inside.schools.entries))) (c.reserve.ensures.same k) in

@@ -30,6 +30,6 @@ returns c =
     let kept = kept-there m c.self.inside.positions c.self.inside.siblings.entries c.args.student c.self.invariant.well_formed c.self.invariant.siblings low more in
     let is = same_Some c.in-Some.kept.now (positions_in c.self.inside.positions (siblings_of m (student_at m c.args.student)))
     (c.in-Some.ensures.value ∙ ap (λ k. lookup (nat_eq k) c.self.inside.siblings.entries) number ∙ kept) in
-    ap (map Some) (c.as_slice.ensures ∙ is)
+    ap (map Some) (c.as_slice.ensures.positions ∙ is)
     ∙ known-places m c.self.inside.positions c.self.invariant.positions (siblings_of m (student_at m c.args.student)) (siblings-known m c.args.student c.self.invariant.well_formed low)
     ∙ ap (λ (n : Market). map (λ s. position (nat_eq s) (schools_of n)) (siblings_of n (student_at n c.args.student))) c.self.view_is

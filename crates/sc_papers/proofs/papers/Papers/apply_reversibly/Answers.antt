@@ -6,7 +6,7 @@ use Rattle.sc_papers.proofs.papers.Papers.apply_reversibly.Goals as goal
 pub returns-in_ok-enter-in-Enter-clause-back : goal.returns-in_ok-enter-in-Enter-clause-back
 returns-in_ok-enter-in-Enter-clause-back c =
     reversed-enter c.args.self.now c.enter.new.self c.args.amendment c.requires.allowed c.in-Enter.student c.in-Enter.zone c.in-Enter.siblings c.in-Enter.choices c.in-Enter.continuing
-    c.in-Enter.is c.in_ok-enter-in-Enter.ensures.entered
+    c.in-Enter.is c.in_ok-enter-in-Enter.ensures
 
 pub returns-in-Rerank-clause-back : goal.returns-in-Rerank-clause-back
 returns-in-Rerank-clause-back c =

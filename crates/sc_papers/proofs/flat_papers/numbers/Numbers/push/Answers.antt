@@ -10,8 +10,8 @@ pub table_with-requires-clause-distinct : goal.table_with-requires-clause-distin
 table_with-requires-clause-distinct c =
     IsDistinct-rise c.in-Listed.numbers.items (rw c.in-Listed.is at (c.self.invariant c.if-self.true))
 
-pub returns-in_ok-insert-in-Tabled-clause-pushed : goal.returns-in_ok-insert-in-Tabled-clause-pushed
-returns-in_ok-insert-in-Tabled-clause-pushed c =
+pub returns-in_ok-insert-in-Tabled : goal.returns-in_ok-insert-in-Tabled
+returns-in_ok-insert-in-Tabled c =
     let numbers = c.args.self.now in
     let number = c.args.number in
     let same : c.in-Tabled.table.keys ≡ numbers = sym (ap numbers_of c.in-Tabled.is) ∙ c.self.view_is in
