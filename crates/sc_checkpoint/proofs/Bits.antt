@@ -1,9 +1,12 @@
 -- Sets of ranks, kept as the bits of a number.
-use Rattle.std.proofs.Common.{◌≡◌, inl, inr, ap, sym, ◌∙◌, ℕ, ◌*◌, ◌%◌, ◌^◌, ◌<◌, ◌==◌, Bool, true, false, ◌||◌, w32}
-use Rattle.std.specs.Int.{bit_at}
+use Rattle.std.proofs.Common.{◌≡◌, inl, inr, ap, sym, ◌∙◌, ℕ, ◌+◌, ◌-◌, ◌*◌, ◌%◌, ◌^◌, ◌<◌, ◌==◌, Bool, true, false, ◌||◌, arith, w32}
+use lib.Count.{count_trailing_zeros}
+use Rattle.std.specs.Int.{bit_at, trailing_ones}
 use Rattle.std.specs.Int.RustNames.{bit_or}
 use Rattle.std.proofs.lemmas.Bool.{cases_eq, eq-eqb, ne_eqb}
-use Rattle.std.proofs.lemmas.Nat.Bits.{bit_at_set_same, bit_at_set_other}
+use Rattle.std.proofs.lemmas.Nat.Bits.{bit_at-trailing_ones, bit_at_ones, bit_at_set_same, bit_at_set_other}
+use Rattle.sc_checkpoint.specs.Ranks.{has_rank, IsFirstOutside}
+use Rattle.sc_checkpoint.specs.declared.rank_set.RankSet.{RankSet}
 
 or-true : (b : Bool) → (b || true) ≡ true
 or-true true = λ i. true
@@ -23,4 +26,22 @@ set-bit bits rank other low =
       | inr apart ↦
           ap (λ b. b == 1) (bit_at_set_other w32 bits rank low other apart)
           ∙ sym (ap (λ b. bit_at bits other == 1 || b) (ne_eqb other rank apart) ∙ or-false (bit_at bits other == 1))
+    ]
+
+-- the number of ones at the low end is the first rank that is not in the set
+pub first-clear : (set : RankSet) (first : ℕ) → set.bits < 2 ^ 32 → first ≡ trailing_ones w32 set.bits → IsFirstOutside set first
+unfolding has_rank count_trailing_zeros
+first-clear set first fits is =
+    elim (cases_eq (set.bits + 1) (2 ^ 32)) [
+      | inl all ↦
+          let bits : set.bits ≡ 2 ^ 32 - 1 = omega (arith, all) in
+          let end : first ≡ 32 = is ∙ ap (trailing_ones w32) bits in record {
+            below = λ rank low. ap (λ n. bit_at n rank == 1) bits ∙ ap (λ b. b == 1) (bit_at_ones 32 rank (omega (arith, low, end)));
+            outside = λ low. cc;
+          }
+      | inr some ↦
+          let (within, clear, ones) = bit_at-trailing_ones w32 set.bits (omega (arith, some, fits)) in record {
+            below = λ rank low. ap (λ b. b == 1) (ones rank (omega (arith, low, is)));
+            outside = λ low. ap (λ k. bit_at set.bits k == 1) is ∙ ap (λ b. b == 1) clear;
+          }
     ]

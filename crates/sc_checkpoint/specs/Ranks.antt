@@ -1,9 +1,11 @@
 -- Sets of ranks in a list of choices, and which ranks the schools that rejected a student have.
-use Rattle.std.specs.Prelude.{◌≡◌, ℕ, ◌==◌, Bool, not, List, ◌++◌, Option, Some, find, slice_get}
+use Rattle.std.specs.Prelude.{◌≡◌, ℕ, ◌<◌, ◌==◌, Bool, false, true, List, ◌++◌, Some, length, slice_get}
+use Rattle.std.specs.List.Sorted.{IsStrictlyIncreasing}
 use Rattle.std.specs.Int.{bit_at}
-use Rattle.sc_papers.specs.Market.{Market, choices_of}
+use Rattle.sc_papers.specs.Market.{Market, choices_of, students_of}
 use Rattle.sc_papers.specs.Log.{is_rejected}
 use Rattle.sc_papers.specs.declared.rejection.Rejection.{Rejection}
+use Rattle.sc_checkpoint.specs.Positions.{LieBelow}
 use Rattle.sc_checkpoint.specs.declared.rank_set.RankSet.{RankSet}
 
 -- whether a rank is in the set
@@ -15,11 +17,10 @@ abbrev pub AreRejectedRanks : Market → List Rejection → ℕ → RankSet → 
 AreRejectedRanks m log i ranks =
     (rank s : ℕ) → slice_get (choices_of m i) rank ≡ Some s → has_rank ranks rank ≡ is_rejected log i s
 
--- this is the first of the choices whose rank is not in the set, whatever test of schools the set goes by
-abbrev pub IsFirstOutside : List ℕ → RankSet → Option ℕ → Type 0
-IsFirstOutside choices ranks first =
-    (test : ℕ → Bool) → ((rank s : ℕ) → slice_get choices rank ≡ Some s → has_rank ranks rank ≡ test s)
-    → first ≡ find (λ s. not (test s)) choices
+-- the first rank that is not in the set, of those below 32
+pub record IsFirstOutside (set : RankSet) (first : ℕ) : Type 0 where
+  pub below : (rank : ℕ) → rank < first → has_rank set rank ≡ true
+  pub outside : first < 32 → has_rank set first ≡ false
 
 -- a table of such sets, one for each of the first of these students
 pub record AreTabled (m : Market) (students : List ℕ) (log : List Rejection) (table : List RankSet) : Type 0 where
@@ -29,3 +30,9 @@ pub record AreTabled (m : Market) (students : List ℕ) (log : List Rejection) (
 abbrev pub MarksEntries : Market → List ℕ → List Rejection → List RankSet → List RankSet → Type 0
 MarksEntries m students entries old new =
     (log : List Rejection) → AreTabled m students log old → AreTabled m students (log ++ entries) new
+
+-- rising positions of the papers' students, and a set of ranks for each
+pub record CanMark (m : Market) (positions : List ℕ) (table : List RankSet) : Type 0 where
+  pub rising : IsStrictlyIncreasing positions
+  pub within : LieBelow (length (students_of m)) positions
+  pub one_each : length table ≡ length positions

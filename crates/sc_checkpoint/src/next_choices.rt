@@ -2,17 +2,17 @@
 
 ghost use Rattle.std.specs.Prelude.{◌≡◌, ℕ, ◌<◌, ◌∷◌, [], None, Some, true, length, map, slice_get, IfOk, IfSome};
 ghost use Rattle.std.specs.List.Sorted.{IsStrictlyIncreasing};
-ghost use Rattle.sc_papers.specs.Market.{choices_of, student_at, students_of};
+ghost use Rattle.sc_papers.specs.Market.{student_at, students_of};
 ghost use Rattle.sc_papers.specs.Restriction.{joined};
 ghost use Rattle.sc_checkpoint.specs.Chains.{logs_at};
 ghost use Rattle.sc_checkpoint.specs.NextChoices.{next_choices_after};
-ghost use Rattle.sc_checkpoint.specs.Positions.{CountUp, LieBelow};
-ghost use Rattle.sc_checkpoint.specs.Ranks.{AreTabled, IsFirstOutside, MarksEntries};
+ghost use Rattle.sc_checkpoint.specs.Positions.{CountUp, HaveSegments, LieBelow};
+ghost use Rattle.sc_checkpoint.specs.Ranks.{AreTabled, CanMark, MarksEntries};
 
 use crate::rank_set::RankSet;
 use crate::segments::Segments;
 use crate::standing::{Standing, Standings};
-use sc_papers::{FlatPapers, Hints, LONGEST_LIST, MOST_STUDENTS, Rejection, SchoolNo, StudentNo};
+use sc_papers::{FlatPapers, Hints, MOST_STUDENTS, Rejection, StudentNo};
 use std::alloc::{AllocError, Global};
 
 /// How many hints there is room for, for each student: so few of them take the place of others.
@@ -65,9 +65,7 @@ fn mark_at(
     guess: usize,
     entry: Rejection,
 )
-    requires rising { IsStrictlyIncreasing positions.now }
-    requires within { LieBelow (length (students_of papers.now)) positions.now }
-    requires one_each { length table.old.items ≡ length positions.now }
+    requires { CanMark papers.now positions.now table.old.items }
     ensures tabled { MarksEntries papers.now (map (student_at papers.now) positions.now)
         (entry ∷ []) table.old.items table.new.items }
     ensures same_length { length table.new.items ≡ length table.old.items }
@@ -112,9 +110,7 @@ fn mark_all_at(
     owner: Owner,
     entries: &[Rejection],
 )
-    requires rising { IsStrictlyIncreasing positions.now }
-    requires within { LieBelow (length (students_of papers.now)) positions.now }
-    requires one_each { length table.old.items ≡ length positions.now }
+    requires { CanMark papers.now positions.now table.old.items }
     ensures tabled { MarksEntries papers.now (map (student_at papers.now) positions.now) entries.now table.old.items
         table.new.items }
     ensures same_length { length table.new.items ≡ length table.old.items }
@@ -144,9 +140,7 @@ fn rejected_ranks_at(
     segments: &Segments,
     positions: &[usize],
 ) -> Result<Vec<RankSet>, AllocError>
-    requires rising { IsStrictlyIncreasing positions.now }
-    requires within { LieBelow (length (students_of papers.now)) positions.now }
-    requires held { LieBelow (length segments.now) positions.now }
+    requires { HaveSegments papers.now segments.now positions.now }
     ensures count { IfOk result (λ table. length table.items ≡ length positions.now) }
     ensures tabled { IfOk result (λ table. AreTabled papers.now (map (student_at papers.now) positions.now)
         (joined (logs_at positions.now segments.now)) table.items) }
@@ -170,22 +164,6 @@ fn rejected_ranks_at(
     Ok(table)
 }
 
-/// The first choice, of the student at a position of the papers, whose rank is not in the set. It costs a look at
-/// the set, and at one choice in the student's row.
-fn first_outside(papers: &FlatPapers, position: usize, ranks: RankSet) -> Option<SchoolNo>
-    requires { position < length papers.now.students }
-    ensures { IsFirstOutside (choices_of papers.now (student_at papers.now position)) ranks result }
-{
-    // This call tells that the papers are within their limits, and so are their lists.
-    prove!(position < papers.students_len());
-    for rank in 0..LONGEST_LIST {
-        if !ranks.contains(rank) {
-            return papers.choice_at(position, rank);
-        }
-    }
-    None
-}
-
 /// The first positions, as many as are asked for. The only error is a refused growth.
 pub(crate) fn first_positions(alloc: Global, count: usize) -> Result<Vec<usize>, AllocError>
     ensures count { IfOk result (λ positions. length positions.items ≡ count) }
@@ -206,12 +184,12 @@ pub(crate) fn next_choices_at_positions(
     segments: &Segments,
     positions: &[usize],
 ) -> Result<Standings, AllocError>
-    requires rising { IsStrictlyIncreasing positions.now }
-    requires within { LieBelow (length (students_of papers.now)) positions.now }
-    requires held { LieBelow (length segments.now) positions.now }
+    requires { HaveSegments papers.now segments.now positions.now }
     ensures { IfOk result (λ stands. stands.choices.items ≡ next_choices_after papers.now
         (joined (logs_at positions.now segments.now)) (map (student_at papers.now) positions.now)) }
 {
+    // This call tells that the papers are within their limits, and so are their lists.
+    prove!(papers.students_len() <= MOST_STUDENTS);
     let rejected = rejected_ranks_at(alloc, papers, segments, positions)?;
     let mut choices = Vec::with_capacity(alloc, positions.len())?;
     let mut ranks = Vec::with_capacity(alloc, positions.len())?;
@@ -219,9 +197,10 @@ pub(crate) fn next_choices_at_positions(
         let Some(student) = papers.student_at(*position) else {
             unreachable!()
         };
-        let next = first_outside(papers, *position, rejected[turn]);
+        let rank = rejected[turn].first_outside();
+        let next = papers.choice_at(*position, rank);
         choices.push_reserved(Standing { student, next });
-        ranks.push(rejected[turn].first_outside())?;
+        ranks.push(u8::try_from(rank).unwrap_or(0))?;
     }
     Ok(Standings { choices, ranks })
 }

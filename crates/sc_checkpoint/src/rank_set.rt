@@ -7,7 +7,7 @@ pub(crate) struct RankSet {
 
 impl RankSet {
     ghost use Rattle.std.specs.Prelude.{◌≡◌, ℕ, ◌<◌, ◌==◌, ◌||◌, false};
-    ghost use Rattle.sc_checkpoint.specs.Ranks.{has_rank};
+    ghost use Rattle.sc_checkpoint.specs.Ranks.{has_rank, IsFirstOutside};
 
     /// No ranks.
     pub(crate) fn new() -> Self
@@ -16,17 +16,12 @@ impl RankSet {
         RankSet { bits: 0 }
     }
 
-    /// Whether the rank is in the set.
-    pub(crate) fn contains(self, rank: usize) -> bool
-        requires { rank < 32 }
-        ensures { result ≡ has_rank self rank }
+    /// The first rank that is not in the set, or 32 where each is.
+    pub(crate) fn first_outside(self) -> usize
+        ensures { IsFirstOutside self result }
     {
-        self.bits >> rank & 1 == 1
-    }
-
-    /// How many ranks there are in the set from the first on without a gap, as a guess at the first that is not in it.
-    pub(crate) fn first_outside(self) -> u8 {
-        u8::try_from(self.bits.trailing_ones()).unwrap_or(0)
+        prove!(self.bits <= u32::MAX);
+        self.bits.trailing_ones() as usize
     }
 
     /// The set with one more rank.

@@ -1,5 +1,6 @@
-ghost use Rattle.std.specs.Prelude.{◌≡◌, List, [], ◌∷◌, ◌++◌, length, Some, IfOk, OnOk, OnErr};
+ghost use Rattle.std.specs.Prelude.{◌≡◌, List, [], ◌∷◌, ◌++◌, length, Some, IfOk};
 ghost use Rattle.std.specs.List.Sorted.{IsPermutation};
+ghost use Rattle.sc_papers.specs.Change.{ChangesTo};
 ghost use Rattle.sc_papers.specs.declared.key.Key.{Key as Priority};
 ghost use Rattle.sc_papers.specs.LastKey.{IsLastOf};
 
@@ -38,8 +39,7 @@ impl KeyList {
 
     /// Appends a key, at the cost of one comparison. A refused growth changes nothing.
     pub(crate) fn append(&mut self, key: HeldKey) -> Result<(), AllocError>
-        ensures appended { OnOk result (self.new ≡ self.old ++ key ∷ []) }
-        ensures unchanged { OnErr result (self.new ≡ self.old) }
+        ensures { ChangesTo self.old self.new (self.old ++ key ∷ []) result }
     {
         let newest = key.key();
         self.keys.push(key)?;

@@ -21,11 +21,12 @@ loop-turn-preserved c =
     let here : slice_get (map (student_at m) ps) at ≡ Some i = picked-here m ps at (get_or ps at 0) i c.loop-turn-test.true refl own in
     let low : at < length table = omega (arith, c.in_ok-rejected.ensures.count, c.loop-turn-test.true) in
     let row : slice_get table at ≡ Some c.index.result.now = slice_get_read table (length table) at c.index.result.now refl low c.index.ensures in
-    let next : c.first_outside-next.result ≡ next_choice m log i =
-    next-found m log i c.index.result.now (choices_of m (student_at m (get_or ps at 0))) c.first_outside-next.result
-    (ap (choices_of m) (hand-is m (get_or ps at 0) i own)) (c.in_ok-rejected.ensures.tabled.at at i c.index.result.now here row) c.first_outside-next.ensures in (
+    let rank = c.first_outside-rank.result in
+    let next : c.choice_at-next.result ≡ next_choice m log i =
+    c.choice_at-next.ensures ∙ ap (λ j. slice_get (choices_of m j) rank) (hand-is m (get_or ps at 0) i own)
+    ∙ next-found m log i c.index.result.now rank c.students_len.ensures.within_limits (c.in_ok-rejected.ensures.tabled.at at i c.index.result.now here row) c.first_outside-rank.ensures in (
       c.push_reserved.ensures.items
-          ∙ ap (λ items. items ++ record { student = i; next = c.first_outside-next.result } ∷ []) c.loop-turn.invariant.0
+          ∙ ap (λ items. items ++ record { student = i; next = c.choice_at-next.result } ∷ []) c.loop-turn.invariant.0
           ∙ standings-more m log (map (student_at m) ps) at i _ here (λ t. record { student = i; next = next t }),
       omega (arith, c.push_reserved.ensures.len, c.loop-turn.invariant.1),
       c.push_reserved.ensures.capacity ∙ c.loop-turn.invariant.2,
