@@ -229,13 +229,7 @@ impl Segments {
         ensures replaced { OnOk result (self.new ≡ replaced self.old positions.now (chains_in log.now renewed.now)) }
         ensures unchanged { OnErr result (self.new ≡ self.old) }
     {
-        let gone = replace_spans(
-            &mut self.spans,
-            &mut self.entries,
-            positions,
-            renewed.as_slice(),
-            log,
-        )?;
+        let gone = replace_spans(&mut self.spans, &mut self.entries, positions, renewed, log)?;
         self.gone = self.gone.saturating_add(gone);
         self.tidy();
         Ok(())

@@ -114,13 +114,6 @@ impl Spans {
         })?;
         Ok(())
     }
-
-    /// The spans, lent.
-    pub(crate) fn as_slice(&self) -> &[Span]
-        ensures { result.now ≡ self.now }
-    {
-        self.spans.as_slice()
-    }
 }
 
 /// Gives the spans at some positions up for renewed ones, in turn, each so many entries further on. The answer is how
@@ -146,7 +139,7 @@ pub(crate) fn replace_spans(
     spans: &mut Vec<Span>,
     entries: &mut Vec<Rejection>,
     positions: &[usize],
-    renewed: &[Span],
+    renewed: &Spans,
     more: &[Rejection],
 ) -> Result<usize, AllocError>
     requires within { LieBelow (length spans.old.items) positions.now }
@@ -163,5 +156,5 @@ pub(crate) fn replace_spans(
     entries.extend_from_slice(more)?;
     // This call tells that the entries can be counted.
     prove!(entries.len() <= usize::MAX);
-    Ok(replace_at(spans, positions, renewed, by))
+    Ok(replace_at(spans, positions, renewed.spans.as_slice(), by))
 }
