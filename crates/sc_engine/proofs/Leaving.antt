@@ -3,7 +3,7 @@ use Rattle.std.proofs.Common.{◌≡◌, ◌⊎◌, inl, inr, refl, ap, sym, sub
 use Rattle.std.specs.Option.{option_map, option_map_or, unwrap_or}
 use Rattle.std.proofs.lemmas.Bool.{cases_Bool, cases_eq, false≢true, and_left, and_right}
 use Rattle.std.proofs.lemmas.List.{take_more}
-use Rattle.std.proofs.lemmas.List.Elements.{Contains-append_left, Contains-push, Contains-push_cases}
+use Rattle.std.proofs.lemmas.List.Elements.{Contains-append_left, Contains-get_or, Contains-push, Contains-push_cases}
 use Rattle.sc_papers.specs.Key.{key_of}
 use Rattle.sc_papers.specs.Market.{Market, choices_of, schools_of, student_at, students_of}
 use Rattle.sc_papers.specs.Matching.{has}
@@ -18,7 +18,7 @@ use Rattle.sc_papers.proofs.Positions.{position-at, position-one, position-there
 use Rattle.sc_papers.proofs.Rejections.{has-agree, has-true}
 use Rattle.sc_papers.proofs.Students.{how_many-none}
 use Rattle.sc_seats.specs.Roll.{RollView}
-use Rattle.sc_engine.specs.Leaving.{AreEmptied, Leave, SomeStands, StandAt, StandsThere}
+use Rattle.sc_engine.specs.Leaving.{AreEmptied, AreWithin, Leave, SomeStands, StandAt, StandsThere}
 use Rattle.sc_engine.specs.Proposals.{IsProposal}
 use Rattle.sc_engine.specs.RoundView.{Fits, RollFits, RoundView, next_of, no_roll, nobody, rank_of, roll_at, roll_of}
 use Rattle.sc_engine.proofs.Offers.{roll_at-mapped}
@@ -41,6 +41,11 @@ earlier-or_latest positions n p low among = Contains-push_cases (take n position
 -- the one of a list of one
 pub only-one : (p q : ℕ) → Contains (p ∷ []) q → p ≡ q
 only-one p q among = elim (Contains-push_cases [] p q among) [ inl (k, low, at) ↦ absurd (omega (arith, low)) | inr same ↦ same ]
+
+-- one of the positions alone
+pub one-within : (m : Market) (positions : List ℕ) (n : ℕ) → n < length positions → AreWithin m positions → AreWithin m (get_or positions n 0 ∷ [])
+one-within m positions n low within p among =
+    subst (λ q. q < length m.students) (only-one (get_or positions n 0) p among) (within (get_or positions n 0) (Contains-get_or positions n 0 low))
 
 pub emptied-none : (m : Market) (ranks : List (Option ℕ)) (rolls : List RollView) → AreEmptied m ranks [] rolls rolls
 emptied-none m ranks rolls = record {

@@ -1,7 +1,10 @@
 -- One student who comes back to where they stood.
-use Rattle.std.proofs.Common.{◌≡◌, refl, ap, subst, ◌∙◌, ℕ, ◌+◌, ◌<◌, nat_eq, false, not, ◌&&◌, length, Some, None, Option, position, slice_get, is_some, arith}
-use Rattle.sc_papers.specs.Market.{Market, choices_of, schools_of, seats_of}
+use Rattle.std.proofs.Common.{◌≡◌, refl, ap, subst, sym, ◌∙◌, ℕ, ◌+◌, ◌<◌, nat_eq, false, not, ◌&&◌, length, Some, None, Option, IfSome, position, slice_get, is_some, arith}
+use Rattle.std.specs.Option.{option_map}
+use Rattle.sc_papers.specs.Key.{key_of}
+use Rattle.sc_papers.specs.Market.{Market, choices_of, schools_of, seats_of, student_at}
 use Rattle.sc_papers.specs.Matching.{Matching, has, held}
+use Rattle.sc_papers.specs.declared.proposal.Proposal.{Proposal}
 use Rattle.sc_papers.proofs.Students.{how_many-agree}
 use Rattle.sc_engine.specs.RoundView.{RoundView, rank_of, next_of, Fits, nobody, roll_at, RollFits, StandsToo}
 use Rattle.sc_engine.proofs.Tables.{roll-at, next-by}
@@ -23,6 +26,17 @@ put-nowhere {m} {r} {r'} {i} begun choice here none = record {
   log = begun.log;
   proposals = begun.proposals;
 }
+
+-- what the papers tell at the rank of a choice is a proposal to it
+pub proposal-told : (m : Market) (at rank : ℕ) (choice : Option ℕ) (told : Option Proposal) (proposal : Proposal)
+    → slice_get (choices_of m (student_at m at)) rank ≡ choice → option_map (λ p. p.school) told ≡ slice_get (choices_of m (student_at m at)) rank
+    → IfSome told (λ p. position (nat_eq p.school) (schools_of m) ≡ Some p.position) → IfSome told (λ p. p.key ≡ key_of m (student_at m at) p.school) → told ≡ Some proposal
+    → (choice ≡ Some proposal.school) × (position (nat_eq proposal.school) (schools_of m) ≡ Some proposal.position) × (proposal.key ≡ key_of m (student_at m at) proposal.school)
+proposal-told m at rank choice told proposal here school place key is = (
+  sym here ∙ sym school ∙ ap (option_map (λ (p : Proposal). p.school)) is,
+  subst (λ (o : Option Proposal). IfSome o (λ p. position (nat_eq p.school) (schools_of m) ≡ Some p.position)) is place,
+  subst (λ (o : Option Proposal). IfSome o (λ p. p.key ≡ key_of m (student_at m at) p.school)) is key,
+)
 
 -- a school at which fewer stand than it has seats has room on its roll
 pub roll-open : (m : Market) (r : RoundView) (s at : ℕ) → Fits m r → position (nat_eq s) (schools_of m) ≡ Some at → held m (next_of m r.ranks) s < seats_of m s → length (roll_at r.rolls at).keys < (roll_at r.rolls at).seats

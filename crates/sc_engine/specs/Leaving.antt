@@ -8,6 +8,11 @@ use Rattle.sc_engine.specs.RoundView.{Fits, RollFits, RoundView, next_of, nobody
 abbrev pub AreWithin : Market → List ℕ → Type 0
 AreWithin m positions = (p : ℕ) → Contains positions p → p < length m.students
 
+-- and there is a roll for each of their schools
+pub record HaveRolls {R : Type 0} (m : Market) (positions : List ℕ) (rolls : List R) : Type 0 where
+  pub within : AreWithin m positions
+  pub each : length rolls ≡ length m.schools
+
 -- the students who pass a test stand at these positions in the order of entry, and nobody else does
 pub record StandAt (m : Market) (test : ℕ → Bool) (positions : List ℕ) : Type 0 where
   pub within : AreWithin m positions

@@ -132,13 +132,6 @@ impl RankTable {
         self.ranks.as_slice()
     }
 
-    /// How many positions the table has room for.
-    pub(crate) fn len(&self) -> usize
-        ensures { result ≡ length self.now }
-    {
-        self.ranks.len()
-    }
-
     /// Makes room for a position. Nobody stands there yet, nor at those that come before it.
     pub(crate) fn make_room(&mut self, at: usize) -> Result<(), AllocError>
         ensures room { OnOk result (at < length self.new) }

@@ -62,7 +62,7 @@ impl<R: Roll> Round<R> {
         ensures spent { OnErr result (is_spent self.new ≡ true) }
     {
         // Mostly the students enter in order.
-        let guess = self.ranks.len();
+        let guess = self.ranks.as_slice().len();
         self.enter_near(papers, student, guess)
     }
 

@@ -1,14 +1,15 @@
 //! What a whole round comes to.
 
-ghost use Rattle.std.specs.Prelude.{◌≡◌, ℕ, ◌+◌, false, length, IfOk, OnOk};
+ghost use Rattle.std.specs.Prelude.{◌≡◌, ℕ, ◌+◌, length, IfOk, OnOk};
 ghost use Rattle.sc_papers.specs.Assignment.{assigned};
 ghost use Rattle.sc_papers.specs.Log.{next_choice, IsSettled};
 ghost use Rattle.sc_papers.specs.Market.{students_of};
 ghost use Rattle.sc_papers.specs.Matching.{IsStudentOptimal};
 ghost use Rattle.sc_papers.specs.Progress.{placed};
 ghost use Rattle.sc_engine.specs.SettledPlaces.{AreSettledPlaces};
-ghost use Rattle.sc_engine.specs.Round.{view_of, is_spent};
-ghost use Rattle.sc_engine.specs.RoundView.{SettlesFirst, SettlesThese};
+ghost use Rattle.sc_engine.specs.Fresh.{IsFresh};
+ghost use Rattle.sc_engine.specs.Round.{view_of};
+ghost use Rattle.sc_engine.specs.RoundView.{SettlesThese};
 
 use crate::applicants::{applicants_by_first_key, enter_applicants};
 use crate::round::Round;
@@ -96,10 +97,8 @@ fn come_to<R: Roll>(round: Round<R>, papers: &FlatPapers) -> Result<Settled, All
 
 /// Enters all students in order of entry into a round in which nobody has entered.
 fn enter_all<R: Roll>(round: &mut Round<R>, papers: &FlatPapers) -> Result<(), AllocError>
-    requires first { SettlesFirst papers.now (view_of R.keys R.seats round.old) 0 }
-    requires ready { is_spent round.old ≡ false }
-    ensures all { OnOk result (SettlesThese papers.now (view_of R.keys R.seats round.new) (students_of papers.now)) }
-    ensures ready { OnOk result (is_spent round.new ≡ false) }
+    requires { IsFresh R.keys R.seats papers.now round.old }
+    ensures { OnOk result (SettlesThese papers.now (view_of R.keys R.seats round.new) (students_of papers.now)) }
 {
     for position in 0..papers.students_len() {
         let Some(student) = papers.student_at(position) else {

@@ -2,25 +2,24 @@
 
 ghost use Rattle.std.specs.Prelude.{◌≡◌, ℕ, ◌<◌, ◌∷◌, [], Bool, Some, length};
 ghost use Rattle.sc_papers.specs.Restriction.{AreApart};
-ghost use Rattle.sc_papers.specs.WellFormed.{WellFormed};
-ghost use Rattle.sc_engine.specs.Leaving.{moved_up, AreEmptied, AreWithin, IsReseated, Leave, StandAt};
+ghost use Rattle.sc_engine.specs.Leaving.{moved_up, AreEmptied, AreWithin, HaveRolls, IsReseated, Leave, StandAt};
 ghost use Rattle.sc_engine.specs.Rolls.{rolls_of};
 ghost use Rattle.sc_engine.specs.RoundView.{Fits};
 
 use super::Round;
 use super::ranks::proposal_of;
 use super::rolls::{renew_roll, seats_at};
-use sc_papers::{FlatPapers, SchoolNo};
+use sc_papers::{FlatPapers, MOST_STUDENTS, SchoolNo};
 use sc_seats::Roll;
 
 /// Empties the roll of the school at which the student at a position stands, if they stand at one.
 fn empty_roll_of<R: Roll>(rolls: &mut Vec<R>, ranks: &[Option<u8>], papers: &FlatPapers, at: usize)
-    requires well_formed { WellFormed papers.now }
-    requires student { at < length papers.now.students }
-    requires rolls { length rolls.old.items ≡ length papers.now.schools }
+    requires { HaveRolls papers.now (at ∷ []) rolls.old.items }
     ensures { AreEmptied papers.now ranks.now (at ∷ []) (rolls_of R.keys R.seats rolls.old.items)
         (rolls_of R.keys R.seats rolls.new.items) }
 {
+    // This call tells that the papers are well-formed: no school stands twice.
+    prove!(papers.students_len() <= MOST_STUDENTS);
     let Some(proposal) = proposal_of(ranks, papers, at) else {
         return;
     };
@@ -36,9 +35,7 @@ fn empty_rolls_of<R: Roll>(
     papers: &FlatPapers,
     positions: &[usize],
 )
-    requires well_formed { WellFormed papers.now }
-    requires within { AreWithin papers.now positions.now }
-    requires rolls { length rolls.old.items ≡ length papers.now.schools }
+    requires { HaveRolls papers.now positions.now rolls.old.items }
     ensures { AreEmptied papers.now ranks.now positions.now (rolls_of R.keys R.seats rolls.old.items)
         (rolls_of R.keys R.seats rolls.new.items) }
 {

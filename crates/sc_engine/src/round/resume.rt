@@ -1,8 +1,7 @@
 //! Rounds that go on from where students stand.
 
-ghost use Rattle.std.specs.Prelude.{◌≡◌, ◌<◌, ◌≤◌, length, nat_eq, position, true, false, Contains, Some, slice_get, IfOk, OnOk, IfSome};
-ghost use Rattle.sc_papers.specs.Key.{key_of};
-ghost use Rattle.sc_papers.specs.Market.{choices_of, is_student, schools_of, seats_of, student_at};
+ghost use Rattle.std.specs.Prelude.{◌≡◌, ◌<◌, ◌≤◌, length, true, false, Contains, slice_get, IfOk, OnOk, IfSome};
+ghost use Rattle.sc_papers.specs.Market.{choices_of, is_student, seats_of, student_at};
 ghost use Rattle.sc_papers.specs.Matching.{held};
 ghost use Rattle.sc_engine.specs.RoundView.{Fits, StandsToo, has_entered, next_of};
 
@@ -10,7 +9,7 @@ use super::Round;
 use super::ranks::position_near;
 use super::rolls::offer_to;
 use sc_checkpoint::Standing;
-use sc_papers::{FlatPapers, Key, LONGEST_LIST, MOST_STUDENTS, SchoolNo};
+use sc_papers::{FlatPapers, LONGEST_LIST, MOST_STUDENTS, SchoolNo};
 use sc_seats::{HeldKey, Roll};
 use std::alloc::{AllocError, Global};
 
@@ -34,20 +33,6 @@ fn rank_in(papers: &FlatPapers, at: usize, school: Option<SchoolNo>, guess: usiz
         unreachable!()
     };
     rank
-}
-
-/// The position of the school that stands at a rank of the choices of the student at a position, and the student's key
-/// there. The school is not looked up.
-fn position_and_key(papers: &FlatPapers, at: usize, rank: usize, school: SchoolNo) -> (usize, Key)
-    requires student { at < length papers.now.students }
-    requires listed { slice_get (choices_of papers.now (student_at papers.now at)) rank ≡ Some school }
-    ensures position { position (nat_eq school) (schools_of papers.now) ≡ Some result.0 }
-    ensures key { result.1 ≡ key_of papers.now (student_at papers.now at) school }
-{
-    let Some(proposal) = papers.proposal(at, rank) else {
-        unreachable!()
-    };
-    (proposal.position, proposal.key)
 }
 
 /// What is told of one of the next choices, if anything is, and else this.
@@ -87,11 +72,11 @@ impl<R: Roll> Round<R> {
         self.ranks.make_room(at)?;
         let rank = rank_in(papers, at, choice.next, rank_guess);
         self.ranks.put(at, rank as u8)?;
-        let Some(school) = choice.next else {
+        let Some(proposal) = papers.proposal(at, rank) else {
             return Ok(());
         };
-        let (position, key) = position_and_key(papers, at, rank, school);
-        let out = offer_to(&mut self.rolls, position, HeldKey::of(key, at))?;
+        let offered = HeldKey::of(proposal.key, at);
+        let out = offer_to(&mut self.rolls, proposal.position, offered)?;
         if out.is_some() {
             unreachable!()
         }
@@ -168,7 +153,7 @@ impl<R: Roll> Round<R> {
     {
         let mut round = self;
         for (turn, choice) in next_choices.iter().enumerate() {
-            let guess = guess_of(near, turn, round.ranks.len());
+            let guess = guess_of(near, turn, round.ranks.as_slice().len());
             round.put(papers, *choice, guess, rank_guess_of(ranks, turn))?;
         }
         Ok(round)

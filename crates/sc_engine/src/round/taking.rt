@@ -2,14 +2,13 @@
 
 ghost use Rattle.std.specs.Prelude.{◌≡◌, ℕ, ◌<◌, ◌∷◌, [], Bool, Contains, None, false, length, true};
 ghost use Rattle.sc_papers.specs.Restriction.{AreApart};
-ghost use Rattle.sc_papers.specs.WellFormed.{WellFormed};
-ghost use Rattle.sc_engine.specs.Leaving.{AreTaken, AreWithin, HasRolls, StandAt, TakesOver};
+ghost use Rattle.sc_engine.specs.Leaving.{AreTaken, AreWithin, HasRolls, HaveRolls, StandAt, TakesOver};
 ghost use Rattle.sc_engine.specs.Rolls.{rolls_of};
 ghost use Rattle.sc_engine.specs.RoundView.{Fits, rank_of};
 
 use super::Round;
 use super::ranks::proposal_of;
-use sc_papers::FlatPapers;
+use sc_papers::{FlatPapers, MOST_STUDENTS};
 use sc_seats::Roll;
 use std::mem::swap;
 
@@ -22,14 +21,14 @@ fn take_roll<R: Roll>(
     papers: &FlatPapers,
     at: usize,
 )
-    requires well_formed { WellFormed papers.now }
-    requires student { at < length papers.now.students }
-    requires rolls { length rolls.old.items ≡ length papers.now.schools }
-    requires others { length others.old.items ≡ length papers.now.schools }
+    requires own { HaveRolls papers.now (at ∷ []) rolls.old.items }
+    requires others { HaveRolls papers.now (at ∷ []) others.old.items }
     ensures { AreTaken papers.now ranks.now (at ∷ [])
         (rolls_of R.keys R.seats rolls.old.items) (rolls_of R.keys R.seats others.old.items)
         (rolls_of R.keys R.seats rolls.new.items) (rolls_of R.keys R.seats others.new.items) }
 {
+    // This call tells that the papers are well-formed: no school stands twice.
+    prove!(papers.students_len() <= MOST_STUDENTS);
     let Some(proposal) = proposal_of(ranks, papers, at) else {
         return;
     };
@@ -49,10 +48,8 @@ fn take_rolls<R: Roll>(
     papers: &FlatPapers,
     positions: &[usize],
 )
-    requires well_formed { WellFormed papers.now }
-    requires within { AreWithin papers.now positions.now }
-    requires rolls { length rolls.old.items ≡ length papers.now.schools }
-    requires others { length others.old.items ≡ length papers.now.schools }
+    requires own { HaveRolls papers.now positions.now rolls.old.items }
+    requires others { HaveRolls papers.now positions.now others.old.items }
     ensures { AreTaken papers.now ranks.now positions.now
         (rolls_of R.keys R.seats rolls.old.items) (rolls_of R.keys R.seats others.old.items)
         (rolls_of R.keys R.seats rolls.new.items) (rolls_of R.keys R.seats others.new.items) }

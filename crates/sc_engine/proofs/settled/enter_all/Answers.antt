@@ -2,8 +2,15 @@ use Rattle.std.proofs.Common.{sym, ◌∙◌}
 use Rattle.sc_papers.specs.Market.{students_of}
 use Rattle.sc_papers.proofs.Choices.{contains-at}
 use Rattle.sc_papers.proofs.Positions.{among-student}
-use Rattle.sc_engine.proofs.Settling.{settles-more, first-apart}
+use Rattle.sc_engine.specs.Round.{view_of}
+use Rattle.sc_engine.proofs.Settling.{settles-more, settles-none, first-apart}
 use Rattle.sc_engine.proofs.settled.enter_all.Goals as goal
+
+pub loop-position-init : goal.loop-position-init
+loop-position-init g c = (
+  settles-none c.args.papers.now (view_of g.R.Roll.keys g.R.Roll.seats c.args.round.now) c.requires.fits c.requires.nobody c.requires.settled c.requires.log c.requires.proposals,
+  c.requires.ready,
+)
 
 pub enter_one-requires-clause-fits : goal.enter_one-requires-clause-fits
 enter_one-requires-clause-fits g c = λ ready. c.loop-position.invariant.0.fits

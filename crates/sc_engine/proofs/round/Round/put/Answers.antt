@@ -1,14 +1,16 @@
 use Rattle.std.proofs.Common.{◌≡◌, refl, ap, sym, subst, ◌∙◌, ℕ, ◌<◌, List, Option, None, Contains, IfSome, slice_get, arith}
+use Rattle.std.specs.Option.{option_map}
 use Rattle.sc_papers.specs.Key.{key_of}
 use Rattle.sc_papers.specs.Market.{choices_of, seats_of, student_at}
 use Rattle.sc_papers.specs.Matching.{held}
+use Rattle.sc_papers.specs.declared.proposal.Proposal.{Proposal}
 use Rattle.sc_engine.specs.RoundView.{next_of, StandsToo}
 use Rattle.sc_engine.specs.Round.{view_of}
 use Rattle.sc_engine.specs.Rolls.{rolls_of}
 use Rattle.sc_engine.proofs.Beginning.{Begun, moved, begins, fits-begun, is_some-none}
 use Rattle.sc_papers.proofs.Hands.{student-there}
 use Rattle.sc_engine.proofs.Moves.{roll-new, proposed-told}
-use Rattle.sc_engine.proofs.Putting.{next-begun, put-nowhere, roll-open, put-on_roll}
+use Rattle.sc_engine.proofs.Putting.{next-begun, proposal-told, put-nowhere, roll-open, put-on_roll}
 use Rattle.sc_engine.proofs.round.Round.put.Goals as goal
 
 pub rank_in-rank-requires-clause-listed : goal.rank_in-rank-requires-clause-listed
@@ -30,10 +32,7 @@ returns-in_default-clause-stands g c =
     ap (λ i. slice_get (choices_of papers i) rank) (sym there) ∙ c.rank_in-rank.ensures.rank in
     let begun : Begun papers old (moved old room at rank) student at rank = begins papers old room student at rank c.requires.fits c.position_near-at.ensures c.requires.absent c.in_ok-make_room.ensures.room c.in_ok-make_room.ensures.same c.in_ok-make_room.ensures.within in
     subst (λ (ranks : List (Option ℕ)). StandsToo papers old (record old { ranks = ranks }) student c.args.choice.next) (sym c.in_ok-put.ensures)
-    (put-nowhere begun c.args.choice.next here c.in_default.is)
-
-pub position_and_key-position-requires-clause-listed : goal.position_and_key-position-requires-clause-listed
-position_and_key-position-requires-clause-listed g c = c.rank_in-rank.ensures.rank ∙ c.in-Some.is
+    (put-nowhere begun c.args.choice.next here (sym c.rank_in-rank.ensures.rank ∙ sym c.proposal.ensures.school ∙ ap (option_map (λ (p : Proposal). p.school)) c.in_default.is))
 
 pub offer_to-requires-clause-new : goal.offer_to-requires-clause-new
 offer_to-requires-clause-new g c =
@@ -47,18 +46,22 @@ offer_to-requires-clause-new g c =
     let here : slice_get (choices_of papers student) rank ≡ c.args.choice.next =
     ap (λ i. slice_get (choices_of papers i) rank) (sym there) ∙ c.rank_in-rank.ensures.rank in
     let begun : Begun papers old (moved old room at rank) student at rank = begins papers old room student at rank c.requires.fits c.position_near-at.ensures c.requires.absent c.in_ok-make_room.ensures.room c.in_ok-make_room.ensures.same c.in_ok-make_room.ensures.within in
-    let key = c.of.ensures ∙ c.position_and_key-position.ensures.key ∙ ap (λ i. key_of papers i c.in-Some.school) there in
-    roll-new papers (moved old room at rank) student c.in-Some.school c.position_and_key-position.result.0 c.of.result (fits-begun begun) c.position_and_key-position.ensures.position key
+    let (is, place, own) = proposal-told papers at rank c.args.choice.next c.proposal.result c.in-Some.proposal c.rank_in-rank.ensures.rank c.proposal.ensures.school c.proposal.ensures.position c.proposal.ensures.key c.in-Some.is in
+    let key = c.of-offered.ensures ∙ own ∙ ap (λ i. key_of papers i c.in-Some.proposal.school) there in
+    roll-new papers (moved old room at rank) student c.in-Some.proposal.school c.in-Some.proposal.position c.of-offered.result (fits-begun begun) place key
 
 pub unreachable-requires : goal.unreachable-requires
 unreachable-requires g c =
     let papers = c.args.papers.now in
+    let at = c.position_near-at.result in
+    let rank = c.rank_in-rank.result in
     let old = view_of g.R.Roll.keys g.R.Roll.seats c.args.self.now in
-    let room : held papers (next_of papers old.ranks) c.in-Some.school < seats_of papers c.in-Some.school =
-    subst (λ (o : Option ℕ). IfSome o (λ s. held papers (next_of papers old.ranks) s < seats_of papers s)) c.in-Some.is c.requires.room in
+    let (is, place, own) = proposal-told papers at rank c.args.choice.next c.proposal.result c.in-Some.proposal c.rank_in-rank.ensures.rank c.proposal.ensures.school c.proposal.ensures.position c.proposal.ensures.key c.in-Some.is in
+    let room : held papers (next_of papers old.ranks) c.in-Some.proposal.school < seats_of papers c.in-Some.proposal.school =
+    subst (λ (o : Option ℕ). IfSome o (λ s. held papers (next_of papers old.ranks) s < seats_of papers s)) is c.requires.room in
     omega (
       arith,
-      roll-open papers old c.in-Some.school c.position_and_key-position.result.0 c.requires.fits c.position_and_key-position.ensures.position room,
+      roll-open papers old c.in-Some.proposal.school c.in-Some.proposal.position c.requires.fits place room,
       c.in_ok-out.ensures.full (sym c.is_some.ensures ∙ c.if-is_some.true),
     )
 
@@ -74,11 +77,12 @@ returns-clause-stands g c =
     let here : slice_get (choices_of papers student) rank ≡ c.args.choice.next =
     ap (λ i. slice_get (choices_of papers i) rank) (sym there) ∙ c.rank_in-rank.ensures.rank in
     let begun : Begun papers old (moved old room at rank) student at rank = begins papers old room student at rank c.requires.fits c.position_near-at.ensures c.requires.absent c.in_ok-make_room.ensures.room c.in_ok-make_room.ensures.same c.in_ok-make_room.ensures.within in
-    let key = c.of.ensures ∙ c.position_and_key-position.ensures.key ∙ ap (λ i. key_of papers i c.in-Some.school) there in
+    let (is, place, own) = proposal-told papers at rank c.args.choice.next c.proposal.result c.in-Some.proposal c.rank_in-rank.ensures.rank c.proposal.ensures.school c.proposal.ensures.position c.proposal.ensures.key c.in-Some.is in
+    let key = c.of-offered.ensures ∙ own ∙ ap (λ i. key_of papers i c.in-Some.proposal.school) there in
     let rolls = rolls_of g.R.Roll.keys g.R.Roll.seats c.offer_to.new.rolls.items in
     subst (λ (ranks : List (Option ℕ)). StandsToo papers old (record old { ranks = ranks; rolls = rolls }) student c.args.choice.next) (sym c.in_ok-put.ensures)
-    (put-on_roll begun (record (moved old room at rank) { rolls = rolls }) c.args.choice.next c.in-Some.school c.position_and_key-position.result.0 here c.in-Some.is
-    (proposed-told papers (moved old room at rank) student c.in-Some.school c.position_and_key-position.result.0 c.of.result rolls c.in_ok-out.out None
-    (fits-begun begun) (next-begun begun c.args.choice.next here ∙ c.in-Some.is) c.position_and_key-position.ensures.position key c.in_ok-out.ensures
+    (put-on_roll begun (record (moved old room at rank) { rolls = rolls }) c.args.choice.next c.in-Some.proposal.school c.in-Some.proposal.position here is
+    (proposed-told papers (moved old room at rank) student c.in-Some.proposal.school c.in-Some.proposal.position c.of-offered.result rolls c.in_ok-out.out None
+    (fits-begun begun) (next-begun begun c.args.choice.next here ∙ is) place key c.in_ok-out.ensures
     (is_some-none c.in_ok-out.out (sym c.is_some.ensures ∙ c.if-is_some.false)))
     refl refl refl)

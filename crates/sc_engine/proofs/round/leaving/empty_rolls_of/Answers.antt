@@ -1,15 +1,17 @@
 use Rattle.std.proofs.Common.{◌∙◌, sym, subst}
 use Rattle.std.proofs.lemmas.List.{take_all}
-use Rattle.std.proofs.lemmas.List.Elements.{Contains-get_or}
 use Rattle.sc_engine.specs.Leaving.{AreEmptied}
 use Rattle.sc_engine.specs.Rolls.{rolls_of}
-use Rattle.sc_engine.proofs.Leaving.{emptied-more}
+use Rattle.sc_engine.proofs.Leaving.{emptied-more, one-within}
 use Rattle.sc_engine.proofs.Offers.{seen_by}
 use Rattle.sc_engine.proofs.Tables.{length-mapped}
 use Rattle.sc_engine.proofs.round.leaving.empty_rolls_of.Goals as goal
 
-pub empty_roll_of-requires-clause-student : goal.empty_roll_of-requires-clause-student
-empty_roll_of-requires-clause-student g c = c.requires.within _ (Contains-get_or c.args.positions.now c.loop-at.at-index 0 c.loop-at-test.true)
+pub empty_roll_of-requires : goal.empty_roll_of-requires
+empty_roll_of-requires g c = record {
+  within = one-within c.args.papers.now c.args.positions.now c.loop-at.at-index c.loop-at-test.true c.requires.within;
+  each = c.loop-at.invariant.0;
+}
 
 pub loop-at-preserved : goal.loop-at-preserved
 loop-at-preserved g c = (

@@ -1,15 +1,24 @@
 use Rattle.std.proofs.Common.{◌∙◌, sym, subst}
 use Rattle.std.proofs.lemmas.List.{take_all}
-use Rattle.std.proofs.lemmas.List.Elements.{Contains-get_or}
 use Rattle.sc_engine.specs.Leaving.{AreTaken}
 use Rattle.sc_engine.specs.Rolls.{rolls_of}
+use Rattle.sc_engine.proofs.Leaving.{one-within}
 use Rattle.sc_engine.proofs.Offers.{seen_by}
 use Rattle.sc_engine.proofs.Tables.{length-mapped}
 use Rattle.sc_engine.proofs.Taking.{taken-more}
 use Rattle.sc_engine.proofs.round.taking.take_rolls.Goals as goal
 
-pub take_roll-requires-clause-student : goal.take_roll-requires-clause-student
-take_roll-requires-clause-student g c = c.requires.within _ (Contains-get_or c.args.positions.now c.loop-at.at-index 0 c.loop-at-test.true)
+pub take_roll-requires-clause-own : goal.take_roll-requires-clause-own
+take_roll-requires-clause-own g c = record {
+  within = one-within c.args.papers.now c.args.positions.now c.loop-at.at-index c.loop-at-test.true c.requires.own.within;
+  each = c.loop-at.invariant.0;
+}
+
+pub take_roll-requires-clause-others : goal.take_roll-requires-clause-others
+take_roll-requires-clause-others g c = record {
+  within = one-within c.args.papers.now c.args.positions.now c.loop-at.at-index c.loop-at-test.true c.requires.own.within;
+  each = c.loop-at.invariant.1;
+}
 
 pub loop-at-preserved : goal.loop-at-preserved
 loop-at-preserved g c =
