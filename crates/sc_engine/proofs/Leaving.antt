@@ -47,13 +47,6 @@ pub one-within : (m : Market) (positions : List ℕ) (n : ℕ) → n < length po
 one-within m positions n low within p among =
     subst (λ q. q < length m.students) (only-one (get_or positions n 0) p among) (within (get_or positions n 0) (Contains-get_or positions n 0 low))
 
-pub emptied-none : (m : Market) (ranks : List (Option ℕ)) (rolls : List RollView) → AreEmptied m ranks [] rolls rolls
-emptied-none m ranks rolls = record {
-  each = λ k. inl refl;
-  done = λ p k (j, low, at) there. absurd (omega (arith, low));
-  same_length = refl;
-}
-
 -- one more position
 pub emptied-more : (m : Market) (ranks : List (Option ℕ)) (positions : List ℕ) (n : ℕ) (old now new : List RollView) → n < length positions
     → AreEmptied m ranks (take n positions) old now → AreEmptied m ranks (get_or positions n 0 ∷ []) now new → AreEmptied m ranks (take (n + 1) positions) old new

@@ -23,14 +23,6 @@ use Rattle.sc_engine.proofs.Renewing.{roll-set_other, roll-set_same}
 use Rattle.sc_engine.proofs.Rolls.{on-roll, roll-fits_still, roll-holds}
 use Rattle.sc_engine.proofs.Tables.{length-mapped, next-among, next-kept, next-none, position-of, roll-at, stands-at}
 
-pub taken-none : (m : Market) (ranks : List (Option ℕ)) (rolls others : List RollView) → AreTaken m ranks [] rolls others rolls others
-taken-none m ranks rolls others = record {
-  each = λ k. inl (refl, refl);
-  done = λ p k (j, low, at) there none some. absurd (omega (arith, low));
-  same_length = refl;
-  same_length_left = refl;
-}
-
 -- one more position
 pub taken-more : (m : Market) (ranks : List (Option ℕ)) (positions : List ℕ) (n : ℕ) (old other now between new left : List RollView) → n < length positions
     → AreTaken m ranks (take n positions) old other now between → AreTaken m ranks (get_or positions n 0 ∷ []) now between new left → AreTaken m ranks (take (n + 1) positions) old other new left
@@ -96,18 +88,6 @@ taken-one see m ranks at told proposal rolls others mine theirs well low tells i
       ∙ ap (roll_at (map see others)) (sym here);
   same_length = length-mapped see (set rolls proposal.position theirs) ∙ length-set rolls proposal.position theirs ∙ sym (length-mapped see rolls);
   same_length_left = length-mapped see (set others proposal.position mine) ∙ length-set others proposal.position mine ∙ sym (length-mapped see others);
-}
-
--- where the other's roll is empty nothing is exchanged
-pub taken-not : (m : Market) (ranks : List (Option ℕ)) (at : ℕ) (told : Option Proposal) (proposal : Proposal) (rolls others : List RollView) → Tells m ranks at told → told ≡ Some proposal → length (roll_at others proposal.position).keys ≡ 0
-    → AreTaken m ranks (at ∷ []) rolls others rolls others
-taken-not m ranks at told proposal rolls others tells is empty = record {
-  each = λ k. inl (refl, refl);
-  done = λ p k among there none some.
-      let here : k ≡ proposal.position = told-only m ranks at k told proposal tells is (subst (λ q. StandsThere m ranks q k) (sym (only-one at p among)) there) in
-      absurd (omega (arith, some, ap (λ j. length (roll_at others j).keys) here, empty));
-  same_length = refl;
-  same_length_left = refl;
 }
 
 -- a list that contains nothing is empty
