@@ -138,11 +138,11 @@ module _ (m : Market) (a : Amendment) (groups : List ℕ) (tell : TellRegion m a
   })
 
 -- no list leaves its district, so the region lies in the widened one to begin with
-district-near : (m : Market) (a : Amendment) → WellFormed m → verdict m a ≡ None → (d : DistrictsView) → AreWidened m a d → (group : ℕ) → group ≡ group_of m d.groups (start_of m a)
+district-near : (m : Market) (a : Amendment) → WellFormed m → (d : DistrictsView) → AreWidened m a d → (group : ℕ) → group ≡ group_of m d.groups (start_of m a)
     → (i : ℕ) → InRegion m a i → is_student m i ≡ true → group_of m d.groups (first_choice m i) ≡ group
-district-near m a well allowed d before group its i inside known =
+district-near m a well d before group its i inside known =
     subst (λ gs. group_of m gs (first_choice m i) ≡ group_of m gs (start_of m a)) before.joined
-    (in-member m a well allowed d.groups before.districts.one_each (λ j. Unit {0}) (λ j s of listed. before.districts.closed j s listed) (λ j within. tt) i inside known)
+    (in-member m a well before.allowed d.groups before.districts.one_each (λ j. Unit {0}) (λ j s of listed. before.districts.closed j s listed) (λ j within. tt) i inside known)
     ∙ sym its
 
 -- the positions below a count
@@ -172,10 +172,10 @@ position-listed m d districts groups one_each lists are group place among =
     omega (arith, (position-among groups group place among).0, one_each, districts.firsts_each, ap length are, length-map lists names)
 
 -- the widened districts tell the region, where the lists of a few hold the one to begin with together
-pub held-tell : (m : Market) (a : Amendment) → WellFormed m → verdict m a ≡ None → (d : DistrictsView) → AreWidened m a d
+pub held-tell : (m : Market) (a : Amendment) → WellFormed m → (d : DistrictsView) → AreWidened m a d
     → (place : ℕ) → place ≡ position_of m (start_of m a) → HeldTogether m (schools_of_group d.groups (slice_index d.groups place)) place → TellRegion m a d.groups
 unfolding is_member
-held-tell m a well allowed d before place its held i known = (to, from)
+held-tell m a well d before place its held i known = (to, from)
   where
     first : ℕ
     first = first_choice m i
@@ -189,12 +189,12 @@ held-tell m a well allowed d before place its held i known = (to, from)
     to : is_member m groups (group_of m groups (start_of m a)) i ≡ true → InRegion m a i
     to passes =
         let own : slice_index groups (position_of m first) ≡ slice_index groups place = eqb-true _ _ passes ∙ ap (slice_index groups) (sym its) in
-        few-in m a well allowed held.few held.within i (student-among m i known)
+        few-in m a well before.allowed held.few held.within i (student-among m i known)
         (held.together (position_of m first) (position-kept groups (slice_index groups place) (position_of m first) low own)
         ∙ ap (slice_index (joined_students m (students_at m held.few))) its)
 
     from : InRegion m a i → is_member m groups (group_of m groups (start_of m a)) i ≡ true
-    from inside = eq-eqb _ _ (district-near m a well allowed d before (group_of m groups (start_of m a)) refl i inside known)
+    from inside = eq-eqb _ _ (district-near m a well d before (group_of m groups (start_of m a)) refl i inside known)
 
 -- the students who are listed in a district are all who have their first choice there
 pub district-listed : (m : Market) → WellFormed m → (d : DistrictsView) → AreDistricts m d → (group : ℕ) (schools : List ℕ) → schools ≡ schools_of_group d.groups group
@@ -210,12 +210,12 @@ district-listed m well d districts group schools all_schools firsts same positio
     low (subst (λ fs. Contains (firsts_at fs (position_of m first)) (student_at m p)) (sym same) (districts.listed (student_at m p) (student-among m (student_at m p) known)))
 
 -- so they have all of the region
-pub district-enough : (m : Market) (a : Amendment) → WellFormed m → verdict m a ≡ None → (d : DistrictsView) → AreWidened m a d → (group : ℕ) → group ≡ group_of m d.groups (start_of m a)
+pub district-enough : (m : Market) (a : Amendment) → WellFormed m → (d : DistrictsView) → AreWidened m a d → (group : ℕ) → group ≡ group_of m d.groups (start_of m a)
     → (positions : List ℕ) → ((p : ℕ) → p < length (students_of m) → group_of m d.groups (first_choice m (student_at m p)) ≡ group → Contains positions p)
     → (p : ℕ) → p < length (students_of m) → InRegion m a (student_at m p) → Contains positions p
-district-enough m a well allowed d before group its positions listed p low inside =
+district-enough m a well d before group its positions listed p low inside =
     let known = hand-student m p (omega (arith, low, length-keys_of m.students)) in
-    listed p low (district-near m a well allowed d before group its (student_at m p) inside known)
+    listed p low (district-near m a well d before group its (student_at m p) inside known)
 
 -- positions in a range
 range-rising : (count : ℕ) → IsStrictlyIncreasing (range_with_len 0 count)

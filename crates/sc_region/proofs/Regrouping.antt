@@ -25,13 +25,19 @@ list-nothing m f groups (s ∷ list) together =
     ∙ list-nothing m f groups list (λ t among. together t (contains-tail s list t among))
 
 -- districts in which the new choices are together
-pub together-widened : (m : Market) (a : Amendment) (d : DistrictsView) → AreDistricts m d → ((s : ℕ) → Contains (new_choices a) s → group_of m d.groups s ≡ group_of m d.groups (start_of m a))
+pub together-widened : (m : Market) (a : Amendment) → verdict m a ≡ None → (d : DistrictsView) → AreDistricts m d → ((s : ℕ) → Contains (new_choices a) s → group_of m d.groups s ≡ group_of m d.groups (start_of m a))
     → AreWidened m a d
 unfolding widened
-together-widened m a d districts together = record {
+together-widened m a allowed d districts together = record {
+  allowed = allowed;
   districts = districts;
   joined = list-nothing m (start_of m a) d.groups (new_choices a) together;
 }
+
+-- the groups that all lists join, with the new choices joined
+pub all-joined : (m : Market) (a : Amendment) (groups joined : List ℕ) → groups ≡ widened m a joined → joined ≡ joined_students m (students_of m) → groups ≡ region_groups m a
+unfolding region_groups
+all-joined m a groups joined is all = is ∙ ap (widened m a) all
 
 -- groups that hold all lists together, with the new choices joined
 module _ (m : Market) (a : Amendment) (well : WellFormed m) (allowed : verdict m a ≡ None) where
@@ -43,7 +49,7 @@ module _ (m : Market) (a : Amendment) (well : WellFormed m) (allowed : verdict m
       → (d : DistrictsView) → AreDistricts m d → AreWidened m a (record { groups = widened m a groups; firsts = d.firsts })
   unfolding widened
   groups-widened groups whole closed d districts =
-      together-widened m a (record { groups = widened m a groups; firsts = d.firsts })
+      together-widened m a allowed (record { groups = widened m a groups; firsts = d.firsts })
       (record {
         one_each = list-whole m (start_of m a) (start-known m a well allowed) groups (new_choices a) whole;
         closed = λ i s listed.
@@ -104,7 +110,7 @@ module _ (m : Market) (a : Amendment) (well : WellFormed m) (allowed : verdict m
 
     pub regrouped-widened : AreWidened m a (record { groups = new; firsts = d.firsts })
     regrouped-widened =
-        together-widened m a (record { groups = new; firsts = d.firsts })
+        together-widened m a allowed (record { groups = new; firsts = d.firsts })
         (record {
           one_each = one_each ∙ before.districts.one_each;
           closed = closed;

@@ -1,11 +1,12 @@
 -- Districts of schools, which no student's list leaves.
-use Rattle.std.specs.Prelude.{◌≡◌, ℕ, List, [], Option, None, Some, length, map, slice_index, slice_index_or, Contains, Vec}
+use Rattle.std.specs.Prelude.{◌≡◌, ◌<◌, ℕ, List, [], Option, None, Some, length, map, slice_index, slice_index_or, Contains, Vec}
 use Rattle.std.specs.declared.alloc.Global.{Global}
 use Rattle.sc_papers.specs.Market.{Market, choices_of, schools_of, students_of}
+use Rattle.sc_papers.specs.Verdict.{verdict}
 use Rattle.sc_papers.specs.declared.amendment.Amendment.{Amendment}
 use Rattle.sc_papers.specs.declared.amendment.Amendment.TheVariants.{Enter, Withdraw, Rerank, Add, Close, Correct}
 use Rattle.sc_region.specs.declared.first.First.{First}
-use Rattle.sc_region.specs.Groups.{first_choice, group_of, new_choices, position_of, widened}
+use Rattle.sc_region.specs.Groups.{first_choice, group_of, new_choices, position_of, start_of, widened}
 
 -- a number for each school's district, and for each school a list of students, both by the school's
 -- position in the order of entry
@@ -33,11 +34,18 @@ pub record AreDistricts (m : Market) (d : DistrictsView) : Type 0 where
   pub firsts_each : length d.firsts ≡ length (schools_of m)
   pub listed : (i : ℕ) → Contains (students_of m) i → Contains (firsts_at d.firsts (position_of m (first_choice m i))) i
 
--- districts in which the new choices of an amendment, if there are any, lie in one with the school to begin with: to join
--- them joins nothing more
+-- districts in which the new choices of an amendment that is not refused, if there are any, lie in one with the school to
+-- begin with: to join them joins nothing more
 pub record AreWidened (m : Market) (a : Amendment) (d : DistrictsView) : Type 0 where
+  pub allowed : verdict m a ≡ None
   pub districts : AreDistricts m d
   pub joined : widened m a d.groups ≡ d.groups
+
+-- such districts, to be searched for the region from the position of the school to begin with
+pub record AreSearchedFrom (m : Market) (a : Amendment) (d : DistrictsView) (place : ℕ) : Type 0 where
+  pub widened : AreWidened m a d
+  pub start : place ≡ position_of m (start_of m a)
+  pub within : place < length (schools_of m)
 
 -- who is no longer listed at the first choice that they had
 abbrev pub unlisted_by : Amendment → Option ℕ

@@ -1,7 +1,8 @@
 -- Groups of schools: the number of each school's group, by the school's position in the order of entry.
-use Rattle.std.specs.Prelude.{ℕ, Bool, ◌==◌, nat_eq, List, [], ◌∷◌, ◌++◌, filter, length, map, min, max, slice_index, if◌then◌else◌}
+use Rattle.std.specs.Prelude.{◌≡◌, ℕ, Bool, ◌==◌, nat_eq, None, List, [], ◌∷◌, ◌++◌, filter, length, map, min, max, slice_index, if◌then◌else◌}
 use Rattle.std.specs.List.{fold, position_or_len, range_with_len}
 use Rattle.sc_papers.specs.Market.{Market, schools_of, student_at, students_of, choices_of}
+use Rattle.sc_papers.specs.Verdict.{verdict}
 use Rattle.sc_papers.specs.declared.amendment.Amendment.{Amendment}
 use Rattle.sc_papers.specs.declared.amendment.Amendment.TheVariants.{Enter, Withdraw, Rerank, Add, Close, Correct}
 
@@ -70,6 +71,11 @@ entrants (Correct i zone siblings continuing) = []
 unfoldable pub schools_of_group : List ℕ → ℕ → List ℕ
 schools_of_group groups group = filter (λ place. slice_index groups place == group) (range_with_len 0 (length groups))
 
+-- an amendment that is not refused, beside a list with one entry for each school of the papers
+pub record IsAllowedBeside {X : Type 0} (m : Market) (a : Amendment) (entries : List X) : Type 0 where
+  pub allowed : verdict m a ≡ None
+  pub one_each : length entries ≡ length (schools_of m)
+
 -- the groups with the new choices joined to the school to begin with
 unfoldable pub widened : Market → Amendment → List ℕ → List ℕ
 widened m a groups = joined_list m (start_of m a) groups (new_choices a)
@@ -94,6 +100,10 @@ students_at m positions = map (student_at m) positions
 unfoldable pub members_of : Market → List ℕ → ℕ → List ℕ
 members_of m groups group = filter (is_member m groups group) (students_of m)
 
+-- whose first choice is in the group of the school to begin with, and then whoever enters
+abbrev pub members_beside : Market → Amendment → List ℕ → List ℕ
+members_beside m a groups = members_of m groups (group_of m groups (start_of m a)) ++ entrants a
+
 -- the region in order of entry
 unfoldable pub region_members : Market → Amendment → List ℕ
-region_members m a = members_of m (region_groups m a) (group_of m (region_groups m a) (start_of m a)) ++ entrants a
+region_members m a = members_beside m a (region_groups m a)

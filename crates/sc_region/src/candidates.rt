@@ -1,19 +1,17 @@
 //! Students who may be in a region, by position.
 
-ghost use Rattle.std.specs.Prelude.{◌≡◌, ◌<◌, ◌↔◌, ℕ, None, true, length, slice_index, Contains, IfOk, OnOk};
+ghost use Rattle.std.specs.Prelude.{◌≡◌, ◌<◌, ◌↔◌, ℕ, true, length, slice_index, Contains, IfOk, OnOk};
 ghost use Rattle.std.specs.List.Sorted.{IsStrictlyIncreasing};
 ghost use Rattle.sc_papers.specs.Market.{schools_of, student_at, students_of};
-ghost use Rattle.sc_papers.specs.Verdict.{verdict};
 ghost use Rattle.sc_region.specs.Districts.{firsts_at, lists_in, students_in};
-ghost use Rattle.sc_region.specs.Groups.{joined_students, schools_of_group, positions_in, students_at, widened};
+ghost use Rattle.sc_region.specs.Groups.{schools_of_group, positions_in};
 ghost use Rattle.sc_region.specs.Telling.{HeldTogether};
 
 use crate::first::First;
 use crate::grouping::groups_among;
 use crate::members::is_member;
-use crate::reach::widen;
 use crate::school_groups::SchoolGroups;
-use sc_papers::{Amendment, FlatPapers, MOST_STUDENTS};
+use sc_papers::{FlatPapers, MOST_STUDENTS};
 use std::alloc::{AllocError, Global};
 
 // How many lists for each school are tried at first, to see whether they hold all schools together: of lists of twelve choices
@@ -102,24 +100,6 @@ pub(crate) fn count_at(firsts: &Vec<Vec<First>>, places: &[usize]) -> usize
         count = count.saturating_add(firsts[*place].len());
     }
     count
-}
-
-/// The groups that the lists of the students at these positions join, and with them the new choices.
-pub(crate) fn groups_with(
-    alloc: Global,
-    papers: &FlatPapers,
-    amendment: &Amendment,
-    joined: &[usize],
-) -> Result<Vec<usize>, AllocError>
-    requires allowed { verdict papers.now amendment.now ≡ None }
-    requires within { (p : ℕ) → Contains joined.now p → p < length (students_of papers.now) }
-    ensures joined { IfOk result (λ groups. groups.items
-        ≡ widened papers.now amendment.now (joined_students papers.now (students_at papers.now joined.now))) }
-    ensures one_each { IfOk result (λ groups. length groups.items ≡ length (schools_of papers.now)) }
-{
-    let mut groups = groups_among(alloc, papers, joined)?.into_numbers();
-    widen(papers, amendment, &mut groups);
-    Ok(groups)
 }
 
 /// Whether the schools at these places are in one group, that of the school at another place.

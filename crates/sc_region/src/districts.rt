@@ -2,20 +2,15 @@
 
 ghost use Rattle.std.specs.Prelude.{◌≡◌, ◌<◌, ◌==◌, ℕ, None, Some, filter, length, not, Contains, IfOk, OnOk};
 ghost use Rattle.sc_papers.specs.Market.{schools_of, students_of};
-ghost use Rattle.sc_papers.specs.Verdict.{verdict};
 ghost use Rattle.sc_region.specs.Districts.{listed_by, firsts_at, unlisted_by, lists_in, new_first, students_in};
-ghost use Rattle.sc_region.specs.Groups.{first_choice, position_of};
+ghost use Rattle.sc_region.specs.Groups.{first_choice, position_of, IsAllowedBeside};
 
-use crate::candidates::{
-    count_at, few_hold_together, groups_with, listed_at, positions_in, schools_of_group,
-};
+use crate::candidates::{count_at, few_hold_together, listed_at, positions_in, schools_of_group};
 use crate::first::First;
-use crate::grouping::{first_position_at, groups_of, position_of, regroup};
+use crate::grouping::{first_position_at, groups_among, groups_of, position_of, regroup};
 use crate::marks::RegionPositions;
 use crate::members::positions_of;
-use crate::reach::{
-    are_one, first_choice, groups_of_few, new_choices, region_groups, start_of, widen,
-};
+use crate::reach::{are_one, first_choice, groups_of_few, new_choices, start_of, widen};
 use sc_papers::{Amendment, FlatPapers, MOST_STUDENTS, StudentNo};
 use std::alloc::{AllocError, Global};
 use std::marker::Model;
@@ -127,8 +122,7 @@ fn listed_by(amendment: &Amendment) -> Option<StudentNo>
 
 /// Takes out whoever the amendment takes from their first choice.
 fn let_leave(firsts: &mut Vec<Vec<First>>, papers: &FlatPapers, amendment: &Amendment)
-    requires allowed { verdict papers.now amendment.now ≡ None }
-    requires one_each { length firsts.old.items ≡ length (schools_of papers.now) }
+    requires { IsAllowedBeside papers.now amendment.now firsts.old.items }
     ensures others { (p i : ℕ) → (unlisted_by amendment.now ≡ Some i → ⊥)
         → Contains (firsts_at (lists_in firsts.old.items) p) i → Contains (firsts_at (lists_in firsts.new.items) p) i }
     ensures one_each { length firsts.new.items ≡ length firsts.old.items }
@@ -148,8 +142,7 @@ fn let_come(
     papers: &FlatPapers,
     amendment: &Amendment,
 ) -> Result<(), AllocError>
-    requires allowed { verdict papers.now amendment.now ≡ None }
-    requires one_each { length firsts.old.items ≡ length (schools_of papers.now) }
+    requires { IsAllowedBeside papers.now amendment.now firsts.old.items }
     ensures keeps { OnOk result ((p i : ℕ) → Contains (firsts_at (lists_in firsts.old.items) p) i
         → Contains (firsts_at (lists_in firsts.new.items) p) i) }
     ensures moved { OnOk result ((i : ℕ) → listed_by amendment.now ≡ Some i
@@ -175,8 +168,8 @@ impl Districts {
     ghost use Rattle.std.specs.Prelude.{◌≡◌, ◌<◌, None, length, slice_index, IfOk};
     ghost use Rattle.sc_papers.specs.Market.{schools_of};
     ghost use Rattle.sc_papers.specs.Verdict.{after, verdict};
-    ghost use Rattle.sc_region.specs.Districts.{AreDistricts, AreWidened};
-    ghost use Rattle.sc_region.specs.Groups.{position_of, schools_of_group, start_of};
+    ghost use Rattle.sc_region.specs.Districts.{AreDistricts, AreSearchedFrom, AreWidened};
+    ghost use Rattle.sc_region.specs.Groups.{schools_of_group};
     ghost use Rattle.sc_region.specs.Telling.{AreOfRegion, MarkRegion};
 
     /// The districts of the papers. The only error is want of memory.
@@ -214,10 +207,7 @@ impl Districts {
         amendment: &Amendment,
         start: usize,
     ) -> Result<Vec<usize>, AllocError>
-        requires widened { AreWidened papers.now amendment.now self.old }
-        requires allowed { verdict papers.now amendment.now ≡ None }
-        requires start { start ≡ position_of papers.now (start_of papers.now amendment.now) }
-        requires within { start < length (schools_of papers.now) }
+        requires { AreSearchedFrom papers.now amendment.now self.old start }
         ensures region { IfOk result (λ positions. AreOfRegion papers.now amendment.now positions.items) }
         ensures widened { AreWidened papers.now amendment.now self.new }
     {
@@ -228,7 +218,8 @@ impl Districts {
             let positions = positions_of(alloc, papers, few.as_slice(), few[start])?;
             return Ok(positions);
         }
-        self.groups = region_groups(alloc, papers, amendment)?;
+        self.groups = groups_of(alloc, papers)?.into_numbers();
+        widen(papers, amendment, &mut self.groups);
         let positions = positions_of(alloc, papers, self.groups.as_slice(), self.groups[start])?;
         Ok(positions)
     }
@@ -244,10 +235,7 @@ impl Districts {
         start: usize,
         schools: &[usize],
     ) -> Result<Vec<usize>, AllocError>
-        requires widened { AreWidened papers.now amendment.now self.old }
-        requires allowed { verdict papers.now amendment.now ≡ None }
-        requires start { start ≡ position_of papers.now (start_of papers.now amendment.now) }
-        requires within { start < length (schools_of papers.now) }
+        requires searched { AreSearchedFrom papers.now amendment.now self.old start }
         requires schools { schools.now ≡ schools_of_group self.old.groups (slice_index self.old.groups start) }
         ensures region { IfOk result (λ positions. AreOfRegion papers.now amendment.now positions.items) }
         ensures widened { AreWidened papers.now amendment.now self.new }
@@ -261,39 +249,17 @@ impl Districts {
             let positions = positions_in(alloc, papers, self.groups.as_slice(), group, listed)?;
             return Ok(positions);
         }
-        let exact = groups_with(alloc, papers, amendment, listed)?;
+        let mut exact = groups_among(alloc, papers, listed)?.into_numbers();
+        widen(papers, amendment, &mut exact);
         let positions = positions_in(alloc, papers, exact.as_slice(), exact[start], listed)?;
         regroup(&mut self.groups, group, exact.as_slice());
         Ok(positions)
     }
 
-    /// The positions of the region's students, rising, by districts that the new choices have widened.
-    fn region_positions(
-        &mut self,
-        alloc: Global,
-        papers: &FlatPapers,
-        amendment: &Amendment,
-    ) -> Result<Vec<usize>, AllocError>
-        requires widened { AreWidened papers.now amendment.now self.old }
-        requires allowed { verdict papers.now amendment.now ≡ None }
-        ensures region { IfOk result (λ positions. AreOfRegion papers.now amendment.now positions.items) }
-        ensures widened { AreWidened papers.now amendment.now self.new }
-    {
-        let start = position_of(papers, start_of(papers, amendment));
-        let district = schools_of_group(alloc, self.groups.as_slice(), self.groups[start])?;
-        let schools = district.as_slice();
-        if count_at(&self.firsts, schools) > papers.students_len() / WIDE {
-            self.positions_among_all(alloc, papers, amendment, start)
-        } else {
-            self.positions_among_listed(alloc, papers, amendment, start, schools)
-        }
-    }
-
     /// Brings the students who are listed at their first choices in step with an amendment, before it is made, where the new
     /// choices have widened the districts.
     fn list_anew(self, papers: &FlatPapers, amendment: &Amendment) -> Result<Self, AllocError>
-        requires widened { AreWidened papers.now amendment.now self }
-        requires allowed { verdict papers.now amendment.now ≡ None }
+        requires { AreWidened papers.now amendment.now self }
         ensures { IfOk result (AreDistricts (after papers.now amendment.now)) }
     {
         // This call tells that the papers are well-formed.
@@ -327,8 +293,16 @@ impl Districts {
         ensures widened { AreWidened papers.now amendment.now self.new }
     {
         self.widen(papers, amendment);
-        let positions = self.region_positions(alloc, papers, amendment)?;
-        Ok(RegionPositions::at(papers.students_len(), positions))
+        let start = position_of(papers, start_of(papers, amendment));
+        let district = schools_of_group(alloc, self.groups.as_slice(), self.groups[start])?;
+        let schools = district.as_slice();
+        let students = papers.students_len();
+        if count_at(&self.firsts, schools) > students / WIDE {
+            let positions = self.positions_among_all(alloc, papers, amendment, start)?;
+            return Ok(RegionPositions::at(students, positions));
+        }
+        let positions = self.positions_among_listed(alloc, papers, amendment, start, schools)?;
+        Ok(RegionPositions::at(students, positions))
     }
 
     /// The region of an amendment that is not refused, as `region` gives it, and the districts in step with it, as `amend` brings them.

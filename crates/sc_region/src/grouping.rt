@@ -2,7 +2,6 @@
 
 ghost use Rattle.std.specs.Prelude.{◌≡◌, ◌<◌, ◌==◌, ℕ, true, length, map, slice_index, Contains, IfOk, if◌then◌else◌};
 ghost use Rattle.sc_papers.specs.Market.{is_school, schools_of, student_at, students_of};
-ghost use Rattle.sc_papers.specs.WellFormed.{WellFormed};
 ghost use Rattle.sc_region.specs.Groups.{first_choice, joined, joined_choices, joined_list, joined_students, moved, position_of, students_at};
 
 use crate::school_groups::SchoolGroups;
@@ -19,21 +18,6 @@ pub(crate) fn position_of(papers: &FlatPapers, school: SchoolNo) -> usize
         unreachable!()
     };
     position
-}
-
-/// The first choice of the student at a position.
-pub(crate) fn first_choice_at(papers: &FlatPapers, position: usize) -> SchoolNo
-    requires { position < length (students_of papers.now) }
-    ensures first { result ≡ first_choice papers.now (student_at papers.now position) }
-    ensures known { is_school papers.now result ≡ true }
-    ensures well_formed { WellFormed papers.now }
-{
-    // This call tells that the papers are well-formed, so that there are choices.
-    prove!(position < papers.students_len());
-    let Some(school) = papers.choice_at(position, 0) else {
-        unreachable!()
-    };
-    school
 }
 
 /// Puts one number in the place of another.

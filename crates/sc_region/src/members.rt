@@ -3,10 +3,10 @@
 ghost use Rattle.std.specs.Prelude.{◌≡◌, ◌<◌, length, IfOk};
 ghost use Rattle.std.specs.List.{range_with_len};
 ghost use Rattle.sc_papers.specs.Market.{schools_of, student_at, students_of};
-ghost use Rattle.sc_region.specs.Groups.{is_member, members_of, positions_in};
+ghost use Rattle.sc_region.specs.Groups.{is_member, positions_in};
 
 use crate::grouping::first_position_at;
-use sc_papers::{FlatPapers, StudentNo};
+use sc_papers::FlatPapers;
 use std::alloc::{AllocError, Global};
 
 /// Whether the first choice of the student at a position is in a group.
@@ -22,28 +22,6 @@ pub(crate) fn is_member(
     ensures { result ≡ is_member papers.now groups.now group (student_at papers.now position) }
 {
     groups[first_position_at(papers, position)] == group
-}
-
-/// The students of the papers whose first choice is in a group, in order of entry.
-pub(crate) fn members_of(
-    alloc: Global,
-    papers: &FlatPapers,
-    groups: &[usize],
-    group: usize,
-) -> Result<Vec<StudentNo>, AllocError>
-    requires { length groups.now ≡ length (schools_of papers.now) }
-    ensures { IfOk result (λ members. members.items ≡ members_of papers.now groups.now group) }
-{
-    let mut members = Vec::new(alloc);
-    for position in 0..papers.students_len() {
-        let Some(student) = papers.student_at(position) else {
-            unreachable!()
-        };
-        if is_member(papers, groups, group, position) {
-            members.push(student)?;
-        }
-    }
-    Ok(members)
 }
 
 /// The positions of the students of the papers whose first choice is in a group, rising.

@@ -4,13 +4,13 @@ ghost use Rattle.std.specs.Prelude.{◌≡◌, ◌↔◌, ◌<◌, ℕ, None, tr
 ghost use Rattle.std.specs.List.Sorted.{IsStrictlyIncreasing};
 ghost use Rattle.sc_papers.specs.Market.{is_school, is_student, schools_of, students_of};
 ghost use Rattle.sc_papers.specs.Verdict.{verdict, IsRefusal};
-ghost use Rattle.sc_region.specs.Groups.{first_choice, new_choices, region_groups, region_members, start_of, widened};
+ghost use Rattle.sc_region.specs.Groups.{first_choice, members_beside, new_choices, start_of, widened, IsAllowedBeside};
 ghost use Rattle.sc_region.specs.Region.{InRegion};
 ghost use Rattle.sc_region.specs.Telling.{AreOfSome};
 
 use crate::candidates::LISTS_FOR_SCHOOL;
-use crate::grouping::{first_choice_at, groups_among, groups_of, join_list, position_of};
-use crate::members::members_of;
+use crate::grouping::{groups_among, groups_of, join_list, position_of};
+use crate::members::is_member;
 use crate::region_list::RegionList;
 use sc_papers::{Amendment, FlatPapers, MOST_STUDENTS, Refusal, SchoolNo, StudentNo};
 use std::alloc::{AllocError, Global};
@@ -21,10 +21,15 @@ pub(crate) fn first_choice(papers: &FlatPapers, student: StudentNo) -> SchoolNo
     ensures first { result ≡ first_choice papers.now student }
     ensures known { is_school papers.now result ≡ true }
 {
+    // This call tells that the papers are well-formed, so that there are choices.
+    prove!(papers.students_len() <= MOST_STUDENTS);
     let Some(position) = papers.student_position(student) else {
         unreachable!()
     };
-    first_choice_at(papers, position)
+    let Some(school) = papers.choice_at(position, 0) else {
+        unreachable!()
+    };
+    school
 }
 
 /// A school that the amendment concerns: the amended one, or a choice of the amended student.
@@ -54,8 +59,7 @@ pub(crate) fn new_choices(amendment: &Amendment) -> &[SchoolNo]
 
 /// Joins the new choices to the school to begin with.
 pub(crate) fn widen(papers: &FlatPapers, amendment: &Amendment, groups: &mut Vec<usize>)
-    requires allowed { verdict papers.now amendment.now ≡ None }
-    requires one_each { length groups.old.items ≡ length (schools_of papers.now) }
+    requires { IsAllowedBeside papers.now amendment.now groups.old.items }
     ensures widened { groups.new.items ≡ widened papers.now amendment.now groups.old.items }
     ensures one_each { length groups.new.items ≡ length (schools_of papers.now) }
 {
@@ -63,33 +67,27 @@ pub(crate) fn widen(papers: &FlatPapers, amendment: &Amendment, groups: &mut Vec
     join_list(papers, groups, start, new_choices(amendment));
 }
 
-/// The groups that all lists join, those before the amendment and those after it.
-pub(crate) fn region_groups(
-    alloc: Global,
-    papers: &FlatPapers,
-    amendment: &Amendment,
-) -> Result<Vec<usize>, AllocError>
-    requires { verdict papers.now amendment.now ≡ None }
-    ensures joined { IfOk result (λ groups. groups.items ≡ region_groups papers.now amendment.now) }
-    ensures one_each { IfOk result (λ groups. length groups.items ≡ length (schools_of papers.now)) }
-{
-    let mut groups = groups_of(alloc, papers)?.into_numbers();
-    widen(papers, amendment, &mut groups);
-    Ok(groups)
-}
-
-/// The region in order of entry.
+/// The students of the papers whose first choice is in the group of the school to begin with, in order of entry, and then
+/// whoever enters.
 fn region_members(
     alloc: Global,
     papers: &FlatPapers,
     amendment: &Amendment,
+    groups: &[usize],
 ) -> Result<Vec<StudentNo>, AllocError>
-    requires { verdict papers.now amendment.now ≡ None }
-    ensures { IfOk result (λ members. members.items ≡ region_members papers.now amendment.now) }
+    requires { IsAllowedBeside papers.now amendment.now groups.now }
+    ensures { IfOk result (λ members. members.items ≡ members_beside papers.now amendment.now groups.now) }
 {
-    let groups = region_groups(alloc, papers, amendment)?;
     let group = groups[position_of(papers, start_of(papers, amendment))];
-    let mut members = members_of(alloc, papers, groups.as_slice(), group)?;
+    let mut members = Vec::new(alloc);
+    for position in 0..papers.students_len() {
+        let Some(student) = papers.student_at(position) else {
+            unreachable!()
+        };
+        if is_member(papers, groups, group, position) {
+            members.push(student)?;
+        }
+    }
     if let Amendment::Enter { student, .. } = amendment {
         members.push(*student)?;
     }
@@ -117,7 +115,9 @@ pub fn region(
     ensures refused { IfErr result (IsRefusal (verdict papers.now amendment.now)) }
 {
     papers.check(amendment)?;
-    let members = region_members(alloc, papers, amendment)?;
+    let mut groups = groups_of(alloc, papers)?.into_numbers();
+    widen(papers, amendment, &mut groups);
+    let members = region_members(alloc, papers, amendment, groups.as_slice())?;
     // This call tells that the papers are well-formed.
     prove!(papers.students_len() <= MOST_STUDENTS);
     let region = RegionList::by_number(members);

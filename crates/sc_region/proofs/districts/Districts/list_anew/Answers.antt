@@ -14,7 +14,7 @@ returns c =
     let a = c.args.amendment.now in
     let well = c.students_len.ensures.well_formed in
     let d : DistrictsView = record { groups = c.districts.inside.groups.items; firsts = lists_in c.districts.inside.firsts.items } in
-    let old : AreWidened m a d = subst (AreWidened m a) (sym c.districts.view_is) c.requires.widened in
+    let old : AreWidened m a d = subst (AreWidened m a) (sym c.districts.view_is) c.requires in
     subst (λ (gs : List ℕ). AreDistricts (after m a) (record { groups = gs; firsts = lists_in c.let_come.new.firsts.items })) old.joined
     (districts-after m a well (WellFormed-after m a well c.requires.allowed) c.requires.allowed d old.districts (start-known m a well c.requires.allowed) (lists_in c.let_come.new.firsts.items)
     (length-map c.let_come.new.firsts.items names ∙ c.in_ok-let_come.ensures.one_each ∙ c.let_leave.ensures.one_each ∙ sym (length-map c.districts.inside.firsts.items names))

@@ -9,7 +9,7 @@ use Rattle.sc_region.specs.Groups.{positions_in}
 use Rattle.sc_region.specs.Telling.{AreOfRegion, TellRegion}
 use Rattle.sc_region.proofs.Having.{all-told, whole-tell}
 use Rattle.sc_region.proofs.Reaching.{region-marked}
-use Rattle.sc_region.proofs.Regrouping.{all-widened}
+use Rattle.sc_region.proofs.Regrouping.{all-joined, all-widened}
 use Rattle.sc_region.proofs.districts.Districts.positions_among_all.Goals as goal
 
 pub returns-then-are_one-clause-region : goal.returns-then-are_one-clause-region
@@ -23,7 +23,7 @@ returns-then-are_one-clause-region c =
     λ place low. subst (λ (gs : List ℕ). slice_index gs place ≡ slice_index gs 0) c.as_slice.ensures.value (c.are_one.ensures c.if-are_one.true place (omega (arith, low, ap length c.as_slice.ensures.value))) in
     let tell : TellRegion m a numbers =
     subst (TellRegion m a) (sym few.joined)
-    (whole-tell m a c.students_len.ensures.well_formed c.requires.allowed few.some few.within (ap length (sym few.joined) ∙ whole)
+    (whole-tell m a c.students_len.ensures.well_formed c.requires.widened.allowed few.some few.within (ap length (sym few.joined) ∙ whole)
     (λ place low. subst (λ (gs : List ℕ). slice_index gs place ≡ slice_index gs 0) few.joined (one place (omega (arith, low, ap length few.joined))))) in
     let own : c.index.result.now ≡ slice_index numbers c.args.start = get_or_read numbers c.args.start c.index.result.now (omega (arith, c.requires.within, whole)) c.index.ensures 0 in
     let is : c.in_ok-positions.positions.items ≡ positions_in m numbers (slice_index numbers c.args.start) (range_with_len 0 (length (students_of m))) =
@@ -35,18 +35,18 @@ returns-in_err-positions-2-clause-widened c =
     let m = c.args.papers.now in
     let a = c.args.amendment.now in
     let d : DistrictsView = record { groups = c.self.inside.groups.items; firsts = lists_in c.self.inside.firsts.items } in
-    subst (λ (gs : List ℕ). AreWidened m a (record { groups = gs; firsts = d.firsts })) (sym c.in_ok-self-inside.ensures.joined)
-    (all-widened m a c.students_len.ensures.well_formed c.requires.allowed d (subst (AreDistricts m) (sym c.self.view_is) c.requires.widened.districts))
+    subst (λ (gs : List ℕ). AreWidened m a (record { groups = gs; firsts = d.firsts })) (sym (all-joined m a _ _ c.widen.ensures.widened (c.into_numbers.ensures ∙ c.in_ok-groups_of.ensures.joined)))
+    (all-widened m a c.students_len.ensures.well_formed c.requires.widened.allowed d (subst (AreDistricts m) (sym c.self.view_is) c.requires.widened.districts))
 
 pub returns-clause-region : goal.returns-clause-region
 returns-clause-region c =
     let m = c.args.papers.now in
     let a = c.args.amendment.now in
-    let numbers = c.in_ok-self-inside.field-0.items in
+    let numbers = c.widen.new.groups.items in
     let tell : TellRegion m a numbers =
-    subst (TellRegion m a) (sym c.in_ok-self-inside.ensures.joined) (λ i known. region-marked m a c.students_len.ensures.well_formed c.requires.allowed i (student-among m i known)) in
+    subst (TellRegion m a) (sym (all-joined m a _ _ c.widen.ensures.widened (c.into_numbers.ensures ∙ c.in_ok-groups_of.ensures.joined))) (λ i known. region-marked m a c.students_len.ensures.well_formed c.requires.widened.allowed i (student-among m i known)) in
     let own : c.index-2.result.now ≡ slice_index numbers c.args.start =
-    get_or_read numbers c.args.start c.index-2.result.now (omega (arith, c.requires.within, c.in_ok-self-inside.ensures.one_each)) c.index-2.ensures 0 in
+    get_or_read numbers c.args.start c.index-2.result.now (omega (arith, c.requires.within, c.widen.ensures.one_each)) c.index-2.ensures 0 in
     let is : c.in_ok-positions-2.positions.items ≡ positions_in m numbers (slice_index numbers c.args.start) (range_with_len 0 (length (students_of m))) =
     c.in_ok-positions-2.ensures ∙ (λ t. positions_in m (c.as_slice-2.ensures.value t) (own t) (range_with_len 0 (length (students_of m)))) in
     subst (AreOfRegion m a) (sym is) (all-told m a numbers tell c.args.start c.requires.start)
@@ -56,5 +56,5 @@ returns-clause-widened c =
     let m = c.args.papers.now in
     let a = c.args.amendment.now in
     let d : DistrictsView = record { groups = c.self.inside.groups.items; firsts = lists_in c.self.inside.firsts.items } in
-    subst (λ (gs : List ℕ). AreWidened m a (record { groups = gs; firsts = d.firsts })) (sym c.in_ok-self-inside.ensures.joined)
-    (all-widened m a c.students_len.ensures.well_formed c.requires.allowed d (subst (AreDistricts m) (sym c.self.view_is) c.requires.widened.districts))
+    subst (λ (gs : List ℕ). AreWidened m a (record { groups = gs; firsts = d.firsts })) (sym (all-joined m a _ _ c.widen.ensures.widened (c.into_numbers.ensures ∙ c.in_ok-groups_of.ensures.joined)))
+    (all-widened m a c.students_len.ensures.well_formed c.requires.widened.allowed d (subst (AreDistricts m) (sym c.self.view_is) c.requires.widened.districts))
