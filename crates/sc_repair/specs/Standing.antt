@@ -1,5 +1,5 @@
 -- What a contract sees of settled papers.
-use Rattle.std.specs.Prelude.{◌≡◌, ℕ, ◌+◌, Bool, true, List, length, take, drop, Option, None, Some, Result, Ok, Err, if◌then◌else◌}
+use Rattle.std.specs.Prelude.{◌≡◌, ℕ, ◌+◌, Bool, true, List, length, take, drop, Option, None, Some, Result, Ok, Err, OnOk, OnErr, if◌then◌else◌}
 use Rattle.sc_papers.specs.Assignment.{assigned}
 use Rattle.sc_papers.specs.Log.{matching_of as gives, next_choice, IsSettled}
 use Rattle.sc_papers.specs.Market.{Market, is_student, is_school, students_of}
@@ -83,3 +83,13 @@ CountsRegion m a standing = (test : ℕ → Bool) → TellsRegion m a test → C
 abbrev pub KeepsOthers : Standing → Amendment → Standing → Type 0
 KeepsOthers old a new =
     (i : ℕ) → is_student old.papers i ≡ true → (InRegion old.papers a i → ⊥) → (is_student new.papers i ≡ true) × (matching_of new i ≡ matching_of old i)
+
+-- what answering an amendment that is not refused comes to: the standing is certified, and where no growth was refused, it is
+-- that of the amended papers, settled anew in the region from the rewind point on; else nothing changed
+pub record IsAmended {E : Type 0} (result : Result (Unit {0}) E) (old : Standing) (a : Amendment) (new : Standing) : Type 0 where
+  pub certified : IsCertified new
+  pub accepted : OnOk result (new.papers ≡ after old.papers a)
+  pub stays : OnOk result (take (rewind_point old.papers a) new.segments ≡ take (rewind_point old.papers a) old.segments)
+  pub others : OnOk result (KeepsOthers old a new)
+  pub proposals : OnOk result (CountsRegion old.papers a new)
+  pub unchanged : OnErr result (new ≡ old)

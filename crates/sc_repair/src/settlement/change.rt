@@ -1,11 +1,10 @@
 //! Amendments that change who stands in the papers, or a school there, in place.
 
-ghost use Rattle.std.specs.Prelude.{◌≡◌, None, false, take, OnErr, OnOk};
+ghost use Rattle.std.specs.Prelude.{◌≡◌, None, false};
 ghost use Rattle.sc_papers.specs.TakingBack.{is_withdrawal};
-ghost use Rattle.sc_papers.specs.Verdict.{after, verdict};
+ghost use Rattle.sc_papers.specs.Verdict.{verdict};
 ghost use Rattle.sc_repair.specs.Newcomer.{newcomer};
-ghost use Rattle.sc_repair.specs.Rewinding.{rewind_point};
-ghost use Rattle.sc_repair.specs.Standing.{CountsRegion, IsCertified, KeepsOthers};
+ghost use Rattle.sc_repair.specs.Standing.{IsAmended};
 
 use super::Settlement;
 use crate::districts::region_of;
@@ -26,13 +25,7 @@ impl Settlement {
         requires allowed { verdict self.old.papers amendment ≡ None }
         requires no_entry { newcomer amendment ≡ None }
         requires no_withdrawal { is_withdrawal amendment ≡ false }
-        ensures accepted { OnOk result (self.new.papers ≡ after self.old.papers amendment) }
-        ensures certified { IsCertified self.new }
-        ensures stays { OnOk result (take (rewind_point self.old.papers amendment) self.new.segments
-            ≡ take (rewind_point self.old.papers amendment) self.old.segments) }
-        ensures others { OnOk result (KeepsOthers self.old amendment self.new) }
-        ensures proposals { OnOk result (CountsRegion self.old.papers amendment self.new) }
-        ensures unchanged { OnErr result (self.new ≡ self.old) }
+        ensures { IsAmended result self.old amendment self.new }
     {
         let region = region_of(self.alloc, &mut self.districts, &self.papers, &amendment)?;
         let point = point_in(&self.papers, &region, &amendment);

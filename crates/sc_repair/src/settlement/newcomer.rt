@@ -1,10 +1,9 @@
 //! A newcomer, who enters beside everybody who stands.
 
-ghost use Rattle.std.specs.Prelude.{◌≡◌, None, Some, take, OnErr, OnOk};
-ghost use Rattle.sc_papers.specs.Verdict.{after, verdict};
+ghost use Rattle.std.specs.Prelude.{◌≡◌, None, Some};
+ghost use Rattle.sc_papers.specs.Verdict.{verdict};
 ghost use Rattle.sc_repair.specs.Newcomer.{newcomer};
-ghost use Rattle.sc_repair.specs.Rewinding.{rewind_point};
-ghost use Rattle.sc_repair.specs.Standing.{CountsRegion, IsCertified, KeepsOthers};
+ghost use Rattle.sc_repair.specs.Standing.{IsAmended};
 
 use super::Settlement;
 use crate::districts::follow;
@@ -24,13 +23,7 @@ impl Settlement {
     ) -> Result<(), AllocError>
         requires allowed { verdict self.old.papers amendment ≡ None }
         requires newcomer { newcomer amendment ≡ Some student }
-        ensures accepted { OnOk result (self.new.papers ≡ after self.old.papers amendment) }
-        ensures certified { IsCertified self.new }
-        ensures stays { OnOk result (take (rewind_point self.old.papers amendment) self.new.segments
-            ≡ take (rewind_point self.old.papers amendment) self.old.segments) }
-        ensures others { OnOk result (KeepsOthers self.old amendment self.new) }
-        ensures proposals { OnOk result (CountsRegion self.old.papers amendment self.new) }
-        ensures unchanged { OnErr result (self.new ≡ self.old) }
+        ensures { IsAmended result self.old amendment self.new }
     {
         follow(&mut self.districts, &self.papers, &amendment);
         let back = match self.papers.apply_reversibly(amendment) {

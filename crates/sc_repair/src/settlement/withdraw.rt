@@ -1,10 +1,9 @@
 //! A student who withdraws.
 
-ghost use Rattle.std.specs.Prelude.{◌≡◌, None, take, OnErr, OnOk};
-ghost use Rattle.sc_papers.specs.Verdict.{after, verdict};
+ghost use Rattle.std.specs.Prelude.{◌≡◌, None};
+ghost use Rattle.sc_papers.specs.Verdict.{verdict};
 ghost use Rattle.sc_papers.specs.declared.amendment.Amendment.TheVariants.{Withdraw};
-ghost use Rattle.sc_repair.specs.Rewinding.{rewind_point};
-ghost use Rattle.sc_repair.specs.Standing.{CountsRegion, IsCertified, KeepsOthers};
+ghost use Rattle.sc_repair.specs.Standing.{IsAmended};
 
 use super::Settlement;
 use crate::districts::region_of;
@@ -22,13 +21,7 @@ impl Settlement {
     /// growth is refused after the student has moved, they move back.
     pub(super) fn withdraw(&mut self, student: StudentNo) -> Result<(), AllocError>
         requires { verdict self.old.papers (Withdraw student) ≡ None }
-        ensures accepted { OnOk result (self.new.papers ≡ after self.old.papers (Withdraw student)) }
-        ensures certified { IsCertified self.new }
-        ensures stays { OnOk result (take (rewind_point self.old.papers (Withdraw student)) self.new.segments
-            ≡ take (rewind_point self.old.papers (Withdraw student)) self.old.segments) }
-        ensures others { OnOk result (KeepsOthers self.old (Withdraw student) self.new) }
-        ensures proposals { OnOk result (CountsRegion self.old.papers (Withdraw student) self.new) }
-        ensures unchanged { OnErr result (self.new ≡ self.old) }
+        ensures { IsAmended result self.old (Withdraw student) self.new }
     {
         let amendment = Amendment::Withdraw { student };
         let region = region_of(self.alloc, &mut self.districts, &self.papers, &amendment)?;

@@ -1,8 +1,8 @@
-use Rattle.std.proofs.Common.{◌≡◌, false, ap, sym, subst, ◌∙◌, IfSome, take}
+use Rattle.std.proofs.Common.{◌≡◌, ℕ, List, false, ap, sym, subst, ◌∙◌, IfSome, take}
 use Rattle.std.specs.Option.{IsSomeAnd}
-use Rattle.sc_papers.specs.Market.{students_of}
+use Rattle.sc_papers.specs.Market.{Market, students_of}
 use Rattle.sc_papers.specs.Verdict.{after, verdict}
-use Rattle.sc_checkpoint.specs.Chains.{logs_in, students_in}
+use Rattle.sc_checkpoint.specs.Chains.{logs_in, students_in, Chain}
 use Rattle.sc_seats.specs.Roll.{RollView}
 use Rattle.sc_engine.specs.Round.{is_spent, view_of}
 use Rattle.sc_region.specs.Districts.{AreDistricts}
@@ -59,39 +59,45 @@ invariant_of-self-in-Err-entered c =
       districts = tt;
     }
 
-pub returns-in-Err-entered-clause-certified : goal.returns-in-Err-entered-clause-certified
-returns-in-Err-entered-clause-certified c =
-    still-certified c.self.inside.papers c.take_back.new.self c.self.inside.segments c.enter_newcomer-entered.new.segments c.self.inside.places c.enter_newcomer-entered.new.places c.self.inside.proposals
-    (c.take_back.ensures c.self.inside.papers c.in-Ok.ensures.back) c.in-Err-entered.ensures.places_unchanged c.in-Err-entered.ensures.segments_unchanged c.self.invariant.certified
+pub returns-in-Ok-entered : goal.returns-in-Ok-entered
+returns-in-Ok-entered c = record {
+  certified =
+      let made =
+      admitted c.self.inside.papers c.apply_reversibly.new.self c.args.amendment c.args.student c.self.inside.segments c.self.inside.places c.self.inside.proposals
+      c.requires.newcomer (ap (λ (s : Standing). verdict s.papers c.args.amendment) c.self.view_is ∙ c.requires.allowed) c.in-Ok.ensures.accepted c.self.invariant.certified c.self.invariant.theirs
+      c.enter_newcomer-entered.new.segments c.enter_newcomer-entered.new.places c.in-Ok-entered.proposals c.enter_newcomer-entered.new.round (has-entered c) in
+      made.certified;
+  accepted = c.in-Ok.ensures.accepted ∙ ap (λ (s : Standing). after s.papers c.args.amendment) c.self.view_is;
+  stays =
+      let made =
+      admitted c.self.inside.papers c.apply_reversibly.new.self c.args.amendment c.args.student c.self.inside.segments c.self.inside.places c.self.inside.proposals
+      c.requires.newcomer (ap (λ (s : Standing). verdict s.papers c.args.amendment) c.self.view_is ∙ c.requires.allowed) c.in-Ok.ensures.accepted c.self.invariant.certified c.self.invariant.theirs
+      c.enter_newcomer-entered.new.segments c.enter_newcomer-entered.new.places c.in-Ok-entered.proposals c.enter_newcomer-entered.new.round (has-entered c) in
+      subst (λ (s : Standing). take (rewind_point s.papers c.args.amendment) (logs_in c.enter_newcomer-entered.new.segments) ≡ take (rewind_point s.papers c.args.amendment) s.segments) c.self.view_is made.stays;
+  others =
+      let made =
+      admitted c.self.inside.papers c.apply_reversibly.new.self c.args.amendment c.args.student c.self.inside.segments c.self.inside.places c.self.inside.proposals
+      c.requires.newcomer (ap (λ (s : Standing). verdict s.papers c.args.amendment) c.self.view_is ∙ c.requires.allowed) c.in-Ok.ensures.accepted c.self.invariant.certified c.self.invariant.theirs
+      c.enter_newcomer-entered.new.segments c.enter_newcomer-entered.new.places c.in-Ok-entered.proposals c.enter_newcomer-entered.new.round (has-entered c) in
+      subst (λ (s : Standing). KeepsOthers s c.args.amendment (record { papers = c.apply_reversibly.new.self; places = c.enter_newcomer-entered.new.places; segments = logs_in c.enter_newcomer-entered.new.segments; proposals = c.in-Ok-entered.proposals })) c.self.view_is made.others;
+  proposals =
+      let made =
+      admitted c.self.inside.papers c.apply_reversibly.new.self c.args.amendment c.args.student c.self.inside.segments c.self.inside.places c.self.inside.proposals
+      c.requires.newcomer (ap (λ (s : Standing). verdict s.papers c.args.amendment) c.self.view_is ∙ c.requires.allowed) c.in-Ok.ensures.accepted c.self.invariant.certified c.self.invariant.theirs
+      c.enter_newcomer-entered.new.segments c.enter_newcomer-entered.new.places c.in-Ok-entered.proposals c.enter_newcomer-entered.new.round (has-entered c) in
+      subst (λ (s : Standing). CountsRegion s.papers c.args.amendment (record { papers = c.apply_reversibly.new.self; places = c.enter_newcomer-entered.new.places; segments = logs_in c.enter_newcomer-entered.new.segments; proposals = c.in-Ok-entered.proposals })) c.self.view_is made.counts;
+  unchanged = tt;
+}
 
-pub returns-in-Ok-entered-clause-certified : goal.returns-in-Ok-entered-clause-certified
-returns-in-Ok-entered-clause-certified c =
-    let made =
-    admitted c.self.inside.papers c.apply_reversibly.new.self c.args.amendment c.args.student c.self.inside.segments c.self.inside.places c.self.inside.proposals
-    c.requires.newcomer (ap (λ (s : Standing). verdict s.papers c.args.amendment) c.self.view_is ∙ c.requires.allowed) c.in-Ok.ensures.accepted c.self.invariant.certified c.self.invariant.theirs
-    c.enter_newcomer-entered.new.segments c.enter_newcomer-entered.new.places c.in-Ok-entered.proposals c.enter_newcomer-entered.new.round (has-entered c) in
-    made.certified
-
-pub returns-in-Ok-entered-clause-stays : goal.returns-in-Ok-entered-clause-stays
-returns-in-Ok-entered-clause-stays c =
-    let made =
-    admitted c.self.inside.papers c.apply_reversibly.new.self c.args.amendment c.args.student c.self.inside.segments c.self.inside.places c.self.inside.proposals
-    c.requires.newcomer (ap (λ (s : Standing). verdict s.papers c.args.amendment) c.self.view_is ∙ c.requires.allowed) c.in-Ok.ensures.accepted c.self.invariant.certified c.self.invariant.theirs
-    c.enter_newcomer-entered.new.segments c.enter_newcomer-entered.new.places c.in-Ok-entered.proposals c.enter_newcomer-entered.new.round (has-entered c) in
-    subst (λ (s : Standing). take (rewind_point s.papers c.args.amendment) (logs_in c.enter_newcomer-entered.new.segments) ≡ take (rewind_point s.papers c.args.amendment) s.segments) c.self.view_is made.stays
-
-pub returns-in-Ok-entered-clause-others : goal.returns-in-Ok-entered-clause-others
-returns-in-Ok-entered-clause-others c =
-    let made =
-    admitted c.self.inside.papers c.apply_reversibly.new.self c.args.amendment c.args.student c.self.inside.segments c.self.inside.places c.self.inside.proposals
-    c.requires.newcomer (ap (λ (s : Standing). verdict s.papers c.args.amendment) c.self.view_is ∙ c.requires.allowed) c.in-Ok.ensures.accepted c.self.invariant.certified c.self.invariant.theirs
-    c.enter_newcomer-entered.new.segments c.enter_newcomer-entered.new.places c.in-Ok-entered.proposals c.enter_newcomer-entered.new.round (has-entered c) in
-    subst (λ (s : Standing). KeepsOthers s c.args.amendment (record { papers = c.apply_reversibly.new.self; places = c.enter_newcomer-entered.new.places; segments = logs_in c.enter_newcomer-entered.new.segments; proposals = c.in-Ok-entered.proposals })) c.self.view_is made.others
-
-pub returns-in-Ok-entered-clause-proposals : goal.returns-in-Ok-entered-clause-proposals
-returns-in-Ok-entered-clause-proposals c =
-    let made =
-    admitted c.self.inside.papers c.apply_reversibly.new.self c.args.amendment c.args.student c.self.inside.segments c.self.inside.places c.self.inside.proposals
-    c.requires.newcomer (ap (λ (s : Standing). verdict s.papers c.args.amendment) c.self.view_is ∙ c.requires.allowed) c.in-Ok.ensures.accepted c.self.invariant.certified c.self.invariant.theirs
-    c.enter_newcomer-entered.new.segments c.enter_newcomer-entered.new.places c.in-Ok-entered.proposals c.enter_newcomer-entered.new.round (has-entered c) in
-    subst (λ (s : Standing). CountsRegion s.papers c.args.amendment (record { papers = c.apply_reversibly.new.self; places = c.enter_newcomer-entered.new.places; segments = logs_in c.enter_newcomer-entered.new.segments; proposals = c.in-Ok-entered.proposals })) c.self.view_is made.counts
+pub returns-in-Err-entered : goal.returns-in-Err-entered
+returns-in-Err-entered c = record {
+  certified =
+      still-certified c.self.inside.papers c.take_back.new.self c.self.inside.segments c.enter_newcomer-entered.new.segments c.self.inside.places c.enter_newcomer-entered.new.places c.self.inside.proposals
+      (c.take_back.ensures c.self.inside.papers c.in-Ok.ensures.back) c.in-Err-entered.ensures.places_unchanged c.in-Err-entered.ensures.segments_unchanged c.self.invariant.certified;
+  accepted = tt;
+  stays = tt;
+  others = tt;
+  proposals = tt;
+  unchanged = let standing : Market → List (ℕ × ℕ) → List Chain → Standing = λ m places chains. record { papers = m; places = places; segments = logs_in chains; proposals = c.self.inside.proposals } in
+      (λ t. standing (c.take_back.ensures c.self.inside.papers c.in-Ok.ensures.back t) (c.in-Err-entered.ensures.places_unchanged t) (c.in-Err-entered.ensures.segments_unchanged t)) ∙ c.self.view_is;
+}

@@ -178,46 +178,48 @@ invariant_of-self-in-Err c =
       districts = tt;
     }
 
-pub returns-clause-certified : goal.returns-clause-certified
-returns-clause-certified c =
-    still-certified c.self.inside.papers c.take_back.new.self c.self.inside.segments c.resettle-settled.new.segments c.self.inside.places c.resettle-settled.new.places c.self.inside.proposals
-    (c.take_back.ensures c.self.inside.papers c.in-Ok.ensures.back) c.in-Err.ensures.unchanged.0 c.in-Err.ensures.unchanged.1 c.self.invariant.certified
+pub returns-in-Ok-settled : goal.returns-in-Ok-settled
+returns-in-Ok-settled c = record {
+  certified =
+      subst (λ n. IsCertified (standing_of n c.resettle-settled.new.places c.resettle-settled.new.segments c.in-Ok-settled.proposals)) (ap (λ p. cut p c.students_len-end.result) c.deref-5.ensures ∙ whole-cut-of c.apply_reversibly.new.self c.students_len-end.result (c.students_len-end.ensures.count ∙ ap (λ (p : Market). length p.students) c.deref-4.ensures)) c.in-Ok-settled.ensures.resettled.certified;
+  accepted = c.in-Ok.ensures.accepted ∙ ap (λ (s : Standing). after s.papers c.args.amendment) c.self.view_is;
+  stays =
+      subst (λ (s : Standing). take (rewind_point s.papers c.args.amendment) (logs_in c.resettle-settled.new.segments) ≡ take (rewind_point s.papers c.args.amendment) s.segments) c.self.view_is
+      (subst (λ k. take k (logs_in c.resettle-settled.new.segments) ≡ take k (logs_in c.self.inside.segments)) (c.point_in-point.ensures ∙ ap (λ p. rewind_point p c.args.amendment) c.deref-2.ensures) c.in-Ok-settled.ensures.resettled.stays);
+  others =
+      let m = c.self.inside.papers in
+      let test = is_among (marked_in c.in_ok-region.region c.self.inside.segments) in
+      let tells : TellsRegion m c.args.amendment test =
+      subst (λ is. TellsRegion m c.args.amendment (is_among (marked c.in_ok-region.region is))) (sym c.self.invariant.theirs)
+      (marks-tell m c.args.amendment c.in_ok-region.region c.self.invariant.certified.well_formed (ap (λ (s : Standing). verdict s.papers c.args.amendment) c.self.view_is ∙ c.requires.allowed) c.requires.no_entry (subst (λ p. MarkRegion p c.args.amendment c.in_ok-region.region) c.deref.ensures c.in_ok-region.ensures.region).region) in
+      let old : Standing = record { papers = m; places = c.self.inside.places; segments = logs_in c.self.inside.segments; proposals = c.self.inside.proposals } in
+      let new : Standing = record { papers = c.apply_reversibly.new.self; places = c.resettle-settled.new.places; segments = logs_in c.resettle-settled.new.segments; proposals = c.in-Ok-settled.proposals } in
+      subst (λ (s : Standing). KeepsOthers s c.args.amendment new) c.self.view_is
+      (keeps-others old new c.args.amendment (marked_in c.in_ok-region.region c.self.inside.segments) tells c.in-Ok.ensures.accepted c.in-Ok-settled.ensures.resettled.others);
+  proposals =
+      let m = c.self.inside.papers in
+      let test = is_among (marked_in c.in_ok-region.region c.self.inside.segments) in
+      let tells : TellsRegion m c.args.amendment test =
+      subst (λ is. TellsRegion m c.args.amendment (is_among (marked c.in_ok-region.region is))) (sym c.self.invariant.theirs)
+      (marks-tell m c.args.amendment c.in_ok-region.region c.self.invariant.certified.well_formed (ap (λ (s : Standing). verdict s.papers c.args.amendment) c.self.view_is ∙ c.requires.allowed) c.requires.no_entry (subst (λ p. MarkRegion p c.args.amendment c.in_ok-region.region) c.deref.ensures c.in_ok-region.ensures.region).region) in
+      let new : Standing = record { papers = c.apply_reversibly.new.self; places = c.resettle-settled.new.places; segments = logs_in c.resettle-settled.new.segments; proposals = c.in-Ok-settled.proposals } in
+      subst (λ (s : Standing). CountsRegion s.papers c.args.amendment new) c.self.view_is
+      (counts-region m c.args.amendment (marked_in c.in_ok-region.region c.self.inside.segments) new tells
+      (subst (λ k. CountsInside test k new) (c.point_in-point.ensures ∙ ap (λ p. rewind_point p c.args.amendment) c.deref-2.ensures)
+      (subst (λ n. CountsInside test c.point_in-point.result (standing_of n c.resettle-settled.new.places c.resettle-settled.new.segments c.in-Ok-settled.proposals)) (ap (λ p. cut p c.students_len-end.result) c.deref-5.ensures ∙ whole-cut-of c.apply_reversibly.new.self c.students_len-end.result (c.students_len-end.ensures.count ∙ ap (λ (p : Market). length p.students) c.deref-4.ensures)) c.in-Ok-settled.ensures.resettled.proposals)));
+  unchanged = tt;
+}
 
-pub returns-in-Ok-settled-clause-certified : goal.returns-in-Ok-settled-clause-certified
-returns-in-Ok-settled-clause-certified c =
-    subst (λ n. IsCertified (standing_of n c.resettle-settled.new.places c.resettle-settled.new.segments c.in-Ok-settled.proposals)) (ap (λ p. cut p c.students_len-end.result) c.deref-5.ensures ∙ whole-cut-of c.apply_reversibly.new.self c.students_len-end.result (c.students_len-end.ensures.count ∙ ap (λ (p : Market). length p.students) c.deref-4.ensures)) c.in-Ok-settled.ensures.resettled.certified
-
-pub returns-in-Ok-settled-clause-stays : goal.returns-in-Ok-settled-clause-stays
-returns-in-Ok-settled-clause-stays c =
-    subst (λ (s : Standing). take (rewind_point s.papers c.args.amendment) (logs_in c.resettle-settled.new.segments) ≡ take (rewind_point s.papers c.args.amendment) s.segments) c.self.view_is
-    (subst (λ k. take k (logs_in c.resettle-settled.new.segments) ≡ take k (logs_in c.self.inside.segments)) (c.point_in-point.ensures ∙ ap (λ p. rewind_point p c.args.amendment) c.deref-2.ensures) c.in-Ok-settled.ensures.resettled.stays)
-
-pub returns-in-Ok-settled-clause-others : goal.returns-in-Ok-settled-clause-others
-returns-in-Ok-settled-clause-others c =
-    let m = c.self.inside.papers in
-    let test = is_among (marked_in c.in_ok-region.region c.self.inside.segments) in
-    let tells : TellsRegion m c.args.amendment test =
-    subst (λ is. TellsRegion m c.args.amendment (is_among (marked c.in_ok-region.region is))) (sym c.self.invariant.theirs)
-    (marks-tell m c.args.amendment c.in_ok-region.region c.self.invariant.certified.well_formed (ap (λ (s : Standing). verdict s.papers c.args.amendment) c.self.view_is ∙ c.requires.allowed) c.requires.no_entry (subst (λ p. MarkRegion p c.args.amendment c.in_ok-region.region) c.deref.ensures c.in_ok-region.ensures.region).region) in
-    let old : Standing = record { papers = m; places = c.self.inside.places; segments = logs_in c.self.inside.segments; proposals = c.self.inside.proposals } in
-    let new : Standing = record { papers = c.apply_reversibly.new.self; places = c.resettle-settled.new.places; segments = logs_in c.resettle-settled.new.segments; proposals = c.in-Ok-settled.proposals } in
-    subst (λ (s : Standing). KeepsOthers s c.args.amendment new) c.self.view_is
-    (keeps-others old new c.args.amendment (marked_in c.in_ok-region.region c.self.inside.segments) tells c.in-Ok.ensures.accepted c.in-Ok-settled.ensures.resettled.others)
-
-pub returns-in-Ok-settled-clause-proposals : goal.returns-in-Ok-settled-clause-proposals
-returns-in-Ok-settled-clause-proposals c =
-    let m = c.self.inside.papers in
-    let test = is_among (marked_in c.in_ok-region.region c.self.inside.segments) in
-    let tells : TellsRegion m c.args.amendment test =
-    subst (λ is. TellsRegion m c.args.amendment (is_among (marked c.in_ok-region.region is))) (sym c.self.invariant.theirs)
-    (marks-tell m c.args.amendment c.in_ok-region.region c.self.invariant.certified.well_formed (ap (λ (s : Standing). verdict s.papers c.args.amendment) c.self.view_is ∙ c.requires.allowed) c.requires.no_entry (subst (λ p. MarkRegion p c.args.amendment c.in_ok-region.region) c.deref.ensures c.in_ok-region.ensures.region).region) in
-    let new : Standing = record { papers = c.apply_reversibly.new.self; places = c.resettle-settled.new.places; segments = logs_in c.resettle-settled.new.segments; proposals = c.in-Ok-settled.proposals } in
-    subst (λ (s : Standing). CountsRegion s.papers c.args.amendment new) c.self.view_is
-    (counts-region m c.args.amendment (marked_in c.in_ok-region.region c.self.inside.segments) new tells
-    (subst (λ k. CountsInside test k new) (c.point_in-point.ensures ∙ ap (λ p. rewind_point p c.args.amendment) c.deref-2.ensures)
-    (subst (λ n. CountsInside test c.point_in-point.result (standing_of n c.resettle-settled.new.places c.resettle-settled.new.segments c.in-Ok-settled.proposals)) (ap (λ p. cut p c.students_len-end.result) c.deref-5.ensures ∙ whole-cut-of c.apply_reversibly.new.self c.students_len-end.result (c.students_len-end.ensures.count ∙ ap (λ (p : Market). length p.students) c.deref-4.ensures)) c.in-Ok-settled.ensures.resettled.proposals)))
-
-pub returns-clause-unchanged : goal.returns-clause-unchanged
-returns-clause-unchanged c =
-    let standing : Market → List (ℕ × ℕ) → List Chain → Standing = λ m places chains. record { papers = m; places = places; segments = logs_in chains; proposals = c.self.inside.proposals } in
-    (λ t. standing (c.take_back.ensures c.self.inside.papers c.in-Ok.ensures.back t) (c.in-Err.ensures.unchanged.0 t) (c.in-Err.ensures.unchanged.1 t)) ∙ c.self.view_is
+pub returns : goal.returns
+returns c = record {
+  certified =
+      still-certified c.self.inside.papers c.take_back.new.self c.self.inside.segments c.resettle-settled.new.segments c.self.inside.places c.resettle-settled.new.places c.self.inside.proposals
+      (c.take_back.ensures c.self.inside.papers c.in-Ok.ensures.back) c.in-Err.ensures.unchanged.0 c.in-Err.ensures.unchanged.1 c.self.invariant.certified;
+  accepted = tt;
+  stays = tt;
+  others = tt;
+  proposals = tt;
+  unchanged =
+      let standing : Market → List (ℕ × ℕ) → List Chain → Standing = λ m places chains. record { papers = m; places = places; segments = logs_in chains; proposals = c.self.inside.proposals } in
+      (λ t. standing (c.take_back.ensures c.self.inside.papers c.in-Ok.ensures.back t) (c.in-Err.ensures.unchanged.0 t) (c.in-Err.ensures.unchanged.1 t)) ∙ c.self.view_is;
+}

@@ -1,4 +1,4 @@
-use Rattle.std.proofs.Common.{◌≡◌, ◌-◌, ℕ, Contains, List, length, ap, refl, sym, subst, ◌∙◌, IfSome, arith}
+use Rattle.std.proofs.Common.{◌≡◌, ◌-◌, ℕ, Contains, List, length, ap, refl, sym, subst, ◌∙◌, IfSome, take, arith}
 use Rattle.std.specs.Option.{IsSomeAnd}
 use Rattle.sc_papers.specs.declared.key.Key.{Key}
 use Rattle.sc_seats.specs.Roll.{RollView}
@@ -155,53 +155,6 @@ invariant_of-self-in-Ok c =
       districts = subst (λ m. IfSome c.region_of.new.districts (AreDistricts m)) (ap (λ p. after p (Withdraw c.args.student)) c.deref.ensures ∙ sym papers) c.in_ok-region.ensures.in_step;
     }
 
-pub returns-in-Ok-clause-accepted : goal.returns-in-Ok-clause-accepted
-returns-in-Ok-clause-accepted c =
-    let papers : c.withdraw.new.self ≡ after c.self.inside.papers (Withdraw c.args.student) =
-    c.withdraw.ensures ∙ leaver-gone c.self.inside.papers c.move_student.new.self (Withdraw c.args.student) c.args.student c.point_in-point.result (c.students_len-last.result - 1) c.self.invariant.certified.well_formed (ap (λ (s : Standing). verdict s.papers (Withdraw c.args.student)) c.self.view_is ∙ c.requires) refl (c.point_in-point.ensures ∙ ap (λ p. rewind_point p (Withdraw c.args.student)) c.deref-2.ensures) (ap (λ n. n - 1) (c.students_len-last.ensures.count ∙ ap (λ (p : Market). length p.students) c.deref-4.ensures)) c.move_student.ensures in
-    papers ∙ ap (λ (s : Standing). after s.papers (Withdraw c.args.student)) c.self.view_is
-
-pub returns-in-Ok-clause-certified : goal.returns-in-Ok-clause-certified
-returns-in-Ok-clause-certified c =
-    let papers : c.withdraw.new.self ≡ after c.self.inside.papers (Withdraw c.args.student) =
-    c.withdraw.ensures ∙ leaver-gone c.self.inside.papers c.move_student.new.self (Withdraw c.args.student) c.args.student c.point_in-point.result (c.students_len-last.result - 1) c.self.invariant.certified.well_formed (ap (λ (s : Standing). verdict s.papers (Withdraw c.args.student)) c.self.view_is ∙ c.requires) refl (c.point_in-point.ensures ∙ ap (λ p. rewind_point p (Withdraw c.args.student)) c.deref-2.ensures) (ap (λ n. n - 1) (c.students_len-last.ensures.count ∙ ap (λ (p : Market). length p.students) c.deref-4.ensures)) c.move_student.ensures in
-    let same : cut c.deref-5.result.now (c.students_len-last.result - 1) ≡ c.withdraw.new.self =
-    ap (λ p. cut p (c.students_len-last.result - 1)) c.deref-5.ensures
-    ∙ leaver-others c.self.inside.papers c.move_student.new.self (Withdraw c.args.student) c.args.student c.point_in-point.result (c.students_len-last.result - 1) c.self.invariant.certified.well_formed (ap (λ (s : Standing). verdict s.papers (Withdraw c.args.student)) c.self.view_is ∙ c.requires) refl (c.point_in-point.ensures ∙ ap (λ p. rewind_point p (Withdraw c.args.student)) c.deref-2.ensures) (ap (λ n. n - 1) (c.students_len-last.ensures.count ∙ ap (λ (p : Market). length p.students) c.deref-4.ensures)) c.move_student.ensures ∙ sym papers in
-    subst (λ n. IsCertified (standing_of n c.resettle-settled.new.places c.resettle-settled.new.segments c.in-Ok.proposals)) same c.in-Ok.ensures.resettled.certified
-
-pub returns-in-Ok-clause-others : goal.returns-in-Ok-clause-others
-returns-in-Ok-clause-others c =
-    let m = c.self.inside.papers in
-    let test = is_among (marked_in c.in_ok-region.region c.self.inside.segments) in
-    let tells : TellsRegion m (Withdraw c.args.student) test =
-    subst (λ is. TellsRegion m (Withdraw c.args.student) (is_among (marked c.in_ok-region.region is))) (sym c.self.invariant.theirs)
-    (marks-tell m (Withdraw c.args.student) c.in_ok-region.region c.self.invariant.certified.well_formed (ap (λ (s : Standing). verdict s.papers (Withdraw c.args.student)) c.self.view_is ∙ c.requires) refl (subst (λ p. MarkRegion p (Withdraw c.args.student) c.in_ok-region.region) c.deref.ensures c.in_ok-region.ensures.region).region) in
-    let papers : c.withdraw.new.self ≡ after c.self.inside.papers (Withdraw c.args.student) =
-    c.withdraw.ensures ∙ leaver-gone c.self.inside.papers c.move_student.new.self (Withdraw c.args.student) c.args.student c.point_in-point.result (c.students_len-last.result - 1) c.self.invariant.certified.well_formed (ap (λ (s : Standing). verdict s.papers (Withdraw c.args.student)) c.self.view_is ∙ c.requires) refl (c.point_in-point.ensures ∙ ap (λ p. rewind_point p (Withdraw c.args.student)) c.deref-2.ensures) (ap (λ n. n - 1) (c.students_len-last.ensures.count ∙ ap (λ (p : Market). length p.students) c.deref-4.ensures)) c.move_student.ensures in
-    let old : Standing = record { papers = m; places = c.self.inside.places; segments = logs_in c.self.inside.segments; proposals = c.self.inside.proposals } in
-    let new : Standing = record { papers = c.withdraw.new.self; places = c.resettle-settled.new.places; segments = logs_in c.resettle-settled.new.segments; proposals = c.in-Ok.proposals } in
-    subst (λ (s : Standing). KeepsOthers s (Withdraw c.args.student) new) c.self.view_is
-    (keeps-others old new (Withdraw c.args.student) (marked_in c.in_ok-region.region c.self.inside.segments) tells papers c.in-Ok.ensures.resettled.others)
-
-pub returns-in-Ok-clause-proposals : goal.returns-in-Ok-clause-proposals
-returns-in-Ok-clause-proposals c =
-    let m = c.self.inside.papers in
-    let test = is_among (marked_in c.in_ok-region.region c.self.inside.segments) in
-    let tells : TellsRegion m (Withdraw c.args.student) test =
-    subst (λ is. TellsRegion m (Withdraw c.args.student) (is_among (marked c.in_ok-region.region is))) (sym c.self.invariant.theirs)
-    (marks-tell m (Withdraw c.args.student) c.in_ok-region.region c.self.invariant.certified.well_formed (ap (λ (s : Standing). verdict s.papers (Withdraw c.args.student)) c.self.view_is ∙ c.requires) refl (subst (λ p. MarkRegion p (Withdraw c.args.student) c.in_ok-region.region) c.deref.ensures c.in_ok-region.ensures.region).region) in
-    let papers : c.withdraw.new.self ≡ after c.self.inside.papers (Withdraw c.args.student) =
-    c.withdraw.ensures ∙ leaver-gone c.self.inside.papers c.move_student.new.self (Withdraw c.args.student) c.args.student c.point_in-point.result (c.students_len-last.result - 1) c.self.invariant.certified.well_formed (ap (λ (s : Standing). verdict s.papers (Withdraw c.args.student)) c.self.view_is ∙ c.requires) refl (c.point_in-point.ensures ∙ ap (λ p. rewind_point p (Withdraw c.args.student)) c.deref-2.ensures) (ap (λ n. n - 1) (c.students_len-last.ensures.count ∙ ap (λ (p : Market). length p.students) c.deref-4.ensures)) c.move_student.ensures in
-    let same : cut c.deref-5.result.now (c.students_len-last.result - 1) ≡ c.withdraw.new.self =
-    ap (λ p. cut p (c.students_len-last.result - 1)) c.deref-5.ensures
-    ∙ leaver-others c.self.inside.papers c.move_student.new.self (Withdraw c.args.student) c.args.student c.point_in-point.result (c.students_len-last.result - 1) c.self.invariant.certified.well_formed (ap (λ (s : Standing). verdict s.papers (Withdraw c.args.student)) c.self.view_is ∙ c.requires) refl (c.point_in-point.ensures ∙ ap (λ p. rewind_point p (Withdraw c.args.student)) c.deref-2.ensures) (ap (λ n. n - 1) (c.students_len-last.ensures.count ∙ ap (λ (p : Market). length p.students) c.deref-4.ensures)) c.move_student.ensures ∙ sym papers in
-    let new : Standing = record { papers = c.withdraw.new.self; places = c.resettle-settled.new.places; segments = logs_in c.resettle-settled.new.segments; proposals = c.in-Ok.proposals } in
-    subst (λ (s : Standing). CountsRegion s.papers (Withdraw c.args.student) new) c.self.view_is
-    (counts-region m (Withdraw c.args.student) (marked_in c.in_ok-region.region c.self.inside.segments) new tells
-    (subst (λ k. CountsInside test k new) (c.point_in-point.ensures ∙ ap (λ p. rewind_point p (Withdraw c.args.student)) c.deref-2.ensures)
-    (subst (λ n. CountsInside test c.point_in-point.result (standing_of n c.resettle-settled.new.places c.resettle-settled.new.segments c.in-Ok.proposals)) same c.in-Ok.ensures.resettled.proposals)))
-
 pub move_student-requires-in-Err-clause-to : goal.move_student-requires-in-Err-clause-to
 move_student-requires-in-Err-clause-to c =
     leaver-within c.self.inside.papers c.move_student.new.self (Withdraw c.args.student) c.args.student c.point_in-point.result (c.students_len-last.result - 1) c.self.invariant.certified.well_formed (ap (λ (s : Standing). verdict s.papers (Withdraw c.args.student)) c.self.view_is ∙ c.requires) refl (c.point_in-point.ensures ∙ ap (λ p. rewind_point p (Withdraw c.args.student)) c.deref-2.ensures) (ap (λ n. n - 1) (c.students_len-last.ensures.count ∙ ap (λ (p : Market). length p.students) c.deref-4.ensures)) c.move_student.ensures
@@ -218,16 +171,66 @@ invariant_of-self-in-Err c =
       districts = tt;
     }
 
-pub returns-clause-certified : goal.returns-clause-certified
-returns-clause-certified c =
-    let papers : c.move_student-in-Err.new.self ≡ c.self.inside.papers =
-    c.move_student-in-Err.ensures ∙ leaver-back c.self.inside.papers c.move_student.new.self (Withdraw c.args.student) c.args.student c.point_in-point.result (c.students_len-last.result - 1) c.self.invariant.certified.well_formed (ap (λ (s : Standing). verdict s.papers (Withdraw c.args.student)) c.self.view_is ∙ c.requires) refl (c.point_in-point.ensures ∙ ap (λ p. rewind_point p (Withdraw c.args.student)) c.deref-2.ensures) (ap (λ n. n - 1) (c.students_len-last.ensures.count ∙ ap (λ (p : Market). length p.students) c.deref-4.ensures)) c.move_student.ensures in
-    still-certified c.self.inside.papers c.move_student-in-Err.new.self c.self.inside.segments c.resettle-settled.new.segments c.self.inside.places c.resettle-settled.new.places c.self.inside.proposals
-    papers c.in-Err.ensures.unchanged.0 c.in-Err.ensures.unchanged.1 c.self.invariant.certified
+pub returns-in-Ok : goal.returns-in-Ok
+returns-in-Ok c = record {
+  certified =
+      let papers : c.withdraw.new.self ≡ after c.self.inside.papers (Withdraw c.args.student) =
+      c.withdraw.ensures ∙ leaver-gone c.self.inside.papers c.move_student.new.self (Withdraw c.args.student) c.args.student c.point_in-point.result (c.students_len-last.result - 1) c.self.invariant.certified.well_formed (ap (λ (s : Standing). verdict s.papers (Withdraw c.args.student)) c.self.view_is ∙ c.requires) refl (c.point_in-point.ensures ∙ ap (λ p. rewind_point p (Withdraw c.args.student)) c.deref-2.ensures) (ap (λ n. n - 1) (c.students_len-last.ensures.count ∙ ap (λ (p : Market). length p.students) c.deref-4.ensures)) c.move_student.ensures in
+      let same : cut c.deref-5.result.now (c.students_len-last.result - 1) ≡ c.withdraw.new.self =
+      ap (λ p. cut p (c.students_len-last.result - 1)) c.deref-5.ensures
+      ∙ leaver-others c.self.inside.papers c.move_student.new.self (Withdraw c.args.student) c.args.student c.point_in-point.result (c.students_len-last.result - 1) c.self.invariant.certified.well_formed (ap (λ (s : Standing). verdict s.papers (Withdraw c.args.student)) c.self.view_is ∙ c.requires) refl (c.point_in-point.ensures ∙ ap (λ p. rewind_point p (Withdraw c.args.student)) c.deref-2.ensures) (ap (λ n. n - 1) (c.students_len-last.ensures.count ∙ ap (λ (p : Market). length p.students) c.deref-4.ensures)) c.move_student.ensures ∙ sym papers in
+      subst (λ n. IsCertified (standing_of n c.resettle-settled.new.places c.resettle-settled.new.segments c.in-Ok.proposals)) same c.in-Ok.ensures.resettled.certified;
+  accepted =
+      let papers : c.withdraw.new.self ≡ after c.self.inside.papers (Withdraw c.args.student) =
+      c.withdraw.ensures ∙ leaver-gone c.self.inside.papers c.move_student.new.self (Withdraw c.args.student) c.args.student c.point_in-point.result (c.students_len-last.result - 1) c.self.invariant.certified.well_formed (ap (λ (s : Standing). verdict s.papers (Withdraw c.args.student)) c.self.view_is ∙ c.requires) refl (c.point_in-point.ensures ∙ ap (λ p. rewind_point p (Withdraw c.args.student)) c.deref-2.ensures) (ap (λ n. n - 1) (c.students_len-last.ensures.count ∙ ap (λ (p : Market). length p.students) c.deref-4.ensures)) c.move_student.ensures in
+      papers ∙ ap (λ (s : Standing). after s.papers (Withdraw c.args.student)) c.self.view_is;
+  stays = subst (λ (s : Standing). take (rewind_point s.papers (Withdraw c.args.student)) (logs_in c.resettle-settled.new.segments) ≡ take (rewind_point s.papers (Withdraw c.args.student)) s.segments) c.self.view_is
+      (subst (λ k. take k (logs_in c.resettle-settled.new.segments) ≡ take k (logs_in c.self.inside.segments)) (c.point_in-point.ensures ∙ ap (λ p. rewind_point p (Withdraw c.args.student)) c.deref-2.ensures) c.in-Ok.ensures.resettled.stays);
+  others =
+      let m = c.self.inside.papers in
+      let test = is_among (marked_in c.in_ok-region.region c.self.inside.segments) in
+      let tells : TellsRegion m (Withdraw c.args.student) test =
+      subst (λ is. TellsRegion m (Withdraw c.args.student) (is_among (marked c.in_ok-region.region is))) (sym c.self.invariant.theirs)
+      (marks-tell m (Withdraw c.args.student) c.in_ok-region.region c.self.invariant.certified.well_formed (ap (λ (s : Standing). verdict s.papers (Withdraw c.args.student)) c.self.view_is ∙ c.requires) refl (subst (λ p. MarkRegion p (Withdraw c.args.student) c.in_ok-region.region) c.deref.ensures c.in_ok-region.ensures.region).region) in
+      let papers : c.withdraw.new.self ≡ after c.self.inside.papers (Withdraw c.args.student) =
+      c.withdraw.ensures ∙ leaver-gone c.self.inside.papers c.move_student.new.self (Withdraw c.args.student) c.args.student c.point_in-point.result (c.students_len-last.result - 1) c.self.invariant.certified.well_formed (ap (λ (s : Standing). verdict s.papers (Withdraw c.args.student)) c.self.view_is ∙ c.requires) refl (c.point_in-point.ensures ∙ ap (λ p. rewind_point p (Withdraw c.args.student)) c.deref-2.ensures) (ap (λ n. n - 1) (c.students_len-last.ensures.count ∙ ap (λ (p : Market). length p.students) c.deref-4.ensures)) c.move_student.ensures in
+      let old : Standing = record { papers = m; places = c.self.inside.places; segments = logs_in c.self.inside.segments; proposals = c.self.inside.proposals } in
+      let new : Standing = record { papers = c.withdraw.new.self; places = c.resettle-settled.new.places; segments = logs_in c.resettle-settled.new.segments; proposals = c.in-Ok.proposals } in
+      subst (λ (s : Standing). KeepsOthers s (Withdraw c.args.student) new) c.self.view_is
+      (keeps-others old new (Withdraw c.args.student) (marked_in c.in_ok-region.region c.self.inside.segments) tells papers c.in-Ok.ensures.resettled.others);
+  proposals =
+      let m = c.self.inside.papers in
+      let test = is_among (marked_in c.in_ok-region.region c.self.inside.segments) in
+      let tells : TellsRegion m (Withdraw c.args.student) test =
+      subst (λ is. TellsRegion m (Withdraw c.args.student) (is_among (marked c.in_ok-region.region is))) (sym c.self.invariant.theirs)
+      (marks-tell m (Withdraw c.args.student) c.in_ok-region.region c.self.invariant.certified.well_formed (ap (λ (s : Standing). verdict s.papers (Withdraw c.args.student)) c.self.view_is ∙ c.requires) refl (subst (λ p. MarkRegion p (Withdraw c.args.student) c.in_ok-region.region) c.deref.ensures c.in_ok-region.ensures.region).region) in
+      let papers : c.withdraw.new.self ≡ after c.self.inside.papers (Withdraw c.args.student) =
+      c.withdraw.ensures ∙ leaver-gone c.self.inside.papers c.move_student.new.self (Withdraw c.args.student) c.args.student c.point_in-point.result (c.students_len-last.result - 1) c.self.invariant.certified.well_formed (ap (λ (s : Standing). verdict s.papers (Withdraw c.args.student)) c.self.view_is ∙ c.requires) refl (c.point_in-point.ensures ∙ ap (λ p. rewind_point p (Withdraw c.args.student)) c.deref-2.ensures) (ap (λ n. n - 1) (c.students_len-last.ensures.count ∙ ap (λ (p : Market). length p.students) c.deref-4.ensures)) c.move_student.ensures in
+      let same : cut c.deref-5.result.now (c.students_len-last.result - 1) ≡ c.withdraw.new.self =
+      ap (λ p. cut p (c.students_len-last.result - 1)) c.deref-5.ensures
+      ∙ leaver-others c.self.inside.papers c.move_student.new.self (Withdraw c.args.student) c.args.student c.point_in-point.result (c.students_len-last.result - 1) c.self.invariant.certified.well_formed (ap (λ (s : Standing). verdict s.papers (Withdraw c.args.student)) c.self.view_is ∙ c.requires) refl (c.point_in-point.ensures ∙ ap (λ p. rewind_point p (Withdraw c.args.student)) c.deref-2.ensures) (ap (λ n. n - 1) (c.students_len-last.ensures.count ∙ ap (λ (p : Market). length p.students) c.deref-4.ensures)) c.move_student.ensures ∙ sym papers in
+      let new : Standing = record { papers = c.withdraw.new.self; places = c.resettle-settled.new.places; segments = logs_in c.resettle-settled.new.segments; proposals = c.in-Ok.proposals } in
+      subst (λ (s : Standing). CountsRegion s.papers (Withdraw c.args.student) new) c.self.view_is
+      (counts-region m (Withdraw c.args.student) (marked_in c.in_ok-region.region c.self.inside.segments) new tells
+      (subst (λ k. CountsInside test k new) (c.point_in-point.ensures ∙ ap (λ p. rewind_point p (Withdraw c.args.student)) c.deref-2.ensures)
+      (subst (λ n. CountsInside test c.point_in-point.result (standing_of n c.resettle-settled.new.places c.resettle-settled.new.segments c.in-Ok.proposals)) same c.in-Ok.ensures.resettled.proposals)));
+  unchanged = tt;
+}
 
-pub returns-clause-unchanged : goal.returns-clause-unchanged
-returns-clause-unchanged c =
-    let papers : c.move_student-in-Err.new.self ≡ c.self.inside.papers =
-    c.move_student-in-Err.ensures ∙ leaver-back c.self.inside.papers c.move_student.new.self (Withdraw c.args.student) c.args.student c.point_in-point.result (c.students_len-last.result - 1) c.self.invariant.certified.well_formed (ap (λ (s : Standing). verdict s.papers (Withdraw c.args.student)) c.self.view_is ∙ c.requires) refl (c.point_in-point.ensures ∙ ap (λ p. rewind_point p (Withdraw c.args.student)) c.deref-2.ensures) (ap (λ n. n - 1) (c.students_len-last.ensures.count ∙ ap (λ (p : Market). length p.students) c.deref-4.ensures)) c.move_student.ensures in
-    let standing : Market → List (ℕ × ℕ) → List Chain → Standing = λ m places chains. record { papers = m; places = places; segments = logs_in chains; proposals = c.self.inside.proposals } in
-    (λ t. standing (papers t) (c.in-Err.ensures.unchanged.0 t) (c.in-Err.ensures.unchanged.1 t)) ∙ c.self.view_is
+pub returns : goal.returns
+returns c = record {
+  certified =
+      let papers : c.move_student-in-Err.new.self ≡ c.self.inside.papers =
+      c.move_student-in-Err.ensures ∙ leaver-back c.self.inside.papers c.move_student.new.self (Withdraw c.args.student) c.args.student c.point_in-point.result (c.students_len-last.result - 1) c.self.invariant.certified.well_formed (ap (λ (s : Standing). verdict s.papers (Withdraw c.args.student)) c.self.view_is ∙ c.requires) refl (c.point_in-point.ensures ∙ ap (λ p. rewind_point p (Withdraw c.args.student)) c.deref-2.ensures) (ap (λ n. n - 1) (c.students_len-last.ensures.count ∙ ap (λ (p : Market). length p.students) c.deref-4.ensures)) c.move_student.ensures in
+      still-certified c.self.inside.papers c.move_student-in-Err.new.self c.self.inside.segments c.resettle-settled.new.segments c.self.inside.places c.resettle-settled.new.places c.self.inside.proposals
+      papers c.in-Err.ensures.unchanged.0 c.in-Err.ensures.unchanged.1 c.self.invariant.certified;
+  accepted = tt;
+  stays = tt;
+  others = tt;
+  proposals = tt;
+  unchanged =
+      let papers : c.move_student-in-Err.new.self ≡ c.self.inside.papers =
+      c.move_student-in-Err.ensures ∙ leaver-back c.self.inside.papers c.move_student.new.self (Withdraw c.args.student) c.args.student c.point_in-point.result (c.students_len-last.result - 1) c.self.invariant.certified.well_formed (ap (λ (s : Standing). verdict s.papers (Withdraw c.args.student)) c.self.view_is ∙ c.requires) refl (c.point_in-point.ensures ∙ ap (λ p. rewind_point p (Withdraw c.args.student)) c.deref-2.ensures) (ap (λ n. n - 1) (c.students_len-last.ensures.count ∙ ap (λ (p : Market). length p.students) c.deref-4.ensures)) c.move_student.ensures in
+      let standing : Market → List (ℕ × ℕ) → List Chain → Standing = λ m places chains. record { papers = m; places = places; segments = logs_in chains; proposals = c.self.inside.proposals } in
+      (λ t. standing (papers t) (c.in-Err.ensures.unchanged.0 t) (c.in-Err.ensures.unchanged.1 t)) ∙ c.self.view_is;
+}
