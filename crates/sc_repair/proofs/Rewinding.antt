@@ -1,11 +1,12 @@
 -- The papers after an amendment are alike up to the rewind point, so the segments before it still stand.
-use Rattle.std.proofs.Common.{◌≡◌, inl, inr, refl, ap, sym, subst, ◌∙◌, ℕ, zero, suc, ◌+◌, ◌<◌, ◌≤◌, ◌==◌, nat_eq, true, false, List, [], ◌∷◌, length, Option, Some, None, Contains, take, is_some, ◌-◌, arith}
-use Rattle.std.specs.Prelude.{get_or}
-use Rattle.std.specs.List.{position_or_len}
-use Rattle.std.specs.Map.{keys_of, lookup, set_value}
+use Rattle.std.proofs.Common.{◌≡◌, inl, inr, refl, ap, sym, subst, ◌∙◌, ℕ, zero, suc, ◌+◌, ◌<◌, ◌≤◌, ◌==◌, nat_eq, Bool, true, false, List, [], ◌∷◌, length, Option, Some, None, Contains, take, is_some, ◌-◌, arith}
+use Rattle.std.specs.Prelude.{get_or, position}
+use Rattle.std.specs.List.{list_any}
+use Rattle.std.specs.Map.{lookup, set_value}
 use Rattle.std.specs.Option.{option_map_or}
 use Rattle.std.proofs.lemmas.Bool.{cases_Bool, cond-true, cond-false, eqb-true, eq-eqb, false≢true}
 use Rattle.std.proofs.lemmas.Cmp.{nat_eq_equiv}
+use Rattle.std.proofs.lemmas.Grind.{common_steps}
 use Rattle.std.proofs.lemmas.List.{get_or-take, length-map, length-append, length-take, length-take-le, take-append-le, take-map, take-take}
 use Rattle.std.proofs.lemmas.List.Folds.{list_any_at}
 use Rattle.std.proofs.lemmas.List.Sums.{fails_before_first}
@@ -14,7 +15,7 @@ use Rattle.std.proofs.lemmas.Option.{none-some}
 use Rattle.sc_papers.specs.Market.{Market, student_of, school_of, students_of, choices_of, seats_of}
 use Rattle.sc_papers.specs.Log.{IsSettled}
 use Rattle.sc_papers.specs.Restriction.{cut, joined, AlikeUpTo, IsSegmented}
-use Rattle.sc_papers.specs.Verdict.{after, verdict, with_student, without_student, changed_student, with_seats}
+use Rattle.sc_papers.specs.Verdict.{after, with_student, without_student, changed_student, with_seats}
 use Rattle.sc_papers.specs.declared.amendment.Amendment.{Amendment}
 use Rattle.sc_papers.specs.declared.amendment.Amendment.TheVariants.{Enter, Withdraw, Rerank, Add, Close, Correct}
 use Rattle.sc_papers.specs.declared.records.School.{School}
@@ -24,7 +25,6 @@ use Rattle.sc_papers.proofs.Changing.{put_school, put_student}
 use Rattle.sc_papers.proofs.Cutting.{cut-cut, length-students_cut}
 use Rattle.sc_papers.proofs.Rewinding.{alike-seats, alike-students, settled-rewound}
 use Rattle.sc_papers.proofs.Students.{lister-among}
-use Rattle.sc_region.proofs.Changes.{enter-may}
 use Rattle.sc_stamps.specs.Record.{record_of}
 use Rattle.sc_stamps.specs.declared.record.Record.{Record}
 use Rattle.sc_stamps.specs.declared.record.Record.TheVariants.{OfStudent, OfSchool}
@@ -181,30 +181,11 @@ rewind-within_after m (Correct i zone siblings continuing) =
 pub segments-after : (m : Market) (a : Amendment) (segments : List (List Rejection)) → IsSegmented m segments → IsSegmented (cut (after m a) (rewind_point m a)) (take (rewind_point m a) segments)
 segments-after m a = segments-rewound m (after m a) (rewind_point m a) (alike-after m a) (rewind-within m a) (rewind-within_after m a)
 
--- one who is not in the papers would stand behind all
-absent-last : {X : Type 0} (i : ℕ) (es : List (ℕ × X)) → lookup (nat_eq i) es ≡ None → position_or_len (nat_eq i) (keys_of es) ≡ length es
-absent-last i [] none = refl
-absent-last i (e ∷ es) none =
-    elim (cases_Bool (nat_eq i e.0)) [
-      | inl same ↦ absurd (none-some e.1 (sym (rw same at none)))
-      | inr apart ↦ rw apart (omega (arith, absent-last i es (rw apart at none)))
-    ]
-
 abbrev number_in : Record → ℕ
 number_in (OfStudent i) = i
 number_in (OfSchool s) = s
 
--- an allowed amendment of a student changes nothing before where they stand, and one of a school nothing before
--- the first student who lists it
-pub point-student : (m : Market) (a : Amendment) (i : ℕ) → verdict m a ≡ None → record_of a ≡ OfStudent i → position_of m i ≡ rewind_point m a
-point-student m (Enter j zone siblings choices continuing) i allowed is =
-    absent-last i m.students (ap (student_of m) (sym (ap number_in is)) ∙ (enter-may m j zone siblings choices continuing allowed).new)
-point-student m (Withdraw j) i allowed is = ap (position_of m) (sym (ap number_in is))
-point-student m (Rerank j choices) i allowed is = ap (position_of m) (sym (ap number_in is))
-point-student m (Add t count) i allowed is = cc
-point-student m (Close t count) i allowed is = cc
-point-student m (Correct j zone siblings continuing) i allowed is = ap (position_of m) (sym (ap number_in is))
-
+-- an amendment of a school changes nothing before the first student who lists it
 pub point-school : (m : Market) (a : Amendment) (s : ℕ) → record_of a ≡ OfSchool s → first_to_list m s ≡ rewind_point m a
 point-school m (Enter j zone siblings choices continuing) s is = cc
 point-school m (Withdraw j) s is = cc
@@ -212,3 +193,15 @@ point-school m (Rerank j choices) s is = cc
 point-school m (Add t count) s is = ap (first_to_list m) (sym (ap number_in is))
 point-school m (Close t count) s is = ap (first_to_list m) (sym (ap number_in is))
 point-school m (Correct j zone siblings continuing) s is = cc
+
+-- a list with a position for a test is one that has a member that passes it
+some-listed : (test : ℕ → Bool) (xs : List ℕ) → is_some (position test xs) ≡ list_any test xs
+some-listed test [] = refl
+some-listed test (x ∷ xs) = elim (cases_Bool (test x)) [
+  | inl passes ↦ grind (arith, passes, common_steps)
+  | inr fails ↦ grind (arith, fails, some-listed test xs, common_steps)
+]
+
+-- a student who has a rank for a school lists it
+pub rank-lists : (m : Market) (s i : ℕ) → is_some (position (λ t. t == s) (choices_of m i)) ≡ lists m s i
+rank-lists m s i = some-listed (λ t. t == s) (choices_of m i)

@@ -5,6 +5,7 @@ pub mod Resumption
 pub mod Locality
 pub mod Course
 pub mod Newcomer
+pub mod Ready
 pub mod Changed
 pub mod Stamped
 pub mod Placing

@@ -1,9 +1,10 @@
 //! The region of an amendment, from districts that are kept from amendment to amendment.
 
 ghost use Rattle.std.specs.Prelude.{◌≡◌, None, IfOk, IfSome, OnErr, OnOk};
-ghost use Rattle.sc_papers.specs.Verdict.{after, verdict};
+ghost use Rattle.sc_papers.specs.Verdict.{after};
 ghost use Rattle.sc_region.specs.Districts.{AreDistricts};
 ghost use Rattle.sc_region.specs.Telling.{MarkRegion};
+ghost use Rattle.sc_repair.specs.Representation.{MayFollow};
 
 use sc_papers::{Amendment, FlatPapers};
 use sc_region::{Districts, RegionPositions};
@@ -32,8 +33,7 @@ pub(crate) fn region_of(
     papers: &FlatPapers,
     amendment: &Amendment,
 ) -> Result<RegionPositions, AllocError>
-    requires districts { IfSome districts.old (AreDistricts papers.now) }
-    requires allowed { verdict papers.now amendment.now ≡ None }
+    requires { MayFollow papers.now amendment.now districts.old }
     ensures region { IfOk result (MarkRegion papers.now amendment.now) }
     ensures in_step { OnOk result (IfSome districts.new (AreDistricts (after papers.now amendment.now))) }
     ensures given_up { OnErr result (districts.new ≡ None) }
@@ -44,26 +44,13 @@ pub(crate) fn region_of(
     Ok(region)
 }
 
-/// Districts of the papers in step with an amendment that is not refused, before it is made, or `None` where
-/// there are none or no room for them.
-fn amended(
-    districts: Option<Districts>,
-    papers: &FlatPapers,
-    amendment: &Amendment,
-) -> Option<Districts>
-    requires districts { IfSome districts (AreDistricts papers.now) }
-    requires allowed { verdict papers.now amendment.now ≡ None }
-    ensures { IfSome result (AreDistricts (after papers.now amendment.now)) }
-{
-    districts?.amend(papers, amendment).ok()
-}
-
 /// Brings districts of the papers in step with an amendment that is not refused, before it is made; where there
 /// is no room for that, they are given up.
 pub(crate) fn follow(districts: &mut Option<Districts>, papers: &FlatPapers, amendment: &Amendment)
-    requires districts { IfSome districts.old (AreDistricts papers.now) }
-    requires allowed { verdict papers.now amendment.now ≡ None }
+    requires { MayFollow papers.now amendment.now districts.old }
     ensures { IfSome districts.new (AreDistricts (after papers.now amendment.now)) }
 {
-    *districts = amended(districts.take(), papers, amendment);
+    if let Some(before) = districts.take() {
+        *districts = before.amend(papers, amendment).ok();
+    }
 }

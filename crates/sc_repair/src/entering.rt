@@ -5,16 +5,16 @@ ghost use Rattle.std.specs.Option.{IsSomeAnd};
 ghost use Rattle.sc_papers.specs.Assignment.{assigned};
 ghost use Rattle.sc_papers.specs.Market.{students_of};
 ghost use Rattle.sc_papers.specs.Restriction.{cut, IsSegmented};
-ghost use Rattle.sc_papers.specs.WellFormed.{WellFormed};
 ghost use Rattle.sc_checkpoint.specs.Chains.{logs_in, students_in, with_chain};
 ghost use Rattle.sc_engine.specs.Round.{is_spent, view_of};
-ghost use Rattle.sc_engine.specs.RoundView.{next_of, Fits};
-ghost use Rattle.sc_repair.specs.Newcomer.{is_moved, HasEntered, IsNextToEnter, StandsAfter};
+ghost use Rattle.sc_engine.specs.RoundView.{next_of};
+ghost use Rattle.sc_repair.specs.Newcomer.{is_moved, IsNextToEnter, StandsAfter};
+ghost use Rattle.sc_repair.specs.Ready.{IsReady, StandReady, StandsWithNewcomer};
 
 use crate::places::Places;
 use sc_checkpoint::Segments;
 use sc_engine::Round;
-use sc_papers::{FlatPapers, StudentNo};
+use sc_papers::{FlatPapers, MOST_STUDENTS, Rejection, SchoolNo, StudentNo};
 use sc_seats::Roll;
 use std::alloc::{AllocError, Global};
 
@@ -25,12 +25,13 @@ fn standing<R: Roll>(
     papers: &FlatPapers,
     segments: &Segments,
 ) -> Result<Round<R>, AllocError>
-    requires well_formed { WellFormed papers.now }
     requires theirs { students_in segments.now ≡ take (length segments.now) (students_of papers.now) }
     requires segmented { IsSegmented (cut papers.now (length segments.now)) (logs_in segments.now) }
     ensures stands { IfOk result (λ round. StandsAfter papers.now segments.now (view_of R.keys R.seats round)) }
     ensures ready { IfOk result (λ round. is_spent round ≡ false) }
 {
+    // This call tells that the papers are well-formed.
+    prove!(papers.students_len() <= MOST_STUDENTS);
     let stands = segments.standings_at(papers, segments.len())?;
     let round: Round<R> = Round::resume_near(
         alloc,
@@ -42,35 +43,29 @@ fn standing<R: Roll>(
     Ok(round)
 }
 
-/// Notes what a newcomer's chain takes memory for: the school at which they stand, and the chain itself as
+/// Notes what a newcomer's chain takes memory for: the school at which they stand, if there is one, and the chain itself as
 /// their segment. A refused growth changes neither.
-fn note<R: Roll>(
-    round: &Round<R>,
-    papers: &FlatPapers,
+fn note(
     student: StudentNo,
+    next: Option<SchoolNo>,
+    chain: &[Rejection],
     places: &mut Places,
     segments: &mut Segments,
 ) -> Result<(), AllocError>
-    requires ready { is_spent round.now ≡ false }
-    requires fits { Fits papers.now (view_of R.keys R.seats round.now) }
-    requires unplaced { assigned places.old student ≡ None }
+    requires { assigned places.old student ≡ None }
     ensures given { OnOk result ((j : ℕ)
-        → assigned places.new j
-        ≡ (if nat_eq j student then next_of papers.now (view_of R.keys R.seats round.now).ranks student
-        else assigned places.old j)) }
-    ensures pushed { OnOk result (segments.new
-        ≡ with_chain segments.old student (view_of R.keys R.seats round.now).log) }
-    ensures places_unchanged { OnErr result (places.new ≡ places.old) }
-    ensures segments_unchanged { OnErr result (segments.new ≡ segments.old) }
+        → assigned places.new j ≡ (if nat_eq j student then next else assigned places.old j)) }
+    ensures pushed { OnOk result (segments.new ≡ with_chain segments.old student chain.now) }
+    ensures unchanged { OnErr result ((places.new ≡ places.old) × (segments.new ≡ segments.old)) }
 {
-    let Some(school) = round.next_choice(papers, student) else {
-        segments.push(student, round.log())?;
+    let Some(school) = next else {
+        segments.push(student, chain)?;
         return Ok(());
     };
     let before = places.len();
     // Whoever enters comes last.
     places.put(student, segments.len(), school)?;
-    let pushed = segments.push(student, round.log());
+    let pushed = segments.push(student, chain);
     if pushed.is_err() {
         places.truncate(before);
     }
@@ -79,8 +74,7 @@ fn note<R: Roll>(
 
 /// Gives each student whom the round's log names the school at which they stand now. It takes no memory.
 fn move_on<R: Roll>(round: &Round<R>, papers: &FlatPapers, places: &mut Places)
-    requires ready { is_spent round.now ≡ false }
-    requires fits { Fits papers.now (view_of R.keys R.seats round.now) }
+    requires { IsReady R.keys R.seats papers.now round.now }
     ensures { (j : ℕ) → assigned places.new j
         ≡ (if is_moved (view_of R.keys R.seats round.now).log j && is_some (assigned places.old j)
         then next_of papers.now (view_of R.keys R.seats round.now).ranks j else assigned places.old j) }
@@ -104,16 +98,14 @@ fn enter<R: Roll>(
     segments: &mut Segments,
 ) -> Result<u64, AllocError>
     requires next { IsNextToEnter papers.now segments.old places.old student }
-    requires stands { StandsAfter papers.now segments.old (view_of R.keys R.seats round.old) }
-    requires ready { is_spent round.old ≡ false }
-    ensures entered { IfOk result
-        (HasEntered papers.now segments.old segments.new places.new (view_of R.keys R.seats round.new) student) }
-    ensures ready { OnOk result (is_spent round.new ≡ false) }
-    ensures places_unchanged { OnErr result (places.new ≡ places.old) }
-    ensures segments_unchanged { OnErr result (segments.new ≡ segments.old) }
+    requires stands { StandReady R.keys R.seats papers.now segments.old round.old }
+    ensures entered { IfOk result (StandsWithNewcomer R.keys R.seats papers.now segments.old segments.new places.new
+        round.new student) }
+    ensures unchanged { OnErr result ((places.new ≡ places.old) × (segments.new ≡ segments.old)) }
 {
     round.enter_one(papers, student)?;
-    note(round, papers, student, places, segments)?;
+    let next = round.next_choice(papers, student);
+    note(student, next, round.log(), places, segments)?;
     move_on(round, papers, places);
     let proposals = round.proposals();
     round.forget_log();
@@ -136,10 +128,9 @@ pub(crate) fn enter_newcomer<R: Roll>(
     segments: &mut Segments,
 ) -> Result<u64, AllocError>
     requires next { IsNextToEnter papers.now segments.old places.old student }
-    requires stands { IfSome round.old (λ r. (is_spent r ≡ false)
-        × StandsAfter papers.now segments.old (view_of R.keys R.seats r)) }
-    ensures entered { IfOk result (λ made. IsSomeAnd round.new (λ r. (is_spent r ≡ false)
-        × HasEntered papers.now segments.old segments.new places.new (view_of R.keys R.seats r) student made)) }
+    requires stands { IfSome round.old (StandReady R.keys R.seats papers.now segments.old) }
+    ensures entered { IfOk result (λ made. IsSomeAnd round.new (λ r. StandsWithNewcomer R.keys R.seats papers.now
+        segments.old segments.new places.new r student made)) }
     ensures no_round { OnErr result (round.new ≡ None) }
     ensures places_unchanged { OnErr result (places.new ≡ places.old) }
     ensures segments_unchanged { OnErr result (segments.new ≡ segments.old) }

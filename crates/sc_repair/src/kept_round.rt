@@ -9,6 +9,7 @@ ghost use Rattle.sc_engine.specs.Leaving.{AreWithin, StandAt};
 ghost use Rattle.sc_engine.specs.RoundView.{Fits, without_log};
 ghost use Rattle.sc_repair.specs.Locality.{is_among, marked_in};
 ghost use Rattle.sc_repair.specs.Newcomer.{StandsAfter};
+ghost use Rattle.sc_repair.specs.Ready.{StandReady};
 ghost use Rattle.sc_repair.specs.Rejoining.{before_leaving, school_in, CanRejoin, HasJoined, HasLeft, HasMovedUp, HasSeats, StandBehind};
 
 use crate::region_positions::{are_all, without};
@@ -159,14 +160,12 @@ pub(crate) fn round_of_everybody<R: Roll>(
     region: &RegionPositions,
     segments: &Segments,
 ) -> Option<Round<R>>
-    requires kept { IfSome round (λ standing. (is_spent standing ≡ false)
-        × StandsAfter papers.now segments.now (view_of R.keys R.seats standing)) }
+    requires kept { IfSome round (StandReady R.keys R.seats papers.now segments.now) }
     requires ready { round ≡ None → IfSome spare.old (λ other. is_spent other ≡ false) }
     requires stands { round ≡ None → IfSome spare.old (λ other. ((i : ℕ) → Contains (students_in segments.now) i
         → is_among (marked_in region.now segments.now) i ≡ true)
         → StandsAfter papers.now segments.now (without_log (view_of R.keys R.seats other))) }
-    ensures { IfSome result (λ standing. (is_spent standing ≡ false)
-        × StandsAfter papers.now segments.now (view_of R.keys R.seats standing)) }
+    ensures { IfSome result (StandReady R.keys R.seats papers.now segments.now) }
 {
     match round {
         Some(standing) => Some(standing),

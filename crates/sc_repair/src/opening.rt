@@ -12,6 +12,7 @@ ghost use Rattle.sc_engine.specs.Fresh.{IsFresh};
 ghost use Rattle.sc_engine.specs.Round.{is_spent, view_of};
 ghost use Rattle.sc_engine.specs.RoundView.{has_entered, Enters, Fits};
 ghost use Rattle.sc_repair.specs.Newcomer.{StandsAfter};
+ghost use Rattle.sc_repair.specs.Ready.{HasComeIn, MayEnter};
 ghost use Rattle.sc_repair.specs.Resumption.{GoesOn};
 
 use crate::places::Places;
@@ -29,16 +30,11 @@ pub(crate) fn enter_next<R: Roll>(
     student: StudentNo,
     guess: usize,
 ) -> Result<(), AllocError>
-    requires fits { Fits papers.now (view_of R.keys R.seats round.old) }
-    requires student { is_student papers.now student ≡ true }
-    requires absent { has_entered papers.now (view_of R.keys R.seats round.old).ranks student ≡ false }
-    requires ready { is_spent round.old ≡ false }
-    ensures enters { OnOk result
-        (Enters papers.now (view_of R.keys R.seats round.old) (view_of R.keys R.seats round.new) student) }
+    requires { MayEnter R.keys R.seats papers.now round.old student }
+    ensures entered { OnOk result (HasComeIn R.keys R.seats papers.now round.old round.new student) }
     ensures chain { OnOk result ((chain : List Rejection)
         × ((view_of R.keys R.seats round.new).log ≡ (view_of R.keys R.seats round.old).log ++ chain)
         × (segments.new ≡ with_chain segments.old student chain)) }
-    ensures ready { OnOk result (is_spent round.new ≡ false) }
 {
     let before = round.log().len();
     round.enter_near(papers, student, guess)?;

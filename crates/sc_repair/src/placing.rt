@@ -1,13 +1,14 @@
 //! The places of the students of a region, after the round in which they stand.
 
-ghost use Rattle.std.specs.Prelude.{◌≡◌, ◌<◌, ℕ, ◌&&◌, ◌++◌, ◌∷◌, ◌+◌, ◌≤◌, List, [], length, nat_eq, not, is_some, false, if◌then◌else◌, IfOk, OnErr, OnOk};
+ghost use Rattle.std.specs.Prelude.{◌≡◌, ◌<◌, ℕ, ◌&&◌, ◌++◌, ◌∷◌, ◌+◌, ◌-◌, ◌≤◌, List, [], length, nat_eq, not, is_some, false, if◌then◌else◌, IfOk, OnErr, OnOk};
 ghost use Rattle.sc_papers.specs.Assignment.{assigned};
 ghost use Rattle.sc_checkpoint.specs.Spans.{chains_in, AreWithin};
-ghost use Rattle.sc_engine.specs.Round.{is_spent, view_of};
-ghost use Rattle.sc_engine.specs.RoundView.{next_of, Fits};
+ghost use Rattle.sc_engine.specs.Round.{view_of};
+ghost use Rattle.sc_engine.specs.RoundView.{next_of};
 ghost use Rattle.sc_repair.specs.Course.{either_by};
 ghost use Rattle.sc_repair.specs.Locality.{is_among, marked_in};
 ghost use Rattle.sc_repair.specs.Placing.{students_of_movers, with_moved, with_new, AreMovers};
+ghost use Rattle.sc_repair.specs.Ready.{IsReady};
 ghost use Rattle.sc_repair.specs.Renewed.{marked_from, renewed_from};
 
 use crate::part::Part;
@@ -64,8 +65,7 @@ fn put_one<R: Roll>(
     guess: Guess,
     places: &mut Places,
 ) -> Result<bool, AllocError>
-    requires ready { is_spent round.now ≡ false }
-    requires fits { Fits papers.now (view_of R.keys R.seats round.now) }
+    requires { IsReady R.keys R.seats papers.now round.now }
     ensures grown { (more : List (ℕ × ℕ)) × (places.new ≡ places.old ++ more) }
     ensures given { OnOk result ((j : ℕ)
         → assigned places.new j
@@ -113,8 +113,7 @@ fn put_all<R: Roll>(
     places: &mut Places,
     movers: &mut Vec<Mover>,
 ) -> Result<(), AllocError>
-    requires ready { is_spent round.now ≡ false }
-    requires fits { Fits part.papers.now (view_of R.keys R.seats round.now) }
+    requires round { IsReady R.keys R.seats part.papers.now round.now }
     requires one_each { length part.region.now ≡ length chains.now }
     requires none { movers.old.items ≡ [] }
     ensures grown { (more : List (ℕ × ℕ)) × (places.new ≡ places.old ++ more) }
@@ -145,8 +144,7 @@ fn place_new<R: Roll>(
     leaver: Option<usize>,
     places: &mut Places,
 ) -> Result<Vec<Mover>, AllocError>
-    requires ready { is_spent round.now ≡ false }
-    requires fits { Fits part.papers.now (view_of R.keys R.seats round.now) }
+    requires round { IsReady R.keys R.seats part.papers.now round.now }
     requires one_each { length part.region.now ≡ length chains.now }
     ensures grown { OnOk result ((more : List (ℕ × ℕ)) × (places.new ≡ places.old ++ more)) }
     ensures given { OnOk result ((j : ℕ)
@@ -171,8 +169,7 @@ fn place_new<R: Roll>(
 
 /// Gives these students who have a school the one at which they stand in its place, or none. It takes no memory.
 fn move_all<R: Roll>(round: &Round<R>, papers: &FlatPapers, movers: &[Mover], places: &mut Places)
-    requires ready { is_spent round.now ≡ false }
-    requires fits { Fits papers.now (view_of R.keys R.seats round.now) }
+    requires { IsReady R.keys R.seats papers.now round.now }
     ensures { (j : ℕ) → assigned places.new j
         ≡ with_moved (students_of_movers movers.now) (next_of papers.now (view_of R.keys R.seats round.now).ranks)
         (assigned places.old) j }
@@ -185,8 +182,8 @@ fn move_all<R: Roll>(round: &Round<R>, papers: &FlatPapers, movers: &[Mover], pl
 
 /// Gives the students of the region, whose chains are marked, the schools at which they stand in the round, and
 /// none to whoever stands at none; everybody else keeps what they have. The renewed chains, which are those of the
-/// round's log, take the place of the region's old ones from the point on, and where there is a gap, that of who leaves
-/// is taken out. The only error is want of memory, which changes nothing.
+/// round's log, take the place of the region's old ones from the point on, and where there is a chain more than students up to the
+/// end, that of who leaves is taken out. The only error is want of memory, which changes nothing.
 ///
 /// The cost is a look at what each student of the region has, and a look-up by number for each who has something else
 /// now, has nothing, or does not stand where the hints say; and that of the renewed chains. Memory is taken for those
@@ -195,27 +192,27 @@ pub(crate) fn place_inside<R: Roll>(
     alloc: Global,
     round: &Round<R>,
     part: Part<'_>,
-    gap: usize,
     renewed: &Spans,
     places: &mut Places,
     chains: &mut Segments,
 ) -> Result<(), AllocError>
-    requires ready { is_spent round.now ≡ false }
-    requires fits { Fits part.papers.now (view_of R.keys R.seats round.now) }
-    requires gap { gap ≤ 1 }
-    requires within { part.point + gap ≤ length chains.old }
+    requires round { IsReady R.keys R.seats part.papers.now round.now }
+    requires gap { length chains.old - part.end ≤ 1 }
+    requires within { part.point + (length chains.old - part.end) ≤ length chains.old }
     requires one_each { length part.region.now ≡ length chains.old }
-    requires renewed { length renewed.now ≡ length (marked_from part.region.now (part.point + gap)) }
+    requires renewed { length renewed.now
+        ≡ length (marked_from part.region.now (part.point + (length chains.old - part.end))) }
     requires log { AreWithin (view_of R.keys R.seats round.now).log renewed.now }
     ensures given { OnOk result ((j : ℕ)
         → assigned places.new j
         ≡ either_by (is_among (marked_in part.entry.region.now chains.old))
         (next_of part.entry.papers.now (view_of R.keys R.seats round.now).ranks) (assigned places.old) j) }
     ensures renewed { OnOk result (chains.new
-        ≡ renewed_from chains.old part.entry.region.now part.entry.point gap
+        ≡ renewed_from chains.old part.entry.region.now part.entry.point (length chains.old - part.entry.end)
         (chains_in (view_of R.keys R.seats round.now).log renewed.now)) }
     ensures unchanged { OnErr result ((places.new ≡ places.old) × (chains.new ≡ chains.old)) }
 {
+    let gap = chains.len().saturating_sub(part.end);
     let before = places.len();
     let leaver = leaver_at(part.point, gap);
     let movers = place_new(alloc, round, part, chains, leaver, places)?;

@@ -14,6 +14,7 @@ ghost use Rattle.sc_repair.specs.Changed.{HaveChanged, IsResettled};
 ghost use Rattle.sc_repair.specs.Course.{GoesOnInside};
 ghost use Rattle.sc_repair.specs.Locality.{is_among, marked_in};
 ghost use Rattle.sc_repair.specs.Newcomer.{StandsAfter};
+ghost use Rattle.sc_repair.specs.Ready.{HasComeIn, MayEnter};
 ghost use Rattle.sc_repair.specs.Rejoining.{StandsInside};
 ghost use Rattle.sc_repair.specs.Renewed.{marked_from, AreRenewed, CanBeRenewed, HaveTurns};
 
@@ -36,19 +37,14 @@ fn enter_turn<R: Roll>(
     student: StudentNo,
     guess: usize,
 ) -> Result<(), AllocError>
-    requires fits { Fits papers.now (view_of R.keys R.seats round.old) }
-    requires student { is_student papers.now student ≡ true }
-    requires absent { has_entered papers.now (view_of R.keys R.seats round.old).ranks student ≡ false }
-    requires ready { is_spent round.old ≡ false }
+    requires may { MayEnter R.keys R.seats papers.now round.old student }
     requires within { AreWithin (view_of R.keys R.seats round.old).log spans.old }
-    ensures enters { OnOk result
-        (Enters papers.now (view_of R.keys R.seats round.old) (view_of R.keys R.seats round.new) student) }
+    ensures entered { OnOk result (HasComeIn R.keys R.seats papers.now round.old round.new student) }
     ensures chain { OnOk result ((chain : List Rejection)
         × ((view_of R.keys R.seats round.new).log ≡ (view_of R.keys R.seats round.old).log ++ chain)
         × (chains_in (view_of R.keys R.seats round.new).log spans.new
         ≡ with_chain (chains_in (view_of R.keys R.seats round.old).log spans.old) student chain)) }
     ensures within { OnOk result (AreWithin (view_of R.keys R.seats round.new).log spans.new) }
-    ensures ready { OnOk result (is_spent round.new ≡ false) }
 {
     let before = round.log().len();
     round.enter_near(papers, student, guess)?;
@@ -176,7 +172,7 @@ pub(crate) fn resettle<R: Roll>(
     let gap = segments.len() - part.end;
     let mut renewed = Spans::with_room(alloc, positions_from(part.region, part.point).len())?;
     let round = settle_region(spare.take(), alloc, part, segments, &mut renewed)?;
-    place_inside(alloc, &round, part, gap, &renewed, places, segments)?;
+    place_inside(alloc, &round, part, &renewed, places, segments)?;
     let proposals = round.proposals();
     *spare = Some(round);
     Ok(proposals)

@@ -1,7 +1,6 @@
 //! From where on an amendment may change anything.
 
 ghost use Rattle.std.specs.Prelude.{◌≡◌, ◌≤◌, ◌<◌, ℕ, List, None, Some, true, false, length, slice_index, slice_index_or, take, Contains, IfErr, IfOk, IsTrue, OnOk};
-ghost use Rattle.std.specs.List.Sorted.{IsStrictlyIncreasing};
 ghost use Rattle.sc_papers.specs.Market.{students_of};
 ghost use Rattle.sc_papers.specs.Restriction.{cut, IsSegmented};
 ghost use Rattle.sc_papers.specs.Verdict.{after, verdict};
@@ -13,39 +12,14 @@ use sc_papers::{Amendment, FlatPapers, Refusal, SchoolNo, StudentNo};
 use sc_region::RegionPositions;
 use sc_stamps::{Record, record_of};
 
-/// Whether the student at the position lists the school.
-fn lists(papers: &FlatPapers, school: SchoolNo, position: usize) -> bool
-    requires { position < length papers.now.students }
-    ensures { result ≡ lists papers.now school (slice_index (students_of papers.now) position) }
-{
-    papers.choice_rank_at(position, school).is_some()
-}
-
 /// The position of the first student who lists the school, or the number of students where none
 /// does.
 fn first_to_list(papers: &FlatPapers, school: SchoolNo) -> usize
     ensures { result ≡ first_to_list papers.now school }
 {
     for position in 0..papers.students_len() {
-        if lists(papers, school, position) {
+        if papers.choice_rank_at(position, school).is_some() {
             return position;
-        }
-    }
-    papers.students_len()
-}
-
-/// The first of these rising positions at which a student lists the school, where whoever lists it stands at one of
-/// them; the number of students where none does.
-fn first_among(papers: &FlatPapers, school: SchoolNo, positions: &[usize]) -> usize
-    requires rising { IsStrictlyIncreasing positions.now }
-    requires within { (p : ℕ) → Contains positions.now p → p < length papers.now.students }
-    requires all { (p : ℕ) → p < length papers.now.students
-        → lists papers.now school (slice_index (students_of papers.now) p) ≡ true → Contains positions.now p }
-    ensures { result ≡ first_to_list papers.now school }
-{
-    for position in positions {
-        if lists(papers, school, *position) {
-            return *position;
         }
     }
     papers.students_len()
@@ -60,7 +34,13 @@ fn first_marked(papers: &FlatPapers, school: SchoolNo, region: &RegionPositions)
         → IsTrue (slice_index_or region.now p false) }
     ensures { result ≡ first_to_list papers.now school }
 {
-    first_among(papers, school, region.positions())
+    let positions = region.positions();
+    for position in positions {
+        if papers.choice_rank_at(*position, school).is_some() {
+            return *position;
+        }
+    }
+    papers.students_len()
 }
 
 /// The position of the student, or the number of students for one who is not in the papers.
@@ -72,14 +52,18 @@ fn position_of(papers: &FlatPapers, student: StudentNo) -> usize
         .unwrap_or(papers.students_len())
 }
 
-/// The position from which on an amendment that the papers allow may change anything. Who enters does not stand in them yet.
+/// The position from which on an amendment may change anything. Who enters will stand last.
 fn first_changed(papers: &FlatPapers, amendment: &Amendment) -> usize
-    requires { verdict papers.now amendment.now ≡ None }
     ensures { result ≡ rewind_point papers.now amendment.now }
 {
-    match record_of(amendment) {
-        Record::OfStudent(student) => position_of(papers, student),
-        Record::OfSchool(school) => first_to_list(papers, school),
+    match amendment {
+        Amendment::Enter { .. } => papers.students_len(),
+        Amendment::Withdraw { student }
+        | Amendment::Rerank { student, .. }
+        | Amendment::Correct { student, .. } => position_of(papers, *student),
+        Amendment::Add { school, .. } | Amendment::Close { school, .. } => {
+            first_to_list(papers, *school)
+        }
     }
 }
 
@@ -104,7 +88,7 @@ pub fn rewind_point(papers: &FlatPapers, amendment: &Amendment) -> Result<usize,
     Ok(first_changed(papers, amendment))
 }
 
-/// What `rewind_point` answers of an amendment that is not refused, whose region is marked.
+/// What `rewind_point` answers of an amendment that is not refused, where its region is marked.
 ///
 /// It takes no memory. It takes constant time, and for an `Add` or a `Close` a look at the choices of the region's students up
 /// to that position, with a look-up of the school for each of them.
@@ -113,8 +97,7 @@ pub(crate) fn point_in(
     region: &RegionPositions,
     amendment: &Amendment,
 ) -> usize
-    requires allowed { verdict papers.now amendment.now ≡ None }
-    requires region { MarkRegion papers.now amendment.now region.now }
+    requires { MarkRegion papers.now amendment.now region.now }
     ensures { result ≡ rewind_point papers.now amendment.now }
 {
     if let Record::OfSchool(school) = record_of(amendment) {

@@ -59,20 +59,6 @@ impl Turns {
         self.positions[turn]
     }
 
-    /// Gives the next turn to one who enters and will stand last. The only error is want of memory, after which
-    /// the turns are as before.
-    fn enter(&mut self) -> Result<(), AllocError>
-        ensures entered { OnOk result (self.new ≡ entered self.old) }
-        ensures unchanged { OnErr result (self.new ≡ self.old) }
-    {
-        let turn = self.positions.len();
-        let position = self.turns.len();
-        self.positions.reserve(1)?;
-        self.turns.push(turn)?;
-        self.positions.push_reserved(Some(position));
-        Ok(())
-    }
-
     /// Lets whoever stands last go.
     fn leave(&mut self)
         requires { AreTurns self.old }
@@ -97,14 +83,18 @@ impl Turns {
         self.turns.swap(a, b);
     }
 
-    /// Makes ready for an amendment: a newcomer gets their turn. The only error is want of memory, after which the
+    /// Makes ready for an amendment: a newcomer, who will stand last, gets the next turn. The only error is want of memory, after which the
     /// turns are as before.
     pub(crate) fn begin(&mut self, marking: Marking) -> Result<(), AllocError>
         ensures begun { OnOk result (self.new ≡ begun_turns marking self.old) }
         ensures unchanged { OnErr result (self.new ≡ self.old) }
     {
         if let Marking::Newcomer = marking {
-            self.enter()?;
+            let turn = self.positions.len();
+            let position = self.turns.len();
+            self.positions.reserve(1)?;
+            self.turns.push(turn)?;
+            self.positions.push_reserved(Some(position));
         }
         Ok(())
     }

@@ -19,17 +19,19 @@ loop-position-init g c =
       fresh.ready,
     )
 
-pub enter_next-requires-clause-student : goal.enter_next-requires-clause-student
-enter_next-requires-clause-student g c = among-student c.args.papers.now c.in-Some.student (contains-at (students_of c.args.papers.now) c.loop-position.position c.in-Some.student (sym c.in-Some.ensures))
-
-pub enter_next-requires-clause-absent : goal.enter_next-requires-clause-absent
-enter_next-requires-clause-absent g c =
-    c.loop-position.invariant.0.entered c.in-Some.student ∙ first-apart (students_of c.args.papers.now) c.loop-position.position c.in-Some.student c.loop-position.invariant.0.fits.well_formed.students_differ (sym c.in-Some.ensures)
+pub enter_next-requires : goal.enter_next-requires
+enter_next-requires g c = record {
+  ready = c.loop-position.invariant.1;
+  fits = c.loop-position.invariant.0.fits;
+  student = among-student c.args.papers.now c.in-Some.student (contains-at (students_of c.args.papers.now) c.loop-position.position c.in-Some.student (sym c.in-Some.ensures));
+  absent = c.loop-position.invariant.0.entered c.in-Some.student
+      ∙ first-apart (students_of c.args.papers.now) c.loop-position.position c.in-Some.student c.loop-position.invariant.0.fits.well_formed.students_differ (sym c.in-Some.ensures);
+}
 
 pub loop-position-preserved : goal.loop-position-preserved
 loop-position-preserved g c = (
-  goes-on-next c.args.papers.now _ _ _ c.loop-position.segments _ c.loop-position.position c.in-Some.student (sym c.in-Some.ensures) c.loop-position.invariant.0 c.in_ok-enter_next.ensures.enters c.in_ok-enter_next.ensures.chain,
-  c.in_ok-enter_next.ensures.ready,
+  goes-on-next c.args.papers.now _ _ _ c.loop-position.segments _ c.loop-position.position c.in-Some.student (sym c.in-Some.ensures) c.loop-position.invariant.0 c.in_ok-enter_next.ensures.entered.enters c.in_ok-enter_next.ensures.chain,
+  c.in_ok-enter_next.ensures.entered.ready,
 )
 
 pub returns-clause-on : goal.returns-clause-on

@@ -1,4 +1,4 @@
-use Rattle.std.proofs.Common.{◌≡◌, ◌-◌, ap, refl, sym, subst, ◌∙◌, List, length, arith}
+use Rattle.std.proofs.Common.{◌≡◌, ◌-◌, refl, sym, subst, ◌∙◌, List, length, arith}
 use Rattle.sc_checkpoint.specs.Chains.{Chain}
 use Rattle.sc_checkpoint.specs.Spans.{chains_in}
 use Rattle.std.proofs.lemmas.Bool.{cond-true}
@@ -38,7 +38,7 @@ pub returns-clause-resettled : goal.returns-clause-resettled
 returns-clause-resettled g c =
     let old = c.args.segments.now in
     let chains_are : c.place_inside.new.chains ≡ renewed_from old c.args.part.region.now c.args.part.point (length old - c.args.part.end) (chains_in (view_of g.R.Roll.keys g.R.Roll.seats c.in_ok-round.round).log c.settle_region.new.renewed) =
-    c.in_ok-place_inside.ensures.renewed ∙ ap (λ n. renewed_from old c.args.part.region.now c.args.part.point (n - c.args.part.end) (chains_in (view_of g.R.Roll.keys g.R.Roll.seats c.in_ok-round.round).log c.settle_region.new.renewed)) c.len.ensures in
+    c.in_ok-place_inside.ensures.renewed in
     changed-resettled c.args.part.papers.now c.args.places.now c.args.segments.now (is_among (marked_in c.args.part.region.now c.args.segments.now)) c.args.part.point c.args.part.end (length c.args.segments.now - c.args.part.end) c.requires.changed refl
     (view_of g.R.Roll.keys g.R.Roll.seats c.in_ok-round.round) c.place_inside.new.chains c.place_inside.new.places c.proposals-proposals.result
     (subst (λ (cs : List Chain). GoesOnInside c.args.part.papers.now (is_among (marked_in c.args.part.region.now old)) old c.args.part.point (length old - c.args.part.end) (view_of g.R.Roll.keys g.R.Roll.seats c.in_ok-round.round) cs c.args.part.end) (sym chains_are) c.in_ok-round.ensures.on)
@@ -48,7 +48,7 @@ pub returns-clause-stands : goal.returns-clause-stands
 returns-clause-stands g c = λ all.
     let old = c.args.segments.now in
     let chains_are : c.place_inside.new.chains ≡ renewed_from old c.args.part.region.now c.args.part.point (length old - c.args.part.end) (chains_in (view_of g.R.Roll.keys g.R.Roll.seats c.in_ok-round.round).log c.settle_region.new.renewed) =
-    c.in_ok-place_inside.ensures.renewed ∙ ap (λ n. renewed_from old c.args.part.region.now c.args.part.point (n - c.args.part.end) (chains_in (view_of g.R.Roll.keys g.R.Roll.seats c.in_ok-round.round).log c.settle_region.new.renewed)) c.len.ensures in
+    c.in_ok-place_inside.ensures.renewed in
     stands-everybody c.args.part.papers.now (is_among (marked_in c.args.part.region.now old)) old c.args.part.point (length old - c.args.part.end) (view_of g.R.Roll.keys g.R.Roll.seats c.in_ok-round.round) c.place_inside.new.chains c.args.part.end
     (subst (λ (cs : List Chain). GoesOnInside c.args.part.papers.now (is_among (marked_in c.args.part.region.now old)) old c.args.part.point (length old - c.args.part.end) (view_of g.R.Roll.keys g.R.Roll.seats c.in_ok-round.round) cs c.args.part.end) (sym chains_are) c.in_ok-round.ensures.on)
     all

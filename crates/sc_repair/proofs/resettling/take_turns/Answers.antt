@@ -39,14 +39,8 @@ unreachable-requires g c =
     (λ t. slice_get (students_of m) (get_or (sym turns_are t) at 0 - (sym c.len.ensures t - c.args.part.end))) ∙ sym c.student_at.ensures in
     turn-missing m (is_among (marked_in marks old)) old marks c.args.part.point (length old - c.args.part.end) c.args.part.end are at low (there ∙ c.in_default.is)
 
-pub enter_turn-requires-clause-fits : goal.enter_turn-requires-clause-fits
-enter_turn-requires-clause-fits g c = c.loop-position.invariant.0.on.fits
-
-pub enter_turn-requires-clause-student : goal.enter_turn-requires-clause-student
-enter_turn-requires-clause-student g c = among-student c.args.part.papers.now c.in-Some.student (contains-at (students_of c.args.part.papers.now) _ c.in-Some.student (sym c.student_at.ensures ∙ c.in-Some.is))
-
-pub enter_turn-requires-clause-absent : goal.enter_turn-requires-clause-absent
-enter_turn-requires-clause-absent g c =
+pub enter_turn-requires-clause-may : goal.enter_turn-requires-clause-may
+enter_turn-requires-clause-may g c =
     let m = c.args.part.papers.now in
     let old = c.args.old.now in
     let marks = c.args.part.region.now in
@@ -58,7 +52,12 @@ enter_turn-requires-clause-absent g c =
     let there : slice_get (students_of m) (get_or (marked_from marks (c.args.part.point + (length old - c.args.part.end))) at 0 - (length old - c.args.part.end)) ≡ c.student_at.result =
     (λ t. slice_get (students_of m) (get_or (sym turns_are t) at 0 - (sym c.len.ensures t - c.args.part.end))) ∙ sym c.student_at.ensures in
     let own = turn-own m (is_among (marked_in marks old)) old marks c.args.part.point (length old - c.args.part.end) c.args.part.end are at c.in-Some.student low (there ∙ c.in-Some.is) in
-    turn-absent m (is_among (marked_in marks old)) old marks c.args.part.point (length old - c.args.part.end) c.args.part.end are at c.in-Some.student (chains_in (view_of g.R.Roll.keys g.R.Roll.seats c.loop-position.round).log c.loop-position.renewed) _ c.loop-position.invariant.0 low own
+    record {
+      ready = c.loop-position.invariant.1;
+      fits = c.loop-position.invariant.0.on.fits;
+      student = among-student m c.in-Some.student (contains-at (students_of m) _ c.in-Some.student (sym c.student_at.ensures ∙ c.in-Some.is));
+      absent = turn-absent m (is_among (marked_in marks old)) old marks c.args.part.point (length old - c.args.part.end) c.args.part.end are at c.in-Some.student (chains_in (view_of g.R.Roll.keys g.R.Roll.seats c.loop-position.round).log c.loop-position.renewed) _ c.loop-position.invariant.0 low own;
+    }
 
 pub loop-position-preserved : goal.loop-position-preserved
 loop-position-preserved g c =
@@ -74,8 +73,8 @@ loop-position-preserved g c =
     (λ t. slice_get (students_of m) (get_or (sym turns_are t) at 0 - (sym c.len.ensures t - c.args.part.end))) ∙ sym c.student_at.ensures in
     let own = turn-own m (is_among (marked_in marks old)) old marks c.args.part.point (length old - c.args.part.end) c.args.part.end are at c.in-Some.student low (there ∙ c.in-Some.is) in (
       turn-next m (is_among (marked_in marks old)) old marks c.args.part.point (length old - c.args.part.end) c.args.part.end are at c.in-Some.student (chains_in (view_of g.R.Roll.keys g.R.Roll.seats c.loop-position.round).log c.loop-position.renewed) (chains_in (view_of g.R.Roll.keys g.R.Roll.seats c.enter_turn.new.round).log c.enter_turn.new.spans) _ _
-          c.loop-position.invariant.0 low own c.in_ok-enter_turn.ensures.enters c.in_ok-enter_turn.ensures.chain,
-      c.in_ok-enter_turn.ensures.ready,
+          c.loop-position.invariant.0 low own c.in_ok-enter_turn.ensures.entered.enters c.in_ok-enter_turn.ensures.chain,
+      c.in_ok-enter_turn.ensures.entered.ready,
       c.in_ok-enter_turn.ensures.within,
     )
 

@@ -41,7 +41,7 @@ pub first_marked-requires-clause-marked : goal.first_marked-requires-clause-mark
 first_marked-requires-clause-marked c p low listed =
     let m = c.args.papers.now in
     let count : length (students_of m) ≡ length m.students = length-map m.students (λ e. e.0) in
-    (c.requires.region.region p (get_or (students_of m) p 0) (slice_get-get_or (students_of m) p 0 (omega (arith, low, count)))).1
+    (c.requires.region p (get_or (students_of m) p 0) (slice_get-get_or (students_of m) p 0 (omega (arith, low, count)))).1
     (in-region m c.args.amendment.now c.in-OfSchool.school p (amended c.args.amendment.now c.in-OfSchool.school (sym c.record_of.ensures ∙ c.in-OfSchool.is)) low listed)
 
 pub returns-in-OfSchool : goal.returns-in-OfSchool

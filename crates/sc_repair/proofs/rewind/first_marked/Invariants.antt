@@ -1,7 +1,7 @@
 use Rattle.std.proofs.Common.{◌≡◌, ℕ, ◌<◌, false, get_or}
 use Rattle.sc_papers.specs.Market.{students_of}
 use Rattle.sc_repair.specs.Rewinding.{lists}
-use Rattle.sc_repair.proofs.rewind.first_among.Given as goal
+use Rattle.sc_repair.proofs.rewind.first_marked.Given as goal
 
 abbrev pub invariant-loop-position : goal.invariant-loop-position
 invariant-loop-position l =
