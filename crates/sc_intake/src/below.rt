@@ -40,15 +40,15 @@ pub(crate) fn below_header<'a, R: Row>(alloc: Global, text: &'a [u8]) -> Option<
     Some(Below { width, records })
 }
 
-/// The row that the record of a file that was read last is, in this row. `None` says nothing: it is none, or memory is
-/// wanting.
-fn row_at<R: Row>(alloc: Global, row: u64, below: &Below<'_>) -> Option<R>
-    ensures { IfSome result (λ found. row_at R.reading below.now.width row below.now.records.current ≡ Ok found) }
+/// The row that the record of a file that was read last is, in this row and under a header of so many fields. `None` says
+/// nothing: it is none, or memory is wanting.
+fn row_at<R: Row>(alloc: Global, row: u64, width: usize, records: &Records<'_>) -> Option<R>
+    ensures { IfSome result (λ found. row_at R.reading width row records.now.current ≡ Ok found) }
 {
-    if below.records.len() != below.width {
+    if records.len() != width {
         return None;
     }
-    match R::read(alloc, row, &below.records) {
+    match R::read(alloc, row, records) {
         Ok(found) => Some(found),
         Err(_) => None,
     }
@@ -56,15 +56,18 @@ fn row_at<R: Row>(alloc: Global, row: u64, below: &Below<'_>) -> Option<R>
 
 /// The row that the next record of the roster is, where that is tidy. `None` says nothing of it, and leaves the records
 /// as they were.
-fn tidy_student(alloc: Global, row: u64, below: &mut Below<'_>) -> Option<RosterRow>
-    ensures row { IfSome result (TakesRow student_of below.old.width row
-        below.old.records.left below.new.records.left) }
-    ensures unchanged { IfNone result (below.new ≡ below.old) }
-    ensures width { below.new.width ≡ below.old.width }
+fn tidy_student(
+    alloc: Global,
+    row: u64,
+    width: usize,
+    records: &mut Records<'_>,
+) -> Option<RosterRow>
+    ensures row { IfSome result (TakesRow student_of width row records.old.left records.new.left) }
+    ensures unchanged { IfNone result (records.new ≡ records.old) }
 {
-    let text = below.records.plain_text()?;
-    let (found, rest) = take_student(alloc, row, below.width, text)?;
-    below.records.go_on(alloc, rest);
+    let text = records.plain_text()?;
+    let (found, rest) = take_student(alloc, row, width, text)?;
+    records.go_on(alloc, rest);
     Some(found)
 }
 
@@ -73,32 +76,35 @@ fn tidy_student(alloc: Global, row: u64, below: &mut Below<'_>) -> Option<Roster
 fn placed_row(
     alloc: Global,
     papers: &FlatPapers,
-    below: &mut Below<'_>,
+    width: usize,
+    records: &mut Records<'_>,
     placed: &mut PlacedChoices,
 ) -> Option<StudentNo>
-    ensures row { IfSome result (λ student. (row : ℕ) → TakesList below.old.width row
-        below.old.records.left below.new.records.left student (schools_at (schools_of papers.now) placed.new)) }
+    ensures row { IfSome result (λ student. (row : ℕ) → TakesList width row
+        records.old.left records.new.left student (schools_at (schools_of papers.now) placed.new)) }
     ensures within { IfSome result (λ _. AreOfSchools papers.now placed.new) }
-    ensures unchanged { IfNone result (below.new ≡ below.old) }
-    ensures width { below.new.width ≡ below.old.width }
+    ensures unchanged { IfNone result (records.new ≡ records.old) }
 {
-    let text = below.records.plain_text()?;
-    let Some((student, left)) = take_placed(papers, below.width, text, placed) else {
+    let text = records.plain_text()?;
+    let Some((student, left)) = take_placed(papers, width, text, placed) else {
         return None;
     };
-    below.records.go_on(alloc, left);
+    records.go_on(alloc, left);
     Some(student)
 }
 
 /// The row that the next record of a file is, if there is one, however it is written. `None` says nothing: it is none,
 /// or memory is wanting.
-fn any_row<R: Row>(alloc: Global, row: u64, below: &mut Below<'_>) -> Option<Option<R>>
-    ensures row { IfSome result (IsNextRow R.reading below.old.width row
-        below.old.records.left below.new.records.left) }
-    ensures width { below.new.width ≡ below.old.width }
+fn any_row<R: Row>(
+    alloc: Global,
+    row: u64,
+    width: usize,
+    records: &mut Records<'_>,
+) -> Option<Option<R>>
+    ensures { IfSome result (IsNextRow R.reading width row records.old.left records.new.left) }
 {
-    match below.records.read() {
-        Ok(true) => Some(Some(row_at(alloc, row, below)?)),
+    match records.read() {
+        Ok(true) => Some(Some(row_at(alloc, row, width, records)?)),
         Ok(false) => Some(None),
         Err(_) => None,
     }
@@ -114,9 +120,9 @@ pub(crate) fn next_student(
         below.old.records.left below.new.records.left) }
     ensures width { below.new.width ≡ below.old.width }
 {
-    match tidy_student(alloc, row, below) {
+    match tidy_student(alloc, row, below.width, &mut below.records) {
         Some(found) => Some(Some(found)),
-        None => any_row(alloc, row, below),
+        None => any_row(alloc, row, below.width, &mut below.records),
     }
 }
 
@@ -135,10 +141,10 @@ pub(crate) fn next_placed(
     ensures within { IfSome result (λ next. IfSome next (λ _. AreOfSchools papers.now placed.new)) }
     ensures width { below.new.width ≡ below.old.width }
 {
-    if let Some(student) = placed_row(alloc, papers, below, placed) {
+    if let Some(student) = placed_row(alloc, papers, below.width, &mut below.records, placed) {
         return Some(Some(student));
     }
-    let Some(list) = any_row::<ListRow>(alloc, row, below)? else {
+    let Some(list) = any_row::<ListRow>(alloc, row, below.width, &mut below.records)? else {
         return Some(None);
     };
     placed.clear();

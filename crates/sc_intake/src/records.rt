@@ -33,7 +33,7 @@ impl<'a> Model for Records<'a> {
 }
 
 impl<'a> Records<'a> {
-    ghost use Rattle.std.specs.Prelude.{◌≡◌, [], length, option_map, IfErr, IfOk, IfSome};
+    ghost use Rattle.std.specs.Prelude.{◌≡◌, [], length, option_map, IfOk, IfSome, MatchResult};
     ghost use Rattle.csv.specs.Reading.{default_config, records, strip_bom};
     ghost use Rattle.csv.specs.Records.{field_at};
     ghost use Rattle.std.specs.Str.{bytes_eq};
@@ -100,8 +100,7 @@ impl<'a> Records<'a> {
     /// Reads the next record, and says whether there was one. The fault is want of memory in
     /// reading this input.
     pub(crate) fn advance(&mut self, source: Source) -> Result<bool, IntakeFault>
-        ensures next { IfOk result (ReadsNext self.old self.new) }
-        ensures fault { IfErr result (λ fault. fault ≡ no_memory source) }
+        ensures { MatchResult result (ReadsNext self.old self.new) (λ fault. fault ≡ no_memory source) }
     {
         match self.read() {
             Ok(found) => Ok(found),

@@ -15,7 +15,7 @@ rows-init g c =
 pub returns-in-Err-clause-gives : goal.returns-in-Err-clause-gives
 returns-in-Err-clause-gives g c =
     let rows = c.rows.rows.items in
-    let next = rw c.if-branch.true at c.in_ok-advance.ensures.next in
+    let next = rw c.if-branch.true at c.in_ok-advance.ensures in
     let size : c.len.result + 2 ≡ length rows + 2 = search rules in
     row-fault 2 g.R.Numbered.source (next_row g.R.Numbered.MOST g.R.Numbered.number g.R.Numbered.reading c.args.width) _ rows c.rows.records.left c.advance.new.self.left c.advance.new.self.current c.in-Err.cause c.at.result
     c.rows.invariant.gives next (rw size at c.in-Err.ensures.gives)
@@ -24,7 +24,7 @@ returns-in-Err-clause-gives g c =
 pub rows-preserved : goal.rows-preserved
 rows-preserved g c =
     let rows = c.rows.rows.items in
-    let next = rw c.if-branch.true at c.in_ok-advance.ensures.next in
+    let next = rw c.if-branch.true at c.in_ok-advance.ensures in
     let size : c.len.result + 2 ≡ length rows + 2 = search rules in
     record {
       gives = row-step 2 g.R.Numbered.source (next_row g.R.Numbered.MOST g.R.Numbered.number g.R.Numbered.reading c.args.width) _ rows c.add_row.new.rows.items c.rows.records.left c.advance.new.self.left c.advance.new.self.current
@@ -35,5 +35,5 @@ rows-preserved g c =
 
 pub returns-clause-gives : goal.returns-clause-gives
 returns-clause-gives g c =
-    let last = rw c.if-branch.false at c.in_ok-advance.ensures.next in
+    let last = rw c.if-branch.false at c.in_ok-advance.ensures in
     row-end 2 g.R.Numbered.source (next_row g.R.Numbered.MOST g.R.Numbered.number g.R.Numbered.reading c.args.width) _ c.rows.rows.items c.rows.records.left c.rows.invariant.gives last
