@@ -1,9 +1,10 @@
 -- The command line of the program, in the words of `clap`'s specs.
 use Rattle.std.specs.Prelude.{◌≡◌, true, false, List, [], ◌∷◌, ◌++◌, map, Some, codes}
-use Rattle.clap.specs.Words.{App, Rule, Shape, Text, app_of, new_rule}
+use Rattle.clap.specs.Words.{App, Rule, Shape, Text, app_of, new_rule, rule_of}
 use Rattle.clap.specs.Simple.{new_shape}
 use Rattle.clap.specs.declared.builder.command.Command.TheViews.{out-Command as fields_of}
 use Rattle.clap.specs.declared.builder.ArgAction.TheVariants.{Set, SetTrue}
+use Rattle.clap.specs.declared.builder.arg.Arg.{Arg}
 use Rattle.clap.specs.declared.builder.command.Command.{Command}
 
 -- `--NAME VALUE`, which must be given
@@ -114,6 +115,11 @@ command_line = record {
       ∷ subcommand (codes "explain") explain_options ∷ subcommand (codes "admissions") admissions_options
       ∷ subcommand (codes "changes") changes_options ∷ [];
 }
+
+-- `clap` has been told of this option, for its own command alone
+pub record IsOption (option : Arg) (told : Rule) : Type 0 where
+  pub rule : rule_of option ≡ told
+  pub local : option.global ≡ false
 
 -- `clap` has been told of this command, without subcommands
 abbrev pub IsCommand : Command → Shape → Type 0

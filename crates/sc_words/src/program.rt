@@ -1,8 +1,8 @@
 //! The command line, as `clap` is told of it.
 
-ghost use Rattle.std.specs.Prelude.{◌≡◌, false, IfOk, codes};
-ghost use Rattle.clap.specs.Words.{app_of, rule_of};
-ghost use Rattle.sc_words.specs.CommandLine.{IsCommand, optional_option, required_option, subcommand};
+ghost use Rattle.std.specs.Prelude.{◌≡◌, IfOk, codes};
+ghost use Rattle.clap.specs.Words.{app_of};
+ghost use Rattle.sc_words.specs.CommandLine.{IsCommand, IsOption, optional_option, required_option, subcommand};
 ghost use Rattle.sc_words.specs.CommandLine.{check_options, opening_options, match_options, run_options};
 ghost use Rattle.sc_words.specs.CommandLine.{audit_options, replay_options, export_options, summary_options, explain_options, admissions_options, changes_options, command_line};
 ghost use Rattle.sc_words.specs.CommandLine as line;
@@ -13,8 +13,7 @@ use std::alloc::{AllocError, Global};
 
 /// A required option with a value.
 fn option<'a>(alloc: Global, name: &'a str, value: &'a str, help: &'a str) -> Arg<'a>
-    ensures rule { rule_of result ≡ required_option name.entry.now }
-    ensures local { result.global ≡ false }
+    ensures { IsOption result (required_option name.entry.now) }
 {
     Arg::new(alloc, name)
         .long(name)
@@ -26,8 +25,7 @@ fn option<'a>(alloc: Global, name: &'a str, value: &'a str, help: &'a str) -> Ar
 
 /// An option with a value that may be left out.
 fn optional<'a>(alloc: Global, name: &'a str, value: &'a str, help: &'a str) -> Arg<'a>
-    ensures rule { rule_of result ≡ optional_option name.entry.now }
-    ensures local { result.global ≡ false }
+    ensures { IsOption result (optional_option name.entry.now) }
 {
     Arg::new(alloc, name)
         .long(name)
@@ -38,24 +36,21 @@ fn optional<'a>(alloc: Global, name: &'a str, value: &'a str, help: &'a str) -> 
 
 /// An option that names a file and may be left out.
 fn optional_file<'a>(alloc: Global, name: &'a str, help: &'a str) -> Arg<'a>
-    ensures rule { rule_of result ≡ optional_option name.entry.now }
-    ensures local { result.global ≡ false }
+    ensures { IsOption result (optional_option name.entry.now) }
 {
     optional(alloc, name, "FILE", help)
 }
 
 /// A required option that names a file.
 fn file<'a>(alloc: Global, name: &'a str, help: &'a str) -> Arg<'a>
-    ensures rule { rule_of result ≡ required_option name.entry.now }
-    ensures local { result.global ≡ false }
+    ensures { IsOption result (required_option name.entry.now) }
 {
     option(alloc, name, "FILE", help)
 }
 
 /// A flag, which may be given.
 fn flag<'a>(alloc: Global, name: &'a str, help: &'a str) -> Arg<'a>
-    ensures rule { rule_of result ≡ line.flag name.entry.now }
-    ensures local { result.global ≡ false }
+    ensures { IsOption result (line.flag name.entry.now) }
 {
     Arg::new(alloc, name)
         .long(name)
