@@ -122,19 +122,6 @@ fn lines_of<'a>(
     Ok(lines)
 }
 
-/// The student's list.
-fn find_list<'t>(
-    positions: &BTreeMap<StudentNo, usize>,
-    lists: &'t [ListRow],
-    student: StudentNo,
-) -> Option<&'t ListRow>
-    requires { ArePositions positions.now lists.now lists.now }
-    ensures { option_copied result ≡ list_of lists.now student }
-{
-    let position = positions.get(&student)?;
-    lists.get(*position)
-}
-
 /// What stands at the position of a student's list.
 fn find_line<'t, 'a>(
     positions: &BTreeMap<StudentNo, usize>,
@@ -244,7 +231,7 @@ impl<'a> ListTable<'a> {
             → option_map refused_view result ≡ refused_told text refusal.now (option_map row_view row.entry) }
     {
         let student = student_of(row)?;
-        let list = find_list(&self.positions, good_rows(&self.sheet), student)?;
+        let list = good_rows(&self.sheet).get(*self.positions.get(&student)?)?;
         if !is_refused(refusal, list.choices.as_slice()) {
             return None;
         }
