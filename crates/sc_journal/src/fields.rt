@@ -41,11 +41,11 @@ impl<'a> Fields<'a> {
         })
     }
 
-    /// How many fields there are.
-    pub(crate) fn len(&self) -> usize
-        ensures { result ≡ length self.now }
+    /// Whether there are so many fields.
+    pub(crate) fn are_so_many(&self, count: usize) -> bool
+        ensures { result ≡ (length self.now == count) }
     {
-        self.fields.len()
+        self.fields.len() == count
     }
 
     /// A field, counted from 0; one past the last is empty.

@@ -24,7 +24,7 @@ pub struct JournalLine {
 fn school_or_none(fields: &Fields, index: usize) -> Result<Option<SchoolNo>, Unread>
     ensures { result ≡ school_or_none_in fields.now index }
 {
-    if fields.len() == index {
+    if fields.are_so_many(index) {
         return Ok(None);
     }
     match school(fields.at(index)) {
@@ -38,7 +38,7 @@ fn school_or_none(fields: &Fields, index: usize) -> Result<Option<SchoolNo>, Unr
 fn enter(alloc: Global, fields: &Fields) -> Result<Amendment, Unread>
     ensures { Gives (enter_in fields.now) result }
 {
-    if fields.len() != 6 && fields.len() != 7 {
+    if !fields.are_so_many(6) && !fields.are_so_many(7) {
         return Err(Unread::NoLine);
     }
     Ok(Amendment::Enter {
@@ -55,7 +55,7 @@ fn enter(alloc: Global, fields: &Fields) -> Result<Amendment, Unread>
 fn withdraw(fields: &Fields) -> Result<Amendment, Unread>
     ensures { result ≡ withdraw_in fields.now }
 {
-    if fields.len() != 3 {
+    if !fields.are_so_many(3) {
         return Err(Unread::NoLine);
     }
     Ok(Amendment::Withdraw {
@@ -68,7 +68,7 @@ fn withdraw(fields: &Fields) -> Result<Amendment, Unread>
 fn rerank(alloc: Global, fields: &Fields) -> Result<Amendment, Unread>
     ensures { Gives (rerank_in fields.now) result }
 {
-    if fields.len() != 4 {
+    if !fields.are_so_many(4) {
         return Err(Unread::NoLine);
     }
     Ok(Amendment::Rerank {
@@ -82,7 +82,7 @@ fn rerank(alloc: Global, fields: &Fields) -> Result<Amendment, Unread>
 fn add(fields: &Fields) -> Result<Amendment, Unread>
     ensures { result ≡ add_in fields.now }
 {
-    if fields.len() != 4 {
+    if !fields.are_so_many(4) {
         return Err(Unread::NoLine);
     }
     Ok(Amendment::Add {
@@ -96,7 +96,7 @@ fn add(fields: &Fields) -> Result<Amendment, Unread>
 fn close(fields: &Fields) -> Result<Amendment, Unread>
     ensures { result ≡ close_in fields.now }
 {
-    if fields.len() != 4 {
+    if !fields.are_so_many(4) {
         return Err(Unread::NoLine);
     }
     Ok(Amendment::Close {
@@ -110,7 +110,7 @@ fn close(fields: &Fields) -> Result<Amendment, Unread>
 fn correct(alloc: Global, fields: &Fields) -> Result<Amendment, Unread>
     ensures { Gives (correct_in fields.now) result }
 {
-    if fields.len() != 5 && fields.len() != 6 {
+    if !fields.are_so_many(5) && !fields.are_so_many(6) {
         return Err(Unread::NoLine);
     }
     Ok(Amendment::Correct {
