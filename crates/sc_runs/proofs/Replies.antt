@@ -15,19 +15,32 @@ use Rattle.sc_intake.specs.declared.fault.IntakeFault.{IntakeFault}
 use Rattle.sc_journal.specs.Journal.{journal_text}
 use Rattle.sc_journal.proofs.Stamping.{accepted-after}
 use Rattle.sc_report.specs.Reply.{reply_text}
-use Rattle.sc_runs.specs.Opening.{IsReport}
-use Rattle.sc_runs.specs.Steps.{WritesLastReport, WritesSession}
+use Rattle.sc_report.specs.Watched.{device_of}
+use Rattle.sc_report.specs.declared.watched.Watched.{Watched}
+use Rattle.sc_runs.specs.Opening.{IsReport, WritesText}
+use Rattle.sc_runs.specs.Steps.{OutputGets, WritersGet, WritesLastReport, WritesSession}
 use Rattle.sc_runs.specs.TwoWriters.{Contents, Piece, journal_of, output_of, to_output, GrowsByAll, GrowsByPrefix}
 use Rattle.sc_runs.specs.Run.{accepted, accepted_in, after_record, after_script, answer_to, answers, answer_by_verdict, next_line, opened_in, replies, reply_to, unless_verdict, Writes, WritesRun}
 use Rattle.sc_runs.specs.declared.fault.RunFault.{RunFault}
 use Rattle.sc_runs.specs.declared.fault.RunFault.TheVariants.{Read, Intake, Journal, WriteOut, WriteJournal, OutOfMemory}
 use Rattle.sc_runs.proofs.LastReport.{IsReport-some, WellFormed-after_script}
-use Rattle.sc_runs.proofs.TwoWriters.{GrowsByAll-none, GrowsByAll-trans, GrowsByPrefix-after, GrowsByPrefix-longer, GrowsByPrefix-nothing, journal_of-append, output_of-append}
+use Rattle.sc_runs.proofs.TwoWriters.{GrowsByAll-none, GrowsByAll-trans, GrowsByPrefix-after, GrowsByPrefix-longer, GrowsByPrefix-nothing, is_journal_fault-text, journal_of-append, output_of-append, Writes-output, Writes-same}
 
 -- what ended without a fault of a writer did not make it fail
 pub or-nothing : (failed more : Bool) → more ≡ false → failed ≡ (failed || more)
 or-nothing false more none = sym none
 or-nothing true more none = refl
+
+-- a reply that was written to the output is the answer to a record that has these writes, and the journal was not touched
+pub WritersGet-reply : {J W : Type 0} (journal : J → Option (List ℕ)) (fails : J → Bool) (kept : J) (output : W → Option (List ℕ)) (old new : Watched W)
+    (reply : List ℕ) (pieces : List Piece) (result : Result (Unit {0}) RunFault) → to_output reply ∷ [] ≡ pieces
+    → OutputGets (WritesText (λ text. text ≡ reply)) output old new result → WritersGet (Writes pieces) journal fails kept kept output old new result
+WritersGet-reply journal fails kept output old new reply pieces result same gets = record {
+  bytes = Writes-same (to_output reply ∷ []) pieces (record { journal = journal kept; output = output (device_of old) })
+      (record { journal = journal kept; output = output (device_of new) }) result same (Writes-output reply (journal kept) _ _ result gets.bytes);
+  failed = gets.failed;
+  journal_failed = or-nothing _ _ (is_journal_fault-text (λ text. text ≡ reply) _ _ result gets.bytes);
+}
 
 -- a refusal that is answered is the verdict
 verdict-refused : (found : Option Refusal) (refusal : Refusal) → Err refusal ≡ unless_refused found → found ≡ Some refusal

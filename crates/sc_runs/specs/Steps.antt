@@ -1,5 +1,5 @@
 -- What the steps of the calls do, between reading the inputs and the answer. Public contracts do not cite it.
-use Rattle.std.specs.Prelude.{◌++◌, ◌+◌, ◌∷◌, ◌≡◌, [], ⊤, Err, List, None, Ok, Option, Result, Some, ℕ}
+use Rattle.std.specs.Prelude.{Bool, ◌++◌, ◌+◌, ◌∷◌, ◌≡◌, [], ⊤, Err, List, None, Ok, Option, Result, Some, ℕ}
 use Rattle.std.specs.List.{All}
 use Rattle.std.specs.Io.KnownBytes.{Appends, Keeps}
 use Rattle.sc_audit.specs.declared.verdict.Verdict.{Verdict}
@@ -17,8 +17,11 @@ use Rattle.sc_report.specs.Entrants.{AreRising, Holds}
 use Rattle.sc_report.specs.Table.{table_text}
 use Rattle.sc_report.specs.Whole.{AppendsPrefix}
 use Rattle.sc_report.specs.declared.entrants.Entrant.{Entrant}
+use Rattle.sc_report.specs.Watched.{device_of}
+use Rattle.sc_report.specs.declared.watched.Watched.{Watched}
 use Rattle.sc_stamps.specs.Verdict.{StampedPapers}
 use Rattle.sc_runs.specs.Auditing.{verdict_text}
+use Rattle.sc_runs.specs.Failing.{JournalFailsAsTold, OutputFailsAsTold}
 use Rattle.sc_runs.specs.Inputs.{Texts}
 use Rattle.sc_runs.specs.Markers.{Parts}
 use Rattle.sc_runs.specs.Opening.{IsReport, WritesText}
@@ -38,9 +41,29 @@ use Rattle.sc_runs.specs.declared.replaying.Replayed.{Replayed}
 use Rattle.sc_runs.specs.declared.telling.StandingText.TheVariants.{OneTable, Summary}
 use Rattle.sc_runs.specs.declared.telling.StandingText.{StandingText}
 
+-- a call did this to the bytes of the output, where they are known, and the output has failed since if the call tells so
+pub record OutputGets {A W : Type 0} (Does : Option (List ℕ) → Option (List ℕ) → Result A RunFault → Type 0) (contents : W → Option (List ℕ))
+    (old new : Watched W) (result : Result A RunFault) : Type 0 where
+  pub bytes : Does (contents (device_of old)) (contents (device_of new)) result
+  pub failed : OutputFailsAsTold old new result
+
+-- a call did this to the bytes of the journal and the output, where they are known, and each has failed since if the call
+-- tells so
+pub record WritersGet {A J W : Type 0} (Does : Contents → Contents → Result A RunFault → Type 0)
+    (journal : J → Option (List ℕ)) (journal_fails : J → Bool) (before after : J) (output : W → Option (List ℕ)) (old new : Watched W)
+    (result : Result A RunFault) : Type 0 where
+  pub bytes : Does (record { journal = journal before; output = output (device_of old) })
+      (record { journal = journal after; output = output (device_of new) }) result
+  pub failed : OutputFailsAsTold old new result
+  pub journal_failed : JournalFailsAsTold (journal_fails before) (journal_fails after) result
+
 -- the texts that were read
 abbrev pub texts_of : OpeningTexts → Texts
 texts_of given = record { schools = given.schools.items; roster = given.roster.items; lists = given.lists.items }
+
+-- the texts that are lent
+abbrev pub texts_lent : OpeningSlices → Texts
+texts_lent lent = record { schools = lent.schools.now; roster = lent.roster.now; lists = lent.lists.now }
 
 -- the papers that the lent texts of an opening hold, or their first fault
 abbrev pub papers_held : List ℕ → OpeningSlices → Result Market IntakeFault

@@ -8,7 +8,7 @@ ghost use Rattle.sc_runs.specs.Auditing.{claimed_in, verdict_text, AuditsFiles, 
 ghost use Rattle.sc_runs.specs.Failing.{OutputFailsAsTold};
 ghost use Rattle.sc_runs.specs.Inputs.{turns_with, TakesWithin};
 ghost use Rattle.sc_runs.specs.Opening.{opening_in};
-ghost use Rattle.sc_runs.specs.Steps.{texts_of, IsOpeningFault, WritesVerdictLine};
+ghost use Rattle.sc_runs.specs.Steps.{texts_of, IsOpeningFault, OutputGets, WritesVerdictLine};
 
 use crate::fault::RunFault;
 use crate::inputs::{Opening, OpeningTexts, read_inputs};
@@ -64,9 +64,7 @@ fn write_verdict<W: Write>(
     verdict: &Verdict,
     out: &mut Watched<W>,
 ) -> Result<(), RunFault>
-    ensures bytes { WritesVerdictLine verdict.now
-        (W.contents (device_of out.old)) (W.contents (device_of out.new)) result }
-    ensures failed { OutputFailsAsTold out.old out.new result }
+    ensures { OutputGets (WritesVerdictLine verdict.now) W.contents out.old out.new result }
 {
     match verdict_line(alloc, verdict) {
         Ok(line) => write_text(line.as_slice(), out),
@@ -81,9 +79,8 @@ fn audit_papers<W: Write>(
     log: &[u8],
     out: &mut Watched<W>,
 ) -> Result<Verdict, RunFault>
-    ensures verdict { WritesVerdict (claimed_in (Ok papers.now) (log_in log.now))
-        (W.contents (device_of out.old)) (W.contents (device_of out.new)) result }
-    ensures failed { OutputFailsAsTold out.old out.new result }
+    ensures { OutputGets (WritesVerdict (claimed_in (Ok papers.now) (log_in log.now)))
+        W.contents out.old out.new result }
 {
     let entries = match read_entries(alloc, log) {
         Ok(entries) => entries,
@@ -106,9 +103,7 @@ fn answer_papers<W: Write>(
     log: &[u8],
     out: &mut Watched<W>,
 ) -> Result<Audited, RunFault>
-    ensures verdict { WritesAudit (claimed_in (Ok papers) (log_in log.now))
-        (W.contents (device_of out.old)) (W.contents (device_of out.new)) result }
-    ensures failed { OutputFailsAsTold out.old out.new result }
+    ensures { OutputGets (WritesAudit (claimed_in (Ok papers) (log_in log.now))) W.contents out.old out.new result }
 {
     match audit_papers(alloc, &papers, log, out) {
         Ok(verdict) => Ok(Audited { papers, verdict }),
@@ -127,9 +122,8 @@ fn audit_texts<W: Write>(
     log: &[u8],
     out: &mut Watched<W>,
 ) -> Result<Audited, RunFault>
-    ensures verdict { WritesAudit (claimed_in (opening_in seed.now (texts_of texts)) (log_in log.now))
-        (W.contents (device_of out.old)) (W.contents (device_of out.new)) result }
-    ensures failed { OutputFailsAsTold out.old out.new result }
+    ensures { OutputGets (WritesAudit (claimed_in (opening_in seed.now (texts_of texts)) (log_in log.now)))
+        W.contents out.old out.new result }
 {
     match read_owned(alloc, seed, texts) {
         Ok(papers) => answer_papers(alloc, papers, log, out),

@@ -7,10 +7,10 @@ ghost use Rattle.sc_papers.specs.Market.{Market};
 ghost use Rattle.sc_report.specs.Watched.{device_of, has_failed};
 ghost use Rattle.sc_runs.specs.Bundle.{sections_of};
 ghost use Rattle.sc_runs.specs.BundleRun.{ends_by_output, EndsBundle, RunsBundle};
-ghost use Rattle.sc_runs.specs.Failing.{is_journal_fault, OutputFailsAsTold};
+ghost use Rattle.sc_runs.specs.Failing.{is_journal_fault};
 ghost use Rattle.sc_runs.specs.Inputs.{turn_of, TakesWithin};
 ghost use Rattle.sc_runs.specs.Opening.{WritesMatch};
-ghost use Rattle.sc_runs.specs.Steps.{ending_of, IsReadingOf};
+ghost use Rattle.sc_runs.specs.Steps.{ending_of, IsReadingOf, OutputGets};
 ghost use Rattle.sc_runs.specs.declared.ending.Ending.TheVariants.{Fault};
 ghost use Rattle.sc_runs.specs.declared.fault.RunFault.TheVariants.{WriteJournal};
 
@@ -71,9 +71,8 @@ fn report_read<W: Write>(
     out: &mut Watched<W>,
 ) -> Result<(), RunFault>
     requires { (reading : Result Market IntakeFault) × IsReadingOf reading read }
-    ensures bytes { (reading : Result Market IntakeFault) → IsReadingOf reading read →
-        WritesMatch false reading (W.contents (device_of out.old)) (W.contents (device_of out.new)) result }
-    ensures failed { OutputFailsAsTold out.old out.new result }
+    ensures report { OutputGets (λ old new result. (reading : Result Market IntakeFault) → IsReadingOf reading read
+        → WritesMatch false reading old new result) W.contents out.old out.new result }
     ensures no_journal { is_journal_fault result ≡ false }
 {
     match read {

@@ -14,7 +14,7 @@ ghost use Rattle.sc_runs.specs.Failing.{is_output_fault, OutputFailsAsTold};
 ghost use Rattle.sc_runs.specs.Inputs.{turns_with, TakesWithin};
 ghost use Rattle.sc_runs.specs.Opening.{WritesText};
 ghost use Rattle.sc_runs.specs.Standing.{IsStandingFault, WritesOfStanding};
-ghost use Rattle.sc_runs.specs.Steps.{papers_held, ArePlacesAfter, IsChangeFrom};
+ghost use Rattle.sc_runs.specs.Steps.{papers_held, ArePlacesAfter, IsChangeFrom, OutputGets};
 
 use crate::fault::RunFault;
 use crate::inputs::{Opening, OpeningSlices, read_inputs};
@@ -96,10 +96,10 @@ fn write_changes<W: Write>(
     clearing: &Clearing,
     out: &mut Watched<W>,
 ) -> Result<(), RunFault>
-    ensures bytes { WritesText (λ text. (m : Market) (a : Matching) → AreRising m before.now → All (Holds a) before.now
-        → text ≡ changes_text m a clearing.now.standing.papers (matching_of clearing.now.standing))
-        (W.contents (device_of out.old)) (W.contents (device_of out.new)) result }
-    ensures failed { OutputFailsAsTold out.old out.new result }
+    ensures { OutputGets (WritesText (λ text. (m : Market) (a : Matching) → AreRising m before.now
+        → All (Holds a) before.now
+        → text ≡ changes_text m a clearing.now.standing.papers (matching_of clearing.now.standing)))
+        W.contents out.old out.new result }
 {
     match changes_text(alloc, before, clearing) {
         Ok(text) => write_text(text.as_slice(), out),
@@ -117,9 +117,8 @@ fn change_from<W: Write>(
     before: &[Entrant],
     out: &mut Watched<W>,
 ) -> Result<Tail, RunFault>
-    ensures change { WritesOfStanding (IsChangeFrom before.now) (papers_held seed.now texts.entry) journal.now
-        (W.contents (device_of out.old)) (W.contents (device_of out.new)) result }
-    ensures failed { OutputFailsAsTold out.old out.new result }
+    ensures { OutputGets (WritesOfStanding (IsChangeFrom before.now) (papers_held seed.now texts.entry) journal.now)
+        W.contents out.old out.new result }
 {
     match clearing_after(alloc, seed, texts, journal) {
         Ok((clearing, tail)) => {
@@ -144,10 +143,9 @@ fn change_since<W: Write>(
     out: &mut Watched<W>,
 ) -> Result<Changed, RunFault>
     // After however many lines these are.
-    ensures change { (since : ℕ) → AreFirstLines since journal.now lines.now → TellsChange since
-        (papers_held seed.now texts.entry) journal.now
-        (W.contents (device_of out.old)) (W.contents (device_of out.new)) result }
-    ensures failed { OutputFailsAsTold out.old out.new result }
+    ensures { OutputGets (λ old new result. (since : ℕ) → AreFirstLines since journal.now lines.now
+        → TellsChange since (papers_held seed.now texts.entry) journal.now old new result)
+        W.contents out.old out.new result }
 {
     let before = match places_after(alloc, seed, texts, lines) {
         Ok(before) => before,
@@ -194,9 +192,8 @@ fn change_texts<W: Write>(
     since: u32,
     out: &mut Watched<W>,
 ) -> Result<Changed, RunFault>
-    ensures change { TellsChange since (papers_held seed.now texts.entry) journal.now
-        (W.contents (device_of out.old)) (W.contents (device_of out.new)) result }
-    ensures failed { OutputFailsAsTold out.old out.new result }
+    ensures { OutputGets (TellsChange since (papers_held seed.now texts.entry) journal.now)
+        W.contents out.old out.new result }
 {
     match first_lines(journal, since) {
         Some(lines) => change_since(alloc, seed, texts, journal, lines, out),

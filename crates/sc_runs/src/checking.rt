@@ -1,14 +1,14 @@
 //! From files to every fault of them.
 
-ghost use Rattle.std.specs.Prelude.{◌≡◌, ◌++◌, ℕ, List, All, is_some};
+ghost use Rattle.std.specs.Prelude.{◌≡◌, ◌++◌, All, is_some};
 ghost use Rattle.sc_intake.specs.declared.fault.Source.TheVariants as input;
-ghost use Rattle.sc_checks.specs.Checks.{every_fault};
 ghost use Rattle.sc_checks.specs.FaultLines.{files_of};
 ghost use Rattle.sc_checks.specs.Representation.{files_view, names_view};
 ghost use Rattle.sc_report.specs.Watched.{device_of};
-ghost use Rattle.sc_runs.specs.Checking.{ChecksFiles, WritesFaults};
+ghost use Rattle.sc_runs.specs.Checking.{ChecksFiles, WritesEveryFault, WritesFaults};
 ghost use Rattle.sc_runs.specs.Failing.{OutputFailsAsTold};
 ghost use Rattle.sc_runs.specs.Inputs.{opening_turns, turns_if_any, TakesWithin};
+ghost use Rattle.sc_runs.specs.Steps.{texts_lent, OutputGets};
 
 use crate::fault::RunFault;
 use crate::inputs::{Opening, OpeningSlices, read_opening_and};
@@ -35,9 +35,7 @@ fn write_pieces<W: Write>(
     lines: &mut FaultLines<'_>,
     out: &mut Watched<W>,
 ) -> Result<Checked, RunFault>
-    ensures bytes { WritesFaults lines.old.files lines.old.left
-        (W.contents (device_of out.old)) (W.contents (device_of out.new)) result }
-    ensures failed { OutputFailsAsTold out.old out.new result }
+    ensures { OutputGets (WritesFaults lines.old.files lines.old.left) W.contents out.old out.new result }
 {
     let mut text = Vec::new(alloc);
     let mut checked = Checked::Clean;
@@ -59,9 +57,7 @@ fn write_faults<W: Write>(
     lines: &mut FaultLines<'_>,
     out: &mut Watched<W>,
 ) -> Result<Checked, RunFault>
-    ensures bytes { WritesFaults lines.old.files lines.old.left
-        (W.contents (device_of out.old)) (W.contents (device_of out.new)) result }
-    ensures failed { OutputFailsAsTold out.old out.new result }
+    ensures { OutputGets (WritesFaults lines.old.files lines.old.left) W.contents out.old out.new result }
 {
     match write_pieces(alloc, lines, out) {
         Ok(checked) => match flush_output(out) {
@@ -97,39 +93,8 @@ fn files_of<'a>(names: &FileNames<'a>, texts: OpeningSlices<'a>, script: &'a [u8
     }
 }
 
-/// Writes the lines of every fault of the inputs, and flushes them.
-fn check_texts<W: Write>(
-    alloc: Global,
-    seed: &Seed,
-    files: &InputFiles<'_>,
-    out: &mut Watched<W>,
-) -> Result<Checked, RunFault>
-    ensures bytes { (any : List ℕ) → WritesFaults (files_view files.now)
-        (every_fault any files.now.schools.text.now files.now.roster.text.now
-        files.now.lists.text.now files.now.script.text.now)
-        (W.contents (device_of out.old)) (W.contents (device_of out.new)) result }
-    ensures failed { OutputFailsAsTold out.old out.new result }
-{
-    match every_fault(
-        alloc,
-        *seed,
-        files.schools.text,
-        files.roster.text,
-        files.lists.text,
-        files.script.text,
-    ) {
-        Ok(faults) => {
-            let mut lines = FaultLines::new(alloc, *files, faults);
-            let checked = write_faults(alloc, &mut lines, out);
-            drop(lines);
-            checked
-        }
-        Err(_) => Err(RunFault::OutOfMemory),
-    }
-}
-
 /// Writes the lines of every fault of texts of these names, and flushes them.
-fn check_named<W: Write>(
+fn check_texts<W: Write>(
     alloc: Global,
     seed: &Seed,
     names: &FileNames<'_>,
@@ -137,16 +102,25 @@ fn check_named<W: Write>(
     script: &[u8],
     out: &mut Watched<W>,
 ) -> Result<Checked, RunFault>
-    ensures bytes { (any : List ℕ)
-        → WritesFaults
-        (files_of (names_view names.now)
-        texts.entry.schools.now texts.entry.roster.now texts.entry.lists.now script.now)
-        (every_fault any texts.entry.schools.now texts.entry.roster.now texts.entry.lists.now script.now)
-        (W.contents (device_of out.old)) (W.contents (device_of out.new)) result }
-    ensures failed { OutputFailsAsTold out.old out.new result }
+    ensures { OutputGets (WritesEveryFault (names_view names.now) (texts_lent texts.entry) script.now)
+        W.contents out.old out.new result }
 {
-    let files = files_of(names, texts, script);
-    check_texts(alloc, seed, &files, out)
+    match every_fault(
+        alloc,
+        *seed,
+        texts.schools,
+        texts.roster,
+        texts.lists,
+        script,
+    ) {
+        Ok(faults) => {
+            let mut lines = FaultLines::new(alloc, files_of(names, texts, script), faults);
+            let checked = write_faults(alloc, &mut lines, out);
+            drop(lines);
+            checked
+        }
+        Err(_) => Err(RunFault::OutOfMemory),
+    }
 }
 
 /// Reads the three files and a script, if there is one, in the order schools, roster, lists, script, and writes a line
@@ -179,7 +153,7 @@ pub fn check_files<R: Read, W: Write>(
         Ok(texts) => texts,
         Err(fault) => return Err(fault),
     };
-    check_named(
+    check_texts(
         alloc,
         seed,
         names,

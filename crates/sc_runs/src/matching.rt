@@ -5,7 +5,7 @@ ghost use Rattle.sc_report.specs.Watched.{device_of};
 ghost use Rattle.sc_runs.specs.Failing.{OutputFailsAsTold};
 ghost use Rattle.sc_runs.specs.Inputs.{opening_turns, TakesWithin};
 ghost use Rattle.sc_runs.specs.Opening.{opening_in, ArePapersOf, MatchesFiles, WritesMatch};
-ghost use Rattle.sc_runs.specs.Steps.{texts_of};
+ghost use Rattle.sc_runs.specs.Steps.{texts_of, OutputGets};
 
 use crate::fault::RunFault;
 use crate::inputs::{Opening, OpeningTexts, read_opening};
@@ -23,9 +23,7 @@ fn match_papers<W: Write>(
     show_log: bool,
     out: &mut Watched<W>,
 ) -> Result<(), RunFault>
-    ensures bytes { WritesMatch show_log (Ok papers.now)
-        (W.contents (device_of out.old)) (W.contents (device_of out.new)) result }
-    ensures failed { OutputFailsAsTold out.old out.new result }
+    ensures { OutputGets (WritesMatch show_log (Ok papers.now)) W.contents out.old out.new result }
 {
     if show_log {
         log_papers(alloc, papers, out)
@@ -43,10 +41,9 @@ fn match_texts<W: Write>(
     show_log: bool,
     out: &mut Watched<W>,
 ) -> Result<FlatPapers, RunFault>
-    ensures bytes { WritesMatch show_log (opening_in seed.now (texts_of texts))
-        (W.contents (device_of out.old)) (W.contents (device_of out.new)) result }
+    ensures bytes { OutputGets (WritesMatch show_log (opening_in seed.now (texts_of texts)))
+        W.contents out.old out.new result }
     ensures papers { IfOk result (λ papers. opening_in seed.now (texts_of texts) ≡ Ok papers) }
-    ensures failed { OutputFailsAsTold out.old out.new result }
 {
     let papers = match read_owned(alloc, seed, texts) {
         Ok(papers) => papers,

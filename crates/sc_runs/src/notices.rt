@@ -9,7 +9,7 @@ ghost use Rattle.sc_runs.specs.Failing.{OutputFailsAsTold};
 ghost use Rattle.sc_runs.specs.Inputs.{opening_turns};
 ghost use Rattle.sc_runs.specs.Notices.{is_known, notice_text, Notice, TellsStanding, WritesNotice};
 ghost use Rattle.sc_runs.specs.Standing.{journal_turns, AllTakeWithin, TellsFiles};
-ghost use Rattle.sc_runs.specs.Steps.{papers_held};
+ghost use Rattle.sc_runs.specs.Steps.{papers_held, OutputGets};
 
 use crate::fault::RunFault;
 use crate::inputs::{Opening, OpeningSlices, read_opening_and};
@@ -56,11 +56,9 @@ fn write_notice<S: Subject, W: Write>(
     out: &mut Watched<W>,
 ) -> Result<Told<S>, RunFault>
     // Of whichever papers and matching it is.
-    ensures bytes { (asked : Option S) (m : Market) (a : Matching) → is_known S.notice asked m ≡ true
-        → text.now ≡ notice_text S.notice asked m a
-        → WritesNotice S.notice asked m a tail
-        (W.contents (device_of out.old)) (W.contents (device_of out.new)) result }
-    ensures failed { OutputFailsAsTold out.old out.new result }
+    ensures { OutputGets (λ old new result. (asked : Option S) (m : Market) (a : Matching)
+        → is_known S.notice asked m ≡ true → text.now ≡ notice_text S.notice asked m a
+        → WritesNotice S.notice asked m a tail old new result) W.contents out.old out.new result }
 {
     match write_text(text, out) {
         Ok(()) => Ok(Told::Written { tail }),
@@ -75,9 +73,8 @@ fn notice_all<S: Subject, W: Write>(
     tail: Tail,
     out: &mut Watched<W>,
 ) -> Result<Told<S>, RunFault>
-    ensures bytes { WritesNotice S.notice None clearing.now.standing.papers (matching_of clearing.now.standing) tail
-        (W.contents (device_of out.old)) (W.contents (device_of out.new)) result }
-    ensures failed { OutputFailsAsTold out.old out.new result }
+    ensures { OutputGets (WritesNotice S.notice None clearing.now.standing.papers
+        (matching_of clearing.now.standing) tail) W.contents out.old out.new result }
 {
     match S::told_of_all(alloc, clearing) {
         Ok(text) => write_notice(text.as_slice(), tail, out),
@@ -93,10 +90,8 @@ fn notice_one<S: Subject, W: Write>(
     tail: Tail,
     out: &mut Watched<W>,
 ) -> Result<Told<S>, RunFault>
-    ensures bytes { WritesNotice S.notice (Some subject) clearing.now.standing.papers
-        (matching_of clearing.now.standing) tail
-        (W.contents (device_of out.old)) (W.contents (device_of out.new)) result }
-    ensures failed { OutputFailsAsTold out.old out.new result }
+    ensures { OutputGets (WritesNotice S.notice (Some subject) clearing.now.standing.papers
+        (matching_of clearing.now.standing) tail) W.contents out.old out.new result }
 {
     match subject.told_of(alloc, clearing) {
         Ok(Some(text)) => write_notice(text.as_slice(), tail, out),
@@ -113,9 +108,8 @@ fn notice_standing<S: Subject, W: Write>(
     tail: Tail,
     out: &mut Watched<W>,
 ) -> Result<Told<S>, RunFault>
-    ensures bytes { WritesNotice S.notice asked clearing.now.standing.papers (matching_of clearing.now.standing) tail
-        (W.contents (device_of out.old)) (W.contents (device_of out.new)) result }
-    ensures failed { OutputFailsAsTold out.old out.new result }
+    ensures { OutputGets (WritesNotice S.notice asked clearing.now.standing.papers
+        (matching_of clearing.now.standing) tail) W.contents out.old out.new result }
 {
     match asked {
         Some(subject) => notice_one(alloc, clearing, subject, tail, out),
@@ -132,10 +126,8 @@ fn notice_texts<S: Subject, W: Write>(
     asked: Option<S>,
     out: &mut Watched<W>,
 ) -> Result<Told<S>, RunFault>
-    ensures told { TellsStanding S.notice asked
-        (papers_held seed.now texts.entry) journal.now
-        (W.contents (device_of out.old)) (W.contents (device_of out.new)) result }
-    ensures failed { OutputFailsAsTold out.old out.new result }
+    ensures { OutputGets (TellsStanding S.notice asked (papers_held seed.now texts.entry) journal.now)
+        W.contents out.old out.new result }
 {
     match clearing_after(alloc, seed, texts, journal) {
         Ok((clearing, tail)) => {

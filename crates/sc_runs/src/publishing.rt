@@ -14,7 +14,7 @@ ghost use Rattle.sc_runs.specs.Failing.{OutputFailsAsTold};
 ghost use Rattle.sc_runs.specs.Inputs.{turn_of, turns_with, TakesWithin};
 ghost use Rattle.sc_runs.specs.Opening.{opening_in, WritesText};
 ghost use Rattle.sc_runs.specs.Publishing.{finding_text, AuditsReport, EndsComparing, EndsFinding, IsCompared, IsFinding, WritesFinding};
-ghost use Rattle.sc_runs.specs.Steps.{finding_of, texts_of};
+ghost use Rattle.sc_runs.specs.Steps.{finding_of, texts_of, OutputGets};
 ghost use Rattle.sc_tallies.specs.Places.{ArePlaces};
 
 use crate::auditing::read_entries;
@@ -76,9 +76,7 @@ fn write_finding<W: Write>(
     finding: &Finding,
     out: &mut Watched<W>,
 ) -> Result<(), RunFault>
-    ensures bytes { WritesText (λ text. text ≡ finding_text finding.now)
-        (W.contents (device_of out.old)) (W.contents (device_of out.new)) result }
-    ensures failed { OutputFailsAsTold out.old out.new result }
+    ensures { OutputGets (WritesText (λ text. text ≡ finding_text finding.now)) W.contents out.old out.new result }
 {
     match finding_line(alloc, finding) {
         Ok(line) => write_text(line.as_slice(), out),
@@ -179,10 +177,8 @@ fn audit_papers<R: Read, W: Write>(
     report: &mut Watched<R>,
     out: &mut Watched<W>,
 ) -> Result<Finding, RunFault>
-    ensures finding { WritesFinding (claimed_in (Ok papers.now) (log_in log.now))
-        (turn_of R.remaining input.Report report.old report.new)
-        (W.contents (device_of out.old)) (W.contents (device_of out.new)) result }
-    ensures failed { OutputFailsAsTold out.old out.new result }
+    ensures { OutputGets (WritesFinding (claimed_in (Ok papers.now) (log_in log.now))
+        (turn_of R.remaining input.Report report.old report.new)) W.contents out.old out.new result }
 {
     let entries = match read_entries(alloc, log) {
         Ok(entries) => entries,
@@ -207,10 +203,8 @@ fn audit_texts<R: Read, W: Write>(
     report: &mut Watched<R>,
     out: &mut Watched<W>,
 ) -> Result<Finding, RunFault>
-    ensures finding { WritesFinding (claimed_in (opening_in seed.now (texts_of texts)) (log_in log.now))
-        (turn_of R.remaining input.Report report.old report.new)
-        (W.contents (device_of out.old)) (W.contents (device_of out.new)) result }
-    ensures failed { OutputFailsAsTold out.old out.new result }
+    ensures { OutputGets (WritesFinding (claimed_in (opening_in seed.now (texts_of texts)) (log_in log.now))
+        (turn_of R.remaining input.Report report.old report.new)) W.contents out.old out.new result }
 {
     match read_owned(alloc, seed, texts) {
         Ok(papers) => {

@@ -7,7 +7,7 @@ ghost use Rattle.sc_runs.specs.Failing.{OutputFailsAsTold};
 ghost use Rattle.sc_runs.specs.Inputs.{turns_with, TakesWithin};
 ghost use Rattle.sc_runs.specs.Opening.{opening_in};
 ghost use Rattle.sc_runs.specs.Replaying.{ReplaysFiles, WritesReplay};
-ghost use Rattle.sc_runs.specs.Steps.{texts_of, WritesReplayed};
+ghost use Rattle.sc_runs.specs.Steps.{texts_of, OutputGets, WritesReplayed};
 
 use crate::fault::RunFault;
 use crate::inputs::{Opening, OpeningTexts, read_inputs};
@@ -38,9 +38,7 @@ fn report_amended<W: Write>(
     tail: Tail,
     out: &mut Watched<W>,
 ) -> Result<Replayed, RunFault>
-    ensures bytes { WritesReplayed amended.papers tail
-        (W.contents (device_of out.old)) (W.contents (device_of out.new)) result }
-    ensures failed { OutputFailsAsTold out.old out.new result }
+    ensures { OutputGets (WritesReplayed amended.papers tail) W.contents out.old out.new result }
 {
     let papers = amended.into_reordered();
     // This call tells that the papers are well-formed.
@@ -61,9 +59,7 @@ fn report_replayed<W: Write>(
     journal: &[u8],
     out: &mut Watched<W>,
 ) -> Result<Replayed, RunFault>
-    ensures report { WritesReplay (Ok papers) journal.now
-        (W.contents (device_of out.old)) (W.contents (device_of out.new)) result }
-    ensures failed { OutputFailsAsTold out.old out.new result }
+    ensures { OutputGets (WritesReplay (Ok papers) journal.now) W.contents out.old out.new result }
 {
     match replay_papers(alloc, papers, journal) {
         Ok((amended, tail)) => report_amended(alloc, amended, tail, out),
@@ -79,9 +75,8 @@ fn replay_texts<W: Write>(
     journal: &[u8],
     out: &mut Watched<W>,
 ) -> Result<Replayed, RunFault>
-    ensures report { WritesReplay (opening_in seed.now (texts_of texts)) journal.now
-        (W.contents (device_of out.old)) (W.contents (device_of out.new)) result }
-    ensures failed { OutputFailsAsTold out.old out.new result }
+    ensures { OutputGets (WritesReplay (opening_in seed.now (texts_of texts)) journal.now)
+        W.contents out.old out.new result }
 {
     match read_kept(alloc, seed, texts) {
         Ok(papers) => report_replayed(alloc, papers, journal, out),

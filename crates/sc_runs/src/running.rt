@@ -12,7 +12,7 @@ ghost use Rattle.sc_report.specs.Text.{report_text};
 ghost use Rattle.sc_report.specs.Watched.{device_of, has_failed};
 ghost use Rattle.sc_runs.specs.Failing.{JournalFailsAsTold, OutputFailsAsTold};
 ghost use Rattle.sc_runs.specs.Inputs.{turns_with, TakesWithin};
-ghost use Rattle.sc_runs.specs.Steps.{IsOpeningFault, IsReadingOf, WritesLastReport, WritesSession};
+ghost use Rattle.sc_runs.specs.Steps.{IsOpeningFault, IsReadingOf, WritersGet, WritesLastReport, WritesSession};
 ghost use Rattle.sc_runs.specs.TwoWriters.{to_output};
 ghost use Rattle.sc_runs.specs.Run.{opened_in, RunsFiles, Writes, WritesRun};
 
@@ -47,12 +47,9 @@ fn finish<W: Write, J: Recorder>(
     out: &mut Watched<W>,
     journal: &mut J,
 ) -> Result<(), RunFault>
-    ensures writes { Writes
-        (to_output (report_text clearing.now.standing.papers (matching_of clearing.now.standing)) ∷ [])
-        (record { journal = J.contents journal.old; output = W.contents (device_of out.old) })
-        (record { journal = J.contents journal.new; output = W.contents (device_of out.new) }) result }
-    ensures failed { OutputFailsAsTold out.old out.new result }
-    ensures journal_failed { JournalFailsAsTold (J.has_failed journal.old) (J.has_failed journal.new) result }
+    ensures { WritersGet (Writes
+        (to_output (report_text clearing.now.standing.papers (matching_of clearing.now.standing)) ∷ []))
+        J.contents J.has_failed journal.old journal.new W.contents out.old out.new result }
 {
     if let Err(fault) = write_standing_report(alloc, clearing, out) {
         return Err(fault);
@@ -72,11 +69,8 @@ fn settle_and_finish<A: Amendable, W: Write, J: Recorder>(
     journal: &mut J,
 ) -> Result<(), RunFault>
     requires well_formed { WellFormed (A.stands amended).papers }
-    ensures writes { WritesLastReport (A.stands amended).papers
-        (record { journal = J.contents journal.old; output = W.contents (device_of out.old) })
-        (record { journal = J.contents journal.new; output = W.contents (device_of out.new) }) result }
-    ensures failed { OutputFailsAsTold out.old out.new result }
-    ensures journal_failed { JournalFailsAsTold (J.has_failed journal.old) (J.has_failed journal.new) result }
+    ensures { WritersGet (WritesLastReport (A.stands amended).papers)
+        J.contents J.has_failed journal.old journal.new W.contents out.old out.new result }
 {
     match amended.settle(alloc) {
         Ok(clearing) => {
@@ -98,11 +92,8 @@ fn run_records<A: Amendable + Drop, W: Write, J: Recorder>(
 ) -> Result<(), RunFault>
     requires well_formed { WellFormed (A.stands amended).papers }
     requires bounded { length records ≤ MOST_BYTES + 1 }
-    ensures writes { WritesSession (A.stands amended) records.entry
-        (record { journal = J.contents journal.old; output = W.contents (device_of out.old) })
-        (record { journal = J.contents journal.new; output = W.contents (device_of out.new) }) result }
-    ensures failed { OutputFailsAsTold out.old out.new result }
-    ensures journal_failed { JournalFailsAsTold (J.has_failed journal.old) (J.has_failed journal.new) result }
+    ensures { WritersGet (WritesSession (A.stands amended) records.entry)
+        J.contents J.has_failed journal.old journal.new W.contents out.old out.new result }
 {
     let mut session = Session::new(amended);
     match session.answer_all(alloc, &mut records, out, journal) {
@@ -120,11 +111,8 @@ fn run_papers<A: Amendable + Drop, W: Write, J: Recorder>(
     out: &mut Watched<W>,
     journal: &mut J,
 ) -> Result<(), RunFault>
-    ensures writes { WritesRun (opened_in (Ok papers) (script_in script.now))
-        (record { journal = J.contents journal.old; output = W.contents (device_of out.old) })
-        (record { journal = J.contents journal.new; output = W.contents (device_of out.new) }) result }
-    ensures failed { OutputFailsAsTold out.old out.new result }
-    ensures journal_failed { JournalFailsAsTold (J.has_failed journal.old) (J.has_failed journal.new) result }
+    ensures { WritersGet (WritesRun (opened_in (Ok papers) (script_in script.now)))
+        J.contents J.has_failed journal.old journal.new W.contents out.old out.new result }
 {
     let amended = match A::open(alloc, papers) {
         Ok(amended) => amended,

@@ -1,14 +1,16 @@
 //! A script's records answered, one after the other.
 
-ghost use Rattle.std.specs.Prelude.{◌≡◌, ℕ, ◌+◌, ◌<◌, ◌≤◌, List, length, ◌∷◌, [], Option, None, Ok, false, IfOk, OnOk};
+ghost use Rattle.std.specs.Prelude.{◌≡◌, ◌+◌, ◌<◌, ◌≤◌, length, ◌∷◌, [], None, Ok, IfOk, OnOk};
 ghost use Rattle.sc_intake.specs.declared.input.TheConstants.{MOST_BYTES};
 ghost use Rattle.sc_papers.specs.declared.stamp.TheConstants.Stamp.{GREATEST};
 ghost use Rattle.sc_stamps.specs.Verdict.{stamped_verdict};
 ghost use Rattle.sc_report.specs.Reply.{reply_text};
 ghost use Rattle.sc_report.specs.Watched.{device_of};
-ghost use Rattle.sc_runs.specs.Failing.{is_journal_fault, JournalFailsAsTold, OutputFailsAsTold};
+ghost use Rattle.sc_runs.specs.Failing.{JournalFailsAsTold, OutputFailsAsTold};
+ghost use Rattle.sc_runs.specs.Opening.{WritesText};
 ghost use Rattle.sc_runs.specs.TwoWriters.{to_journal, to_output};
 ghost use Rattle.sc_runs.specs.Run.{after_record, after_script, answer_to, answers, next_line, Writes};
+ghost use Rattle.sc_runs.specs.Steps.{OutputGets, WritersGet};
 
 use crate::amendable::Amendable;
 use crate::fault::RunFault;
@@ -51,11 +53,7 @@ fn write_reply<W: Write>(
     reply: &Result<(), Refusal>,
     out: &mut Watched<W>,
 ) -> Result<(), RunFault>
-    ensures writes { (kept : Option (List ℕ)) → Writes (to_output (reply_text number reply.now) ∷ [])
-        (record { journal = kept; output = W.contents (device_of out.old) })
-        (record { journal = kept; output = W.contents (device_of out.new) }) result }
-    ensures failed { OutputFailsAsTold out.old out.new result }
-    ensures kept { is_journal_fault result ≡ false }
+    ensures { OutputGets (WritesText (λ text. text ≡ reply_text number reply.now)) W.contents out.old out.new result }
 {
     match reply_line(alloc, number, reply) {
         Ok(line) => write_line(line.as_slice(), out),
@@ -71,11 +69,8 @@ fn write_accepted<W: Write, J: Recorder>(
     out: &mut Watched<W>,
     journal: &mut J,
 ) -> Result<(), RunFault>
-    ensures writes { Writes (to_journal line.now ∷ to_output (reply_text number (Ok tt)) ∷ [])
-        (record { journal = J.contents journal.old; output = W.contents (device_of out.old) })
-        (record { journal = J.contents journal.new; output = W.contents (device_of out.new) }) result }
-    ensures failed { OutputFailsAsTold out.old out.new result }
-    ensures journal_failed { JournalFailsAsTold (J.has_failed journal.old) (J.has_failed journal.new) result }
+    ensures { WritersGet (Writes (to_journal line.now ∷ to_output (reply_text number (Ok tt)) ∷ []))
+        J.contents J.has_failed journal.old journal.new W.contents out.old out.new result }
 {
     match journal.write_line(line) {
         Ok(()) => write_reply(alloc, number, &Ok(()), out),
@@ -107,11 +102,8 @@ impl<A: Amendable> Session<A> {
         ensures records { OnOk result (self.new.records ≡ self.old.records) }
         ensures papers { OnOk result (A.stands self.new.amended
             ≡ after_record (A.stands self.old.amended) (Ok stamped)) }
-        ensures writes { Writes (answer_to self.old.records (A.stands self.old.amended) (Ok stamped))
-            (record { journal = J.contents journal.old; output = W.contents (device_of out.old) })
-            (record { journal = J.contents journal.new; output = W.contents (device_of out.new) }) result }
-        ensures failed { OutputFailsAsTold out.old out.new result }
-        ensures journal_failed { JournalFailsAsTold (J.has_failed journal.old) (J.has_failed journal.new) result }
+        ensures writes { WritersGet (Writes (answer_to self.old.records (A.stands self.old.amended) (Ok stamped)))
+            J.contents J.has_failed journal.old journal.new W.contents out.old out.new result }
     {
         let line = match next_line(alloc, &self.amended, &stamped.amendment) {
             Ok(line) => line,
@@ -134,11 +126,8 @@ impl<A: Amendable> Session<A> {
         ensures records { OnOk result (self.new.records ≡ self.old.records) }
         ensures papers { OnOk result (A.stands self.new.amended
             ≡ after_record (A.stands self.old.amended) (Ok stamped)) }
-        ensures writes { Writes (answer_to self.old.records (A.stands self.old.amended) (Ok stamped))
-            (record { journal = J.contents journal.old; output = W.contents (device_of out.old) })
-            (record { journal = J.contents journal.new; output = W.contents (device_of out.new) }) result }
-        ensures failed { OutputFailsAsTold out.old out.new result }
-        ensures journal_failed { JournalFailsAsTold (J.has_failed journal.old) (J.has_failed journal.new) result }
+        ensures writes { WritersGet (Writes (answer_to self.old.records (A.stands self.old.amended) (Ok stamped)))
+            J.contents J.has_failed journal.old journal.new W.contents out.old out.new result }
     {
         match self.amended.check(&stamped) {
             Ok(()) => self.accept(alloc, stamped, out, journal),
@@ -157,11 +146,8 @@ impl<A: Amendable> Session<A> {
     ) -> Result<(), RunFault>
         ensures records { OnOk result (self.new.records ≡ self.old.records) }
         ensures papers { OnOk result (A.stands self.new.amended ≡ after_record (A.stands self.old.amended) entry) }
-        ensures writes { Writes (answer_to self.old.records (A.stands self.old.amended) entry)
-            (record { journal = J.contents journal.old; output = W.contents (device_of out.old) })
-            (record { journal = J.contents journal.new; output = W.contents (device_of out.new) }) result }
-        ensures failed { OutputFailsAsTold out.old out.new result }
-        ensures journal_failed { JournalFailsAsTold (J.has_failed journal.old) (J.has_failed journal.new) result }
+        ensures writes { WritersGet (Writes (answer_to self.old.records (A.stands self.old.amended) entry))
+            J.contents J.has_failed journal.old journal.new W.contents out.old out.new result }
     {
         match entry {
             Ok(stamped) => self.answer_amendment(alloc, stamped, out, journal),

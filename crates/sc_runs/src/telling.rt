@@ -7,7 +7,7 @@ ghost use Rattle.sc_runs.specs.Failing.{OutputFailsAsTold};
 ghost use Rattle.sc_runs.specs.Inputs.{opening_turns};
 ghost use Rattle.sc_runs.specs.Opening.{WritesText};
 ghost use Rattle.sc_runs.specs.Standing.{journal_turns, AllTakeWithin, IsSummary, IsTable, TellsFiles, WritesOfStanding};
-ghost use Rattle.sc_runs.specs.Steps.{papers_held, standing_text, IsStandingText};
+ghost use Rattle.sc_runs.specs.Steps.{papers_held, standing_text, IsStandingText, OutputGets};
 
 use crate::fault::RunFault;
 use crate::inputs::{Opening, OpeningSlices, read_opening_and};
@@ -51,10 +51,9 @@ fn write_standing_text<W: Write>(
     which: StandingText,
     out: &mut Watched<W>,
 ) -> Result<(), RunFault>
-    ensures bytes { WritesText
-        (λ text. text ≡ standing_text which clearing.now.standing.papers (matching_of clearing.now.standing))
-        (W.contents (device_of out.old)) (W.contents (device_of out.new)) result }
-    ensures failed { OutputFailsAsTold out.old out.new result }
+    ensures { OutputGets (WritesText
+        (λ text. text ≡ standing_text which clearing.now.standing.papers (matching_of clearing.now.standing)))
+        W.contents out.old out.new result }
 {
     match standing_text(alloc, clearing, which) {
         Ok(text) => write_text(text.as_slice(), out),
@@ -71,10 +70,8 @@ fn tell_texts<W: Write>(
     which: StandingText,
     out: &mut Watched<W>,
 ) -> Result<Tail, RunFault>
-    ensures told { WritesOfStanding (IsStandingText which)
-        (papers_held seed.now texts.entry) journal.now
-        (W.contents (device_of out.old)) (W.contents (device_of out.new)) result }
-    ensures failed { OutputFailsAsTold out.old out.new result }
+    ensures { OutputGets (WritesOfStanding (IsStandingText which) (papers_held seed.now texts.entry) journal.now)
+        W.contents out.old out.new result }
 {
     match clearing_after(alloc, seed, texts, journal) {
         Ok((clearing, tail)) => {

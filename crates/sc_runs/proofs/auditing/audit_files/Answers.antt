@@ -13,4 +13,4 @@ returns-clause-verdict g c =
     c.as_slice.result.now
     (g.W.Write.contents (device_of c.args.out.now)) (g.W.Write.contents (device_of c.audit_texts.new.out)) c.audit_texts.result
     c.in-Ok.ensures.read
-    c.as_slice.ensures.value c.audit_texts.ensures.verdict
+    c.as_slice.ensures.value c.audit_texts.ensures.bytes

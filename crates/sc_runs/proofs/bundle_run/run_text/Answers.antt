@@ -73,5 +73,5 @@ returns-clause-ending g c =
       split = ap bundle_of (sym c.as_slice.ensures.value) ∙ sym c.in-Some.ensures;
       seeded = sym c.in-Ok.ensures;
       written = subst (λ (script : Option (List ℕ)). WritesWith script (papers_in c.in-Ok.seed sections.schools sections.roster sections.lists) old new c.report_read.result) (sym script)
-          (c.report_read.ensures.bytes _ (rw (← texts.schools) (rw (← texts.roster) (rw (← texts.lists) (is-reading _ c.read_flat-read.result c.read_flat-read.ensures)))));
+          (c.report_read.ensures.report.bytes _ (rw (← texts.schools) (rw (← texts.roster) (rw (← texts.lists) (is-reading _ c.read_flat-read.result c.read_flat-read.ensures)))));
     }))

@@ -13,4 +13,4 @@ returns-clause-change g c =
     c.as_slices.result.schools.now c.as_slices.result.roster.now c.as_slices.result.lists.now c.as_slice.result.now
     (g.W.Write.contents (device_of c.args.out.now)) (g.W.Write.contents (device_of c.change_texts.new.out)) c.change_texts.result
     c.in-Ok.ensures.read (record { schools_same = c.as_slices.ensures.schools; roster_same = c.as_slices.ensures.roster; lists_same = c.as_slices.ensures.lists })
-    c.as_slice.ensures.value c.change_texts.ensures.change
+    c.as_slice.ensures.value c.change_texts.ensures.bytes

@@ -21,6 +21,6 @@ returns-clause-checked g c =
     (opening_turns g.R.Read.remaining c.args.opening.now c.read_opening_and.new.opening) (turns_if_any g.R.Read.remaining input.Script c.args.script.now c.read_opening_and.new.last)
     (texts_of c.in-Ok.texts.opening) c.in-Ok.texts.last.items
     c.as_slices.result.schools.now c.as_slices.result.roster.now c.as_slices.result.lists.now c.as_slice.result.now
-    (g.W.Write.contents (device_of c.args.out.now)) (g.W.Write.contents (device_of c.check_named.new.out)) c.check_named.result
+    (g.W.Write.contents (device_of c.args.out.now)) (g.W.Write.contents (device_of c.check_texts.new.out)) c.check_texts.result
     c.in-Ok.ensures.read c.in-Ok.ensures.last (record { schools_same = c.as_slices.ensures.schools; roster_same = c.as_slices.ensures.roster; lists_same = c.as_slices.ensures.lists })
-    c.as_slice.ensures.value c.check_named.ensures.bytes
+    c.as_slice.ensures.value c.check_texts.ensures.bytes

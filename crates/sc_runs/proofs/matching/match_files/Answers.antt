@@ -9,7 +9,7 @@ pub returns-clause-bytes : goal.returns-clause-bytes
 returns-clause-bytes g c =
     MatchesFiles-read c.args.seed.now c.args.show_log (opening_turns g.R.Read.remaining c.args.opening.now c.read_opening.new.opening) (texts_of c.in-Ok.texts)
     (g.W.Write.contents (device_of c.args.out.now)) (g.W.Write.contents (device_of c.match_texts.new.out)) c.match_texts.result
-    c.in-Ok.ensures.read c.match_texts.ensures.bytes
+    c.in-Ok.ensures.read c.match_texts.ensures.bytes.bytes
 
 pub returns-clause-papers : goal.returns-clause-papers
 returns-clause-papers g c =

@@ -13,4 +13,4 @@ returns-clause-report g c =
     c.as_slice.result.now
     (g.W.Write.contents (device_of c.args.out.now)) (g.W.Write.contents (device_of c.replay_texts.new.out)) c.replay_texts.result
     c.in-Ok.ensures.read
-    c.as_slice.ensures.value c.replay_texts.ensures.report
+    c.as_slice.ensures.value c.replay_texts.ensures.bytes

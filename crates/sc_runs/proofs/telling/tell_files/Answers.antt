@@ -21,4 +21,4 @@ returns-clause-told g c =
     c.as_slices.result.schools.now c.as_slices.result.roster.now c.as_slices.result.lists.now c.as_slice.result.now
     (g.W.Write.contents (device_of c.args.out.now)) (g.W.Write.contents (device_of c.tell_texts.new.out)) c.tell_texts.result
     c.in-Ok.ensures.read c.in-Ok.ensures.last (record { schools_same = c.as_slices.ensures.schools; roster_same = c.as_slices.ensures.roster; lists_same = c.as_slices.ensures.lists })
-    c.as_slice.ensures.value c.tell_texts.ensures.told
+    c.as_slice.ensures.value c.tell_texts.ensures.bytes
