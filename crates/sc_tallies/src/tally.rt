@@ -1,7 +1,7 @@
 ghost use Rattle.std.specs.Prelude.{◌≡◌, ℕ, ◌+◌, ◌<◌, ◌≤◌, length, replicate, get_or, set, slice_get, take, All, Some, IfOk, IfSome, OnOk};
 ghost use Rattle.sc_papers.specs.Market.{students_of};
 ghost use Rattle.sc_papers.specs.Matching.{Matching};
-ghost use Rattle.sc_papers.specs.WellFormed.{WellFormed, WithinLimits};
+ghost use Rattle.sc_papers.specs.WellFormed.{WellFormed};
 ghost use Rattle.sc_tallies.specs.LastKey.{or_later};
 ghost use Rattle.sc_tallies.specs.Places.{ArePlaces};
 ghost use Rattle.sc_tallies.specs.Tally.{held_at, no_tally, with_key, AreTallies, AreTalliesAmong};
@@ -71,8 +71,6 @@ fn count_student(
     place: Option<SchoolNo>,
 )
     requires within { position < length papers.now.students }
-    requires well_formed { WellFormed papers.now }
-    requires within_limits { WithinLimits papers.now }
     requires schools { length tallies.old ≡ length papers.now.schools }
     requires few { All (λ t. t.held ≤ position) tallies.old }
     ensures schools { length tallies.new ≡ length papers.now.schools }
@@ -81,6 +79,8 @@ fn count_student(
         → a student ≡ place → AreTalliesAmong papers.now a (take position (students_of papers.now)) tallies.old
         → AreTalliesAmong papers.now a (take (position + 1) (students_of papers.now)) tallies.new }
 {
+    // This call tells that the papers are well-formed and within their limits.
+    prove!(position < papers.students_len());
     if let Some((at, key)) = held_at(papers, position, place) {
         count_at(tallies, at, key, position);
     }
@@ -103,8 +103,6 @@ fn no_tallies(alloc: Global, count: usize) -> Result<Vec<Tally>, AllocError>
 /// Counts the students, who have these schools in order of entry, where nobody is counted yet.
 fn count_students(tallies: &mut [Tally], papers: &FlatPapers, places: &[Option<SchoolNo>])
     requires places { length places.now ≡ length papers.now.students }
-    requires well_formed { WellFormed papers.now }
-    requires within_limits { WithinLimits papers.now }
     requires nobody { tallies.old ≡ replicate (length papers.now.schools) no_tally }
     ensures schools { length tallies.new ≡ length papers.now.schools }
     ensures tallies { (a : Matching) → ArePlaces papers.now a places.now → AreTallies papers.now a tallies.new }

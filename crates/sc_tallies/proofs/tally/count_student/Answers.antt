@@ -14,7 +14,7 @@ returns-in-Some-clause-counted c a i here has before =
     let there = sym (c.in-Some.ensures.found a i here has) in
     let t = tally m a first (get_or (schools_of m) at 0) in
     let is : get_or (map (tally m a first) (schools_of m)) at t ≡ t = get_or-map (tally m a first) (schools_of m) at 0 t (at-within m a i at key there) in
-    let step = tallies-set m a first i at key t c.requires.well_formed.schools_differ there (sym is) in
+    let step = tallies-set m a first i at key t c.students_len.ensures.well_formed.schools_differ there (sym is) in
     c.count_at.ensures t ∙ (λ u. set (before u) at (with_key (get_or (before u) at t) key)) ∙ ap (λ old. set (map (tally m a first) (schools_of m)) at (with_key old key)) is
     ∙ sym step ∙ ap (λ students. map (tally m a students) (schools_of m)) (sym (take-one (students_of m) c.args.position i here))
 
