@@ -1,5 +1,5 @@
 -- Who blocks a matching, by who has each school.
-use Rattle.std.proofs.Common.{◌≡◌, ◌⊎◌, inl, inr, refl, ap, sym, subst, ◌∙◌, ℕ, ◌+◌, ◌<◌, ◌≤◌, Bool, true, false, cond, List, length, Option, Some, None, Contains, IfSome, slice_get, arith}
+use Rattle.std.proofs.Common.{◌≡◌, ◌⊎◌, inl, inr, refl, ap, sym, subst, ◌∙◌, ℕ, ◌+◌, ◌<◌, ◌≤◌, true, false, List, length, Option, Some, None, Contains, IfSome, slice_get, arith}
 use Rattle.std.specs.Prelude.{nat_lt, IfNone}
 use Rattle.std.specs.Option.{option_map_or}
 use Rattle.std.proofs.lemmas.Bool.{cases_Bool, cases_lt, cases_order, cond-true, cond-false, or_cases, or_left, or_right, lt-ltb, ltb-true, ltb-false, false≢true}
@@ -17,7 +17,7 @@ use Rattle.sc_papers.proofs.Students.{choices-differ, lister-among}
 use Rattle.sc_audit.specs.Stability.{IsEarliestBlock, IsFirstBlock}
 use Rattle.sc_tallies.specs.LastKey.{keys_among, last_key}
 use Rattle.sc_tallies.proofs.LastKeys.{key-among, keyed, last-after, last-among, last-contained}
-use Rattle.sc_audit.specs.Tallies.{would_take, end_at, earlier_of}
+use Rattle.sc_audit.specs.Tallies.{would_take, earlier_of}
 
 -- a school has a free seat, or a student is ahead there of one who has it
 abbrev Better : Market → Matching → ℕ → ℕ → Type 0
@@ -38,43 +38,22 @@ preferred-listed m a i s blocks = go (a i) blocks.preferred
     go None listed = listed
     go (Some t) (j, k, low, at_j, at_k) = contains-at (choices_of m i) j s at_j
 
--- nothing ends at a rank
-ends-none : (b c : Bool) (s : ℕ) → cond b (Some None) (cond c (Some (Some s)) None) ≡ None → (b ≡ false) × (c ≡ false)
-ends-none true c s none = absurd (none-some None (sym none))
-ends-none false true s none = absurd (none-some (Some s) (sym none))
-ends-none false false s none = (refl, refl)
+-- a student doesn't have s, and would not be taken there
+abbrev Passes : Market → Matching → ℕ → ℕ → Type 0
+Passes m a i s = (has a s i ≡ false) × (would_take m a i s ≡ false)
 
-ends-some : (b c : Bool) (s t : ℕ) → cond b (Some None) (cond c (Some (Some s)) None) ≡ Some (Some t) → (b ≡ false) × (c ≡ true) × (s ≡ t)
-ends-some true c s t is = absurd (none-some t (inner None (Some t) is))
-  where
-    inner : (x y : Option ℕ) → Some x ≡ Some y → x ≡ y
-    inner x y same = ap (λ o. option_map_or (λ (z : Option ℕ). z) o x) same
-ends-some false true s t is = (refl, refl, same_Some s t (inner (Some s) (Some t) is))
-  where
-    inner : (x y : Option ℕ) → Some x ≡ Some y → x ≡ y
-    inner x y same = ap (λ o. option_map_or (λ (z : Option ℕ). z) o x) same
-ends-some false false s t is = absurd (none-some (Some t) is)
-
-ends-given : (b c : Bool) (s : ℕ) → cond b (Some None) (cond c (Some (Some s)) None) ≡ Some None → b ≡ true
-ends-given true c s is = refl
-ends-given false true s is = absurd (none-some s (sym (inner (Some s) None is)))
-  where
-    inner : (x y : Option ℕ) → Some x ≡ Some y → x ≡ y
-    inner x y same = ap (λ o. option_map_or (λ (z : Option ℕ). z) o x) same
-ends-given false false s is = absurd (none-some None is)
-
--- the student's preferred choices don't end before a rank
+-- the student's choices before a rank are passed over
 pub record PassedOver (m : Market) (a : Matching) (i k : ℕ) : Type 0 where
-  pub none : (j t : ℕ) → j < k → slice_get (choices_of m i) j ≡ Some t → end_at m a i t ≡ None
+  pub passed : (j t : ℕ) → j < k → slice_get (choices_of m i) j ≡ Some t → Passes m a i t
 
 pub passed-none : (m : Market) (a : Matching) (i : ℕ) → PassedOver m a i 0
-passed-none m a i = record { none = λ j t low here. absurd (omega (arith, low)) }
+passed-none m a i = record { passed = λ j t low here. absurd (omega (arith, low)) }
 
-pub passed-more : (m : Market) (a : Matching) (i k s : ℕ) → slice_get (choices_of m i) k ≡ Some s → end_at m a i s ≡ None → PassedOver m a i k → PassedOver m a i (k + 1)
-passed-more m a i k s here none before = record {
-  none = λ j t low there. elim (cases_lt j k) [
-    | inl under ↦ before.none j t under there
-    | inr past ↦ ap (end_at m a i) (same_Some t s (sym there ∙ ap (slice_get (choices_of m i)) (omega (arith, low, past)) ∙ here)) ∙ none
+pub passed-more : (m : Market) (a : Matching) (i k s : ℕ) → slice_get (choices_of m i) k ≡ Some s → has a s i ≡ false → would_take m a i s ≡ false → PassedOver m a i k → PassedOver m a i (k + 1)
+passed-more m a i k s here other fails before = record {
+  passed = λ j t low there. elim (cases_lt j k) [
+    | inl under ↦ before.passed j t under there
+    | inr past ↦ subst (Passes m a i) (sym (same_Some t s (sym there ∙ ap (slice_get (choices_of m i)) (omega (arith, low, past)) ∙ here))) (other, fails)
   ];
 }
 
@@ -110,12 +89,11 @@ module _ (m : Market) (a : Matching) (well : WellFormed m) (matching : IsMatchin
   module _ (i k : ℕ) (passed : PassedOver m a i k) where
     -- a choice before the rank doesn't block
     passed-block : (j t : ℕ) → j < k → slice_get (choices_of m i) j ≡ Some t → Blocks m a i t → ⊥
-    passed-block j t low here blocks =
-        better-takes i t (ends-none (has a t i) (would_take m a i t) t (passed.none j t low here)).1 blocks.better
+    passed-block j t low here blocks = better-takes i t (passed.passed j t low here).1 blocks.better
 
     -- and isn't what the student has
     passed-given : (j t : ℕ) → j < k → slice_get (choices_of m i) j ≡ Some t → a i ≡ Some t → ⊥
-    passed-given j t low here given = false≢true (sym (ends-none (has a t i) (would_take m a i t) t (passed.none j t low here)).0 ∙ has-some a t i given)
+    passed-given j t low here given = false≢true (sym (passed.passed j t low here).0 ∙ has-some a t i given)
 
     preferred : (s : ℕ) → slice_get (choices_of m i) k ≡ Some s → has a s i ≡ false → Prefers m i s (a i)
     preferred s here other = go (a i) refl
@@ -130,25 +108,19 @@ module _ (m : Market) (a : Matching) (well : WellFormed m) (matching : IsMatchin
               | inr (inr above) ↦ (k, n, above, here, there)
             ]
 
-    pub end-block : (s : ℕ) (end : Option ℕ) → slice_get (choices_of m i) k ≡ Some s → end_at m a i s ≡ Some end → IfSome end (IsEarliestBlock m a i)
-    end-block s None here is = tt
-    end-block s (Some t) here is =
-        let (other, takes, same) = ends-some (has a s i) (would_take m a i s) s t is in
-        subst (IsEarliestBlock m a i) same (record {
-          blocks = record {
-            preferred = preferred s here other;
-            better = take-better i s takes;
-          };
-          earliest = λ u (j, n, low, at_j, at_n).
-              passed-block j u (omega (arith, low, one-place (choices_of m i) n k s (choices-differ m well i) at_n here)) at_j;
-        })
+    pub taken-block : (s : ℕ) → slice_get (choices_of m i) k ≡ Some s → has a s i ≡ false → would_take m a i s ≡ true → IsEarliestBlock m a i s
+    taken-block s here other takes = record {
+      blocks = record {
+        preferred = preferred s here other;
+        better = take-better i s takes;
+      };
+      earliest = λ u (j, n, low, at_j, at_n).
+          passed-block j u (omega (arith, low, one-place (choices_of m i) n k s (choices-differ m well i) at_n here)) at_j;
+    }
 
-    pub end-none : (s : ℕ) (end : Option ℕ) → slice_get (choices_of m i) k ≡ Some s → end_at m a i s ≡ Some end → IfNone end ((t : ℕ) → Blocks m a i t → ⊥)
-    end-none s (Some t) here is = tt
-    end-none s None here is =
-        let given : a i ≡ Some s = has-true a s i (ends-given (has a s i) (would_take m a i s) s is) in
-        λ t blocks.
-        let (j, n, low, at_j, at_n) = subst (Prefers m i t) given blocks.preferred in
+    pub given-none : (s : ℕ) → slice_get (choices_of m i) k ≡ Some s → has a s i ≡ true → (t : ℕ) → Blocks m a i t → ⊥
+    given-none s here holds t blocks =
+        let (j, n, low, at_j, at_n) = subst (Prefers m i t) (has-true a s i holds) blocks.preferred in
         passed-block j t (omega (arith, low, one-place (choices_of m i) n k s (choices-differ m well i) at_n here)) at_j blocks
 
     pub all-none : length (choices_of m i) ≤ k → (t : ℕ) → Blocks m a i t → ⊥

@@ -1,5 +1,5 @@
 -- What the auditor keeps of students and schools.
-use Rattle.std.specs.Prelude.{◌≡◌, ℕ, ◌≤◌, nat_eq, ◌==◌, Bool, true, false, ◌&&◌, List, [], ◌∷◌, ◌++◌, length, map, Option, None, Some, All, count_by, position, slice_get, slice_index_or, if◌then◌else◌}
+use Rattle.std.specs.Prelude.{◌≡◌, ℕ, ◌<◌, ◌≤◌, nat_eq, ◌==◌, Bool, true, false, ◌&&◌, List, [], ◌∷◌, ◌++◌, length, map, Option, None, Some, All, count_by, position, slice_get, slice_index_or, if◌then◌else◌}
 use Rattle.std.specs.List.{list_all}
 use Rattle.std.specs.Option.{option_and_then, option_map, option_map_or}
 use Rattle.sc_papers.specs.Key.{key_of, is_ahead, is_before}
@@ -81,6 +81,11 @@ pub record Fits (m : Market) (l : AuditView) : Type 0 where
   pub seats : l.seats ≡ map (seats_of m) (schools_of m)
   pub is_kept : ℕ → Bool
   pub each : (s : ℕ) → KeepsBest m (next_of m l.stands) is_kept s (keys_at m l.kept s)
+
+-- the state fits the papers, and a student stands in them at the position
+pub record FitsAt (m : Market) (l : AuditView) (at : ℕ) : Type 0 where
+  pub fits : Fits m l
+  pub within : at < length m.students
 
 -- a student moves to the choice of a rank, and the others stay where they were
 pub record MovesTo (m : Market) (old : AuditView) (i rank : ℕ) (new : AuditView) : Type 0 where

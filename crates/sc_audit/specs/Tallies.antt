@@ -3,7 +3,7 @@ use Rattle.std.specs.Prelude.{ℕ, nat_lt, Bool, false, ◌||◌, Option, None, 
 use Rattle.std.specs.Option.{option_map_or}
 use Rattle.sc_papers.specs.Key.{is_before, key_of}
 use Rattle.sc_papers.specs.Market.{Market, seats_of, students_of}
-use Rattle.sc_papers.specs.Matching.{Matching, has, held}
+use Rattle.sc_papers.specs.Matching.{Matching, held}
 use Rattle.sc_tallies.specs.LastKey.{keys_among, last_key}
 
 -- s, if more students have it than it has seats
@@ -14,10 +14,6 @@ over_at m a s = if nat_lt (seats_of m s) (held m a s) then Some s else None
 abbrev pub would_take : Market → Matching → ℕ → ℕ → Bool
 would_take m a i s =
     nat_lt (held m a s) (seats_of m s) || option_map_or (is_before (key_of m i s)) (last_key (keys_among m a (students_of m) s)) false
-
--- whether a student's preferred choices end at s, and s if the student would be taken
-abbrev pub end_at : Market → Matching → ℕ → ℕ → Option (Option ℕ)
-end_at m a i s = if has a s i then Some None else if would_take m a i s then Some (Some s) else None
 
 -- the block of a student, if it is the first so far by the students' numbers
 abbrev pub earlier_of : Option (ℕ × ℕ) → ℕ → Option ℕ → Option (ℕ × ℕ)

@@ -1,11 +1,13 @@
 //! What the auditor keeps while it reads a log.
 ghost use Rattle.std.specs.Prelude.{◌≡◌, ℕ, ◌<◌, All, List, [], length, map, slice_get, None, Some, IfOk, OnOk, IfSome, IfNone};
+ghost use Rattle.std.specs.Option.{option_map};
 ghost use Rattle.sc_papers.specs.Log.{IsValidLog};
 ghost use Rattle.sc_papers.specs.Market.{schools_of, seats_of, students_of, student_at};
 ghost use Rattle.sc_papers.specs.Matching.{WithinSeats};
 ghost use Rattle.sc_papers.specs.declared.rejection.Rejection.{Rejection as Rejected};
 ghost use Rattle.sc_audit.specs.BestKeys.{BestView};
 ghost use Rattle.sc_audit.specs.Over.{IsFirstOver};
+ghost use Rattle.sc_audit.specs.declared.waiting.Waiting.{Waiting as Waits};
 ghost use Rattle.sc_tallies.specs.Places.{ArePlaces};
 
 use crate::best_keys::BestKeys;
@@ -62,16 +64,23 @@ fn hints_of(alloc: Global, papers: &FlatPapers) -> Result<Hints, AllocError> {
     Ok(hints)
 }
 
+/// The school at which somebody waits, if they do.
+fn school_of(waiting: Option<Waiting>) -> Option<SchoolNo>
+    ensures { result ≡ option_map (λ (w : Waits). w.school) waiting }
+{
+    let waiting = waiting?;
+    Some(waiting.school)
+}
+
 impl AuditState {
     ghost use Rattle.sc_audit.specs.AuditState.{view_of};
-    ghost use Rattle.sc_audit.specs.AuditView.{next_of, waiting_rank, waiting_at, waiting_school, Fits, MovesTo, Follows, Finds};
+    ghost use Rattle.sc_audit.specs.AuditView.{next_of, waiting_rank, waiting_at, Fits, FitsAt, MovesTo, Follows, Finds};
     ghost use Rattle.std.specs.Option.{option_map};
     ghost use Rattle.std.specs.Prelude.{◌≡◌, ℕ, ◌<◌, List, [], length, nat_eq, position, Some, None, IfOk, OnOk, IfSome, IfNone};
 
     /// The student at the position moves to the choice of a rank, if there is one of it.
     fn move_to(&mut self, papers: &FlatPapers, student: usize, rank: u8) -> Result<(), AllocError>
-        requires fits { Fits papers.now (view_of self.old) }
-        requires within { student < length papers.now.students }
+        requires here { FitsAt papers.now (view_of self.old) student }
         requires nowhere { next_of papers.now self.old.stands.items (student_at papers.now student) ≡ None }
         ensures { OnOk result (MovesTo papers.now (view_of self.old) (student_at papers.now student)
             rank (view_of self.new)) }
@@ -153,25 +162,14 @@ impl AuditState {
     {
         let mut least = None;
         for position in 0..papers.students_len() {
-            least = lesser(least, self.waiting_school(papers, position));
+            least = lesser(least, school_of(self.waiting_at(papers, position)));
         }
         least
     }
 
-    /// The school at which the student at the position stands without being kept there.
-    fn waiting_school(&self, papers: &FlatPapers, student: usize) -> Option<SchoolNo>
-        requires fits { Fits papers.now (view_of self.now) }
-        requires within { student < length papers.now.students }
-        ensures { result ≡ waiting_school papers.now (view_of self.now) (student_at papers.now student) }
-    {
-        let waiting = self.waiting_at(papers, student)?;
-        Some(waiting.school)
-    }
-
     /// The school at which the student at the position stands, if they stand anywhere.
     fn school_at(&self, papers: &FlatPapers, student: usize) -> Option<SchoolNo>
-        requires fits { Fits papers.now (view_of self.now) }
-        requires within { student < length papers.now.students }
+        requires { FitsAt papers.now (view_of self.now) student }
         ensures { result ≡ next_of papers.now self.now.stands.items (student_at papers.now student) }
     {
         let rank = self.stands[student]?;
@@ -197,8 +195,7 @@ impl AuditState {
 
     /// Where the student at the position stands without being kept there: all keys that are kept are ahead.
     fn waiting_at(&self, papers: &FlatPapers, student: usize) -> Option<Waiting>
-        requires fits { Fits papers.now (view_of self.now) }
-        requires within { student < length papers.now.students }
+        requires { FitsAt papers.now (view_of self.now) student }
         ensures { result ≡ waiting_at papers.now (view_of self.now) (student_at papers.now student) }
     {
         let rank = self.stands[student]?;

@@ -7,51 +7,17 @@ ghost use Rattle.sc_papers.specs.Matching.{IsMatching, Blocks};
 ghost use Rattle.sc_papers.specs.WellFormed.{WellFormed};
 ghost use Rattle.sc_audit.specs.Stability.{IsEarliestBlock, IsFirstBlock};
 ghost use Rattle.sc_tallies.specs.Tally.{AreTallies};
-ghost use Rattle.sc_audit.specs.Tallies.{earlier_of, end_at};
+ghost use Rattle.sc_audit.specs.Tallies.{earlier_of};
 
 use crate::tallies::would_take;
 use sc_papers::{Assignment, FlatPapers, LONGEST_LIST, SchoolNo, StudentNo};
 use sc_tallies::Tally;
 
 /// Whether what is given is this school.
-fn is_given(given: Option<SchoolNo>, school: SchoolNo) -> bool
-    ensures { result ≡ option_map_or (λ t. t == school) given false }
+fn is_given(given: &Option<SchoolNo>, school: SchoolNo) -> bool
+    ensures { result ≡ option_map_or (λ t. t == school) given.now false }
 {
-    given == Some(school)
-}
-
-/// What the student at the position has.
-fn given_at(papers: &FlatPapers, assignment: &Assignment, position: usize) -> Option<SchoolNo>
-    requires { position < length papers.now.students }
-    ensures { result ≡ assigned assignment.now (student_at papers.now position) }
-{
-    let Some(student) = papers.student_at(position) else {
-        unreachable!()
-    };
-    assignment.get(student)
-}
-
-/// Whether the preferred choices of the student at the position end at this school, and the school if
-/// the student would be taken there.
-fn end_at(
-    tallies: &[Tally],
-    papers: &FlatPapers,
-    assignment: &Assignment,
-    position: usize,
-    school: SchoolNo,
-) -> Option<Option<SchoolNo>>
-    requires within { position < length papers.now.students }
-    requires school { is_school papers.now school ≡ true }
-    requires tallies { AreTallies papers.now (assigned assignment.now) tallies.now }
-    ensures { result ≡ end_at papers.now (assigned assignment.now) (student_at papers.now position) school }
-{
-    if is_given(given_at(papers, assignment, position), school) {
-        return Some(None);
-    }
-    if would_take(tallies, papers, position, school) {
-        return Some(Some(school));
-    }
-    None
+    *given == Some(school)
 }
 
 /// The first of the choices that the student at the position prefers to what they have at which they would
@@ -62,7 +28,6 @@ fn earliest_block(
     assignment: &Assignment,
     position: usize,
 ) -> Option<SchoolNo>
-    requires well_formed { WellFormed papers.now }
     requires within { position < length papers.now.students }
     requires matching { IsMatching papers.now (assigned assignment.now) }
     requires tallies { AreTallies papers.now (assigned assignment.now) tallies.now }
@@ -71,14 +36,21 @@ fn earliest_block(
     ensures none { IfNone result ((s : ℕ) → ¬ Blocks papers.now (assigned assignment.now)
         (student_at papers.now position) s) }
 {
-    // This call tells that the papers are within their limits, and so are their lists.
+    // This call tells that the papers are well-formed and within their limits, and so are their lists.
     prove!(position < papers.students_len());
+    let Some(student) = papers.student_at(position) else {
+        unreachable!()
+    };
+    let given = assignment.get(student);
     for rank in 0..LONGEST_LIST {
         let Some(school) = papers.choice_at(position, rank) else {
             return None;
         };
-        if let Some(end) = end_at(tallies, papers, assignment, position, school) {
-            return end;
+        if is_given(&given, school) {
+            return None;
+        }
+        if would_take(tallies, papers, position, school) {
+            return Some(school);
         }
     }
     None

@@ -1,7 +1,6 @@
 ghost use Rattle.std.specs.Prelude.{IfOk};
 ghost use Rattle.sc_papers.specs.Assignment.{assigned};
 ghost use Rattle.sc_papers.specs.Matching.{IsMatching};
-ghost use Rattle.sc_papers.specs.WellFormed.{WellFormed};
 ghost use Rattle.sc_tallies.specs.Tally.{AreTallies};
 ghost use Rattle.sc_audit.specs.Stability.{IsStability};
 
@@ -9,7 +8,7 @@ use crate::blocks::first_block;
 use crate::membership::is_matching;
 use crate::stability::Stability;
 use crate::tallies::least_over;
-use sc_papers::{Assignment, FlatPapers};
+use sc_papers::{Assignment, FlatPapers, MOST_STUDENTS};
 use sc_tallies::{Tally, places_of, tallies};
 use std::alloc::{AllocError, Global};
 
@@ -37,11 +36,12 @@ pub fn check_stable(
 
 /// What is wrong with a matching, by the tallies of the schools.
 fn judge(tallies: &[Tally], papers: &FlatPapers, assignment: &Assignment) -> Stability
-    requires well_formed { WellFormed papers.now }
     requires matching { IsMatching papers.now (assigned assignment.now) }
     requires tallies { AreTallies papers.now (assigned assignment.now) tallies.now }
     ensures { IsStability papers.now (assigned assignment.now) result }
 {
+    // This call tells that the papers are well-formed.
+    prove!(papers.students_len() <= MOST_STUDENTS);
     if let Some(school) = least_over(tallies, papers) {
         return Stability::OverSeats { school };
     }

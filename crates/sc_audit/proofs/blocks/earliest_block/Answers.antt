@@ -1,47 +1,61 @@
-use Rattle.std.proofs.Common.{ℕ, ◌≤◌, ◌∙◌, sym, length, arith}
+use Rattle.std.proofs.Common.{ℕ, ◌≤◌, ◌==◌, ◌∙◌, ap, sym, false, length, arith}
+use Rattle.std.specs.Option.{option_map_or}
 use Rattle.sc_papers.specs.Assignment.{assigned}
 use Rattle.sc_papers.specs.Market.{choices_of, student_at}
 use Rattle.sc_papers.specs.declared.limits.TheConstants.{LONGEST_LIST}
 use Rattle.sc_papers.proofs.Choices.{contains-at, places-end}
+use Rattle.sc_papers.proofs.Hands.{hand-is}
 use Rattle.sc_papers.proofs.Students.{choice-known, choices-short}
-use Rattle.sc_audit.proofs.Blocking.{passed-none, passed-more, end-block, end-none, all-none}
+use Rattle.sc_audit.proofs.Blocking.{passed-none, passed-more, taken-block, given-none, all-none}
 use Rattle.sc_audit.proofs.blocks.earliest_block.Goals as goal
 
 pub loop-rank-init : goal.loop-rank-init
 loop-rank-init c = passed-none c.args.papers.now (assigned c.args.assignment.now) (student_at c.args.papers.now c.args.position)
 
-pub returns-in_default-clause-none : goal.returns-in_default-clause-none
-returns-in_default-clause-none c =
+pub returns-in_default-choice_at-clause-none : goal.returns-in_default-choice_at-clause-none
+returns-in_default-choice_at-clause-none c =
     let m = c.args.papers.now in
     let i : ℕ = student_at m c.args.position in
-    all-none m (assigned c.args.assignment.now) c.requires.well_formed c.requires.matching i c.loop-rank.rank c.loop-rank.invariant (places-end (choices_of m i) c.loop-rank.rank (sym c.choice_at.ensures ∙ c.in_default.is))
+    all-none m (assigned c.args.assignment.now) c.students_len.ensures.well_formed c.requires.matching i c.loop-rank.rank c.loop-rank.invariant (places-end (choices_of m i) c.loop-rank.rank (sym c.choice_at.ensures ∙ c.in_default-choice_at.is))
 
-pub end_at-requires-clause-school : goal.end_at-requires-clause-school
-end_at-requires-clause-school c =
+pub would_take-requires-clause-school : goal.would_take-requires-clause-school
+would_take-requires-clause-school c =
     let m = c.args.papers.now in
     let i : ℕ = student_at m c.args.position in
-    choice-known m c.requires.well_formed i c.in-Some.school (contains-at (choices_of m i) c.loop-rank.rank c.in-Some.school (sym c.choice_at.ensures ∙ c.in-Some.is))
+    choice-known m c.students_len.ensures.well_formed i c.in-Some-choice_at.school (contains-at (choices_of m i) c.loop-rank.rank c.in-Some-choice_at.school (sym c.choice_at.ensures ∙ c.in-Some-choice_at.is))
 
-pub returns-in-Some-end_at-clause-block : goal.returns-in-Some-end_at-clause-block
-returns-in-Some-end_at-clause-block c =
+pub returns-then-is_given-clause-none : goal.returns-then-is_given-clause-none
+returns-then-is_given-clause-none c =
     let m = c.args.papers.now in
-    end-block m (assigned c.args.assignment.now) c.requires.well_formed c.requires.matching (student_at m c.args.position) c.loop-rank.rank c.loop-rank.invariant c.in-Some.school c.in-Some-end_at.end
-    (sym c.choice_at.ensures ∙ c.in-Some.is) (sym c.end_at.ensures ∙ c.in-Some-end_at.is)
+    let a = assigned c.args.assignment.now in
+    let i : ℕ = student_at m c.args.position in
+    let s = c.in-Some-choice_at.school in
+    let given = ap (λ o. option_map_or (λ t. t == s) o false) (c.get-given.ensures ∙ ap a (sym (hand-is m c.args.position c.in-Some.student (sym c.in-Some.ensures)))) in
+    given-none m a c.students_len.ensures.well_formed c.requires.matching i c.loop-rank.rank c.loop-rank.invariant s (sym c.choice_at.ensures ∙ c.in-Some-choice_at.is) (sym given ∙ sym c.is_given.ensures ∙ c.if-is_given.true)
 
-pub returns-in-Some-end_at-clause-none : goal.returns-in-Some-end_at-clause-none
-returns-in-Some-end_at-clause-none c =
+pub returns-then-would_take-clause-block : goal.returns-then-would_take-clause-block
+returns-then-would_take-clause-block c =
     let m = c.args.papers.now in
-    end-none m (assigned c.args.assignment.now) c.requires.well_formed c.requires.matching (student_at m c.args.position) c.loop-rank.rank c.loop-rank.invariant c.in-Some.school c.in-Some-end_at.end
-    (sym c.choice_at.ensures ∙ c.in-Some.is) (sym c.end_at.ensures ∙ c.in-Some-end_at.is)
+    let a = assigned c.args.assignment.now in
+    let i : ℕ = student_at m c.args.position in
+    let s = c.in-Some-choice_at.school in
+    let given = ap (λ o. option_map_or (λ t. t == s) o false) (c.get-given.ensures ∙ ap a (sym (hand-is m c.args.position c.in-Some.student (sym c.in-Some.ensures)))) in
+    taken-block m a c.students_len.ensures.well_formed c.requires.matching i c.loop-rank.rank c.loop-rank.invariant s (sym c.choice_at.ensures ∙ c.in-Some-choice_at.is) (sym given ∙ sym c.is_given.ensures ∙ c.if-is_given.false)
+    (sym (c.would_take.ensures a c.requires.tallies) ∙ c.if-would_take.true)
 
 pub loop-rank-preserved : goal.loop-rank-preserved
 loop-rank-preserved c =
     let m = c.args.papers.now in
-    passed-more m (assigned c.args.assignment.now) (student_at m c.args.position) c.loop-rank.rank c.in-Some.school (sym c.choice_at.ensures ∙ c.in-Some.is) (sym c.end_at.ensures ∙ c.in_default-end_at.is) c.loop-rank.invariant
+    let a = assigned c.args.assignment.now in
+    let i : ℕ = student_at m c.args.position in
+    let s = c.in-Some-choice_at.school in
+    let given = ap (λ o. option_map_or (λ t. t == s) o false) (c.get-given.ensures ∙ ap a (sym (hand-is m c.args.position c.in-Some.student (sym c.in-Some.ensures)))) in
+    passed-more m a i c.loop-rank.rank s (sym c.choice_at.ensures ∙ c.in-Some-choice_at.is) (sym given ∙ sym c.is_given.ensures ∙ c.if-is_given.false)
+    (sym (c.would_take.ensures a c.requires.tallies) ∙ c.if-would_take.false) c.loop-rank.invariant
 
 pub returns-clause-none : goal.returns-clause-none
 returns-clause-none c =
     let m = c.args.papers.now in
     let i : ℕ = student_at m c.args.position in
     let short : length (choices_of m i) ≤ LONGEST_LIST = choices-short m c.students_len.ensures.within_limits i in
-    all-none m (assigned c.args.assignment.now) c.requires.well_formed c.requires.matching i c.loop-rank.rank c.loop-rank.invariant (omega arith)
+    all-none m (assigned c.args.assignment.now) c.students_len.ensures.well_formed c.requires.matching i c.loop-rank.rank c.loop-rank.invariant (omega arith)

@@ -8,8 +8,11 @@ use Rattle.sc_audit.proofs.audit_state.AuditState.start_all.Goals as goal
 pub loop-position-init : goal.loop-position-init
 loop-position-init c = opened-none c.args.papers.now (view_of c.args.self.now) c.requires.fits c.requires.nowhere
 
-pub move_to-requires-clause-fits : goal.move_to-requires-clause-fits
-move_to-requires-clause-fits c = c.loop-position.invariant.fits
+pub move_to-requires-clause-here : goal.move_to-requires-clause-here
+move_to-requires-clause-here c = record {
+  fits = c.loop-position.invariant.fits;
+  within = omega (arith, c.loop-position-test.true, c.students_len-position-end.ensures.count);
+}
 
 pub move_to-requires-clause-nowhere : goal.move_to-requires-clause-nowhere
 move_to-requires-clause-nowhere c =

@@ -23,17 +23,17 @@ overflow_add-rank c =
     let waits : Waits m (view_of c.args.self.now) c.args.entry.student c.args.entry.school c.in-Some.rank = waits-at m (view_of c.args.self.now) c.args.entry.student c.args.entry.school c.in-Some.rank (sym c.in-Some.ensures.rank) in
     omega (arith, slice_get_within (choices_of m c.args.entry.student) c.in-Some.rank c.args.entry.school waits.at, choices-short m c.requires.fits.within_limits c.args.entry.student)
 
-pub move_to-requires-clause-fits : goal.move_to-requires-clause-fits
-move_to-requires-clause-fits c =
+pub move_to-requires-clause-here : goal.move_to-requires-clause-here
+move_to-requires-clause-here c =
     let m = c.args.papers.now in
     let old = view_of c.args.self.now in
     let stands = c.args.self.now.stands.items in
-    left-fits (waits-at m old c.args.entry.student c.args.entry.school c.in-Some.rank (sym c.in-Some.ensures.rank))
-    (record { stands = set stands c.in-Some.student None; kept = old.kept; seats = old.seats }) c.requires.fits refl refl (length-set stands c.in-Some.student None)
-    (stand-put m stands None c.args.entry.student c.in-Some.student c.requires.fits.stands c.in-Some.ensures.position)
-
-pub move_to-requires-clause-within : goal.move_to-requires-clause-within
-move_to-requires-clause-within c = position-low c.args.papers.now c.args.entry.student c.in-Some.student c.in-Some.ensures.position
+    record {
+      fits = left-fits (waits-at m old c.args.entry.student c.args.entry.school c.in-Some.rank (sym c.in-Some.ensures.rank))
+          (record { stands = set stands c.in-Some.student None; kept = old.kept; seats = old.seats }) c.requires.fits refl refl (length-set stands c.in-Some.student None)
+          (stand-put m stands None c.args.entry.student c.in-Some.student c.requires.fits.stands c.in-Some.ensures.position);
+      within = position-low m c.args.entry.student c.in-Some.student c.in-Some.ensures.position;
+    }
 
 pub move_to-requires-clause-nowhere : goal.move_to-requires-clause-nowhere
 move_to-requires-clause-nowhere c =
