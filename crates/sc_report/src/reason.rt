@@ -3,7 +3,6 @@ ghost use Rattle.std.specs.Prelude.{◌≡◌, ◌<◌, ◌≤◌, ◌++◌, ◌
 ghost use Rattle.std.specs.Option.{option_map_or};
 ghost use Rattle.sc_papers.specs.Market.{Market, choices_of};
 ghost use Rattle.sc_papers.specs.Matching.{Matching};
-ghost use Rattle.sc_papers.specs.WellFormed.{WellFormed};
 ghost use Rattle.sc_repair.specs.Standing.{matching_of};
 ghost use Rattle.sc_report.specs.Cutoff.{rows_in_order};
 ghost use Rattle.sc_report.specs.Entrants.{numbers_of, Holds, StandsAt};
@@ -121,7 +120,6 @@ fn push_reasons(
 ) -> Result<(), AllocError>
     requires rows { length rows.now ≡ length papers.now.schools }
     requires stands { StandsAt papers.now entrant }
-    requires well_formed { WellFormed papers.now }
     // By whichever matching the rows were made.
     ensures { OnOk result ((a : Matching) → rows.now ≡ rows_in_order papers.now a → Holds a entrant
         → reasons.new.items ≡ reasons.old.items ++ reasons_of papers.now a entrant.student) }
@@ -135,27 +133,6 @@ fn push_reasons(
     Ok(())
 }
 
-/// The rows of the students, in their order, by the rows of all schools in order of entry.
-fn reasons_among(
-    alloc: Global,
-    entrants: &[Entrant],
-    rows: &[CutoffRow],
-    papers: &FlatPapers,
-) -> Result<Vec<ReasonRow>, AllocError>
-    requires rows { length rows.now ≡ length papers.now.schools }
-    requires stand { All (StandsAt papers.now) entrants.now }
-    requires well_formed { WellFormed papers.now }
-    // By whichever matching the rows were made.
-    ensures { IfOk result (λ reasons. (a : Matching) → rows.now ≡ rows_in_order papers.now a
-        → All (Holds a) entrants.now → reasons.items ≡ flat_map (reasons_of papers.now a) (numbers_of entrants.now)) }
-{
-    let mut reasons = Vec::new(alloc);
-    for entrant in entrants {
-        push_reasons(&mut reasons, rows, papers, *entrant)?;
-    }
-    Ok(reasons)
-}
-
 /// Why no student has a choice that it prefers to what it has: one row for each such choice, the
 /// students by rising number, and a student's rows in order of choice. The only error is want of
 /// memory. The cost is one pass over the students, a sort of their numbers, and a look-up for each row.
@@ -165,8 +142,13 @@ pub fn reasons(alloc: Global, clearing: &Clearing) -> Result<Vec<ReasonRow>, All
 {
     let papers: &FlatPapers = clearing.papers();
     let places = places_of(alloc, papers, clearing.places())?;
-    let entrants = rising_entrants(alloc, papers, places.as_slice())?;
-    let rows = rows_in_order(alloc, papers, places.as_slice())?;
-    let reasons = reasons_among(alloc, entrants.as_slice(), rows.as_slice(), papers)?;
+    let rising = rising_entrants(alloc, papers, places.as_slice())?;
+    let in_order = rows_in_order(alloc, papers, places.as_slice())?;
+    let entrants = rising.as_slice();
+    let rows = in_order.as_slice();
+    let mut reasons = Vec::new(alloc);
+    for entrant in entrants {
+        push_reasons(&mut reasons, rows, papers, *entrant)?;
+    }
     Ok(reasons)
 }

@@ -2,7 +2,6 @@
 ghost use Rattle.std.specs.Prelude.{◌≡◌, ◌≤◌, ◌+◌, ◌++◌, codes, decimal, flat_map, length, map, take, All, IfOk, OnOk};
 ghost use Rattle.sc_papers.specs.Market.{schools_of};
 ghost use Rattle.sc_papers.specs.Matching.{Matching};
-ghost use Rattle.sc_papers.specs.WellFormed.{WellFormed};
 ghost use Rattle.sc_repair.specs.Standing.{matching_of};
 ghost use Rattle.sc_report.specs.Cutoff.{rows_in_order};
 ghost use Rattle.sc_report.specs.Endings.{piece_text, HaveEndings};
@@ -109,7 +108,6 @@ pub(crate) fn push_reason_lines(
 ) -> Result<(), AllocError>
     requires schools { map (λ row. row.school) rows.now ≡ schools_of papers.now }
     requires stand { All (StandsAt papers.now) entrants.now }
-    requires well_formed { WellFormed papers.now }
     // By whichever matching the rows were made.
     ensures { OnOk result ((a : Matching) → rows.now ≡ rows_in_order papers.now a → All (Holds a) entrants.now
         → text_so_far pages.new ≡ text_so_far pages.old

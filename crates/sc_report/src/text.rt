@@ -1,7 +1,6 @@
 ghost use Rattle.std.specs.Prelude.{◌≡◌, [], ◌++◌, length, map, All, IfOk, OnOk};
 ghost use Rattle.sc_papers.specs.Market.{Market, schools_of};
 ghost use Rattle.sc_papers.specs.Matching.{Matching};
-ghost use Rattle.sc_papers.specs.WellFormed.{WellFormed};
 ghost use Rattle.sc_repair.specs.Standing.{matching_of};
 ghost use Rattle.sc_report.specs.Cutoff.{cutoff_rows, rows_in_order};
 ghost use Rattle.sc_report.specs.CutoffText.{cutoff_lines};
@@ -100,7 +99,6 @@ fn push_report(
 ) -> Result<(), AllocError>
     requires schools { map (λ row. row.school) rows.now ≡ schools_of papers.now }
     requires rising { AreRising papers.now entrants.now }
-    requires well_formed { WellFormed papers.now }
     // By whichever matching the rows were made.
     ensures { OnOk result ((a : Matching) → All (Holds a) entrants.now → rows.now ≡ rows_in_order papers.now a
         → text_so_far pages.new ≡ text_so_far pages.old ++ report_text papers.now a) }

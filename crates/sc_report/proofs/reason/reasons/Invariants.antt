@@ -4,7 +4,7 @@ use Rattle.sc_papers.specs.Matching.{Matching}
 use Rattle.sc_report.specs.Cutoff.{rows_in_order}
 use Rattle.sc_report.specs.Entrants.{Holds}
 use Rattle.sc_report.specs.Reason.{reasons_of}
-use Rattle.sc_report.proofs.reason.reasons_among.Given as goal
+use Rattle.sc_report.proofs.reason.reasons.Given as goal
 
 abbrev pub invariant-loop-entrant : goal.invariant-loop-entrant
 invariant-loop-entrant l = (a : Matching) → l.rows ≡ rows_in_order l.papers a → All (Holds a) l.entrants
