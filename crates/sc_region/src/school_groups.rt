@@ -76,9 +76,9 @@ fn flatten(parents: &mut Vec<usize>)
 }
 
 impl SchoolGroups {
-    ghost use Rattle.std.specs.Prelude.{◌≡◌, ◌<◌, length, slice_index, IfOk};
+    ghost use Rattle.std.specs.Prelude.{◌≡◌, ◌<◌, length, IfOk};
     ghost use Rattle.std.specs.List.{range_with_len};
-    ghost use Rattle.sc_region.specs.Groups.{joined};
+    ghost use Rattle.sc_region.specs.Groups.{joined, TellsGroup};
 
     /// Each of so many schools in a group of its own.
     pub(crate) fn new(alloc: Global, count: usize) -> Result<Self, AllocError>
@@ -108,8 +108,7 @@ impl SchoolGroups {
     /// The number of the group at a position. It costs a climb.
     pub(crate) fn group_at(&mut self, position: usize) -> usize
         requires { position < length self.old }
-        ensures group { result ≡ slice_index self.old position }
-        ensures same { self.new ≡ self.old }
+        ensures { TellsGroup self.old self.new position result }
     {
         find_root(&mut self.parents, position)
     }

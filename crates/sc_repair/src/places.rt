@@ -11,6 +11,7 @@ use crate::pair_hints::PairHints;
 use sc_papers::{Assignment, FlatPapers, SchoolNo, StudentNo};
 use std::alloc::{AllocError, Global};
 use std::marker::Model;
+use std::ops::Deref;
 
 /// An assignment that knows how many students have each school.
 #[derive(Drop)]
@@ -18,8 +19,8 @@ pub(crate) struct Places {
     assignment: Assignment,
     // By the number of the school.
     counts: Vec<usize>,
-    // Where the students' pairs may stand in the assignment, by their positions in the order of entry.
-    hints: PairHints,
+    /// Where the students' pairs may stand in the assignment, by their positions in the order of entry.
+    pub(crate) hints: PairHints,
 }
 
 impl Model for Places {
@@ -31,6 +32,17 @@ impl Model for Places {
     ghost view = { λ p. p.assignment };
 
     ghost invariant = { λ p. AreCounts p.assignment p.counts.items };
+}
+
+impl Deref for Places {
+    type Target = Assignment;
+
+    /// The assignment, lent.
+    fn deref(&self) -> &Assignment
+        ensures { result.now ≡ self.now }
+    {
+        &self.assignment
+    }
 }
 
 /// Counts one more at the school.
@@ -109,13 +121,6 @@ impl Places {
             counts,
             hints,
         })
-    }
-
-    /// The assignment, lent.
-    pub(crate) fn assignment(&self) -> &Assignment
-        ensures { result.now ≡ self.now }
-    {
-        &self.assignment
     }
 
     /// How many students have the school. In constant time.
@@ -201,12 +206,5 @@ impl Places {
             uncount_from(&mut self.counts, &self.assignment, count);
             self.assignment.truncate(count);
         }
-    }
-
-    /// The student at the position leaves the order of entry, and whoever stands behind moves up by one: no place changes.
-    pub(crate) fn leave(&mut self, position: usize)
-        ensures { self.new ≡ self.old }
-    {
-        self.hints.leave(position);
     }
 }

@@ -222,7 +222,7 @@ pub(crate) fn place_inside<R: Roll>(
     }
     move_all(round, part.papers, movers.as_slice(), places);
     if let Some(position) = leaver {
-        places.leave(position);
+        places.hints.leave(position);
     }
     Ok(())
 }

@@ -120,14 +120,14 @@ impl Settlement {
     pub(crate) fn places(&self) -> &Assignment
         ensures { result.now ≡ self.now.places }
     {
-        self.places.assignment()
+        &self.places
     }
 
     /// The standing assignment as a value of its own.
     pub(crate) fn assignment(&self) -> Result<Assignment, AllocError>
         ensures { IfOk result (λ assignment. assignment ≡ self.now.places) }
     {
-        self.places.assignment().copy()
+        self.places.copy()
     }
 
     /// How many rejections led to the standing assignment.

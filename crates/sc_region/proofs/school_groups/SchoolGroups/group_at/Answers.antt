@@ -10,15 +10,12 @@ find_root-requires-clause-within c =
     let long : length (roots_of p) ≡ length c.args.self.now = ap length c.self.view_is in
     omega (arith, c.requires, long, length-roots p)
 
-pub returns-clause-group : goal.returns-clause-group
-returns-clause-group c =
+pub returns : goal.returns
+returns c =
     let p = c.self.inside.parents.items in
     let long : length (roots_of p) ≡ length c.args.self.now = ap length c.self.view_is in
     let within : c.args.position < length p = omega (arith, c.requires, long, length-roots p) in
-    c.find_root.ensures.root ∙ sym (roots-at p c.args.position within) ∙ ap (λ (gs : _). slice_index gs c.args.position) c.self.view_is
-
-pub returns-clause-same : goal.returns-clause-same
-returns-clause-same c =
-    let p = c.self.inside.parents.items in
-    let keeps = c.find_root.ensures.keeps in
-    roots-same p c.find_root.new.parents.items keeps.size keeps.roots ∙ c.self.view_is
+    let keeps = c.find_root.ensures.keeps in record {
+      group = c.find_root.ensures.root ∙ sym (roots-at p c.args.position within) ∙ ap (λ (gs : _). slice_index gs c.args.position) c.self.view_is;
+      same = roots-same p c.find_root.new.parents.items keeps.size keeps.roots ∙ c.self.view_is;
+    }
