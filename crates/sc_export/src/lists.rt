@@ -1,6 +1,5 @@
 //! The file of the rank-order lists.
 ghost use Rattle.std.specs.Prelude.{◌≡◌, ◌++◌, OnOk};
-ghost use Rattle.sc_papers.specs.WellFormed.{WellFormed};
 ghost use Rattle.sc_export.specs.Files.{list_fields, lists_text, row_text};
 
 use crate::entries::student_entry;
@@ -23,7 +22,6 @@ fn push_choices(text: &mut Vec<u8>, entry: (StudentNo, &Student)) -> Result<(), 
 
 /// Adds the file of the rank-order lists, in order of entry.
 pub(crate) fn push_lists(text: &mut Vec<u8>, papers: &Papers) -> Result<(), AllocError>
-    requires { WellFormed papers.now }
     ensures { OnOk result (text.new.items ≡ text.old.items ++ lists_text papers.now) }
 {
     text.extend_from_slice(b"student,choices\n")?;

@@ -1,7 +1,6 @@
 //! The roster, in its longer form where somebody continues at a school.
 ghost use Rattle.std.specs.Prelude.{◌≡◌, ◌++◌, ◌∷◌, [], OnOk, All, codes, decimal, flat_map, map, if◌then◌else◌};
 ghost use Rattle.std.specs.List.{join_with_byte};
-ghost use Rattle.sc_papers.specs.WellFormed.{WellFormed};
 ghost use Rattle.sc_journal.specs.Line.{list_text};
 ghost use Rattle.sc_export.specs.Files.{continuing_text, is_longer, roster_fields, roster_header, roster_text, row_text};
 ghost use Rattle.sc_export.specs.Ranges.{IsStudentInRange};
@@ -14,7 +13,6 @@ use std::alloc::AllocError;
 
 /// Whether somebody continues at a school.
 fn is_longer(papers: &Papers) -> bool
-    requires { WellFormed papers.now }
     ensures { result ≡ is_longer papers.now }
 {
     for position in 0..papers.students_len() {
@@ -97,7 +95,6 @@ fn push_header(text: &mut Vec<u8>, longer: bool) -> Result<(), AllocError>
 
 /// Adds the students' rows, in order of entry.
 fn push_students(text: &mut Vec<u8>, papers: &Papers, longer: bool) -> Result<(), AllocError>
-    requires { WellFormed papers.now }
     ensures rows { OnOk result (text.new.items ≡ text.old.items
         ++ flat_map row_text (map (roster_fields longer) papers.now.students)) }
     ensures in_range { OnOk result (All IsStudentInRange papers.now.students) }
@@ -113,7 +110,6 @@ fn push_students(text: &mut Vec<u8>, papers: &Papers, longer: bool) -> Result<()
 
 /// Adds the roster, in order of entry.
 pub(crate) fn push_roster(text: &mut Vec<u8>, papers: &Papers) -> Result<(), AllocError>
-    requires { WellFormed papers.now }
     ensures file { OnOk result (text.new.items ≡ text.old.items ++ roster_text papers.now) }
     ensures in_range { OnOk result (All IsStudentInRange papers.now.students) }
 {

@@ -1,6 +1,5 @@
 //! The file of the schools.
 ghost use Rattle.std.specs.Prelude.{◌≡◌, ◌++◌, OnOk, All};
-ghost use Rattle.sc_papers.specs.WellFormed.{WellFormed};
 ghost use Rattle.sc_export.specs.Files.{row_text, school_fields, schools_text};
 ghost use Rattle.sc_export.specs.Ranges.{IsSchoolInRange};
 
@@ -25,7 +24,6 @@ fn push_school(text: &mut Vec<u8>, entry: (SchoolNo, School)) -> Result<(), Allo
 
 /// Adds the file of the schools, in order of entry.
 pub(crate) fn push_schools(text: &mut Vec<u8>, papers: &FlatPapers) -> Result<(), AllocError>
-    requires { WellFormed papers.now }
     ensures file { OnOk result (text.new.items ≡ text.old.items ++ schools_text papers.now) }
     ensures in_range { OnOk result (All IsSchoolInRange papers.now.schools) }
 {

@@ -1,5 +1,5 @@
 -- Keys gathered by school.
-use Rattle.std.specs.Prelude.{◌≡◌, ℕ, Bool, nat_eq, List, [], ◌∷◌, ◌++◌, Some, get_or, length, map, position, Vec, if◌then◌else◌}
+use Rattle.std.specs.Prelude.{◌≡◌, ℕ, ◌<◌, Bool, nat_eq, List, [], ◌∷◌, ◌++◌, Some, get_or, length, map, position, Vec, if◌then◌else◌}
 use Rattle.std.specs.declared.alloc.Global.{Global}
 use Rattle.sc_papers.specs.Key.{key_of}
 use Rattle.sc_papers.specs.Market.{Market, schools_of}
@@ -15,6 +15,11 @@ keys_in lists = map (λ list. list.items) lists
 pub record AreKeyLists (m : Market) (passes : ℕ → ℕ → Bool) (students : List ℕ) (lists : List (List Key)) : Type 0 where
   pub one_each : length lists ≡ length (schools_of m)
   pub keys : (s at : ℕ) → position (nat_eq s) (schools_of m) ≡ Some at → get_or lists at [] ≡ keys_passing m (passes s) students s
+
+-- there is a list for each school, and a student stands in the papers at the position
+pub record TakesKeys (m : Market) (student : ℕ) (lists : List (List Key)) : Type 0 where
+  pub within : student < length m.students
+  pub one_each : length lists ≡ length (schools_of m)
 
 -- i's key at each school that passes comes last in the list of that school, and nothing else changes
 pub record AddsKeys (m : Market) (i : ℕ) (passes : ℕ → Bool) (old new : List (List Key)) : Type 0 where

@@ -5,7 +5,7 @@ ghost use Rattle.sc_papers.specs.Assignment.{assigned};
 ghost use Rattle.sc_papers.specs.Market.{choices_of, schools_of, student_at, students_of};
 ghost use Rattle.sc_papers.specs.WellFormed.{WellFormed};
 ghost use Rattle.sc_notices.specs.Explanation.{is_given};
-ghost use Rattle.sc_notices.specs.KeyLists.{AddsKeys, AreCandidates};
+ghost use Rattle.sc_notices.specs.KeyLists.{AddsKeys, AreCandidates, TakesKeys};
 
 use crate::key_lists::KeyLists;
 use crate::ranks::rank_among;
@@ -26,8 +26,7 @@ fn add_holder(
     student: usize,
     held: Option<SchoolNo>,
 ) -> Result<(), AllocError>
-    requires within { student < length papers.now.students }
-    requires one_each { length admitted.old ≡ length (schools_of papers.now) }
+    requires { TakesKeys papers.now student admitted.old }
     ensures { OnOk result (AddsKeys papers.now (student_at papers.now student)
         (is_given held) admitted.old admitted.new) }
 {
@@ -60,13 +59,13 @@ fn add_choices(
     student: usize,
     count: usize,
 ) -> Result<(), AllocError>
-    requires within { student < length papers.now.students }
-    requires well_formed { WellFormed papers.now }
+    requires takes { TakesKeys papers.now student waiting.old }
     requires count { count ≤ length (choices_of papers.now (student_at papers.now student)) }
-    requires one_each { length waiting.old ≡ length (schools_of papers.now) }
     ensures { OnOk result (AddsKeys papers.now (student_at papers.now student) (λ s. list_any (λ t. t == s)
         (take count (choices_of papers.now (student_at papers.now student)))) waiting.old waiting.new) }
 {
+    // This call tells that the papers are well-formed.
+    prove!(student < papers.students_len());
     for rank in 0..count {
         let Some(choice) = papers.proposal(student, rank) else {
             unreachable!()
@@ -84,41 +83,13 @@ fn add_preferred(
     student: usize,
     held: Option<SchoolNo>,
 ) -> Result<(), AllocError>
-    requires within { student < length papers.now.students }
-    requires well_formed { WellFormed papers.now }
-    requires one_each { length waiting.old ≡ length (schools_of papers.now) }
+    requires { TakesKeys papers.now student waiting.old }
     ensures { OnOk result (AddsKeys papers.now (student_at papers.now student)
         (λ s. list_any (λ t. t == s) (before_first (is_given held)
         (choices_of papers.now (student_at papers.now student)))) waiting.old waiting.new) }
 {
     let count = preferred_count(papers.choices_at(student), held);
     add_choices(waiting, papers, student, count)
-}
-
-/// Adds the student at a position of the order of entry, whose pair may stand at the guessed position of the assignment,
-/// to the lists of the school that they have and of those that they wait for, and answers the guess for the next one:
-/// mostly the pairs stand in the students' order.
-fn add_student(
-    candidates: &mut Candidates,
-    papers: &Papers,
-    places: &Assignment,
-    position: usize,
-    guess: usize,
-) -> Result<usize, AllocError>
-    requires within { position < length papers.now.students }
-    requires well_formed { WellFormed papers.now }
-    requires before { AreCandidates papers.now (assigned places.now)
-        (take position (students_of papers.now)) candidates.old.admitted candidates.old.waiting }
-    ensures { OnOk result (AreCandidates papers.now (assigned places.now)
-        (take (position + 1) (students_of papers.now)) candidates.new.admitted candidates.new.waiting) }
-{
-    let Some(student) = papers.student_at(position) else {
-        unreachable!()
-    };
-    let held = places.get_near(student, guess);
-    add_holder(&mut candidates.admitted, papers, position, held)?;
-    add_preferred(&mut candidates.waiting, papers, position, held)?;
-    Ok(guess.saturating_add(usize::from(held.is_some())))
 }
 
 /// The keys of those who have each school by an assignment, and of those who wait for it. The only error is want of
@@ -137,9 +108,16 @@ pub(crate) fn find_candidates(
         admitted: KeyLists::empty(alloc, papers.schools_len())?,
         waiting: KeyLists::empty(alloc, papers.schools_len())?,
     };
-    let mut guess = 0;
+    // Mostly the pairs stand in the students' order.
+    let mut guess: usize = 0;
     for position in 0..papers.students_len() {
-        guess = add_student(&mut candidates, papers, places, position, guess)?;
+        let Some(student) = papers.student_at(position) else {
+            unreachable!()
+        };
+        let held = places.get_near(student, guess);
+        add_holder(&mut candidates.admitted, papers, position, held)?;
+        add_preferred(&mut candidates.waiting, papers, position, held)?;
+        guess = guess.saturating_add(usize::from(held.is_some()));
     }
     Ok(candidates)
 }

@@ -2,7 +2,6 @@
 ghost use Rattle.std.specs.Prelude.{◌≡◌, ◌<◌, ◌++◌, ◌||◌, codes, decimal, is_some, length, nat_eq, position, All, IfOk, IfSome, OnOk, Some};
 ghost use Rattle.sc_papers.specs.Market.{Market, is_student, schools_of};
 ghost use Rattle.sc_papers.specs.Matching.{Matching};
-ghost use Rattle.sc_papers.specs.WellFormed.{WellFormed, WithinLimits};
 ghost use Rattle.sc_repair.specs.Standing.{matching_of};
 ghost use Rattle.sc_report.specs.Cutoff.{cutoff, rows_in_order};
 ghost use Rattle.sc_report.specs.Entrants.{numbers_of, Holds, StandsAt};
@@ -13,7 +12,7 @@ ghost use Rattle.sc_notices.specs.Lottery.{lottery_rank};
 ghost use Rattle.sc_notices.specs.Tickets.{IsLotteryOf};
 
 use crate::fields::push_field;
-use crate::lottery::Lottery;
+use crate::lottery::{Lottery, ticket_at};
 use crate::outcome::{outcome_of, push_outcome};
 use sc_decimal::push_number;
 use sc_papers::{FlatPapers, Key, LONGEST_LIST, MOST_STUDENTS, Proposal, SchoolNo, StudentNo};
@@ -140,14 +139,15 @@ fn push_choices(
     requires number { number.now ≡ decimal entrant.student ++ codes "," }
     requires rows { length rows.now ≡ length papers.now.schools }
     requires stands { StandsAt papers.now entrant }
-    requires well_formed { WellFormed papers.now }
-    requires within_limits { WithinLimits papers.now }
     requires lottery { IsLotteryOf papers.now rows.now lottery.now }
     // By whichever matching the rows were made.
     ensures { OnOk result ((a : Matching) → rows.now ≡ rows_in_order papers.now a → Holds a entrant
         → text.new.items ≡ text.old.items ++ student_lines papers.now a entrant.student) }
 {
-    let own = lottery.rank_at(papers, rows, entrant.position as usize);
+    // This call tells that the papers are within their limits, and so are their lists.
+    prove!(papers.students_len() <= MOST_STUDENTS);
+    let ticket = ticket_at(papers, entrant.position as usize);
+    let own = lottery.rank_of(papers, rows, &ticket);
     let mut is_past = false;
     let mut rank = 0;
     'ranks: while let Some(choice) = papers.proposal(entrant.position as usize, rank) {
@@ -183,8 +183,6 @@ fn push_explanations(
     ensures { OnOk result ((a : Matching) → rows.now ≡ rows_in_order papers.now a → All (Holds a) entrants.now
         → text.new.items ≡ text.old.items ++ explanation_lines papers.now a (numbers_of entrants.now)) }
 {
-    // This call tells that the papers are well-formed and within their limits, and so are their lists.
-    prove!(papers.students_len() <= MOST_STUDENTS);
     let mut number = Vec::with_capacity(alloc, LONGEST_NUMBER)?;
     text.extend_from_slice(HEADER)?;
     for entrant in entrants {

@@ -1,7 +1,7 @@
 //! How many students list each school.
 ghost use Rattle.std.specs.Prelude.{◌≡◌, ℕ, ◌+◌, ◌<◌, ◌≤◌, nat_eq, count_by, length, replicate, slice_index, take, All, IfOk, OnOk};
 ghost use Rattle.sc_papers.specs.Market.{students_of};
-ghost use Rattle.sc_papers.specs.WellFormed.{WellFormed, WithinLimits};
+ghost use Rattle.sc_papers.specs.WellFormed.{WellFormed};
 ghost use Rattle.sc_notices.specs.Counting.{AreListings};
 ghost use Rattle.sc_notices.specs.Summary.{listed};
 
@@ -21,17 +21,6 @@ fn count_positions(counts: &mut [u32], positions: &[u16])
     }
 }
 
-/// Counts the choices of the student at the position of the order of entry.
-fn count_choices(counts: &mut [u32], papers: &FlatPapers, position: usize)
-    requires within { position < length papers.now.students }
-    requires well_formed { WellFormed papers.now }
-    requires within_limits { WithinLimits papers.now }
-    requires before { AreListings papers.now (take position (students_of papers.now)) counts.old }
-    ensures { AreListings papers.now (take (position + 1) (students_of papers.now)) counts.new }
-{
-    count_positions(counts, papers.choice_positions_at(position));
-}
-
 /// A count of nobody for each of so many schools.
 fn no_listings(alloc: Global, count: usize) -> Result<Vec<u32>, AllocError>
     ensures { IfOk result (λ counts. counts.items ≡ replicate count 0) }
@@ -49,17 +38,18 @@ pub(crate) fn listings(alloc: Global, papers: &FlatPapers) -> Result<Vec<u32>, A
 {
     let mut counts = no_listings(alloc, papers.schools_len())?;
     for position in 0..papers.students_len() {
-        count_choices(counts.as_mut_slice(), papers, position);
+        count_positions(counts.as_mut_slice(), papers.choice_positions_at(position));
     }
     Ok(counts)
 }
 
 /// How many students list a school, by the counts of all schools; nobody lists one that is not in the papers.
 pub(crate) fn listings_of(counts: &[u32], papers: &FlatPapers, school: SchoolNo) -> u32
-    requires counts { AreListings papers.now (students_of papers.now) counts.now }
-    requires well_formed { WellFormed papers.now }
+    requires { AreListings papers.now (students_of papers.now) counts.now }
     ensures { result ≡ listed papers.now school }
 {
+    // This call tells that the papers are well-formed.
+    prove!(papers.students_len() <= MOST_STUDENTS);
     match papers.school_position(school) {
         Some(position) => counts[position],
         None => 0,

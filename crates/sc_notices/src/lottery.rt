@@ -122,9 +122,8 @@ pub(crate) struct Lottery {
 }
 
 impl Lottery {
-    ghost use Rattle.std.specs.Prelude.{◌≡◌, ◌<◌, get_or, length, IfOk};
-    ghost use Rattle.sc_papers.specs.Market.{student_at};
-    ghost use Rattle.sc_notices.specs.Lottery.{lottery_rank};
+    ghost use Rattle.std.specs.Prelude.{◌≡◌, ℕ, ◌<◌, get_or, length, IfOk};
+    ghost use Rattle.sc_notices.specs.Lottery.{lottery_rank, ticket_of};
     ghost use Rattle.sc_notices.specs.Tickets.{IsLotteryOf};
 
     /// The ranks by the rows of all schools in order of entry. The only error is want of memory. The cost is a sort of the
@@ -144,17 +143,12 @@ impl Lottery {
         })
     }
 
-    /// The rank of the student at a position of the order of entry, from 1, by a search.
-    pub(crate) fn rank_at(&self, papers: &FlatPapers, rows: &[CutoffRow], position: usize) -> u32
-        requires lottery { IsLotteryOf papers.now rows.now self.now }
-        requires position { position < length papers.now.students }
-        ensures { result ≡ lottery_rank papers.now (student_at papers.now position) }
+    /// The rank of a student's ticket, from 1, by a search.
+    pub(crate) fn rank_of(&self, papers: &FlatPapers, rows: &[CutoffRow], ticket: &Key) -> u32
+        requires { IsLotteryOf papers.now rows.now self.now }
+        ensures { (i : ℕ) → ticket.now ≡ ticket_of papers.now i → result ≡ lottery_rank papers.now i }
     {
-        rank_of(
-            papers,
-            self.tickets.as_slice(),
-            &ticket_at(papers, position),
-        )
+        rank_of(papers, self.tickets.as_slice(), ticket)
     }
 
     /// The rank of the student of the cutoff of the school at a position of the order of entry, from 1, if it has one.

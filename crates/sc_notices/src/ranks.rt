@@ -3,7 +3,6 @@ ghost use Rattle.std.specs.Prelude.{◌≡◌, ℕ, ◌+◌, ◌<◌, ◌≤◌,
 ghost use Rattle.std.specs.Option.{option_eq};
 ghost use Rattle.sc_papers.specs.Assignment.{assigned};
 ghost use Rattle.sc_papers.specs.Market.{students_of};
-ghost use Rattle.sc_papers.specs.WellFormed.{WithinLimits};
 ghost use Rattle.sc_notices.specs.Counting.{AreRankCounts};
 ghost use Rattle.sc_notices.specs.Summary.{rank_in};
 
@@ -42,29 +41,6 @@ fn count_place(counts: &mut RankCounts, choices: &[SchoolNo], held: Option<Schoo
     }
 }
 
-/// Counts the student at the position of the order of entry, whose pair may stand at the guessed position of the
-/// assignment, and answers the guess for the next one: mostly the pairs stand in the students' order.
-fn count_student(
-    counts: &mut RankCounts,
-    papers: &Papers,
-    places: &Assignment,
-    position: usize,
-    guess: usize,
-) -> usize
-    requires within { position < length papers.now.students }
-    requires within_limits { WithinLimits papers.now }
-    requires before { AreRankCounts papers.now (assigned places.now)
-        (take position (students_of papers.now)) counts.old }
-    ensures { AreRankCounts papers.now (assigned places.now) (take (position + 1) (students_of papers.now)) counts.new }
-{
-    let Some(student) = papers.student_at(position) else {
-        unreachable!()
-    };
-    let held = places.get_near(student, guess);
-    count_place(counts, papers.choices_at(position), held);
-    guess.saturating_add(usize::from(held.is_some()))
-}
-
 /// How many students have their choice of each rank, and how many have no school. One pass over the students.
 pub(crate) fn rank_counts(papers: &Papers, places: &Assignment) -> RankCounts
     ensures { AreRankCounts papers.now (assigned places.now) (students_of papers.now) result }
@@ -73,9 +49,15 @@ pub(crate) fn rank_counts(papers: &Papers, places: &Assignment) -> RankCounts
         by_rank: [0; LONGEST_LIST],
         unplaced: 0,
     };
-    let mut guess = 0;
+    // Mostly the pairs stand in the students' order.
+    let mut guess: usize = 0;
     for position in 0..papers.students_len() {
-        guess = count_student(&mut counts, papers, places, position, guess);
+        let Some(student) = papers.student_at(position) else {
+            unreachable!()
+        };
+        let held = places.get_near(student, guess);
+        count_place(&mut counts, papers.choices_at(position), held);
+        guess = guess.saturating_add(usize::from(held.is_some()));
     }
     counts
 }

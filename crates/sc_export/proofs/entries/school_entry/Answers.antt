@@ -12,4 +12,4 @@ pub returns : goal.returns
 returns c =
     let here : c.school_at.result ≡ Some c.in_ok-number.number = search rules in
     let some : c.school.result ≡ Some c.in_ok-school.school = search rules in
-    sym (entry-read c.args.papers.now.schools c.args.position c.in_ok-number.number c.school.result c.requires.schools_differ (sym c.school_at.ensures ∙ here) c.school.ensures c.in_ok-school.school some)
+    sym (entry-read c.args.papers.now.schools c.args.position c.in_ok-number.number c.school.result c.students_len.ensures.well_formed.schools_differ (sym c.school_at.ensures ∙ here) c.school.ensures c.in_ok-school.school some)

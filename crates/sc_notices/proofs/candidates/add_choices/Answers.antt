@@ -13,7 +13,7 @@ loop-rank-preserved c =
     let i = student_at m c.args.student in
     let choice = c.in-Some.choice in
     let before = c.loop-rank.invariant in
-    adds-choice m c.requires.well_formed i c.loop-rank.rank choice.school choice.position choice.key c.args.waiting.now c.loop-rank.waiting c.add.new.self
+    adds-choice m c.students_len.ensures.well_formed i c.loop-rank.rank choice.school choice.position choice.key c.args.waiting.now c.loop-rank.waiting c.add.new.self
     (sym c.in-Some.ensures.school) before c.in-Some.ensures.position c.in-Some.ensures.key
-    (omega (arith, (position-at (schools_of m) choice.school choice.position c.in-Some.ensures.position).0, before.one_each, c.requires.one_each))
+    (omega (arith, (position-at (schools_of m) choice.school choice.position c.in-Some.ensures.position).0, before.one_each, c.requires.takes.one_each))
     c.in_ok-add.ensures

@@ -9,7 +9,7 @@ use Rattle.sc_papers.proofs.Hands.{hand-is}
 use Rattle.sc_papers.proofs.Students.{choices-short}
 use Rattle.sc_report.specs.Reason.{reason_by}
 use Rattle.sc_notices.specs.Explanation.{is_given, outcome_by}
-use Rattle.sc_notices.specs.Lottery.{lottery_rank}
+use Rattle.sc_notices.specs.Lottery.{ticket_of}
 use Rattle.sc_notices.specs.ExplanationText.{choice_line}
 use Rattle.sc_notices.proofs.LotteryLemmas.{rank-read}
 use Rattle.sc_notices.proofs.ExplanationLemmas.{before-more, choices-more, ranked, ranked-length}
@@ -21,7 +21,7 @@ push_choice-requires c =
     let i = c.args.entrant.student in
     let here : slice_get (choices_of m i) c.ranks.rank ≡ Some c.in-Some.choice.school =
     sym (c.in-Some.ensures.school ∙ ap (λ (j : ℕ). slice_get (choices_of m j) c.ranks.rank) (hand-is m c.args.entrant.position i c.requires.stands)) in
-    omega (arith, slice_get_within (choices_of m i) c.ranks.rank c.in-Some.choice.school here, choices-short m c.requires.within_limits i)
+    omega (arith, slice_get_within (choices_of m i) c.ranks.rank c.in-Some.choice.school here, choices-short m c.students_len.ensures.within_limits i)
 
 pub overflow_add-rank : goal.overflow_add-rank
 overflow_add-rank c =
@@ -29,7 +29,7 @@ overflow_add-rank c =
     let i = c.args.entrant.student in
     let here : slice_get (choices_of m i) c.ranks.rank ≡ Some c.in-Some.choice.school =
     sym (c.in-Some.ensures.school ∙ ap (λ (j : ℕ). slice_get (choices_of m j) c.ranks.rank) (hand-is m c.args.entrant.position i c.requires.stands)) in
-    omega (arith, slice_get_within (choices_of m i) c.ranks.rank c.in-Some.choice.school here, choices-short m c.requires.within_limits i)
+    omega (arith, slice_get_within (choices_of m i) c.ranks.rank c.in-Some.choice.school here, choices-short m c.students_len.ensures.within_limits i)
 
 pub ranks-smaller : goal.ranks-smaller
 ranks-smaller c =
@@ -56,10 +56,10 @@ ranks-preserved c =
           c.in_ok-is_past.ensures.past ∙ (λ t. c.ranks.invariant.past a are holds t || given t) ∙ sym (before-more m a i k s here);
       lines = λ a are holds.
           let given = ap (λ o. is_given o s) (sym holds) in
-          choices-more m a i k s key c.rank_at-own.result cut c.cutoff_rank_at-last.result (outcome_by (is_given held s) c.ranks.is_past (reason_by cut key)) (is_given held s) c.ranks.is_past c.args.number.now
+          choices-more m a i k s key c.rank_of-own.result cut c.cutoff_rank_at-last.result (outcome_by (is_given held s) c.ranks.is_past (reason_by cut key)) (is_given held s) c.ranks.is_past c.args.number.now
           c.args.text.now.items c.ranks.text.items c.extend_from_slice.new.self.items c.push_choice.new.text.items
           here c.requires.number (c.in-Some.ensures.key ∙ ap (λ (j : ℕ). key_of m j s) same)
-          (c.rank_at-own.ensures ∙ ap (lottery_rank m) same)
+          (c.rank_of-own.ensures i (c.ticket_at-ticket.ensures ∙ ap (ticket_of m) same))
           (c.cutoff_of-cutoff.ensures m a are c.in-Some.ensures.position)
           (rank-read m a c.args.rows.now c.args.lottery.now s c.in-Some.choice.position cut c.cutoff_rank_at-last.result c.requires.lottery are c.in-Some.ensures.position
           (c.cutoff_of-cutoff.ensures m a are c.in-Some.ensures.position) c.cutoff_rank_at-last.ensures)
