@@ -204,12 +204,12 @@ fn five_students(zone: u32) -> [Student<'static>; 5] {
 fn expect_correction(
     rt: &impl Abort,
     alloc: Global,
-    row: &str,
     zone: u32,
     want: &[Option<u32>],
     log: &[(u32, u32)],
     bad: Option<usize>,
 ) {
+    let row = if zone == 0 { "corrected" } else { "opening" };
     let schools = [school(10, 1, 1), school(20, 0, 2)];
     let students = five_students(zone);
     let market = Market {
@@ -227,10 +227,10 @@ const OPENING_LOG: [(u32, u32); 3] = [(2, 10), (3, 20), (2, 20)];
 fn a_correction_rewinds_to_the_start(rt: HostRuntime) {
     let alloc = rt.alloc();
     let want = [Some(10), None, None, Some(20), Some(20)];
-    expect_correction(&rt, alloc, "opening", 1, &want, &OPENING_LOG, None);
+    expect_correction(&rt, alloc, 1, &want, &OPENING_LOG, None);
     let want = [None, Some(10), None, Some(20), Some(20)];
     let log = [(1, 10), (1, 20), (3, 20)];
-    expect_correction(&rt, alloc, "corrected", 0, &want, &log, Some(0));
+    expect_correction(&rt, alloc, 0, &want, &log, Some(0));
 }
 
 #[test]

@@ -135,7 +135,7 @@ fn segments_of_three(rt: &impl Abort, alloc: Global) -> Segments
 }
 
 fn expect_cuts(rt: &impl Abort, segments: &Segments)
-    requires segments { students_in segments.now ≡ 1 ∷ 2 ∷ 3 ∷ [] }
+    requires { length segments.now ≡ 3 }
 {
     let chain = last_chain(rt);
     assert_eq!(rt; segments.len(), 3);
@@ -153,9 +153,7 @@ fn segments_are_cut_where_students_enter(rt: HostRuntime) {
 }
 
 /// Pushes the third student's first rejection behind the first two.
-fn push_one(rt: &impl Abort, rewound: &mut Segments)
-    requires { students_in rewound.old ≡ 1 ∷ 2 ∷ [] }
-{
+fn push_one(rt: &impl Abort, rewound: &mut Segments) {
     let chain = last_chain(rt);
     assert_eq!(rt; rewound.len(), 2);
     let pushed = rewound.push(student(rt, 3), &chain[..1]);
@@ -166,7 +164,7 @@ fn push_one(rt: &impl Abort, rewound: &mut Segments)
 }
 
 fn expect_copies(rt: &impl Abort, segments: &Segments)
-    requires { students_in segments.now ≡ 1 ∷ 2 ∷ 3 ∷ [] }
+    requires { length segments.now ≡ 3 }
 {
     let log = segments.flat().expect(rt, "memory");
     assert_eq!(rt; log.as_slice(), last_chain(rt).as_slice());
@@ -340,7 +338,7 @@ fn rejections(list: Result<Vec<Rejection>, AllocError>) -> Option<usize> {
 
 /// How many students a copy of all segments has, where there was memory for it.
 fn copied(segments: &Segments) -> Option<usize>
-    requires { students_in segments.now ≡ 1 ∷ 2 ∷ 3 ∷ [] }
+    requires { length segments.now ≡ 3 }
 {
     match segments.copy_prefix(3) {
         Ok(copy) => {
