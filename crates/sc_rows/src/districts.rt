@@ -192,26 +192,14 @@ fn districts_that_were_joined_tell_the_region(rt: HostRuntime) {
     }
 }
 
-/// One enters with choices of two districts.
-fn expect_newcomer(
-    rt: &impl Abort,
-    alloc: Global,
-    districts: Districts,
-    papers: &mut Papers,
-) -> Result<(), Refusal>
-    requires { AreDistricts papers.old districts }
-{
-    let mut come = expect_and_follow(rt, alloc, districts, papers, "enter,4,0,,40 10", &[0, 1])?;
-    expect_region(rt, alloc, &mut come, papers, "withdraw,3", &[0, 1, 23])
-}
-
-/// A student withdraws, and one enters.
+/// A student withdraws, and one enters with choices of two districts.
 fn expect_moves(rt: &impl Abort, alloc: Global, papers: &mut Papers) -> Result<(), Refusal> {
     let districts = Districts::of(alloc, papers)?;
     let mut left = follow(districts, papers, amendment_of(rt, alloc, "withdraw,1"))?;
     // Whoever stood behind the first student has moved up.
     expect_region(rt, alloc, &mut left, papers, "withdraw,3", &[1])?;
-    expect_newcomer(rt, alloc, left, papers)
+    let mut come = expect_and_follow(rt, alloc, left, papers, "enter,4,0,,40 10", &[0, 1])?;
+    expect_region(rt, alloc, &mut come, papers, "withdraw,3", &[0, 1, 23])
 }
 
 fn expect_moves_of_market(rt: &impl Abort, alloc: Global) -> Result<(), Refusal> {

@@ -1,5 +1,5 @@
 //! Rolls of both kinds: who holds the seats of one school.
-ghost use Rattle.std.specs.Prelude.{◌≤◌, ◌∷◌, ◌++◌, length, All, Contains, OnOk, IfOk};
+ghost use Rattle.std.specs.Prelude.{◌≡◌, ◌≤◌, [], ◌∷◌, ◌++◌, length, All, Contains, OnOk, IfOk};
 ghost use Rattle.std.specs.List.Sorted.{IsPermutation};
 ghost use Rattle.std.specs.Option.{option_to_list};
 
@@ -92,78 +92,87 @@ fn expect_copied<R: Roll>(rt: &impl Abort, roll: &R, copy: &R, held: usize, wors
     assert_eq!(rt; copy.capacity(), roll.capacity());
 }
 
-/// One who stands behind the worst of two is put out, and a copy then holds the same two.
-fn expect_behind<R: Roll>(
+/// An offer, who is put out for it, and who is the worst of those held then.
+#[derive(Clone, Copy)]
+struct OneOffer<'a> {
+    key: &'a Key,
+    out: Option<&'a Key>,
+    worst: Option<&'a Key>,
+}
+
+impl<'a> OneOffer<'a> {
+    fn new(key: &'a Key, out: Option<&'a Key>, worst: Option<&'a Key>) -> Self {
+        OneOffer { key, out, worst }
+    }
+}
+
+/// Makes these offers, one after the other, to a roll on which nobody is, and sees what each comes to.
+fn expect_offers<R: Roll>(
     rt: &impl Abort,
+    alloc: Global,
     roll: &mut R,
-    seen: &mut Vec<StudentNo>,
-    worst: &Key,
+    offers: &[OneOffer<'_>],
 ) -> Result<(), AllocError>
-    requires within { length (R.keys roll.old) ≤ R.seats roll.old }
-    requires known { All (λ held. Contains seen.old.items held.student) (R.keys roll.old) }
+    requires { R.keys roll.old ≡ [] }
 {
-    let one = key(rt, 3, 0xe56a5d4028bd8653, 1);
-    expect_out(rt, roll, seen, &one, Some(&one))?;
-    let copy = roll.copy()?;
-    expect_copied(rt, roll, &copy, 2, Some(worst));
-    drop(copy);
+    let mut seen = Vec::new(alloc);
+    for offer in offers {
+        expect_out(rt, roll, &mut seen, offer.key, offer.out)?;
+        expect_same(rt, roll.worst(), offer.worst);
+    }
     Ok(())
 }
 
 /// Who stays on a roll of two seats.
-fn expect_two<R: Roll>(
-    rt: &impl Abort,
-    roll: &mut R,
-    seen: &mut Vec<StudentNo>,
-    two: &Key,
-) -> Result<(), AllocError>
-    requires within { length (R.keys roll.old) ≤ R.seats roll.old }
-    requires known { All (λ held. Contains seen.old.items held.student) (R.keys roll.old) }
+fn offer_four<R: Roll>(rt: &impl Abort, alloc: Global, roll: &mut R) -> Result<(), AllocError>
+    requires { R.keys roll.old ≡ [] }
 {
-    let three = key(rt, 3, 0xccef36a8c70d778b, 3);
-    expect_out(rt, roll, seen, &three, None)?;
-    expect_out(rt, roll, seen, two, None)?;
-    let four = key(rt, 3, 0x7c5941da8d485751, 4);
-    expect_out(rt, roll, seen, &four, Some(&three))?;
-    expect_same(rt, roll.worst(), Some(two));
-    expect_behind(rt, roll, seen, two)
+    let keys = [
+        key(rt, 3, 0xe56a5d4028bd8653, 1),
+        key(rt, 3, 0xb819d2bd1aed8da0, 2),
+        key(rt, 3, 0xccef36a8c70d778b, 3),
+        key(rt, 3, 0x7c5941da8d485751, 4),
+    ];
+    let [one, two, three, four] = &keys;
+    let offers = [
+        OneOffer::new(three, None, Some(three)),
+        OneOffer::new(two, None, Some(three)),
+        OneOffer::new(four, Some(three), Some(two)),
+        OneOffer::new(one, Some(one), Some(two)),
+    ];
+    expect_offers(rt, alloc, roll, &offers)
 }
 
+/// Who stays on a roll of two seats, and on a copy of it.
 fn two_seats<R: Roll>(rt: &impl Abort, alloc: Global) -> Result<(), AllocError> {
-    let mut seen = Vec::new(alloc);
     let mut roll = R::with_capacity(alloc, seats(rt, 2));
+    offer_four(rt, alloc, &mut roll)?;
+    let copy = roll.copy()?;
     let two = key(rt, 3, 0xb819d2bd1aed8da0, 2);
-    expect_two(rt, &mut roll, &mut seen, &two)
+    expect_copied(rt, &roll, &copy, 2, Some(&two));
+    drop(copy);
+    Ok(())
 }
 
 /// Without a seat nobody stays.
 fn no_seat<R: Roll>(rt: &impl Abort, alloc: Global) -> Result<(), AllocError> {
     let seven = key(rt, 3, 5, 7);
-    let mut seen = Vec::new(alloc);
+    let offers = [OneOffer::new(&seven, Some(&seven), None)];
     let mut none = R::with_capacity(alloc, seats(rt, 0));
-    expect_out(rt, &mut none, &mut seen, &seven, Some(&seven))
+    expect_offers(rt, alloc, &mut none, &offers)
 }
 
 /// With one seat the number settles equal draws.
-fn expect_one<R: Roll>(
-    rt: &impl Abort,
-    roll: &mut R,
-    seen: &mut Vec<StudentNo>,
-) -> Result<(), AllocError>
-    requires within { length (R.keys roll.old) ≤ R.seats roll.old }
-    requires known { All (λ held. Contains seen.old.items held.student) (R.keys roll.old) }
-{
-    let seven = key(rt, 3, 5, 7);
-    let eight = key(rt, 3, 5, 8);
-    expect_out(rt, roll, seen, &eight, None)?;
-    expect_out(rt, roll, seen, &seven, Some(&eight))
-}
-
 fn few_seats<R: Roll>(rt: &impl Abort, alloc: Global) -> Result<(), AllocError> {
     no_seat::<R>(rt, alloc)?;
-    let mut seen = Vec::new(alloc);
+    let seven = key(rt, 3, 5, 7);
+    let eight = key(rt, 3, 5, 8);
+    let offers = [
+        OneOffer::new(&eight, None, Some(&eight)),
+        OneOffer::new(&seven, Some(&eight), Some(&seven)),
+    ];
     let mut roll = R::with_capacity(alloc, seats(rt, 1));
-    expect_one(rt, &mut roll, &mut seen)?;
+    expect_offers(rt, alloc, &mut roll, &offers)?;
     renewed(rt, alloc, &mut roll)
 }
 
@@ -172,8 +181,9 @@ fn renewed<R: Roll>(rt: &impl Abort, alloc: Global, roll: &mut R) -> Result<(), 
     roll.renew(seats(rt, 2));
     assert_eq!(rt; roll.len(), 0);
     assert_eq!(rt; roll.capacity(), seats(rt, 2));
-    let mut seen = Vec::new(alloc);
-    expect_out(rt, roll, &mut seen, &key(rt, 3, 5, 7), None)?;
+    let seven = key(rt, 3, 5, 7);
+    let offers = [OneOffer::new(&seven, None, Some(&seven))];
+    expect_offers(rt, alloc, roll, &offers)?;
     assert_eq!(rt; roll.len(), 1);
     Ok(())
 }
