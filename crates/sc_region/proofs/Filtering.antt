@@ -67,9 +67,3 @@ filter-drops p xs at x here fails =
 -- and its end
 pub filter-whole : (p : ℕ → Bool) (xs : List ℕ) (at : ℕ) → length xs ≤ at → filter p (take at xs) ≡ filter p xs
 filter-whole p xs at past = ap (filter p) (take_all at xs past)
-
--- a loop's step that tells each of them
-pub map-more : {X : Type 0} (f : ℕ → X) (xs : List ℕ) (at x : ℕ) → slice_get xs at ≡ Some x → map f (take (at + 1) xs) ≡ map f (take at xs) ++ f x ∷ []
-map-more f xs at x here =
-    ap (map f) (take_more xs at x (slice_get_within xs at x here) ∙ ap (λ y. take at xs ++ y ∷ []) (get_or_from_slice_get xs at x x here))
-    ∙ map-append f (take at xs) (x ∷ [])

@@ -64,16 +64,3 @@ marked-more (mark ∷ marks) (x ∷ xs) (suc at) i here passes = go mark (marked
         → cond b (x ∷ marked marks (take (suc at) xs)) (marked marks (take (suc at) xs)) ≡ cond b (x ∷ marked marks (take at xs)) (marked marks (take at xs)) ++ i ∷ []
     go true more = ap (λ ys. x ∷ ys) more
     go false more = more
-
-pub marked-same : (marks : List Bool) (xs : List ℕ) (at : ℕ) → get_or marks at false ≡ false → marked marks (take (suc at) xs) ≡ marked marks (take at xs)
-marked-same marks [] zero fails = refl
-marked-same marks [] (suc at) fails = refl
-marked-same [] (x ∷ xs) zero fails = refl
-marked-same [] (x ∷ xs) (suc at) fails = refl
-marked-same (mark ∷ marks) (x ∷ xs) zero fails = cond-false mark (x ∷ marked marks []) (marked marks []) fails
-marked-same (mark ∷ marks) (x ∷ xs) (suc at) fails = go mark (marked-same marks xs at fails)
-  where
-    go : (b : Bool) → marked marks (take (suc at) xs) ≡ marked marks (take at xs)
-        → cond b (x ∷ marked marks (take (suc at) xs)) (marked marks (take (suc at) xs)) ≡ cond b (x ∷ marked marks (take at xs)) (marked marks (take at xs))
-    go true same = ap (λ ys. x ∷ ys) same
-    go false same = same

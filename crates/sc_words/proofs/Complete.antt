@@ -250,6 +250,7 @@ leaves = leaf 0 ∷ leaf 1 ∷ leaf 2 ∷ leaf 3 ∷ leaf 4 ∷ leaf 5 ∷ leaf 
 abbrev helper : Shape
 helper = leaf 10
 
+-- nothing cites it: it shows a reader that these pieces are the whole command as clap builds it
 built_is : with_help top leaves helper ≡ built command_line
 unfolding clap_on_literals
 built_is = refl
