@@ -9,7 +9,7 @@ abbrev pub AreWithin : Market → List ℕ → Type 0
 AreWithin m positions = (p : ℕ) → Contains positions p → p < length m.students
 
 -- and there is a roll for each of their schools
-pub record HaveRolls {R : Type 0} (m : Market) (positions : List ℕ) (rolls : List R) : Type 0 where
+pub record HaveStudentsAndRolls {R : Type 0} (m : Market) (positions : List ℕ) (rolls : List R) : Type 0 where
   pub within : AreWithin m positions
   pub each : length rolls ≡ length m.schools
 

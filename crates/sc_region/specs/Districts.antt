@@ -24,7 +24,7 @@ lists_in lists = map (λ list. students_in list.items) lists
 
 -- the students listed at a school's position
 abbrev pub firsts_at : List (List ℕ) → ℕ → List ℕ
-firsts_at firsts place = slice_index_or firsts place []
+firsts_at firsts at = slice_index_or firsts at []
 
 -- each student's choices lie in one district, and each student is listed at their first choice; whoever
 -- else is listed there does no harm
@@ -42,10 +42,10 @@ pub record AreWidened (m : Market) (a : Amendment) (d : DistrictsView) : Type 0 
   pub joined : widened m a d.groups ≡ d.groups
 
 -- such districts, to be searched for the region from the position of the school to begin with
-pub record AreSearchedFrom (m : Market) (a : Amendment) (d : DistrictsView) (place : ℕ) : Type 0 where
+pub record AreSearchedFrom (m : Market) (a : Amendment) (d : DistrictsView) (at : ℕ) : Type 0 where
   pub widened : AreWidened m a d
-  pub start : place ≡ position_of m (start_of m a)
-  pub within : place < length (schools_of m)
+  pub start : at ≡ position_of m (start_of m a)
+  pub within : at < length (schools_of m)
 
 -- who is no longer listed at the first choice that they had
 abbrev pub unlisted_by : Amendment → Option ℕ

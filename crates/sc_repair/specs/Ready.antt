@@ -14,7 +14,7 @@ pub record IsReady {R : Type 0} (keys : R → List Key) (seats : R → ℕ) (m :
   pub fits : Fits m (view_of keys seats round)
 
 -- a student of the papers may enter such a round, where they have not entered yet
-pub record MayEnter {R : Type 0} (keys : R → List Key) (seats : R → ℕ) (m : Market) (round : Round R) (i : ℕ) : Type 0 where
+pub record MayComeIn {R : Type 0} (keys : R → List Key) (seats : R → ℕ) (m : Market) (round : Round R) (i : ℕ) : Type 0 where
   pub ready : is_spent round ≡ false
   pub fits : Fits m (view_of keys seats round)
   pub student : is_student m i ≡ true

@@ -12,7 +12,7 @@ ghost use Rattle.sc_engine.specs.Fresh.{IsFresh};
 ghost use Rattle.sc_engine.specs.Round.{is_spent, view_of};
 ghost use Rattle.sc_engine.specs.RoundView.{has_entered, Enters, Fits};
 ghost use Rattle.sc_repair.specs.Newcomer.{StandsAfter};
-ghost use Rattle.sc_repair.specs.Ready.{HasComeIn, MayEnter};
+ghost use Rattle.sc_repair.specs.Ready.{HasComeIn, MayComeIn};
 ghost use Rattle.sc_repair.specs.Resumption.{GoesOn};
 
 use crate::places::Places;
@@ -30,7 +30,7 @@ pub(crate) fn enter_next<R: Roll>(
     student: StudentNo,
     guess: usize,
 ) -> Result<(), AllocError>
-    requires { MayEnter R.keys R.seats papers.now round.old student }
+    requires { MayComeIn R.keys R.seats papers.now round.old student }
     ensures entered { OnOk result (HasComeIn R.keys R.seats papers.now round.old round.new student) }
     ensures chain { OnOk result ((chain : List Rejection)
         × ((view_of R.keys R.seats round.new).log ≡ (view_of R.keys R.seats round.old).log ++ chain)

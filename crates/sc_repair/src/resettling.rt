@@ -14,7 +14,7 @@ ghost use Rattle.sc_repair.specs.Changed.{HaveChanged, IsResettled};
 ghost use Rattle.sc_repair.specs.Course.{GoesOnInside};
 ghost use Rattle.sc_repair.specs.Locality.{is_among, marked_in};
 ghost use Rattle.sc_repair.specs.Newcomer.{StandsAfter};
-ghost use Rattle.sc_repair.specs.Ready.{HasComeIn, MayEnter};
+ghost use Rattle.sc_repair.specs.Ready.{HasComeIn, MayComeIn};
 ghost use Rattle.sc_repair.specs.Rejoining.{StandsInside};
 ghost use Rattle.sc_repair.specs.Renewed.{marked_from, AreRenewed, CanBeRenewed, HaveTurns};
 
@@ -37,7 +37,7 @@ fn enter_turn<R: Roll>(
     student: StudentNo,
     guess: usize,
 ) -> Result<(), AllocError>
-    requires may { MayEnter R.keys R.seats papers.now round.old student }
+    requires may { MayComeIn R.keys R.seats papers.now round.old student }
     requires within { AreWithin (view_of R.keys R.seats round.old).log spans.old }
     ensures entered { OnOk result (HasComeIn R.keys R.seats papers.now round.old round.new student) }
     ensures chain { OnOk result ((chain : List Rejection)

@@ -2,7 +2,7 @@
 
 ghost use Rattle.std.specs.Prelude.{◌≡◌, ℕ, ◌<◌, ◌∷◌, [], Bool, Some, length};
 ghost use Rattle.sc_papers.specs.Restriction.{AreApart};
-ghost use Rattle.sc_engine.specs.Leaving.{moved_up, AreEmptied, AreWithin, HaveRolls, IsReseated, Leave, StandAt};
+ghost use Rattle.sc_engine.specs.Leaving.{moved_up, AreEmptied, AreWithin, HaveStudentsAndRolls, IsReseated, Leave, StandAt};
 ghost use Rattle.sc_engine.specs.Rolls.{rolls_of};
 ghost use Rattle.sc_engine.specs.RoundView.{Fits};
 
@@ -14,7 +14,7 @@ use sc_seats::Roll;
 
 /// Empties the roll of the school at which the student at a position stands, if they stand at one.
 fn empty_roll_of<R: Roll>(rolls: &mut Vec<R>, ranks: &[Option<u8>], papers: &FlatPapers, at: usize)
-    requires { HaveRolls papers.now (at ∷ []) rolls.old.items }
+    requires { HaveStudentsAndRolls papers.now (at ∷ []) rolls.old.items }
     ensures { AreEmptied papers.now ranks.now (at ∷ []) (rolls_of R.keys R.seats rolls.old.items)
         (rolls_of R.keys R.seats rolls.new.items) }
 {
@@ -35,7 +35,7 @@ fn empty_rolls_of<R: Roll>(
     papers: &FlatPapers,
     positions: &[usize],
 )
-    requires { HaveRolls papers.now positions.now rolls.old.items }
+    requires { HaveStudentsAndRolls papers.now positions.now rolls.old.items }
     ensures { AreEmptied papers.now ranks.now positions.now (rolls_of R.keys R.seats rolls.old.items)
         (rolls_of R.keys R.seats rolls.new.items) }
 {

@@ -2,7 +2,7 @@
 
 ghost use Rattle.std.specs.Prelude.{◌≡◌, ℕ, ◌<◌, ◌∷◌, [], Bool, Contains, None, false, length, true};
 ghost use Rattle.sc_papers.specs.Restriction.{AreApart};
-ghost use Rattle.sc_engine.specs.Leaving.{AreTaken, AreWithin, HasRolls, HaveRolls, StandAt, TakesOver};
+ghost use Rattle.sc_engine.specs.Leaving.{AreTaken, AreWithin, HasRolls, HaveStudentsAndRolls, StandAt, TakesOver};
 ghost use Rattle.sc_engine.specs.Rolls.{rolls_of};
 ghost use Rattle.sc_engine.specs.RoundView.{Fits, rank_of};
 
@@ -21,8 +21,8 @@ fn take_roll<R: Roll>(
     papers: &FlatPapers,
     at: usize,
 )
-    requires own { HaveRolls papers.now (at ∷ []) rolls.old.items }
-    requires others { HaveRolls papers.now (at ∷ []) others.old.items }
+    requires own { HaveStudentsAndRolls papers.now (at ∷ []) rolls.old.items }
+    requires others { HaveStudentsAndRolls papers.now (at ∷ []) others.old.items }
     ensures { AreTaken papers.now ranks.now (at ∷ [])
         (rolls_of R.keys R.seats rolls.old.items) (rolls_of R.keys R.seats others.old.items)
         (rolls_of R.keys R.seats rolls.new.items) (rolls_of R.keys R.seats others.new.items) }
@@ -48,8 +48,8 @@ fn take_rolls<R: Roll>(
     papers: &FlatPapers,
     positions: &[usize],
 )
-    requires own { HaveRolls papers.now positions.now rolls.old.items }
-    requires others { HaveRolls papers.now positions.now others.old.items }
+    requires own { HaveStudentsAndRolls papers.now positions.now rolls.old.items }
+    requires others { HaveStudentsAndRolls papers.now positions.now others.old.items }
     ensures { AreTaken papers.now ranks.now positions.now
         (rolls_of R.keys R.seats rolls.old.items) (rolls_of R.keys R.seats others.old.items)
         (rolls_of R.keys R.seats rolls.new.items) (rolls_of R.keys R.seats others.new.items) }
