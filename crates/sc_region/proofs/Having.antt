@@ -95,7 +95,7 @@ module _ (m : Market) (a : Amendment) (well : WellFormed m) (allowed : verdict m
 
   -- so where they join all schools, they tell the region
   pub whole-tell : AreWhole m (joined_students m (students_at m few))
-      → ((place : ℕ) → place < length (joined_students m (students_at m few)) → slice_index (joined_students m (students_at m few)) place ≡ slice_index (joined_students m (students_at m few)) 0)
+      → ((at : ℕ) → at < length (joined_students m (students_at m few)) → slice_index (joined_students m (students_at m few)) at ≡ slice_index (joined_students m (students_at m few)) 0)
       → TellRegion m a (joined_students m (students_at m few))
   unfolding is_member
   whole-tell whole together i known = (
@@ -129,9 +129,9 @@ module _ (m : Market) (a : Amendment) (groups : List ℕ) (tell : TellRegion m a
           filter-kept told positions p (enough p (slice_get_within (students_of m) p i here) (subst (InRegion m a) (sym own) inside))
           (ap (λ j. is_member m groups (group_of m groups (start_of m a)) j) own ∙ (tell i known).1 inside)
 
-  pub region-told : (place : ℕ) → place ≡ position_of m (start_of m a) → AreOfRegion m a (positions_in m groups (slice_index groups place) positions)
+  pub region-told : (at : ℕ) → at ≡ position_of m (start_of m a) → AreOfRegion m a (positions_in m groups (slice_index groups at) positions)
   unfolding positions_in
-  region-told place its = subst (λ q. AreOfRegion m a (positions_in m groups (slice_index groups q) positions)) (sym its) (record {
+  region-told at its = subst (λ q. AreOfRegion m a (positions_in m groups (slice_index groups q) positions)) (sym its) (record {
     rising = IsStrictlyIncreasing-filter told positions rising;
     within = λ p among. omega (arith, within p (filter-among told positions p among).0, length-keys_of m.students);
     exact = positions-exact;
@@ -154,28 +154,28 @@ range-has count p low =
 range-low : (count p : ℕ) → Contains (range_with_len 0 count) p → p < count
 range-low count p (k, low, at) = let within : k < count = omega (arith, low, length-range_with_len 0 count) in omega (arith, within, at, get_or-range_with_len 0 count k p within)
 
--- the places of a group
-pub position-among : (groups : List ℕ) (group place : ℕ) → Contains (schools_of_group groups group) place → (place < length groups) × (slice_index groups place ≡ group)
+-- the positions of the schools of a group
+pub position-among : (groups : List ℕ) (group at : ℕ) → Contains (schools_of_group groups group) at → (at < length groups) × (slice_index groups at ≡ group)
 unfolding schools_of_group
-position-among groups group place among =
-    let (there, passes) = filter-among (λ q. slice_index groups q == group) (range_with_len 0 (length groups)) place among in
-    (range-low (length groups) place there, eqb-true _ _ passes)
+position-among groups group at among =
+    let (there, passes) = filter-among (λ q. slice_index groups q == group) (range_with_len 0 (length groups)) at among in
+    (range-low (length groups) at there, eqb-true _ _ passes)
 
-pub position-kept : (groups : List ℕ) (group place : ℕ) → place < length groups → slice_index groups place ≡ group → Contains (schools_of_group groups group) place
+pub position-kept : (groups : List ℕ) (group at : ℕ) → at < length groups → slice_index groups at ≡ group → Contains (schools_of_group groups group) at
 unfolding schools_of_group
-position-kept groups group place low is = filter-kept (λ q. slice_index groups q == group) (range_with_len 0 (length groups)) place (range-has (length groups) place low) (eq-eqb _ _ is)
+position-kept groups group at low is = filter-kept (λ q. slice_index groups q == group) (range_with_len 0 (length groups)) at (range-has (length groups) at low) (eq-eqb _ _ is)
 
 -- each has a list of students
 pub position-listed : (m : Market) (d : DistrictsView) → AreDistricts m d → (groups : List ℕ) → length groups ≡ length (schools_of m) → (lists : List (Vec First Global)) → lists_in lists ≡ d.firsts
-    → (group place : ℕ) → Contains (schools_of_group groups group) place → place < length lists
-position-listed m d districts groups one_each lists are group place among =
-    omega (arith, (position-among groups group place among).0, one_each, districts.firsts_each, ap length are, length-map lists names)
+    → (group at : ℕ) → Contains (schools_of_group groups group) at → at < length lists
+position-listed m d districts groups one_each lists are group at among =
+    omega (arith, (position-among groups group at among).0, one_each, districts.firsts_each, ap length are, length-map lists names)
 
 -- the widened districts tell the region, where the lists of a few hold the one to begin with together
 pub held-tell : (m : Market) (a : Amendment) → WellFormed m → (d : DistrictsView) → AreWidened m a d
-    → (place : ℕ) → place ≡ position_of m (start_of m a) → HeldTogether m (schools_of_group d.groups (slice_index d.groups place)) place → TellRegion m a d.groups
+    → (at : ℕ) → at ≡ position_of m (start_of m a) → HeldTogether m (schools_of_group d.groups (slice_index d.groups at)) at → TellRegion m a d.groups
 unfolding is_member
-held-tell m a well d before place its held i known = (to, from)
+held-tell m a well d before at its held i known = (to, from)
   where
     first : ℕ
     first = first_choice m i
@@ -188,9 +188,9 @@ held-tell m a well d before place its held i known = (to, from)
 
     to : is_member m groups (group_of m groups (start_of m a)) i ≡ true → InRegion m a i
     to passes =
-        let own : slice_index groups (position_of m first) ≡ slice_index groups place = eqb-true _ _ passes ∙ ap (slice_index groups) (sym its) in
+        let own : slice_index groups (position_of m first) ≡ slice_index groups at = eqb-true _ _ passes ∙ ap (slice_index groups) (sym its) in
         few-in m a well before.allowed held.few held.within i (student-among m i known)
-        (held.together (position_of m first) (position-kept groups (slice_index groups place) (position_of m first) low own)
+        (held.together (position_of m first) (position-kept groups (slice_index groups at) (position_of m first) low own)
         ∙ ap (slice_index (joined_students m (students_at m held.few))) its)
 
     from : InRegion m a i → is_member m groups (group_of m groups (start_of m a)) i ≡ true

@@ -55,7 +55,7 @@ position-is test xs p found = elim (cases_Bool (nat_lt (position_or_len test xs)
   | inr past ↦ let none : None ≡ Some p = rw past at found in cc
 ]
 
--- a school of the papers has a place among them
+-- a school of the papers has a position among them
 pub position-within : (m : Market) (s : ℕ) → is_school m s ≡ true → (position_of m s < length (schools_of m)) × (get_or (schools_of m) (position_of m s) s ≡ s)
 position-within m s known =
     let (at, found) = school-position m s known in
@@ -228,11 +228,11 @@ module _ (m : Market) (well : WellFormed m) where
   start-partial a = record {
     whole = start-whole;
     sound = λ s t s_known t_known same.
-        let s_place = position-within m s s_known in
-        let t_place = position-within m t t_known in
-        let places : position_of m s ≡ position_of m t =
-        omega (arith, get_or-range_with_len 0 (length (schools_of m)) (position_of m s) 0 s_place.0, get_or-range_with_len 0 (length (schools_of m)) (position_of m t) 0 t_place.0, same) in
-        let one : s ≡ t = sym s_place.1 ∙ get_or_default (schools_of m) (position_of m s) s t s_place.0 ∙ ap (λ p. get_or (schools_of m) p t) places ∙ t_place.1 in
+        let s_there = position-within m s s_known in
+        let t_there = position-within m t t_known in
+        let one_position : position_of m s ≡ position_of m t =
+        omega (arith, get_or-range_with_len 0 (length (schools_of m)) (position_of m s) 0 s_there.0, get_or-range_with_len 0 (length (schools_of m)) (position_of m t) 0 t_there.0, same) in
+        let one : s ≡ t = sym s_there.1 ∙ get_or_default (schools_of m) (position_of m s) s t s_there.0 ∙ ap (λ p. get_or (schools_of m) p t) one_position ∙ t_there.1 in
         subst (Linked m a s) one (itself s);
   }
 

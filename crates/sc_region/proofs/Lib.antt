@@ -5,7 +5,7 @@ pub mod Joining
 pub mod Changes
 pub mod Filtering
 pub mod Reaching
-pub mod ChoicePlaces
+pub mod ChoicePositions
 pub mod Marked
 pub mod Having
 mod MarkedPositions

@@ -56,24 +56,24 @@ module _ (m : Market) (well : WellFormed m) (students old new : List ℕ) (at i 
     ];
   }
 
--- a list of positions that has those of the students who are listed at the schools at these places
-pub record HasListed (m : Market) (firsts : List (List ℕ)) (places : List ℕ) (positions : List ℕ) : Type 0 where
+-- a list of positions that has those of the students who are listed at the schools at these positions
+pub record HasListed (m : Market) (firsts : List (List ℕ)) (schools : List ℕ) (positions : List ℕ) : Type 0 where
   pub within : (p : ℕ) → Contains positions p → p < length (students_of m)
-  pub all : (place p : ℕ) → Contains places place → p < length (students_of m) → Contains (firsts_at firsts place) (student_at m p) → Contains positions p
+  pub all : (school p : ℕ) → Contains schools school → p < length (students_of m) → Contains (firsts_at firsts school) (student_at m p) → Contains positions p
 
-pub listed-begun : (m : Market) (firsts : List (List ℕ)) (places : List ℕ) → HasListed m firsts (take 0 places) []
-listed-begun m firsts places = record {
+pub listed-begun : (m : Market) (firsts : List (List ℕ)) (schools : List ℕ) → HasListed m firsts (take 0 schools) []
+listed-begun m firsts schools = record {
   within = λ p (k, below, at). absurd (omega (arith, below));
-  all = λ place p (k, below, at) p_low among. absurd (omega (arith, below));
+  all = λ school p (k, below, at) p_low among. absurd (omega (arith, below));
 }
 
 -- one school more
-pub listed-more : (m : Market) (firsts : List (List ℕ)) (places : List ℕ) (at d : ℕ) (old new : List ℕ) → at < length places → HasListed m firsts (take at places) old
-    → HasPositions m (firsts_at firsts (get_or places at d)) old new → HasListed m firsts (take (at + 1) places) new
-listed-more m firsts places at d old new low before more = record {
+pub listed-more : (m : Market) (firsts : List (List ℕ)) (schools : List ℕ) (at d : ℕ) (old new : List ℕ) → at < length schools → HasListed m firsts (take at schools) old
+    → HasPositions m (firsts_at firsts (get_or schools at d)) old new → HasListed m firsts (take (at + 1) schools) new
+listed-more m firsts schools at d old new low before more = record {
   within = more.within;
-  all = λ place p one p_low among. elim (taken-cases places at d place low one) [
-    | inl earlier ↦ more.kept p (before.all place p earlier p_low among)
+  all = λ school p one p_low among. elim (taken-cases schools at d school low one) [
+    | inl earlier ↦ more.kept p (before.all school p earlier p_low among)
     | inr same ↦ more.all p p_low (subst (λ q. Contains (firsts_at firsts q) (student_at m p)) (sym same) among)
   ];
 }

@@ -17,11 +17,11 @@ pub record AreOfSome (m : Market) (groups : List ℕ) : Type 0 where
   pub within : (p : ℕ) → Contains some p → p < length (students_of m)
   pub joined : groups ≡ joined_students m (students_at m some)
 
--- the lists of some students, who stand at these positions, join the schools at some places with that at another
-pub record HeldTogether (m : Market) (places : List ℕ) (place : ℕ) : Type 0 where
+-- the lists of some students, who stand at these positions, join schools with the one to begin with, each by its position
+pub record HeldTogether (m : Market) (schools : List ℕ) (start : ℕ) : Type 0 where
   pub few : List ℕ
   pub within : (p : ℕ) → Contains few p → p < length (students_of m)
-  pub together : (other : ℕ) → Contains places other → slice_index (joined_students m (students_at m few)) other ≡ slice_index (joined_students m (students_at m few)) place
+  pub together : (at : ℕ) → Contains schools at → slice_index (joined_students m (students_at m few)) at ≡ slice_index (joined_students m (students_at m few)) start
 
 -- the positions of the region's students, rising
 pub record AreOfRegion (m : Market) (a : Amendment) (positions : List ℕ) : Type 0 where

@@ -24,15 +24,15 @@ pub(crate) fn schools_of_group(
     groups: &[usize],
     group: usize,
 ) -> Result<Vec<usize>, AllocError>
-    ensures { IfOk result (λ places. places.items ≡ schools_of_group groups.now group) }
+    ensures { IfOk result (λ schools. schools.items ≡ schools_of_group groups.now group) }
 {
-    let mut places = Vec::new(alloc);
-    for place in 0..groups.len() {
-        if groups[place] == group {
-            places.push(place)?;
+    let mut schools = Vec::new(alloc);
+    for school in 0..groups.len() {
+        if groups[school] == group {
+            schools.push(school)?;
         }
     }
-    Ok(places)
+    Ok(schools)
 }
 
 /// Puts the positions of the students of a list at the end of others; whoever is not in the papers has none.
@@ -67,51 +67,51 @@ fn rising(mut positions: Vec<usize>) -> Result<Vec<usize>, AllocError>
     Ok(positions)
 }
 
-/// The positions of the students who are listed at the schools at these places, rising.
+/// The positions of the students who are listed at the schools at these positions, rising.
 pub(crate) fn listed_at(
     alloc: Global,
     papers: &FlatPapers,
     firsts: &Vec<Vec<First>>,
-    places: &[usize],
+    schools: &[usize],
 ) -> Result<Vec<usize>, AllocError>
-    requires { (place : ℕ) → Contains places.now place → place < length firsts.now.items }
+    requires { (at : ℕ) → Contains schools.now at → at < length firsts.now.items }
     ensures rising { IfOk result (λ positions. IsStrictlyIncreasing positions.items) }
     ensures within { IfOk result (λ positions. (p : ℕ) → Contains positions.items p
         → p < length (students_of papers.now)) }
-    ensures all { IfOk result (λ positions. (place p : ℕ) → Contains places.now place
+    ensures all { IfOk result (λ positions. (at p : ℕ) → Contains schools.now at
         → p < length (students_of papers.now)
-        → Contains (firsts_at (lists_in firsts.now.items) place) (student_at papers.now p)
+        → Contains (firsts_at (lists_in firsts.now.items) at) (student_at papers.now p)
         → Contains positions.items p) }
 {
     let mut positions = Vec::new(alloc);
-    for place in places {
-        push_positions(papers, firsts[*place].as_slice(), &mut positions)?;
+    for school in schools {
+        push_positions(papers, firsts[*school].as_slice(), &mut positions)?;
     }
     let listed = rising(positions)?;
     Ok(listed)
 }
 
-/// How many students are listed at the schools at these places, or the greatest number where it is more.
-pub(crate) fn count_at(firsts: &Vec<Vec<First>>, places: &[usize]) -> usize
-    requires { (place : ℕ) → Contains places.now place → place < length firsts.now.items }
+/// How many students are listed at the schools at these positions, or the greatest number where it is more.
+pub(crate) fn count_at(firsts: &Vec<Vec<First>>, schools: &[usize]) -> usize
+    requires { (at : ℕ) → Contains schools.now at → at < length firsts.now.items }
 {
     let mut count: usize = 0;
-    for place in places {
-        count = count.saturating_add(firsts[*place].len());
+    for school in schools {
+        count = count.saturating_add(firsts[*school].len());
     }
     count
 }
 
-/// Whether the schools at these places are in one group, that of the school at another place.
-fn hold_together(groups: &mut SchoolGroups, places: &[usize], place: usize) -> bool
-    requires others { (other : ℕ) → Contains places.now other → other < length groups.old }
-    requires within { place < length groups.old }
-    ensures { result ≡ true → (other : ℕ) → Contains places.now other
-        → slice_index groups.old other ≡ slice_index groups.old place }
+/// Whether the schools at these positions are in one group, that of the school to begin with.
+fn hold_together(groups: &mut SchoolGroups, schools: &[usize], start: usize) -> bool
+    requires schools { (at : ℕ) → Contains schools.now at → at < length groups.old }
+    requires start { start < length groups.old }
+    ensures { result ≡ true → (at : ℕ) → Contains schools.now at
+        → slice_index groups.old at ≡ slice_index groups.old start }
 {
-    let group = groups.group_at(place);
-    for other in places {
-        if groups.group_at(*other) != group {
+    let group = groups.group_at(start);
+    for school in schools {
+        if groups.group_at(*school) != group {
             return false;
         }
     }
@@ -119,30 +119,30 @@ fn hold_together(groups: &mut SchoolGroups, places: &[usize], place: usize) -> b
 }
 
 /// Of the students who may be in the region, as many as there are lists that most often hold their district together.
-fn first_few<'a>(places: &[usize], candidates: &'a [usize]) -> &'a [usize]
+fn first_few<'a>(schools: &[usize], candidates: &'a [usize]) -> &'a [usize]
     ensures { (p : ℕ) → Contains result.now p → Contains candidates.now p }
 {
-    let few = places.len().saturating_mul(LISTS_FOR_SCHOOL);
+    let few = schools.len().saturating_mul(LISTS_FOR_SCHOOL);
     &candidates[..few.min(candidates.len())]
 }
 
-/// Whether the lists of a few of these students join the schools at these places with that at another. They mostly do so for
-/// the schools of a district, and then whoever has their first choice in it is in the region, and no other lists are joined.
+/// Whether the lists of a few of these students join the schools at these positions with the school to begin with. They mostly do so
+/// for the schools of a district, and then whoever has their first choice in it is in the region, and no other lists are joined.
 pub(crate) fn few_hold_together(
     alloc: Global,
     papers: &FlatPapers,
-    places: &[usize],
-    place: usize,
+    schools: &[usize],
+    start: usize,
     candidates: &[usize],
 ) -> Result<bool, AllocError>
-    requires places { (other : ℕ) → Contains places.now other → other < length (schools_of papers.now) }
-    requires place { place < length (schools_of papers.now) }
+    requires schools { (at : ℕ) → Contains schools.now at → at < length (schools_of papers.now) }
+    requires start { start < length (schools_of papers.now) }
     requires within { (p : ℕ) → Contains candidates.now p → p < length (students_of papers.now) }
-    ensures { IfOk result (λ together. together ≡ true → HeldTogether papers.now places.now place) }
+    ensures { IfOk result (λ together. together ≡ true → HeldTogether papers.now schools.now start) }
 {
-    let few = first_few(places, candidates);
+    let few = first_few(schools, candidates);
     let mut groups = groups_among(alloc, papers, few)?;
-    Ok(hold_together(&mut groups, places, place))
+    Ok(hold_together(&mut groups, schools, start))
 }
 
 /// Of these positions, those of the students whose first choice is in a group.

@@ -52,14 +52,14 @@ fn empty_lists(alloc: Global, count: usize) -> Result<Vec<Vec<First>>, AllocErro
 }
 
 /// Puts a student into the list of the school at a position.
-fn put(firsts: &mut Vec<Vec<First>>, place: usize, first: First) -> Result<(), AllocError>
-    requires { place < length firsts.old.items }
-    ensures has { OnOk result (Contains (firsts_at (lists_in firsts.new.items) place) first.student) }
+fn put(firsts: &mut Vec<Vec<First>>, school: usize, first: First) -> Result<(), AllocError>
+    requires { school < length firsts.old.items }
+    ensures has { OnOk result (Contains (firsts_at (lists_in firsts.new.items) school) first.student) }
     ensures keeps { OnOk result ((p i : ℕ) → Contains (firsts_at (lists_in firsts.old.items) p) i
         → Contains (firsts_at (lists_in firsts.new.items) p) i) }
     ensures one_each { OnOk result (length firsts.new.items ≡ length firsts.old.items) }
 {
-    firsts[place].push(first)?;
+    firsts[school].push(first)?;
     Ok(())
 }
 
@@ -91,13 +91,13 @@ fn strike(list: &mut Vec<First>, student: StudentNo)
 }
 
 /// Takes a student out of the list of the school at a position.
-fn take_out(firsts: &mut Vec<Vec<First>>, place: usize, student: StudentNo)
-    requires { place < length firsts.old.items }
+fn take_out(firsts: &mut Vec<Vec<First>>, school: usize, student: StudentNo)
+    requires { school < length firsts.old.items }
     ensures others { (p i : ℕ) → (i ≡ student → ⊥) → Contains (firsts_at (lists_in firsts.old.items) p) i
         → Contains (firsts_at (lists_in firsts.new.items) p) i }
     ensures one_each { length firsts.new.items ≡ length firsts.old.items }
 {
-    strike(&mut firsts[place], student);
+    strike(&mut firsts[school], student);
 }
 
 /// Who is no longer listed at their first choice, once the amendment is made.

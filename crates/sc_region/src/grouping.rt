@@ -20,13 +20,13 @@ pub(crate) fn position_of(papers: &FlatPapers, school: SchoolNo) -> usize
     position
 }
 
-/// Puts one number in the place of another.
+/// Puts one number wherever another stands.
 fn renumber(groups: &mut Vec<usize>, kept: usize, lost: usize)
     ensures { groups.new.items ≡ map (moved kept lost) groups.old.items }
 {
-    for place in 0..groups.len() {
-        if groups[place] == lost {
-            groups[place] = kept;
+    for position in 0..groups.len() {
+        if groups[position] == lost {
+            groups[position] = kept;
         }
     }
 }
@@ -58,9 +58,9 @@ pub(crate) fn join_list(
     ensures joined { groups.new.items ≡ joined_list papers.now first groups.old.items list.now }
     ensures one_each { length groups.new.items ≡ length (schools_of papers.now) }
 {
-    let place = position_of(papers, first);
+    let first_position = position_of(papers, first);
     for school in list {
-        join(groups, place, position_of(papers, *school));
+        join(groups, first_position, position_of(papers, *school));
     }
 }
 
@@ -73,9 +73,9 @@ pub(crate) fn regroup(groups: &mut Vec<usize>, group: usize, others: &[usize])
         else slice_index groups.old.items p) }
     ensures one_each { length groups.new.items ≡ length groups.old.items }
 {
-    for place in 0..groups.len() {
-        if groups[place] == group {
-            groups[place] = others[place];
+    for position in 0..groups.len() {
+        if groups[position] == group {
+            groups[position] = others[position];
         }
     }
 }
@@ -99,8 +99,8 @@ fn join_choices(papers: &FlatPapers, groups: &mut SchoolGroups, position: usize)
     ensures one_each { length groups.new ≡ length (schools_of papers.now) }
 {
     let first = first_position_at(papers, position);
-    for place in papers.choice_positions_at(position) {
-        groups.join(first, usize::from(*place));
+    for choice in papers.choice_positions_at(position) {
+        groups.join(first, usize::from(*choice));
     }
 }
 

@@ -144,11 +144,11 @@ fn spread_positions(alloc: Global, papers: &FlatPapers) -> Result<Vec<usize>, Al
 
 /// Whether all schools are in one group, that of the first.
 pub(crate) fn are_one(groups: &[usize]) -> bool
-    ensures { result ≡ true → (place : ℕ) → place < length groups.now
-        → slice_index groups.now place ≡ slice_index groups.now 0 }
+    ensures { result ≡ true → (position : ℕ) → position < length groups.now
+        → slice_index groups.now position ≡ slice_index groups.now 0 }
 {
-    for place in 0..groups.len() {
-        if groups[place] != groups[0] {
+    for position in 0..groups.len() {
+        if groups[position] != groups[0] {
             return false;
         }
     }

@@ -10,7 +10,7 @@ returns-clause-has c =
     let was = c.index_mut.result.now in
     let new = c.push.new.self in
     let more = ap students_in c.in_ok-push.ensures.items ∙ students-push was.items c.args.first in
-    subst (λ xs. Contains xs c.args.first.student) (sym (list-here lists c.args.place new c.requires ∙ more)) (Contains-push (students_in was.items) c.args.first.student)
+    subst (λ xs. Contains xs c.args.first.student) (sym (list-here lists c.args.school new c.requires ∙ more)) (Contains-push (students_in was.items) c.args.first.student)
 
 pub returns-clause-keeps : goal.returns-clause-keeps
 returns-clause-keeps c p i =
@@ -18,6 +18,6 @@ returns-clause-keeps c p i =
     let was = c.index_mut.result.now in
     let new = c.push.new.self in
     let more = ap students_in c.in_ok-push.ensures.items ∙ students-push was.items c.args.first in
-    let read = list-read lists c.args.place was c.requires c.index_mut.ensures.value in
-    lists-keep lists c.args.place new i c.requires
+    let read = list-read lists c.args.school was c.requires c.index_mut.ensures.value in
+    lists-keep lists c.args.school new i c.requires
     (λ among. subst (λ xs. Contains xs i) (sym more) (Contains-append_left (students_in was.items) (c.args.first.student ∷ []) i (subst (λ xs. Contains xs i) (sym read) among))) p

@@ -15,6 +15,6 @@ pub returns-clause-others : goal.returns-clause-others
 returns-clause-others c p i other =
     let lists = c.args.firsts.now.items in
     let was = c.index_mut.result.now in
-    let read = list-read lists c.args.place was c.requires c.index_mut.ensures.value in
-    lists-keep lists c.args.place c.strike.new.list i c.requires
+    let read = list-read lists c.args.school was c.requires c.index_mut.ensures.value in
+    lists-keep lists c.args.school c.strike.new.list i c.requires
     (λ among. subst (λ xs. Contains xs i) (sym c.strike.ensures) (filter-kept (λ k. not (k == c.args.student)) (students_in was.items) i (subst (λ xs. Contains xs i) (sym read) among) (other-kept i c.args.student other))) p

@@ -6,7 +6,7 @@ use Rattle.sc_region.proofs.grouping.join_list.Goals as goal
 
 pub loop-school-init : goal.loop-school-init
 unfolding joined_list
-loop-school-init c = (refl, c.position_of-place.ensures.position, c.requires.one_each)
+loop-school-init c = (refl, c.position_of-first_position.ensures.position, c.requires.one_each)
 
 pub loop-school-preserved : goal.loop-school-preserved
 unfolding joined_list
@@ -17,9 +17,9 @@ loop-school-preserved c =
     let s = c.school-item.result in
     let low : at < length xs = c.loop-school-test.true in
     let before = c.loop-school.invariant in
-    let place : c.position_of.result ≡ position_of m (get_or xs at s) = c.position_of.ensures.position ∙ ap (position_of m) c.school-item.is in (
-      c.join.ensures ∙ (λ t. joined (before.0 t) (before.1 t) (place t))
+    let there : c.position_of.result ≡ position_of m (get_or xs at s) = c.position_of.ensures.position ∙ ap (position_of m) c.school-item.is in (
+      c.join.ensures ∙ (λ t. joined (before.0 t) (before.1 t) (there t))
           ∙ sym (fold_more (λ g s. joined g (position_of m c.args.first) (position_of m s)) c.args.groups.now.items xs at s low),
       before.1,
-      ap length c.join.ensures ∙ joined-whole m c.loop-school.groups.items c.position_of-place.result c.position_of.result before.2,
+      ap length c.join.ensures ∙ joined-whole m c.loop-school.groups.items c.position_of-first_position.result c.position_of.result before.2,
     )

@@ -6,17 +6,17 @@ use Rattle.sc_region.specs.Groups.{moved}
 use Rattle.sc_region.proofs.grouping.renumber.Goals as goal
 use Rattle.sc_region.proofs.grouping.renumber.Goals.{then-index-lost, else-index-lost}
 
-pub loop-place-preserved : goal.loop-place-preserved
-loop-place-preserved c =
+pub loop-position-preserved : goal.loop-position-preserved
+loop-position-preserved c =
     let kept = c.args.kept in
     let lost = c.args.lost in
     let old = c.args.groups.now.items in
-    let now = c.loop-place.groups.items in
-    let at = c.loop-place.place in
+    let now = c.loop-position.groups.items in
+    let at = c.loop-position.position in
     let x = c.index.result.now in
-    let low : at < length old = omega (arith, c.loop-place-test.true, c.len-place-end.ensures, c.args.groups.now.ok.0) in
+    let low : at < length old = omega (arith, c.loop-position-test.true, c.len-position-end.ensures, c.args.groups.now.ok.0) in
     let more : set now at (moved kept lost x) ≡ map (moved kept lost) (take (at + 1) old) ++ drop (at + 1) old =
-    map_over_more (moved kept lost) old now at x low c.loop-place.invariant c.index.ensures in
+    map_over_more (moved kept lost) old now at x low c.loop-position.invariant c.index.ensures in
     elim c.if-index-lost.branch [
       | then-index-lost w ↦
           ap (λ (v : _). v.items) w.groups-is ∙ ap (set now at) (sym (cond-true (x == lost) kept x (eq-eqb x lost w.if-index-lost.true))) ∙ more
@@ -27,7 +27,7 @@ loop-place-preserved c =
 pub returns : goal.returns
 returns c =
     let old = c.args.groups.now.items in
-    let past : length old ≤ c.loop-place.place = omega (arith, c.loop-place-test.false, c.len-place-end.ensures, c.args.groups.now.ok.0) in
-    c.loop-place.invariant
-    ∙ (λ t. map (moved c.args.kept c.args.lost) (take_all c.loop-place.place old past t) ++ drop_all c.loop-place.place old past t)
+    let past : length old ≤ c.loop-position.position = omega (arith, c.loop-position-test.false, c.len-position-end.ensures, c.args.groups.now.ok.0) in
+    c.loop-position.invariant
+    ∙ (λ t. map (moved c.args.kept c.args.lost) (take_all c.loop-position.position old past t) ++ drop_all c.loop-position.position old past t)
     ∙ append-nil (map (moved c.args.kept c.args.lost) old)

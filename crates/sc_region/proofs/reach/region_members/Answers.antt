@@ -33,12 +33,12 @@ returns c =
     let m = c.args.papers.now in
     let a = c.args.amendment.now in
     let numbers = c.args.groups.now in
-    let place : c.position_of.result ≡ position_of m (start_of m a) = c.position_of.ensures.position ∙ ap (position_of m) c.start_of.ensures.start in
+    let there : c.position_of.result ≡ position_of m (start_of m a) = c.position_of.ensures.position ∙ ap (position_of m) c.start_of.ensures.start in
     let old : c.loop-position.members.items ≡ members_of m numbers (group_of m numbers (start_of m a)) =
     c.loop-position.invariant
     ∙ filter-whole (is_member m numbers (slice_index numbers c.position_of.result)) (students_of m) c.loop-position.position
     (omega (arith, c.loop-position-test.false, c.students_len-position-end.ensures.count, length-keys_of m.students))
-    ∙ ap (λ p. members_of m numbers (slice_index numbers p)) place in
+    ∙ ap (λ p. members_of m numbers (slice_index numbers p)) there in
     elim c.match-amendment.branch [
       | in-Enter+in_ok-push-2 w ↦
           rw (w.members-is, w.in_ok-push-2.ensures.items) (λ t. old t ++ entrants (sym w.in-Enter.is t))

@@ -19,12 +19,12 @@ returns-then-are_one-clause-region c =
     let numbers = c.in_ok-few.few.items in
     let few = c.in_ok-few.ensures.few in
     let whole = c.in_ok-few.ensures.one_each in
-    let one : (place : ℕ) → place < length numbers → slice_index numbers place ≡ slice_index numbers 0 =
-    λ place low. subst (λ (gs : List ℕ). slice_index gs place ≡ slice_index gs 0) c.as_slice.ensures.value (c.are_one.ensures c.if-are_one.true place (omega (arith, low, ap length c.as_slice.ensures.value))) in
+    let one : (at : ℕ) → at < length numbers → slice_index numbers at ≡ slice_index numbers 0 =
+    λ at low. subst (λ (gs : List ℕ). slice_index gs at ≡ slice_index gs 0) c.as_slice.ensures.value (c.are_one.ensures c.if-are_one.true at (omega (arith, low, ap length c.as_slice.ensures.value))) in
     let tell : TellRegion m a numbers =
     subst (TellRegion m a) (sym few.joined)
     (whole-tell m a c.students_len.ensures.well_formed c.requires.widened.allowed few.some few.within (ap length (sym few.joined) ∙ whole)
-    (λ place low. subst (λ (gs : List ℕ). slice_index gs place ≡ slice_index gs 0) few.joined (one place (omega (arith, low, ap length few.joined))))) in
+    (λ at low. subst (λ (gs : List ℕ). slice_index gs at ≡ slice_index gs 0) few.joined (one at (omega (arith, low, ap length few.joined))))) in
     let own : c.index.result.now ≡ slice_index numbers c.args.start = get_or_read numbers c.args.start c.index.result.now (omega (arith, c.requires.within, whole)) c.index.ensures 0 in
     let is : c.in_ok-positions.positions.items ≡ positions_in m numbers (slice_index numbers c.args.start) (range_with_len 0 (length (students_of m))) =
     c.in_ok-positions.ensures ∙ (λ t. positions_in m (c.as_slice-then-are_one.ensures.value t) (own t) (range_with_len 0 (length (students_of m)))) in

@@ -16,8 +16,8 @@ listed_at-requires c other among =
     position-listed c.args.papers.now c.args.self.now c.requires.searched.widened.districts c.args.self.now.groups c.requires.searched.widened.districts.one_each c.self.inside.firsts.items
     (ap (λ (v : _). v.firsts) c.self.view_is) (slice_index c.args.self.now.groups c.args.start) other (subst (λ xs. Contains xs other) c.requires.schools among)
 
-pub few_hold_together-requires-clause-places : goal.few_hold_together-requires-clause-places
-few_hold_together-requires-clause-places c other among =
+pub few_hold_together-requires-clause-schools : goal.few_hold_together-requires-clause-schools
+few_hold_together-requires-clause-schools c other among =
     omega (arith, (position-among c.args.self.now.groups (slice_index c.args.self.now.groups c.args.start) other (subst (λ xs. Contains xs other) c.requires.schools among)).0, c.requires.searched.widened.districts.one_each)
 
 pub few_hold_together-requires-clause-within : goal.few_hold_together-requires-clause-within
