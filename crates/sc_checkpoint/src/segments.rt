@@ -34,7 +34,7 @@ impl Model for Segments {
 }
 
 impl Segments {
-    ghost use Rattle.std.specs.Prelude.{◌≡◌, ◌<◌, ◌≤◌, [], length, map, min, remove, take, slice_get, Some, IfOk, OnOk, OnErr};
+    ghost use Rattle.std.specs.Prelude.{◌≡◌, ◌<◌, ◌≤◌, [], length, map, min, remove, take, slice_get, Some, IfOk, IfSome, OnOk, OnErr};
     ghost use Rattle.std.specs.List.Sorted.{IsStrictlyIncreasing};
     ghost use Rattle.sc_papers.specs.Restriction.{joined};
     ghost use Rattle.sc_checkpoint.specs.Chains.{students_in, logs_in, logs_at, replaced, with_chain};
@@ -231,20 +231,20 @@ impl Segments {
     {
         let gone = replace_spans(&mut self.spans, &mut self.entries, positions, renewed, log)?;
         self.gone = self.gone.saturating_add(gone);
-        self.tidy();
+        if let Some(copy) = self.tidy_copy() {
+            *self = copy;
+        }
         Ok(())
     }
 
-    /// Puts the entries together that belong to segments, where many do not.
-    fn tidy(&mut self)
-        ensures { self.new ≡ self.old }
+    /// A copy of the entries that belong to segments alone, where many do not and there is room for it.
+    fn tidy_copy(&self) -> Option<Self>
+        ensures { IfSome result (λ copy. copy ≡ self.now) }
     {
         if !self.is_untidy() {
-            return;
+            return None;
         }
-        if let Ok(copy) = self.copy_prefix(self.len()) {
-            *self = copy;
-        }
+        self.copy_prefix(self.len()).ok()
     }
 
     /// Takes out the segment at a position. It takes no memory; whoever stands behind moves up by one.
