@@ -4,35 +4,42 @@ use Rattle.std.specs.List.Sorted.{IsPermutation}
 use Rattle.std.specs.Option.{option_map}
 use Rattle.std.proofs.lemmas.Cmp.{nat_eq_equiv}
 use Rattle.std.proofs.lemmas.List.{map-append}
+use Rattle.std.proofs.lemmas.List.Elements.{All-get_or}
 use Rattle.std.proofs.lemmas.List.Sorted.{All-permutation, IsPermutation-map}
 use Rattle.std.proofs.lemmas.Map.Keys.{IsDistinct-IsPermutation}
 use Rattle.std.proofs.lemmas.Option.{slice_get-map, slice_get-get_or}
 use Rattle.sc_papers.specs.Market.{Market, student_at, students_of}
-use Rattle.sc_papers.proofs.Hands.{hand-is, hand-there}
+use Rattle.sc_papers.proofs.Hands.{hand-there}
 use Rattle.sc_engine.specs.Applicants.{numbers_of, AreEverybody, IsWithin}
-use Rattle.sc_engine.specs.RoundView.{RoundView, Enters, has_entered, HaveEntered}
+use Rattle.sc_engine.specs.RoundView.{RoundView, Enters, HaveEntered, IsYetToEnter}
 use Rattle.sc_engine.specs.declared.applicants.Applicant.{Applicant}
 use Rattle.sc_engine.proofs.Settling.{entered-next, entered-permuted, first-apart, take-all, take-next}
 use Rattle.sc_engine.proofs.Tables.{length-mapped}
 
--- a student who stands where one of the list does
-module _ (m : Market) (applicants : List Applicant) (k : ℕ) (d : Applicant) (low : k < length applicants) (i : ℕ) (here : slice_get (students_of m) (get_or applicants k d).position ≡ Some i) where
-  number-there : slice_get (numbers_of m applicants) k ≡ Some i
+-- the student at a position of the list
+module _ (m : Market) (applicants : List Applicant) (k : ℕ) (d : Applicant) (low : k < length applicants) where
+  abbrev own : ℕ
+  own = student_at m (get_or applicants k d).position
+
+  number-there : slice_get (numbers_of m applicants) k ≡ Some own
   number-there =
       slice_get-map (λ (f : Applicant). student_at m f.position) applicants k
       ∙ ap (option_map (λ (f : Applicant). student_at m f.position)) (slice_get-get_or applicants k d low)
-      ∙ ap Some (hand-is m (get_or applicants k d).position i here)
 
-  -- those before are others
-  pub applicant-apart : (r : RoundView) → AreEverybody m applicants → HaveEntered m r (take k (numbers_of m applicants)) → has_entered m r.ranks i ≡ false
-  applicant-apart r are before =
-      before.entered i
-      ∙ first-apart (numbers_of m applicants) k i
-      (IsDistinct-IsPermutation nat_eq nat_eq_equiv.symm (students_of m) (numbers_of m applicants) are.numbers before.fits.well_formed.students_differ)
-      number-there
+  -- is yet to enter: those before are others
+  pub applicant-yet : (r : RoundView) → AreEverybody m applicants → HaveEntered m r (take k (numbers_of m applicants)) → IsYetToEnter m r (get_or applicants k d).position
+  applicant-yet r are before = record {
+    fits = before.fits;
+    within = All-get_or (IsWithin m) applicants k d low are.within;
+    absent =
+        before.entered own
+        ∙ first-apart (numbers_of m applicants) k own
+        (IsDistinct-IsPermutation nat_eq nat_eq_equiv.symm (students_of m) (numbers_of m applicants) are.numbers before.fits.well_formed.students_differ)
+        number-there;
+  }
 
-  pub applicant-next : (old new : RoundView) → HaveEntered m old (take k (numbers_of m applicants)) → Enters m old new i → HaveEntered m new (take (k + 1) (numbers_of m applicants))
-  applicant-next old new before enters = entered-next m old new (numbers_of m applicants) k i number-there before enters
+  pub applicant-next : (old new : RoundView) → HaveEntered m old (take k (numbers_of m applicants)) → Enters m old new own → HaveEntered m new (take (k + 1) (numbers_of m applicants))
+  applicant-next old new before enters = entered-next m old new (numbers_of m applicants) k own number-there before enters
 
 -- the first students, and one more
 pub numbers-more : (m : Market) (applicants : List Applicant) (k : ℕ) (e : Applicant) → numbers_of m applicants ≡ take k (students_of m) → e.position ≡ k → k < length m.students

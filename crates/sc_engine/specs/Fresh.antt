@@ -23,6 +23,11 @@ pub record IsFresh {R : Type 0} (keys : R → List Key) (seats : R → ℕ) (m :
 abbrev pub CanResume : Market → List Standing → Type 0
 CanResume m next_choices = (earlier : List Rejection) × AreNextChoices m earlier next_choices
 
+-- nobody has entered the round, which the students of these next choices can go on from
+pub record CanTakeAll {R : Type 0} (keys : R → List Key) (seats : R → ℕ) (m : Market) (next_choices : List Standing) (round : Round R) : Type 0 where
+  pub fresh : IsFresh keys seats m round
+  pub after : CanResume m next_choices
+
 -- the students of these next choices have entered and stand at them, and after each log that leaves them there the round
 -- goes on as if it had made that log itself
 pub record IsResumed {R : Type 0} (keys : R → List Key) (seats : R → ℕ) (m : Market) (next_choices : List Standing) (round : Round R) : Type 0 where

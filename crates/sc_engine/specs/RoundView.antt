@@ -6,7 +6,7 @@ use Rattle.std.specs.Option.{option_map_or, option_and_then, option_to_list}
 use Rattle.sc_papers.specs.Key.{key_of, is_before}
 use Rattle.sc_papers.specs.Log.{next_choice, IsSettled}
 use Rattle.sc_papers.specs.Chain.{InChain, and_one}
-use Rattle.sc_papers.specs.Market.{Market, choices_of, schools_of, seats_of, students_of}
+use Rattle.sc_papers.specs.Market.{Market, choices_of, schools_of, seats_of, student_at, students_of}
 use Rattle.sc_papers.specs.Matching.{Matching, has, how_many}
 use Rattle.sc_papers.specs.Restriction.{restricted}
 use Rattle.sc_papers.specs.WellFormed.{WellFormed, WithinLimits}
@@ -164,6 +164,12 @@ pub record PassedOver (m : Market) (old new : RoundView) (proposer : ℕ) : Type
 abbrev pub Proposes : Market → RoundView → RoundView → ℕ → Option ℕ → Type 0
 Proposes m old new proposer None = ChainEnds m old new proposer
 Proposes m old new proposer (Some out) = ChainGoesOn m old new proposer out × (choices_left m new.ranks < choices_left m old.ranks)
+
+-- the round fits the papers, and the student at a position of the order of entry is yet to enter
+pub record IsYetToEnter (m : Market) (r : RoundView) (at : ℕ) : Type 0 where
+  pub fits : Fits m r
+  pub within : at < length m.students
+  pub absent : has_entered m r.ranks (student_at m at) ≡ false
 
 -- one more student has entered by a whole chain: after each earlier log that the round continued, it
 -- still does

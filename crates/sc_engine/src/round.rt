@@ -1,9 +1,9 @@
 //! Rounds of proposals.
 
-ghost use Rattle.std.specs.Prelude.{◌≡◌, ℕ, true, false, Some, position, nat_eq, map, IfOk, OnOk, OnErr};
+ghost use Rattle.std.specs.Prelude.{◌≡◌, ℕ, true, false, map, IfOk, OnOk, OnErr};
 ghost use Rattle.sc_papers.specs.Assignment.{assigned};
-ghost use Rattle.sc_papers.specs.Market.{is_student, students_of};
-ghost use Rattle.sc_engine.specs.RoundView.{next_of, Fits, Enters, has_entered, without_log};
+ghost use Rattle.sc_papers.specs.Market.{is_student, student_at, students_of};
+ghost use Rattle.sc_engine.specs.RoundView.{next_of, Fits, Enters, IsYetToEnter, has_entered, without_log};
 
 mod chains;
 mod leaving;
@@ -88,22 +88,14 @@ impl<R: Roll> Round<R> {
             return Err(AllocError);
         }
         let at = position_near(papers, student, guess);
-        self.enter_at(papers, student, at)
+        self.enter_at(papers, at)
     }
 
-    /// Does what `enter_one` does, where it is known at which position of the order of entry the student stands.
-    pub(crate) fn enter_at(
-        &mut self,
-        papers: &FlatPapers,
-        student: StudentNo,
-        at: usize,
-    ) -> Result<(), AllocError>
-        requires fits { is_spent self.old ≡ false → Fits papers.now (view_of R.keys R.seats self.old) }
-        requires stands { is_spent self.old ≡ false → position (nat_eq student) (students_of papers.now) ≡ Some at }
-        requires absent { is_spent self.old ≡ false
-            → has_entered papers.now (view_of R.keys R.seats self.old).ranks student ≡ false }
+    /// Does what `enter_one` does, for the student at a position of the order of entry.
+    pub(crate) fn enter_at(&mut self, papers: &FlatPapers, at: usize) -> Result<(), AllocError>
+        requires { is_spent self.old ≡ false → IsYetToEnter papers.now (view_of R.keys R.seats self.old) at }
         ensures enters { OnOk result (Enters papers.now (view_of R.keys R.seats self.old)
-            (view_of R.keys R.seats self.new) student) }
+            (view_of R.keys R.seats self.new) (student_at papers.now at)) }
         ensures was_ready { OnOk result (is_spent self.old ≡ false) }
         ensures ready { OnOk result (is_spent self.new ≡ false) }
         ensures spent { OnErr result (is_spent self.new ≡ true) }
@@ -111,7 +103,7 @@ impl<R: Roll> Round<R> {
         if self.spent {
             return Err(AllocError);
         }
-        let entered = self.enter(papers, student, at);
+        let entered = self.enter(papers, at);
         self.spent = entered.is_err();
         entered
     }

@@ -1,15 +1,15 @@
 //! Chains of proposals, by which students enter a round.
 
-ghost use Rattle.std.specs.Prelude.{◌≡◌, ℕ, ◌+◌, ◌^◌, ◌<◌, false, [], ◌∷◌, ◌++◌, Contains, None, Some, length, position, nat_eq, slice_index_or, slice_set, IfOk, IfSome, OnOk};
+ghost use Rattle.std.specs.Prelude.{◌≡◌, ℕ, ◌+◌, ◌^◌, ◌<◌, [], ◌∷◌, ◌++◌, Contains, None, Some, length, slice_index_or, slice_set, IfOk, IfSome, OnOk};
 ghost use Rattle.std.specs.Option.{option_map};
-ghost use Rattle.sc_papers.specs.Market.{students_of, student_at};
+ghost use Rattle.sc_papers.specs.Market.{student_at};
 ghost use Rattle.sc_engine.specs.Proposals.{IsProposal};
-ghost use Rattle.sc_engine.specs.RoundView.{OffersAt, roll_at, next_of, Fits, FitsBut, only, PassedOver, Proposes, ChainEnds, Enters, has_entered};
+ghost use Rattle.sc_engine.specs.RoundView.{OffersAt, roll_at, next_of, FitsBut, only, PassedOver, Proposes, ChainEnds, Enters, IsYetToEnter};
 
 use super::Round;
 use super::ranks::{position_near, proposal_of};
 use super::rolls::{is_refused, offer_to};
-use sc_papers::{FlatPapers, LONGEST_LIST, Proposal, Rejection, StudentNo};
+use sc_papers::{FlatPapers, LONGEST_LIST, Proposal, Rejection};
 use sc_seats::{HeldKey, Roll};
 use std::alloc::AllocError;
 
@@ -137,17 +137,10 @@ impl<R: Roll> Round<R> {
     }
 
     /// The student at the position goes to their first choice, and their chain follows.
-    pub(super) fn enter(
-        &mut self,
-        papers: &FlatPapers,
-        student: StudentNo,
-        at: usize,
-    ) -> Result<(), AllocError>
-        requires fits { Fits papers.now (view_of R.keys R.seats self.old) }
-        requires stands { position (nat_eq student) (students_of papers.now) ≡ Some at }
-        requires absent { has_entered papers.now self.old.ranks student ≡ false }
+    pub(super) fn enter(&mut self, papers: &FlatPapers, at: usize) -> Result<(), AllocError>
+        requires { IsYetToEnter papers.now (view_of R.keys R.seats self.old) at }
         ensures { OnOk result (Enters papers.now (view_of R.keys R.seats self.old)
-            (view_of R.keys R.seats self.new) student) }
+            (view_of R.keys R.seats self.new) (student_at papers.now at)) }
     {
         self.ranks.make_room(at)?;
         self.ranks.put(at, 0)?;

@@ -46,7 +46,7 @@ fn rank_guess_of(told: &[u8], turn: usize) -> usize {
 }
 
 impl<R: Roll> Round<R> {
-    ghost use Rattle.sc_engine.specs.Fresh.{CanResume, IsFresh, IsResumed};
+    ghost use Rattle.sc_engine.specs.Fresh.{CanResume, CanTakeAll, IsResumed};
     ghost use Rattle.sc_engine.specs.Round.{view_of, is_spent};
 
     /// Puts the student at their next choice, and on the roll of that school, which has room. That is no
@@ -116,7 +116,9 @@ impl<R: Roll> Round<R> {
         requires { CanResume papers.now next_choices.now }
         ensures { IfOk result (IsResumed R.keys R.seats papers.now next_choices.now) }
     {
-        Round::start(alloc, papers)?.put_all(papers, next_choices, near, ranks)
+        let mut round = Round::start(alloc, papers)?;
+        round.put_all(papers, next_choices, near, ranks)?;
+        Ok(round)
     }
 
     /// Does what `resume_near` does, in the memory of a round that is done with, whatever papers it was of and whether or
@@ -135,27 +137,26 @@ impl<R: Roll> Round<R> {
         requires { CanResume papers.now next_choices.now }
         ensures { IfOk result (IsResumed R.keys R.seats papers.now next_choices.now) }
     {
-        self.again(papers)?
-            .put_all(papers, next_choices, near, ranks)
+        let mut round = self.again(papers)?;
+        round.put_all(papers, next_choices, near, ranks)?;
+        Ok(round)
     }
 
     /// Puts each student of these next choices at theirs, in a round in which nobody has entered.
     fn put_all(
-        self,
+        &mut self,
         papers: &FlatPapers,
         next_choices: &[Standing],
         near: &[usize],
         ranks: &[u8],
-    ) -> Result<Self, AllocError>
-        requires after { CanResume papers.now next_choices.now }
-        requires fresh { IsFresh R.keys R.seats papers.now self }
-        ensures { IfOk result (IsResumed R.keys R.seats papers.now next_choices.now) }
+    ) -> Result<(), AllocError>
+        requires { CanTakeAll R.keys R.seats papers.now next_choices.now self.old }
+        ensures { OnOk result (IsResumed R.keys R.seats papers.now next_choices.now self.new) }
     {
-        let mut round = self;
         for (turn, choice) in next_choices.iter().enumerate() {
-            let guess = guess_of(near, turn, round.ranks.as_slice().len());
-            round.put(papers, *choice, guess, rank_guess_of(ranks, turn))?;
+            let guess = guess_of(near, turn, self.ranks.as_slice().len());
+            self.put(papers, *choice, guess, rank_guess_of(ranks, turn))?;
         }
-        Ok(round)
+        Ok(())
     }
 }

@@ -35,7 +35,7 @@ returns g c =
     record {
       fits = put.fits;
       entered = λ i. put.entered i ∙ ap (λ (first : List Standing). stands first i) (take_all turn choices (omega arith));
-      continues = λ earlier after. continues-put c.args.papers.now earlier choices (view_of g.R.Roll.keys g.R.Roll.seats c.loop-turn.round) (is_spent c.loop-turn.round) turn (omega arith) put after;
+      continues = λ earlier after. continues-put c.args.papers.now earlier choices (view_of g.R.Roll.keys g.R.Roll.seats c.loop-turn.self) (is_spent c.loop-turn.self) turn (omega arith) put after;
       log = put.log;
       proposals = put.proposals;
       ready = put.ready;

@@ -3,4 +3,4 @@ use Rattle.sc_engine.proofs.Resuming.{PutFirst}
 use Rattle.sc_engine.proofs.round.Round.put_all.Given as goal
 
 abbrev pub invariant-loop-turn : goal.invariant-loop-turn
-invariant-loop-turn g l = PutFirst l.papers l.next_choices (view_of g.R.Roll.keys g.R.Roll.seats l.round) (is_spent l.round) l.turn
+invariant-loop-turn g l = PutFirst l.papers l.next_choices (view_of g.R.Roll.keys g.R.Roll.seats l.self) (is_spent l.self) l.turn
