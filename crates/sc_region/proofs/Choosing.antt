@@ -1,5 +1,6 @@
 -- Students' choices, of which there are always some, and the schools that they name.
-use Rattle.std.proofs.Common.{◌≡◌, ℕ, ◌<◌, nat_eq, true, [], length, Option, Some, None, Contains, IfSome, is_some}
+use Rattle.std.proofs.Common.{◌≡◌, ◌∙◌, ap, ℕ, ◌<◌, nat_eq, true, List, [], get_or, length, Option, Some, None, Contains, IfSome, is_some}
+use Rattle.std.proofs.lemmas.List.{get_or_read}
 use Rattle.std.specs.Option.{option_map_or}
 use Rattle.std.proofs.lemmas.Bool.{false≢true}
 use Rattle.std.proofs.lemmas.List.Elements.{Contains-get_or}
@@ -19,3 +20,7 @@ choices-some m well i known = go (student_of m i) (All-lookup (IsProper m) (nat_
 
 pub first-listed : (m : Market) → WellFormed m → (i : ℕ) → is_student m i ≡ true → Contains (choices_of m i) (first_choice m i)
 first-listed m well i known = Contains-get_or (choices_of m i) 0 0 (choices-some m well i known)
+
+-- a first choice that is read
+pub first-read : (xs ys : List ℕ) (r : ℕ) → 0 < length ys → r ≡ get_or xs 0 r → xs ≡ ys → r ≡ get_or ys 0 0
+first-read xs ys r some is same = let here : r ≡ get_or ys 0 r = is ∙ ap (λ zs. get_or zs 0 r) same in get_or_read ys 0 r some here 0

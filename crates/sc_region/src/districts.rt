@@ -10,7 +10,7 @@ use crate::first::First;
 use crate::grouping::{first_position_at, groups_among, groups_of, position_of, regroup};
 use crate::marks::RegionPositions;
 use crate::members::positions_of;
-use crate::reach::{are_one, first_choice, groups_of_few, new_choices, start_of, widen};
+use crate::reach::{are_one, first_choice, groups_of_few, new_choices, widen};
 use sc_papers::{Amendment, FlatPapers, MOST_STUDENTS, StudentNo};
 use std::alloc::{AllocError, Global};
 use std::marker::Model;
@@ -169,7 +169,7 @@ impl Districts {
     ghost use Rattle.sc_papers.specs.Market.{schools_of};
     ghost use Rattle.sc_papers.specs.Verdict.{after, verdict};
     ghost use Rattle.sc_region.specs.Districts.{AreDistricts, AreSearchedFrom, AreWidened};
-    ghost use Rattle.sc_region.specs.Groups.{schools_of_group};
+    ghost use Rattle.sc_region.specs.Groups.{schools_of_group, IsAllowedBeside};
     ghost use Rattle.sc_region.specs.Telling.{AreOfRegion, MarkRegion};
 
     /// The districts of the papers. The only error is want of memory.
@@ -186,15 +186,15 @@ impl Districts {
         Ok(Districts { groups, firsts })
     }
 
-    /// Makes one district of those that the new choices join.
-    fn widen(&mut self, papers: &FlatPapers, amendment: &Amendment)
+    /// Makes one district of those that the new choices join, and answers the position of the school to begin with.
+    fn widen(&mut self, papers: &FlatPapers, amendment: &Amendment) -> usize
         requires districts { AreDistricts papers.now self.old }
-        requires allowed { verdict papers.now amendment.now ≡ None }
-        ensures { AreWidened papers.now amendment.now self.new }
+        requires beside { IsAllowedBeside papers.now amendment.now self.old.groups }
+        ensures { AreSearchedFrom papers.now amendment.now self.new result }
     {
         // This call tells that the papers are well-formed.
         prove!(papers.students_len() <= MOST_STUDENTS);
-        widen(papers, amendment, &mut self.groups);
+        widen(papers, amendment, &mut self.groups)
     }
 
     /// The positions of the region's students, rising, found among all students, by passes that ask nobody's position by number. Given is the
@@ -292,8 +292,7 @@ impl Districts {
         ensures region { IfOk result (MarkRegion papers.now amendment.now) }
         ensures widened { AreWidened papers.now amendment.now self.new }
     {
-        self.widen(papers, amendment);
-        let start = position_of(papers, start_of(papers, amendment));
+        let start = self.widen(papers, amendment);
         let district = schools_of_group(alloc, self.groups.as_slice(), self.groups[start])?;
         let schools = district.as_slice();
         let students = papers.students_len();

@@ -44,17 +44,19 @@ fn join(groups: &mut Vec<usize>, a: usize, b: usize)
     }
 }
 
-/// Joins each school of a list to one school. Each that was in another group costs a pass over the schools: that does for
-/// the few new choices of an amendment, and the lists of many students are joined in `SchoolGroups`.
+/// Joins each school of a list to one school, and answers where that one stands. Each that was in another group costs a
+/// pass over the schools: that does for the few new choices of an amendment, and the lists of many students are joined in
+/// `SchoolGroups`.
 pub(crate) fn join_list(
     papers: &FlatPapers,
     groups: &mut Vec<usize>,
     first: SchoolNo,
     list: &[SchoolNo],
-)
+) -> usize
     requires one_each { length groups.old.items ≡ length (schools_of papers.now) }
     requires first { is_school papers.now first ≡ true }
     requires known { (s : ℕ) → Contains list.now s → is_school papers.now s ≡ true }
+    ensures position { result ≡ position_of papers.now first }
     ensures joined { groups.new.items ≡ joined_list papers.now first groups.old.items list.now }
     ensures one_each { length groups.new.items ≡ length (schools_of papers.now) }
 {
@@ -62,6 +64,7 @@ pub(crate) fn join_list(
     for school in list {
         join(groups, first_position, position_of(papers, *school));
     }
+    first_position
 }
 
 /// Gives the schools of a group the numbers that they have among other groups.

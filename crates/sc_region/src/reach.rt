@@ -4,7 +4,7 @@ ghost use Rattle.std.specs.Prelude.{◌≡◌, ◌↔◌, ◌<◌, ℕ, None, tr
 ghost use Rattle.std.specs.List.Sorted.{IsStrictlyIncreasing};
 ghost use Rattle.sc_papers.specs.Market.{is_school, is_student, schools_of, students_of};
 ghost use Rattle.sc_papers.specs.Verdict.{verdict, IsRefusal};
-ghost use Rattle.sc_region.specs.Groups.{first_choice, members_beside, new_choices, start_of, widened, IsAllowedBeside};
+ghost use Rattle.sc_region.specs.Groups.{first_choice, group_of, members_beside, new_choices, position_of, start_of, widened, IsAllowedBeside};
 ghost use Rattle.sc_region.specs.Region.{InRegion};
 ghost use Rattle.sc_region.specs.Telling.{AreOfSome};
 
@@ -32,21 +32,6 @@ pub(crate) fn first_choice(papers: &FlatPapers, student: StudentNo) -> SchoolNo
     school
 }
 
-/// A school that the amendment concerns: the amended one, or a choice of the amended student.
-pub(crate) fn start_of(papers: &FlatPapers, amendment: &Amendment) -> SchoolNo
-    requires { verdict papers.now amendment.now ≡ None }
-    ensures start { result ≡ start_of papers.now amendment.now }
-    ensures known { is_school papers.now result ≡ true }
-{
-    match amendment {
-        Amendment::Enter { choices, .. } => choices.as_slice()[0],
-        Amendment::Withdraw { student }
-        | Amendment::Rerank { student, .. }
-        | Amendment::Correct { student, .. } => first_choice(papers, *student),
-        Amendment::Add { school, .. } | Amendment::Close { school, .. } => *school,
-    }
-}
-
 /// The choices that come with the amendment.
 pub(crate) fn new_choices(amendment: &Amendment) -> &[SchoolNo]
     ensures { result.now ≡ new_choices amendment.now }
@@ -57,14 +42,30 @@ pub(crate) fn new_choices(amendment: &Amendment) -> &[SchoolNo]
     }
 }
 
-/// Joins the new choices to the school to begin with.
-pub(crate) fn widen(papers: &FlatPapers, amendment: &Amendment, groups: &mut Vec<usize>)
+/// Joins the new choices to the school to begin with, and answers where that one stands: a school that the amendment
+/// concerns, the amended one or a choice of the amended student.
+pub(crate) fn widen(papers: &FlatPapers, amendment: &Amendment, groups: &mut Vec<usize>) -> usize
     requires { IsAllowedBeside papers.now amendment.now groups.old.items }
+    ensures start { result ≡ position_of papers.now (start_of papers.now amendment.now) }
     ensures widened { groups.new.items ≡ widened papers.now amendment.now groups.old.items }
     ensures one_each { length groups.new.items ≡ length (schools_of papers.now) }
 {
-    let start = start_of(papers, amendment);
-    join_list(papers, groups, start, new_choices(amendment));
+    match amendment {
+        Amendment::Enter { choices, .. } => {
+            let first = choices.as_slice()[0];
+            join_list(papers, groups, first, choices.as_slice())
+        }
+        Amendment::Rerank { student, choices } => {
+            let first = first_choice(papers, *student);
+            join_list(papers, groups, first, choices.as_slice())
+        }
+        Amendment::Withdraw { student } | Amendment::Correct { student, .. } => {
+            position_of(papers, first_choice(papers, *student))
+        }
+        Amendment::Add { school, .. } | Amendment::Close { school, .. } => {
+            position_of(papers, *school)
+        }
+    }
 }
 
 /// The students of the papers whose first choice is in the group of the school to begin with, in order of entry, and then
@@ -74,11 +75,12 @@ fn region_members(
     papers: &FlatPapers,
     amendment: &Amendment,
     groups: &[usize],
+    group: usize,
 ) -> Result<Vec<StudentNo>, AllocError>
-    requires { IsAllowedBeside papers.now amendment.now groups.now }
+    requires beside { IsAllowedBeside papers.now amendment.now groups.now }
+    requires group { group ≡ group_of papers.now groups.now (start_of papers.now amendment.now) }
     ensures { IfOk result (λ members. members.items ≡ members_beside papers.now amendment.now groups.now) }
 {
-    let group = groups[position_of(papers, start_of(papers, amendment))];
     let mut members = Vec::new(alloc);
     for position in 0..papers.students_len() {
         let Some(student) = papers.student_at(position) else {
@@ -115,11 +117,11 @@ pub fn region(
     ensures refused { IfErr result (IsRefusal (verdict papers.now amendment.now)) }
 {
     papers.check(amendment)?;
-    let mut groups = groups_of(alloc, papers)?.into_numbers();
-    widen(papers, amendment, &mut groups);
-    let members = region_members(alloc, papers, amendment, groups.as_slice())?;
     // This call tells that the papers are well-formed.
     prove!(papers.students_len() <= MOST_STUDENTS);
+    let mut groups = groups_of(alloc, papers)?.into_numbers();
+    let start = widen(papers, amendment, &mut groups);
+    let members = region_members(alloc, papers, amendment, groups.as_slice(), groups[start])?;
     let region = RegionList::by_number(members);
     // And this one that its numbers rise.
     prove!(region.len() <= usize::MAX);

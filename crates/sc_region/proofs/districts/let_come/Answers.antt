@@ -1,13 +1,10 @@
-use Rattle.std.proofs.Common.{◌≡◌, ◌<◌, ℕ, List, ap, sym, subst, ◌∙◌, length, get_or, Some, Contains}
-use Rattle.std.proofs.lemmas.List.{get_or_read}
+use Rattle.std.proofs.Common.{◌≡◌, ap, sym, subst, ◌∙◌, Some, Contains}
 use Rattle.std.proofs.lemmas.Option.{same_Some}
 use Rattle.sc_region.specs.Districts.{listed_by, firsts_at, lists_in, new_first}
 use Rattle.sc_region.specs.Groups.{new_choices, position_of}
+use Rattle.sc_region.proofs.Choosing.{first-read}
 use Rattle.sc_region.proofs.Following.{listed_by-some}
 use Rattle.sc_region.proofs.districts.let_come.Goals as goal
-
-first-read : (xs ys : List ℕ) (r : ℕ) → 0 < length ys → r ≡ get_or xs 0 r → xs ≡ ys → r ≡ get_or ys 0 0
-first-read xs ys r some is same = let here : r ≡ get_or ys 0 r = is ∙ ap (λ zs. get_or zs 0 r) same in get_or_read ys 0 r some here 0
 
 pub returns-in_ok-put-clause-moved : goal.returns-in_ok-put-clause-moved
 returns-in_ok-put-clause-moved c i own =

@@ -1,11 +1,11 @@
-use Rattle.std.proofs.Common.{◌≡◌, ◌++◌, ap, sym, ◌∙◌, Some, slice_get, slice_index, arith}
+use Rattle.std.proofs.Common.{◌≡◌, ◌++◌, ap, sym, ◌∙◌, Some, slice_get, arith}
 use Rattle.std.proofs.lemmas.List.{append-nil}
 use Rattle.std.proofs.lemmas.Map.Entries.{length-keys_of}
 use Rattle.sc_papers.proofs.Hands.{hand-is}
 use Rattle.sc_papers.specs.Market.{students_of}
 use Rattle.sc_region.proofs.Changes.{entrants-none}
 use Rattle.sc_region.proofs.Filtering.{filter-keeps, filter-drops, filter-whole}
-use Rattle.sc_region.specs.Groups.{entrants, group_of, is_member, members_of, position_of, start_of}
+use Rattle.sc_region.specs.Groups.{entrants, group_of, is_member, members_of, start_of}
 use Rattle.sc_region.proofs.reach.region_members.Goals as goal
 use Rattle.sc_region.proofs.reach.region_members.Goals.{then-is_member+in_ok-push, else-is_member, in-Enter+in_ok-push-2, in_default-amendment}
 
@@ -16,7 +16,7 @@ loop-position-preserved c =
     let at = c.loop-position.position in
     let x = c.in-Some.student in
     let here : slice_get xs at ≡ Some x = sym c.student_at.ensures ∙ c.in-Some.is in
-    let test = is_member m c.args.groups.now (slice_index c.args.groups.now c.position_of.result) in
+    let test = is_member m c.args.groups.now c.args.group in
     let own : test x ≡ c.is_member.result = ap test (sym (hand-is m at x here)) ∙ sym c.is_member.ensures in
     elim c.if-is_member.branch [
       | then-is_member+in_ok-push w ↦
@@ -33,12 +33,11 @@ returns c =
     let m = c.args.papers.now in
     let a = c.args.amendment.now in
     let numbers = c.args.groups.now in
-    let there : c.position_of.result ≡ position_of m (start_of m a) = c.position_of.ensures.position ∙ ap (position_of m) c.start_of.ensures.start in
     let old : c.loop-position.members.items ≡ members_of m numbers (group_of m numbers (start_of m a)) =
     c.loop-position.invariant
-    ∙ filter-whole (is_member m numbers (slice_index numbers c.position_of.result)) (students_of m) c.loop-position.position
+    ∙ filter-whole (is_member m numbers c.args.group) (students_of m) c.loop-position.position
     (omega (arith, c.loop-position-test.false, c.students_len-position-end.ensures.count, length-keys_of m.students))
-    ∙ ap (λ p. members_of m numbers (slice_index numbers p)) there in
+    ∙ ap (members_of m numbers) c.requires.group in
     elim c.match-amendment.branch [
       | in-Enter+in_ok-push-2 w ↦
           rw (w.members-is, w.in_ok-push-2.ensures.items) (λ t. old t ++ entrants (sym w.in-Enter.is t))

@@ -5,9 +5,9 @@ use Rattle.sc_region.proofs.districts.Districts.region.Goals as goal
 
 pub count_at-requires : goal.count_at-requires
 count_at-requires c other among =
-    let districts = c.widen.ensures.districts in
+    let districts = c.widen-start.ensures.widened.districts in
     let one_each = ap length (c.as_slice.ensures.value ∙ ap (λ (v : DistrictsView). v.groups) c.self.view_is) ∙ districts.one_each in
-    position-listed c.args.papers.now c.widen.new.self districts c.as_slice.result.now one_each c.self.inside.firsts.items (ap (λ (v : DistrictsView). v.firsts) c.self.view_is)
+    position-listed c.args.papers.now c.widen-start.new.self districts c.as_slice.result.now one_each c.self.inside.firsts.items (ap (λ (v : DistrictsView). v.firsts) c.self.view_is)
     c.index.result.now other (subst (λ xs. Contains xs other) (c.as_slice-schools.ensures.value ∙ c.in_ok-district.ensures) among)
 
 pub at-requires-clause-within : goal.at-requires-clause-within
