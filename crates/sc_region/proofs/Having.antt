@@ -15,7 +15,7 @@ use Rattle.sc_papers.proofs.Students.{lister-among}
 use Rattle.sc_region.specs.Groups.{first_choice, group_of, is_member, joined_students, position_of, schools_of_group, positions_in, start_of, students_at, widened}
 use Rattle.sc_region.specs.Districts.{AreDistricts, AreWidened, DistrictsView, firsts_at, lists_in}
 use Rattle.sc_region.specs.Region.{InRegion}
-use Rattle.sc_region.specs.Telling.{AreOfRegion, HeldTogether, TellRegion}
+use Rattle.sc_region.specs.Telling.{AreOfRegion, HeldTogether}
 use Rattle.std.specs.List.Sorted.{IsStrictlyIncreasing}
 use Rattle.std.specs.Prelude.{slice_index}
 use Rattle.std.proofs.lemmas.List.Kept.{IsStrictlyIncreasing-filter}
@@ -29,6 +29,10 @@ use Rattle.sc_region.proofs.Firsts.{names}
 use Rattle.sc_region.proofs.Filtering.{filter-among, filter-kept}
 use Rattle.sc_region.proofs.Joining.{AreWhole, first-known, joined-partial, joined-together, position-within}
 use Rattle.sc_region.proofs.Reaching.{in-member, member-in, partial-in}
+
+-- a student of the papers is in the region just where their first choice is in the group of the school to begin with
+abbrev pub TellRegion : Market → Amendment → List ℕ → Type 0
+TellRegion m a groups = (i : ℕ) → is_student m i ≡ true → (is_member m groups (group_of m groups (start_of m a)) i ≡ true ↔ InRegion m a i)
 
 -- what stands in a list stands, mapped, in the mapped one
 map-kept : (f : ℕ → ℕ) (xs : List ℕ) (x : ℕ) → Contains xs x → Contains (map f xs) (f x)

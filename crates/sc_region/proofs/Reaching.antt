@@ -10,11 +10,19 @@ use Rattle.sc_papers.specs.declared.amendment.Amendment.{Amendment}
 use Rattle.sc_papers.proofs.Positions.{among-student, student-among}
 use Rattle.sc_papers.proofs.Students.{choice-known, lister-among}
 use Rattle.sc_region.proofs.Filtering.{filter-among, filter-differ, filter-kept}
-use Rattle.sc_region.specs.Groups.{entrants, first_choice, group_of, is_member, joined_students, members_of, new_choices, region_groups, region_members, start_of, widened}
+use Rattle.sc_region.specs.Groups.{entrants, first_choice, group_of, is_member, joined_students, members_beside, members_of, new_choices, start_of, widened}
 use Rattle.sc_region.specs.Region.{amended_student, InRegion, amended, concerned, next, Lists}
 use Rattle.sc_region.proofs.Changes.{amended-known, amended-some, entrant-amended, entrants-differ, new-amended, new-known, new-listed, old-or_new, start-amended, start-first, start-known, start-listed}
 use Rattle.sc_region.proofs.Choosing.{first-listed}
 use Rattle.sc_region.proofs.Joining.{Linked, itself, shared, through, AreWhole, Coarser, IsPartial, grouped-partial, grouped-together, list-coarser, list-partial, list-together}
+
+-- the groups that all lists join, those before the amendment and those after it
+unfoldable pub region_groups : Market → Amendment → List ℕ
+region_groups m a = widened m a (joined_students m (students_of m))
+
+-- the region in order of entry
+unfoldable pub region_members : Market → Amendment → List ℕ
+region_members m a = members_beside m a (region_groups m a)
 
 module _ (m : Market) (a : Amendment) (well : WellFormed m) (allowed : verdict m a ≡ None) where
   -- what a student lists is an old choice, or a new one of the amended student

@@ -10,10 +10,10 @@ use Rattle.sc_papers.proofs.Counting.{contains-head, contains-tail}
 use Rattle.sc_papers.proofs.Positions.{among-student}
 use Rattle.sc_papers.proofs.Students.{choice-known, lister-among}
 use Rattle.sc_region.specs.Districts.{AreDistricts, AreWidened, DistrictsView}
-use Rattle.sc_region.specs.Groups.{first_choice, group_of, joined_list, joined_students, new_choices, position_of, region_groups, start_of, widened}
+use Rattle.sc_region.specs.Groups.{first_choice, group_of, joined_list, joined_students, new_choices, position_of, start_of, widened}
 use Rattle.sc_region.proofs.Changes.{new-known, start-known}
 use Rattle.sc_region.proofs.Joining.{AreWhole, first-known, grouped-partial, grouped-together, joined-partial, joined-together, list-whole, position-within}
-use Rattle.sc_region.proofs.Reaching.{new-together, widened-coarser}
+use Rattle.sc_region.proofs.Reaching.{new-together, region_groups, widened-coarser}
 use Rattle.sc_region.proofs.Roots.{joined-nothing}
 
 -- to join what is together changes nothing

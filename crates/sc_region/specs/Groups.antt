@@ -85,10 +85,6 @@ pub record IsAllowedBeside {X : Type 0} (m : Market) (a : Amendment) (entries : 
 unfoldable pub widened : Market → Amendment → List ℕ → List ℕ
 widened m a groups = joined_list m (start_of m a) groups (new_choices a)
 
--- the groups that all lists join, those before the amendment and those after it
-unfoldable pub region_groups : Market → Amendment → List ℕ
-region_groups m a = widened m a (joined_students m (students_of m))
-
 -- whether a student's first choice is in the group
 unfoldable pub is_member : Market → List ℕ → ℕ → ℕ → Bool
 is_member m groups group i = group_of m groups (first_choice m i) == group
@@ -108,7 +104,3 @@ members_of m groups group = filter (is_member m groups group) (students_of m)
 -- whose first choice is in the group of the school to begin with, and then whoever enters
 abbrev pub members_beside : Market → Amendment → List ℕ → List ℕ
 members_beside m a groups = members_of m groups (group_of m groups (start_of m a)) ++ entrants a
-
--- the region in order of entry
-unfoldable pub region_members : Market → Amendment → List ℕ
-region_members m a = members_beside m a (region_groups m a)

@@ -1,15 +1,10 @@
--- Groups of schools that tell the region of an amendment.
-use Rattle.std.specs.Prelude.{◌≡◌, ◌<◌, ◌↔◌, ℕ, Bool, List, Some, true, false, length, slice_get, slice_index, slice_index_or, Contains, IsTrue}
+-- What tells the region of an amendment: groups of schools, positions and marks of students.
+use Rattle.std.specs.Prelude.{◌≡◌, ◌<◌, ◌↔◌, ℕ, Bool, List, Some, false, length, slice_get, slice_index, slice_index_or, Contains, IsTrue}
 use Rattle.std.specs.List.Sorted.{IsStrictlyIncreasing}
-use Rattle.sc_papers.specs.Market.{Market, is_student, students_of}
+use Rattle.sc_papers.specs.Market.{Market, students_of}
 use Rattle.sc_papers.specs.declared.amendment.Amendment.{Amendment}
-use Rattle.sc_region.specs.Groups.{group_of, is_member, joined_students, start_of, students_at}
+use Rattle.sc_region.specs.Groups.{joined_students, students_at}
 use Rattle.sc_region.specs.Region.{InRegion}
-
--- a student of the papers is in the region just where their first choice is in the group of the school to
--- begin with
-abbrev pub TellRegion : Market → Amendment → List ℕ → Type 0
-TellRegion m a groups = (i : ℕ) → is_student m i ≡ true → (is_member m groups (group_of m groups (start_of m a)) i ≡ true ↔ InRegion m a i)
 
 -- groups that the lists of some students join, who stand at these positions
 pub record AreOfSome (m : Market) (groups : List ℕ) : Type 0 where

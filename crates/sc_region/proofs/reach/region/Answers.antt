@@ -8,10 +8,10 @@ use Rattle.sc_papers.specs.Verdict.{unless_refused, verdict}
 use Rattle.sc_papers.specs.WellFormed.{WellFormed}
 use Rattle.sc_papers.specs.declared.amendment.Amendment.{Amendment}
 use Rattle.sc_papers.specs.declared.amendment.Refusal.{Refusal}
-use Rattle.sc_region.specs.Groups.{members_beside, position_of, region_members, start_of}
+use Rattle.sc_region.specs.Groups.{members_beside, position_of, start_of}
 use Rattle.sc_region.proofs.Changes.{start-known}
 use Rattle.sc_region.proofs.Joining.{position-within}
-use Rattle.sc_region.proofs.Reaching.{region-differs, region-exact}
+use Rattle.sc_region.proofs.Reaching.{region-differs, region-exact, region_members}
 use Rattle.sc_region.proofs.Regrouping.{all-joined}
 use Rattle.sc_region.proofs.reach.region.Goals as goal
 

@@ -6,8 +6,8 @@ use Rattle.sc_papers.specs.Market.{students_of}
 use Rattle.sc_papers.proofs.Positions.{student-among}
 use Rattle.sc_region.specs.Districts.{lists_in, AreDistricts, AreWidened, DistrictsView}
 use Rattle.sc_region.specs.Groups.{positions_in}
-use Rattle.sc_region.specs.Telling.{AreOfRegion, TellRegion}
-use Rattle.sc_region.proofs.Having.{all-told, whole-tell}
+use Rattle.sc_region.specs.Telling.{AreOfRegion}
+use Rattle.sc_region.proofs.Having.{all-told, whole-tell, TellRegion}
 use Rattle.sc_region.proofs.Reaching.{region-marked}
 use Rattle.sc_region.proofs.Regrouping.{all-joined, all-widened}
 use Rattle.sc_region.proofs.districts.Districts.positions_among_all.Goals as goal

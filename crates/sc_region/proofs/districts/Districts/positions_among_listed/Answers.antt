@@ -6,8 +6,8 @@ use Rattle.sc_papers.specs.Market.{students_of, student_at}
 use Rattle.sc_region.specs.Districts.{lists_in, AreWidened, DistrictsView}
 use Rattle.sc_region.specs.Groups.{first_choice, group_of, schools_of_group, positions_in, start_of, students_at, widened}
 use Rattle.sc_region.specs.Region.{InRegion}
-use Rattle.sc_region.specs.Telling.{AreOfRegion, HeldTogether, TellRegion}
-use Rattle.sc_region.proofs.Having.{all-tell, at-known, district-enough, district-listed, held-tell, listed-student, position-among, position-listed, region-told}
+use Rattle.sc_region.specs.Telling.{AreOfRegion, HeldTogether}
+use Rattle.sc_region.proofs.Having.{all-tell, at-known, district-enough, district-listed, held-tell, listed-student, position-among, position-listed, region-told, TellRegion}
 use Rattle.sc_region.proofs.Regrouping.{regrouped-widened}
 use Rattle.sc_region.proofs.districts.Districts.positions_among_listed.Goals as goal
 
