@@ -42,7 +42,10 @@ pub fn settle(alloc: Global, papers: &FlatPapers) -> Result<Settled, AllocError>
     ensures proposals { IfOk result (λ settled. settled.proposals
         ≡ length settled.log.items + placed papers.now (assigned settled.assignment)) }
 {
-    settle_over::<HeapRoll>(alloc, papers)
+    let mut round: Round<HeapRoll> = Round::start(alloc, papers)?;
+    enter_all(&mut round, papers)?;
+    let settled = round.into_settled(papers)?;
+    Ok(settled)
 }
 
 /// Settles papers as `settle` does, to the same matching, and answers the school that each student has, if any, in the
@@ -61,38 +64,6 @@ pub fn settle_by_first_keys(
     drop(applicants);
     let places = round.into_places(papers)?;
     Ok(places)
-}
-
-/// As `settle`, over a kind of roll.
-pub(crate) fn settle_over<R: Roll>(
-    alloc: Global,
-    papers: &FlatPapers,
-) -> Result<Settled, AllocError>
-    ensures settled { IfOk result (λ settled. IsSettled papers.now settled.log.items) }
-    ensures matching { IfOk result (λ settled. (i : ℕ)
-        → assigned settled.assignment i ≡ next_choice papers.now settled.log.items i) }
-    ensures optimal { IfOk result (λ settled. IsStudentOptimal papers.now (assigned settled.assignment)) }
-    ensures proposals { IfOk result (λ settled. settled.proposals
-        ≡ length settled.log.items + placed papers.now (assigned settled.assignment)) }
-{
-    let mut round: Round<R> = Round::start(alloc, papers)?;
-    enter_all(&mut round, papers)?;
-    let settled = come_to(round, papers)?;
-    Ok(settled)
-}
-
-/// What a round comes to in which all students have entered.
-fn come_to<R: Roll>(round: Round<R>, papers: &FlatPapers) -> Result<Settled, AllocError>
-    requires all { SettlesThese papers.now (view_of R.keys R.seats round) (students_of papers.now) }
-    ensures settled { IfOk result (λ settled. IsSettled papers.now settled.log.items) }
-    ensures matching { IfOk result (λ settled. (i : ℕ)
-        → assigned settled.assignment i ≡ next_choice papers.now settled.log.items i) }
-    ensures optimal { IfOk result (λ settled. IsStudentOptimal papers.now (assigned settled.assignment)) }
-    ensures proposals { IfOk result (λ settled. settled.proposals
-        ≡ length settled.log.items + placed papers.now (assigned settled.assignment)) }
-{
-    let settled = round.into_settled(papers)?;
-    Ok(settled)
 }
 
 /// Enters all students in order of entry into a round in which nobody has entered.

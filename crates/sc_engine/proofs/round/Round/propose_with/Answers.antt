@@ -13,6 +13,7 @@ use Rattle.sc_engine.proofs.Proposals.{Proposed, put-out, standing-most}
 use Rattle.sc_engine.proofs.Moves.{proposed-told, roll-new, ends-none, ends-held, goes-on}
 use Rattle.sc_engine.proofs.Tables.{rank-at}
 use Rattle.sc_engine.proofs.round.Round.propose_with.Goals as goal
+use Rattle.sc_engine.proofs.round.Round.propose_with.Goals.{After-key-student}
 
 pub returns-in_default-clause-proposes : goal.returns-in_default-clause-proposes
 returns-in_default-clause-proposes g c =
@@ -45,45 +46,38 @@ returns-in_default-2-clause-proposes g c =
     (proposed-told papers old proposer c.in-Some.proposal.school c.in-Some.proposal.position c.of-offered.result new.rolls c.in_ok-out.field-0 None c.requires.fits stands made.position (c.of-offered.ensures ∙ made.key) c.in_ok-out.ensures.offered c.in_default-2.is)
     c.offer.ensures.ranks c.offer.ensures.log c.in_ok-out.ensures.proposals
 
-pub position_near-next-requires : goal.position_near-next-requires
-position_near-next-requires g c =
+-- whoever the roll puts out
+puts-out : (g : _) (c : After-key-student g)
+    → Proposed c.args.papers.now (view_of g.R.Roll.keys g.R.Roll.seats c.args.self.now) (student_at c.args.papers.now c.args.proposer) c.in-Some.proposal.school c.in-Some.proposal.position
+    (rolls_of g.R.Roll.keys g.R.Roll.seats c.offer.new.self.rolls.items) (Some c.key-student.result)
+puts-out g c =
     let papers = c.args.papers.now in
     let proposer : ℕ = student_at papers c.args.proposer in
     let old = view_of g.R.Roll.keys g.R.Roll.seats c.args.self.now in
     let made : IsProposal papers proposer (next_of papers old.ranks proposer) (Some c.in-Some.proposal) = subst (IsProposal papers proposer (next_of papers old.ranks proposer)) c.in-Some.is c.requires.next in
-    let stands : next_of papers old.ranks proposer ≡ Some c.in-Some.proposal.school = sym made.school in
     let rolls = rolls_of g.R.Roll.keys g.R.Roll.seats c.offer.new.self.rolls.items in
-    let out : ℕ = c.key-student.result.student in
-    let proposed : Proposed papers old proposer c.in-Some.proposal.school c.in-Some.proposal.position rolls (Some c.key-student.result) =
-    proposed-told papers old proposer c.in-Some.proposal.school c.in-Some.proposal.position c.of-offered.result rolls c.in_ok-out.field-0 (Some c.key-student.result) c.requires.fits stands made.position (c.of-offered.ensures ∙ made.key) c.in_ok-out.ensures.offered (c.in-Some-2.is ∙ ap Some (sym c.key-student.ensures)) in
-    stander-student papers old.ranks out c.in-Some.proposal.school (put-out papers old proposer c.in-Some.proposal.school c.in-Some.proposal.position rolls c.key-student.result proposed).stands
+    proposed-told papers old proposer c.in-Some.proposal.school c.in-Some.proposal.position c.of-offered.result rolls c.in_ok-out.field-0 (Some c.key-student.result) c.requires.fits (sym made.school) made.position (c.of-offered.ensures ∙ made.key) c.in_ok-out.ensures.offered (c.in-Some-2.is ∙ ap Some (sym c.key-student.ensures))
+
+pub position_near-next-requires : goal.position_near-next-requires
+position_near-next-requires g c = stander-student _ _ _ _ (put-out _ _ _ _ _ _ _ (puts-out g (goal.at.position_near-next-requires g c).After-key-student)).stands
 
 pub reject-requires : goal.reject-requires
 reject-requires g c rank is =
     let papers = c.args.papers.now in
-    let proposer : ℕ = student_at papers c.args.proposer in
-    let old = view_of g.R.Roll.keys g.R.Roll.seats c.args.self.now in
-    let made : IsProposal papers proposer (next_of papers old.ranks proposer) (Some c.in-Some.proposal) = subst (IsProposal papers proposer (next_of papers old.ranks proposer)) c.in-Some.is c.requires.next in
-    let stands : next_of papers old.ranks proposer ≡ Some c.in-Some.proposal.school = sym made.school in
-    let rolls = rolls_of g.R.Roll.keys g.R.Roll.seats c.offer.new.self.rolls.items in
+    let ranks : List (Option ℕ) = c.args.self.now.ranks in
     let out : ℕ = c.key-student.result.student in
-    let proposed : Proposed papers old proposer c.in-Some.proposal.school c.in-Some.proposal.position rolls (Some c.key-student.result) =
-    proposed-told papers old proposer c.in-Some.proposal.school c.in-Some.proposal.position c.of-offered.result rolls c.in_ok-out.field-0 (Some c.key-student.result) c.requires.fits stands made.position (c.of-offered.ensures ∙ made.key) c.in_ok-out.ensures.offered (c.in-Some-2.is ∙ ap Some (sym c.key-student.ensures)) in
     let next : ℕ = c.position_near-next.result in
-    stander-short papers old.ranks out c.in-Some.proposal.school rank c.requires.fits.within_limits (put-out papers old proposer c.in-Some.proposal.school c.in-Some.proposal.position rolls c.key-student.result proposed).stands
-    (rank-at papers old.ranks out next c.position_near-next.ensures ∙ ap (λ (ranks : List (Option ℕ)). get_or ranks next None) (sym c.offer.ensures.ranks) ∙ is)
+    stander-short papers ranks out _ rank c.requires.fits.within_limits (put-out _ _ _ _ _ _ _ (puts-out g (goal.at.reject-requires g c).After-key-student)).stands
+    (rank-at papers ranks out next c.position_near-next.ensures ∙ ap (λ (ranks : List (Option ℕ)). get_or ranks next None) (sym c.offer.ensures.ranks) ∙ is)
 
 pub returns-clause-proposes : goal.returns-clause-proposes
 returns-clause-proposes g c =
     let papers = c.args.papers.now in
     let proposer : ℕ = student_at papers c.args.proposer in
     let old = view_of g.R.Roll.keys g.R.Roll.seats c.args.self.now in
-    let made : IsProposal papers proposer (next_of papers old.ranks proposer) (Some c.in-Some.proposal) = subst (IsProposal papers proposer (next_of papers old.ranks proposer)) c.in-Some.is c.requires.next in
-    let stands : next_of papers old.ranks proposer ≡ Some c.in-Some.proposal.school = sym made.school in
     let rolls = rolls_of g.R.Roll.keys g.R.Roll.seats c.offer.new.self.rolls.items in
     let out : ℕ = c.key-student.result.student in
-    let proposed : Proposed papers old proposer c.in-Some.proposal.school c.in-Some.proposal.position rolls (Some c.key-student.result) =
-    proposed-told papers old proposer c.in-Some.proposal.school c.in-Some.proposal.position c.of-offered.result rolls c.in_ok-out.field-0 (Some c.key-student.result) c.requires.fits stands made.position (c.of-offered.ensures ∙ made.key) c.in_ok-out.ensures.offered (c.in-Some-2.is ∙ ap Some (sym c.key-student.ensures)) in
+    let proposed = puts-out g (goal.at.returns-clause-proposes g c).After-key-student in
     let next : ℕ = c.position_near-next.result in
     let new = view_of g.R.Roll.keys g.R.Roll.seats c.reject.new.self in
     subst (λ (i : ℕ). Proposes papers old new proposer (Some i)) (sym (student-there papers out next c.position_near-next.ensures))
