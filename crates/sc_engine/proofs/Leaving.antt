@@ -26,7 +26,7 @@ use Rattle.sc_engine.proofs.Proposals.{has-none}
 use Rattle.sc_engine.proofs.Renewing.{roll-set_other, roll-set_same}
 use Rattle.sc_engine.proofs.RollCounts.{fits-counted}
 use Rattle.sc_engine.proofs.Rolls.{roll-fits_still, roll-holds}
-use Rattle.sc_engine.proofs.Tables.{length-mapped, next-among, next-kept, next-none, position-of, roll-at, stands-at}
+use Rattle.sc_engine.proofs.Tables.{length-mapped, next-among, next-kept, next-none, position-of, rank-alike, roll-at, stands-at}
 
 -- what is among the first of some positions is among one more of them, and of these nothing else is but the last
 pub earlier : (positions : List ℕ) (n p : ℕ) → n < length positions → Contains (take n positions) p → Contains (take (n + 1) positions) p
@@ -165,12 +165,7 @@ module _ (m : Market) (test : ℕ → Bool) (positions : List ℕ) (at : StandAt
       go (Some p) is = gone p ((at.exact p i (position-there (students_of m) i p is)).1 passes)
 
   rank-stays : (i : ℕ) → test i ≡ false → rank_of m new.ranks i ≡ rank_of m old.ranks i
-  unfolding rank_of
-  rank-stays i fails = go (position (nat_eq i) (students_of m)) refl
-    where
-      go : (o : Option ℕ) → position (nat_eq i) (students_of m) ≡ o → option_map_or (λ p. get_or new.ranks p None) o None ≡ option_map_or (λ p. get_or old.ranks p None) o None
-      go None is = refl
-      go (Some p) is = stay p (λ among. false≢true (sym fails ∙ (at.exact p i (position-there (students_of m) i p is)).0 among))
+  rank-stays i fails = rank-alike m new.ranks old.ranks i (λ p is. stay p (λ among. false≢true (sym fails ∙ (at.exact p i (position-there (students_of m) i p is)).0 among)))
 
   next-gone : (i : ℕ) → test i ≡ true → next_of m new.ranks i ≡ None
   next-gone i passes = next-none m new.ranks i (rank-gone i passes)

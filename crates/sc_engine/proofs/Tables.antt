@@ -28,14 +28,18 @@ unfolding rank_of
 rank-written m ranks i at rank found low =
     ap (λ o. option_map_or (λ k. get_or (set ranks at rank) k None) o None) found ∙ get_or-set_same ranks at rank None low
 
+-- who stands in two tables at the same rank of their position has that rank in both
+pub rank-alike : (m : Market) (ranks others : List (Option ℕ)) (i : ℕ) → ((at : ℕ) → position (nat_eq i) (students_of m) ≡ Some at → get_or ranks at None ≡ get_or others at None) → rank_of m ranks i ≡ rank_of m others i
+unfolding rank_of
+rank-alike m ranks others i alike = go (position (nat_eq i) (students_of m)) refl
+  where
+    go : (o : Option ℕ) → position (nat_eq i) (students_of m) ≡ o → option_map_or (λ k. get_or ranks k None) o None ≡ option_map_or (λ k. get_or others k None) o None
+    go None is = refl
+    go (Some k) is = alike k is
+
 -- the ranks of the others, where the other positions are as before
 pub rank-apart : (m : Market) (old new : List (Option ℕ)) (i at : ℕ) → position (nat_eq i) (students_of m) ≡ Some at → ((k : ℕ) → (k ≡ at → ⊥) → get_or new k None ≡ get_or old k None) → (j : ℕ) → (j ≡ i → ⊥) → rank_of m new j ≡ rank_of m old j
-unfolding rank_of
-rank-apart m old new i at found others j apart = go (position (nat_eq j) (students_of m)) refl
-  where
-    go : (o : Option ℕ) → position (nat_eq j) (students_of m) ≡ o → option_map_or (λ k. get_or new k None) o None ≡ option_map_or (λ k. get_or old k None) o None
-    go None is = refl
-    go (Some k) is = others k (λ same. apart (position-one (students_of m) i j at found (is ∙ ap Some same)))
+rank-apart m old new i at found others j apart = rank-alike m new old j (λ k is. others k (λ same. apart (position-one (students_of m) i j at found (is ∙ ap Some same))))
 
 -- the others keep theirs
 pub rank-kept : (m : Market) (ranks : List (Option ℕ)) (i at : ℕ) (rank : Option ℕ) → position (nat_eq i) (students_of m) ≡ Some at → (j : ℕ) → (j ≡ i → ⊥) → rank_of m (set ranks at rank) j ≡ rank_of m ranks j

@@ -21,7 +21,7 @@ use Rattle.sc_engine.proofs.Offers.{roll_at-mapped}
 use Rattle.sc_engine.proofs.Proposals.{has-none}
 use Rattle.sc_engine.proofs.Renewing.{roll-set_other, roll-set_same}
 use Rattle.sc_engine.proofs.Rolls.{on-roll, roll-fits_still, roll-holds}
-use Rattle.sc_engine.proofs.Tables.{length-mapped, next-among, next-kept, next-none, position-of, roll-at, stands-at}
+use Rattle.sc_engine.proofs.Tables.{length-mapped, next-among, next-kept, next-none, position-of, rank-alike, roll-at, stands-at}
 
 -- one more position
 pub taken-more : (m : Market) (ranks : List (Option ℕ)) (positions : List ℕ) (n : ℕ) (old other now between new left : List RollView) → n < length positions
@@ -101,20 +101,10 @@ module _ (m : Market) (test : ℕ → Bool) (positions : List ℕ) (at : StandAt
     (taken : (p : ℕ) → Contains positions p → get_or new.ranks p None ≡ get_or other.ranks p None) (stay : (p : ℕ) → (Contains positions p → ⊥) → get_or new.ranks p None ≡ get_or old.ranks p None)
     (long : length new.ranks ≡ length old.ranks) (log : new.log ≡ old.log) (proposals : new.proposals ≡ old.proposals) where
   rank-taken : (i : ℕ) → test i ≡ true → rank_of m new.ranks i ≡ rank_of m other.ranks i
-  unfolding rank_of
-  rank-taken i passes = go (position (nat_eq i) (students_of m)) refl
-    where
-      go : (o : Option ℕ) → position (nat_eq i) (students_of m) ≡ o → option_map_or (λ p. get_or new.ranks p None) o None ≡ option_map_or (λ p. get_or other.ranks p None) o None
-      go None is = refl
-      go (Some p) is = taken p ((at.exact p i (position-there (students_of m) i p is)).1 passes)
+  rank-taken i passes = rank-alike m new.ranks other.ranks i (λ p is. taken p ((at.exact p i (position-there (students_of m) i p is)).1 passes))
 
   rank-stays : (i : ℕ) → test i ≡ false → rank_of m new.ranks i ≡ rank_of m old.ranks i
-  unfolding rank_of
-  rank-stays i fails = go (position (nat_eq i) (students_of m)) refl
-    where
-      go : (o : Option ℕ) → position (nat_eq i) (students_of m) ≡ o → option_map_or (λ p. get_or new.ranks p None) o None ≡ option_map_or (λ p. get_or old.ranks p None) o None
-      go None is = refl
-      go (Some p) is = stay p (λ among. false≢true (sym fails ∙ (at.exact p i (position-there (students_of m) i p is)).0 among))
+  rank-stays i fails = rank-alike m new.ranks old.ranks i (λ p is. stay p (λ among. false≢true (sym fails ∙ (at.exact p i (position-there (students_of m) i p is)).0 among)))
 
   next-old : (i : ℕ) → test i ≡ true → next_of m old.ranks i ≡ None
   next-old i passes = next-none m old.ranks i (absent i passes)
