@@ -1,7 +1,7 @@
 //! The papers of a roster and lists of the same students, in whatever order either stands.
 //!
 //! Each row is read once and kept, of a list where the schools of its choices stand. Both files' numbers are sorted, and
-//! who stands at the same place in both orders is taken for the same student. That is a guess: whether it is right is
+//! who has the same rank in both orders is taken for the same student. That is a guess: whether it is right is
 //! seen as the students enter, and so is that no number comes twice. So what is proved here does not rest on the sort.
 //! Where each student of the roster has a list, and there are as many lists as students, no list is left.
 
@@ -34,7 +34,7 @@ struct KeptList {
 
 /// A number of a file, and in which of its rows it stands.
 #[derive(Clone, Copy)]
-struct Place {
+struct NumberedRow {
     number: u32,
     row: u32,
 }
@@ -81,27 +81,31 @@ fn lists_in(alloc: Global, papers: &FlatPapers, text: &[u8], room: usize) -> Opt
 }
 
 /// Where the numbers of rows stand, by rising number. The sort is one pass where they rise already.
-fn places_by_number<R, F: Fn(&R) -> u32>(alloc: Global, rows: &[R], number: F) -> Option<Vec<Place>>
+fn rows_by_number<R, F: Fn(&R) -> u32>(
+    alloc: Global,
+    rows: &[R],
+    number: F,
+) -> Option<Vec<NumberedRow>>
     requires { F.IsAlwaysCallable number }
 {
-    let mut places = Vec::with_capacity(alloc, rows.len()).ok()?;
+    let mut numbered = Vec::with_capacity(alloc, rows.len()).ok()?;
     for (row, found) in rows.iter().enumerate() {
         let row = u32::try_from(row).ok()?;
         let number = number(found);
-        places.push(Place { number, row }).ok()?;
+        numbered.push(NumberedRow { number, row }).ok()?;
     }
-    places.sort_unstable_by_key(|place| place.number);
-    Some(places)
+    numbered.sort_unstable_by_key(|row| row.number);
+    Some(numbered)
 }
 
 /// For each student of the roster where their list stands, if both files are of the same students; a guess otherwise.
 /// To search for each number would take longer than to sort them all.
 fn likely_lists(alloc: Global, roster: &[RosterRow], lists: &[KeptList]) -> Option<Vec<u32>> {
-    let students = places_by_number(alloc, roster, |row| row.student.get())?;
-    let places = places_by_number(alloc, lists, |list| list.student.get())?;
+    let students = rows_by_number(alloc, roster, |row| row.student.get())?;
+    let listed = rows_by_number(alloc, lists, |list| list.student.get())?;
     let mut likely = Vec::from_elem(alloc, 0, roster.len()).ok()?;
-    for (student, place) in students.iter().zip(places.iter()) {
-        *likely.get_mut(student.row as usize)? = place.row;
+    for (student, list) in students.iter().zip(listed.iter()) {
+        *likely.get_mut(student.row as usize)? = list.row;
     }
     Some(likely)
 }
