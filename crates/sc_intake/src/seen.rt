@@ -1,6 +1,6 @@
 //! The numbers of the rows so far.
 
-ghost use Rattle.std.specs.Prelude.{◌≡◌, ℕ, ◌||◌, [], not, nat_eq, IfOk, OnOk};
+ghost use Rattle.std.specs.Prelude.{◌≡◌, ℕ, ◌||◌, false, not, nat_eq, IfOk, OnOk};
 ghost use Rattle.std.specs.List.{list_any};
 
 use std::alloc::{AllocError, Global};
@@ -29,12 +29,12 @@ impl Model for SeenNumbers {
 }
 
 impl SeenNumbers {
-    ghost use Rattle.std.specs.Prelude.{◌≡◌, ℕ, ◌||◌, [], not, nat_eq, IfOk, OnOk};
+    ghost use Rattle.std.specs.Prelude.{◌≡◌, ℕ, ◌||◌, false, not, nat_eq, IfOk, OnOk};
     ghost use Rattle.std.specs.List.{list_any};
 
     /// No numbers. It takes no memory.
     pub(crate) fn new(alloc: Global) -> Self
-        ensures { result ≡ [] }
+        ensures { (n : ℕ) → list_any (nat_eq n) result ≡ false }
     {
         SeenNumbers {
             rising: Vec::new(alloc),

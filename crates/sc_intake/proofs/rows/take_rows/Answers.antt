@@ -9,7 +9,7 @@ rows-init g c =
     record {
       gives = rw none refl;
       rows = rw none (AreRows-none g.R.Numbered.number g.R.Numbered.MOST);
-      seen = λ n. rw (none, c.new-seen.ensures) refl;
+      seen = λ n. rw none (c.new-seen.ensures n);
     }
 
 pub returns-in-Err-clause-gives : goal.returns-in-Err-clause-gives
