@@ -1,10 +1,13 @@
 ghost use Rattle.std.specs.Prelude.{◌≡◌};
 
 use crate::open_refused::OpenRefused;
+use crate::opening::settle_all;
 use crate::settlement::Settlement;
 use sc_papers::{
-    Amendment, Assignment, Papers, Refusal, Rejection, SchoolNo, Stamp, Stamped, StudentNo,
+    Amendment, Assignment, MOST_STUDENTS, Papers, Refusal, Rejection, SchoolNo, Stamp, Stamped,
+    StudentNo,
 };
+use sc_seats::HeapRoll;
 use sc_stamps::{Stamps, marking_of};
 use std::alloc::{AllocError, Global};
 use std::marker::Model;
@@ -58,10 +61,20 @@ impl Clearing {
             ≡ proposals_from_scratch clearing.standing) }
         ensures refused { IfErr result (λ refused. refused.papers ≡ papers) }
     {
-        match Settlement::open(alloc, papers) {
-            Ok(settlement) => Ok(Clearing { settlement, stamps }),
-            Err(refused) => Err(refused),
-        }
+        let Ok(placed) = settle_all::<HeapRoll>(alloc, &papers) else {
+            return Err(OpenRefused { papers });
+        };
+        let settlement = Settlement {
+            alloc,
+            papers,
+            places: placed.places,
+            segments: placed.segments,
+            proposals: placed.proposals,
+            round: Some(placed.round),
+            spare: None,
+            districts: None,
+        };
+        Ok(Clearing { settlement, stamps })
     }
 
     /// Settles the papers: the standing assignment is their student-optimal stable matching, and the
@@ -93,7 +106,7 @@ impl Clearing {
         ensures optimal { IsOptimal self.now.standing }
         ensures certified { IsCertified self.now.standing }
     {
-        self.settlement.papers()
+        &self.settlement.papers
     }
 
     /// What the student has: `None` for one who is not in the papers, `Some(None)` for one who is
@@ -101,21 +114,31 @@ impl Clearing {
     pub fn place_of(&self, student: StudentNo) -> Option<Option<SchoolNo>>
         ensures { result ≡ place_of self.now.standing student }
     {
-        self.settlement.place_of(student)
+        if self.settlement.papers.student(student).is_none() {
+            return None;
+        }
+        Some(self.settlement.places.get(student))
     }
 
     /// How many students have the school, or `None` for one that is not in the papers. In constant time.
     pub fn held(&self, school: SchoolNo) -> Option<u32>
         ensures { result ≡ held_at self.now.standing school }
     {
-        self.settlement.held(school)
+        let settlement = &self.settlement;
+        if settlement.papers.school(school).is_none() {
+            return None;
+        }
+        // These calls tell that no student stands twice, in the places or in the papers.
+        prove!(settlement.places.len() <= usize::MAX);
+        prove!(settlement.papers.students_len() <= MOST_STUDENTS);
+        Some(settlement.places.held(school) as u32)
     }
 
     /// The standing assignment, lent.
     pub fn places(&self) -> &Assignment
         ensures { result.now ≡ self.now.standing.places }
     {
-        self.settlement.places()
+        &self.settlement.places
     }
 
     /// The standing assignment as a value of its own: each placed student with their school. The only
@@ -123,7 +146,7 @@ impl Clearing {
     pub fn assignment(&self) -> Result<Assignment, AllocError>
         ensures { IfOk result (λ assignment. assignment ≡ self.now.standing.places) }
     {
-        self.settlement.assignment()
+        self.settlement.places.copy()
     }
 
     /// How many rejections led to the standing assignment, or the greatest number where there were more. One
@@ -131,7 +154,7 @@ impl Clearing {
     pub fn log_len(&self) -> usize
         ensures { result ≡ min (length (log_of self.now.standing)) usize.MAX }
     {
-        self.settlement.log_len()
+        self.settlement.segments.log_len()
     }
 
     /// The rejections that led to the standing assignment, in the order in which they happened, as a value of its own. They are settled for
@@ -140,7 +163,7 @@ impl Clearing {
     pub fn log(&self) -> Result<Vec<Rejection>, AllocError>
         ensures { IfOk result (λ log. log.items ≡ log_of self.now.standing) }
     {
-        self.settlement.log()
+        self.settlement.segments.flat()
     }
 
     /// How many proposals the last settling made: that of the last accepted amendment, or of the
@@ -148,7 +171,7 @@ impl Clearing {
     pub fn proposals_last(&self) -> u64
         ensures { result ≡ self.now.standing.proposals }
     {
-        self.settlement.proposals_last()
+        self.settlement.proposals
     }
 
     /// How many amendments were accepted since the opening: the stamp that the last of them gave its record. Whichever
@@ -165,7 +188,7 @@ impl Clearing {
     pub fn stamp_of_student(&self, student: StudentNo) -> Stamp
         ensures { result ≡ stamp_of self.now.standing.papers self.now.stamps (OfStudent student) }
     {
-        self.stamps.of_student(self.settlement.papers(), student)
+        self.stamps.of_student(&self.settlement.papers, student)
     }
 
     /// The stamp of a school: the number of the last accepted amendment of its seats, 0 where there was none,
@@ -173,7 +196,7 @@ impl Clearing {
     pub fn stamp_of_school(&self, school: SchoolNo) -> Stamp
         ensures { result ≡ stamp_of self.now.standing.papers self.now.stamps (OfSchool school) }
     {
-        self.stamps.of_school(self.settlement.papers(), school)
+        self.stamps.of_school(&self.settlement.papers, school)
     }
 
     /// The first refusal that applies to a stamped amendment, but for want of memory: that of the papers first,
@@ -185,7 +208,7 @@ impl Clearing {
         ensures optimal { IsOptimal self.now.standing }
         ensures certified { IsCertified self.now.standing }
     {
-        self.stamps.check(self.settlement.papers(), stamped)
+        self.stamps.check(&self.settlement.papers, stamped)
     }
 
     /// Makes the amendment, gives its record the next stamp, and settles its region anew from its rewind point
@@ -255,7 +278,7 @@ impl Clearing {
         ensures stamped { OnOk result (GivesStamp (stamped_papers self.old) amendment (stamped_papers self.new)) }
         ensures unchanged { OnErr result (self.new ≡ self.old) }
     {
-        let marking = marking_of(self.settlement.papers(), &amendment);
+        let marking = marking_of(self.papers(), &amendment);
         self.stamps.begin(marking)?;
         match self.settlement.amend(amendment) {
             Ok(()) => {
