@@ -1,13 +1,23 @@
 -- Papers that changed inside a region under a standing, which is lent while they are settled anew.
-use Rattle.std.specs.Prelude.{◌≡◌, ℕ, ◌-◌, ◌≤◌, Bool, false, List, length, take}
+use Rattle.std.specs.Prelude.{◌≡◌, ℕ, ◌-◌, ◌≤◌, Bool, false, List, None, length, take}
 use Rattle.sc_papers.specs.Assignment.{assigned}
 use Rattle.sc_papers.specs.Market.{Market, students_of}
 use Rattle.sc_papers.specs.Matching.{IsStudentOptimal}
 use Rattle.sc_papers.specs.Restriction.{cut, AreApart, IsSegmented}
+use Rattle.sc_papers.specs.TakingBack.{is_withdrawal}
+use Rattle.sc_papers.specs.Verdict.{verdict}
 use Rattle.sc_papers.specs.WellFormed.{WellFormed}
+use Rattle.sc_papers.specs.declared.amendment.Amendment.{Amendment}
 use Rattle.sc_checkpoint.specs.Chains.{logs_in, students_in, Chain}
 use Rattle.sc_repair.specs.Locality.{ChangesInside}
+use Rattle.sc_repair.specs.Newcomer.{newcomer}
 use Rattle.sc_repair.specs.Standing.{CountsInside, IsCertified, Standing}
+
+-- an amendment that is not refused, by which nobody enters or withdraws
+pub record ChangesInPlace (m : Market) (a : Amendment) : Type 0 where
+  pub allowed : verdict m a ≡ None
+  pub no_entry : newcomer a ≡ None
+  pub no_withdrawal : is_withdrawal a ≡ false
 
 -- the places and the chains are a standing of the papers: optimal, and segmented, each chain its student's
 pub record IsStandingOf (m : Market) (places : List (ℕ × ℕ)) (chains : List Chain) : Type 0 where

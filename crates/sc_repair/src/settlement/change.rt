@@ -1,9 +1,6 @@
 //! Amendments that change who stands in the papers, or a school there, in place.
 
-ghost use Rattle.std.specs.Prelude.{◌≡◌, None, false};
-ghost use Rattle.sc_papers.specs.TakingBack.{is_withdrawal};
-ghost use Rattle.sc_papers.specs.Verdict.{verdict};
-ghost use Rattle.sc_repair.specs.Newcomer.{newcomer};
+ghost use Rattle.sc_repair.specs.Changed.{ChangesInPlace};
 ghost use Rattle.sc_repair.specs.Standing.{IsAmended};
 
 use super::Settlement;
@@ -22,9 +19,7 @@ impl Settlement {
     /// only error is want of memory, which changes nothing: where a growth is refused after the papers have changed, the
     /// amendment is taken back.
     pub(super) fn change(&mut self, amendment: Amendment) -> Result<(), AllocError>
-        requires allowed { verdict self.old.papers amendment ≡ None }
-        requires no_entry { newcomer amendment ≡ None }
-        requires no_withdrawal { is_withdrawal amendment ≡ false }
+        requires { ChangesInPlace self.old.papers amendment }
         ensures { IsAmended result self.old amendment self.new }
     {
         let region = region_of(self.alloc, &mut self.districts, &self.papers, &amendment)?;
