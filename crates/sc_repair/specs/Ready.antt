@@ -15,8 +15,7 @@ pub record IsReady {R : Type 0} (keys : R → List Key) (seats : R → ℕ) (m :
 
 -- a student of the papers may enter such a round, where they have not entered yet
 pub record MayComeIn {R : Type 0} (keys : R → List Key) (seats : R → ℕ) (m : Market) (round : Round R) (i : ℕ) : Type 0 where
-  pub ready : is_spent round ≡ false
-  pub fits : Fits m (view_of keys seats round)
+  pub goes_on : IsReady keys seats m round
   pub student : is_student m i ≡ true
   pub absent : has_entered m (view_of keys seats round).ranks i ≡ false
 

@@ -21,8 +21,7 @@ loop-position-init g c =
 
 pub enter_next-requires : goal.enter_next-requires
 enter_next-requires g c = record {
-  ready = c.loop-position.invariant.1;
-  fits = c.loop-position.invariant.0.fits;
+  goes_on = record { ready = c.loop-position.invariant.1; fits = c.loop-position.invariant.0.fits };
   student = among-student c.args.papers.now c.in-Some.student (contains-at (students_of c.args.papers.now) c.loop-position.position c.in-Some.student (sym c.in-Some.ensures));
   absent = c.loop-position.invariant.0.entered c.in-Some.student
       ∙ first-apart (students_of c.args.papers.now) c.loop-position.position c.in-Some.student c.loop-position.invariant.0.fits.well_formed.students_differ (sym c.in-Some.ensures);

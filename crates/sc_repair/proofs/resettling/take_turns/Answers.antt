@@ -53,8 +53,7 @@ enter_turn-requires-clause-may g c =
     (λ t. slice_get (students_of m) (get_or (sym turns_are t) at 0 - (sym c.len.ensures t - c.args.part.end))) ∙ sym c.student_at.ensures in
     let own = turn-own m (is_among (marked_in marks old)) old marks c.args.part.point (length old - c.args.part.end) c.args.part.end are at c.in-Some.student low (there ∙ c.in-Some.is) in
     record {
-      ready = c.loop-position.invariant.1;
-      fits = c.loop-position.invariant.0.on.fits;
+      goes_on = record { ready = c.loop-position.invariant.1; fits = c.loop-position.invariant.0.on.fits };
       student = among-student m c.in-Some.student (contains-at (students_of m) _ c.in-Some.student (sym c.student_at.ensures ∙ c.in-Some.is));
       absent = turn-absent m (is_among (marked_in marks old)) old marks c.args.part.point (length old - c.args.part.end) c.args.part.end are at c.in-Some.student (chains_in (view_of g.R.Roll.keys g.R.Roll.seats c.loop-position.round).log c.loop-position.renewed) _ c.loop-position.invariant.0 low own;
     }
