@@ -65,11 +65,11 @@ fn note(
     let before = places.len();
     // Whoever enters comes last.
     places.put(student, segments.len(), school)?;
-    let pushed = segments.push(student, chain);
-    if pushed.is_err() {
+    if let Err(refused) = segments.push(student, chain) {
         places.truncate(before);
+        return Err(refused);
     }
-    pushed
+    Ok(())
 }
 
 /// Gives each student whom the round's log names the school at which they stand now. It takes no memory.

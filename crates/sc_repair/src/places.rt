@@ -1,8 +1,6 @@
 //! The standing assignment, with how many students have each school.
 
 ghost use Rattle.std.specs.Prelude.{◌≡◌, ℕ, ◌+◌, ◌-◌, ◌^◌, ◌<◌, ◌≤◌, ◌&&◌, None, is_some, length, take, nat_eq, slice_set, get_or, if◌then◌else◌, IfOk, OnOk, OnErr};
-ghost use Rattle.std.specs.List.{IsDistinct};
-ghost use Rattle.std.specs.Map.{keys_of};
 ghost use Rattle.sc_papers.specs.Assignment.{assigned, holders, with_place};
 ghost use Rattle.sc_papers.specs.declared.school_no.TheConstants.SchoolNo.{GREATEST as greatest_school};
 ghost use Rattle.sc_repair.specs.Places.{AreCounts};
@@ -130,27 +128,12 @@ impl Places {
         self.counts[school.get() as usize]
     }
 
-    /// The school that the student has, if any. In constant time.
-    pub(crate) fn get(&self, student: StudentNo) -> Option<SchoolNo>
-        ensures { result ≡ assigned self.now student }
-    {
-        self.assignment.get(student)
-    }
-
     /// What `get` says of a student who often stands at this position of the order of entry: then mostly no number is
     /// looked up.
     pub(crate) fn get_near(&self, student: StudentNo, at: usize) -> Option<SchoolNo>
         ensures { result ≡ assigned self.now student }
     {
         self.assignment.get_near(student, self.hints.guess(at))
-    }
-
-    /// How many students have a school.
-    pub(crate) fn len(&self) -> usize
-        ensures count { result ≡ length self.now }
-        ensures students_differ { IsDistinct nat_eq (keys_of self.now) }
-    {
-        self.assignment.len()
     }
 
     /// Gives a student who has none the school, at the end of the order. The student stands at this position of the order

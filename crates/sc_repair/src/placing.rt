@@ -41,14 +41,6 @@ fn guess_of(position: usize, leaver: Option<usize>) -> Guess {
     }
 }
 
-/// The position of the student who leaves, if one does.
-fn leaver_at(point: usize, gap: usize) -> Option<usize> {
-    if gap > 0 {
-        return Some(point);
-    }
-    None
-}
-
 /// A student who is to be given another place.
 #[derive(Clone, Copy)]
 pub(crate) struct Mover {
@@ -214,7 +206,7 @@ pub(crate) fn place_inside<R: Roll>(
 {
     let gap = chains.len().saturating_sub(part.end);
     let before = places.len();
-    let leaver = leaver_at(part.point, gap);
+    let leaver = (gap > 0).then_some(part.point);
     let movers = place_new(alloc, round, part, chains, leaver, places)?;
     if let Err(refused) = renew(chains, part.region, part.point, gap, renewed, round.log()) {
         places.truncate(before);
