@@ -1,5 +1,5 @@
 -- A clearing after an amendment, told by the amendment's region.
-use Rattle.std.proofs.Common.{◌≡◌, ◌↔◌, inl, inr, refl, ap, sym, subst, ◌∙◌, ℕ, nat_eq, Bool, true, false, not, List, Some, None, Contains, IsTrue, is_some, length, slice_get, arith}
+use Rattle.std.proofs.Common.{◌≡◌, ◌↔◌, inl, inr, refl, ap, sym, subst, ◌∙◌, ℕ, nat_eq, Bool, true, false, not, List, Some, None, Ok, Contains, IsTrue, is_some, length, slice_get, take, arith}
 use Rattle.std.specs.Prelude.{slice_index_or}
 use Rattle.std.specs.Map.{lookup}
 use Rattle.std.proofs.lemmas.Bool.{cond-true, eqb-true, false_from_ne_true}
@@ -7,8 +7,9 @@ use Rattle.std.proofs.lemmas.Cmp.{nat_eq_equiv}
 use Rattle.std.proofs.lemmas.List.{length-map}
 use Rattle.std.proofs.lemmas.Map.Views.{list_any-from_Contains, Contains-from_any}
 use Rattle.sc_papers.specs.Market.{Market, is_student, student_of, students_of}
-use Rattle.sc_papers.specs.Restriction.{restricted, outside, AlikeOutside}
+use Rattle.sc_papers.specs.Restriction.{cut, restricted, outside, AlikeOutside}
 use Rattle.std.proofs.lemmas.Option.{none-some}
+use Rattle.std.specs.declared.alloc.AllocError.{AllocError}
 use Rattle.sc_papers.specs.Verdict.{after, verdict}
 use Rattle.sc_papers.specs.WellFormed.{WellFormed}
 use Rattle.sc_papers.specs.declared.amendment.Amendment.TheVariants.{Enter, Withdraw, Rerank, Add, Close, Correct}
@@ -16,16 +17,17 @@ use Rattle.sc_papers.proofs.Choices.{place-of}
 use Rattle.sc_papers.proofs.Positions.{student-among}
 use Rattle.sc_papers.specs.declared.amendment.Amendment.{Amendment}
 use Rattle.sc_papers.proofs.Restriction.{student-restricted}
-use Rattle.sc_checkpoint.specs.Chains.{students_in, Chain}
+use Rattle.sc_checkpoint.specs.Chains.{logs_in, students_in, Chain}
 use Rattle.sc_region.specs.Groups.{entrants}
 use Rattle.sc_region.specs.Marks.{marked}
 use Rattle.sc_region.specs.Region.{InRegion}
 use Rattle.sc_region.proofs.Marked.{marked-from, marked-there}
 use Rattle.sc_region.proofs.Reaching.{in-known}
+use Rattle.sc_repair.specs.Changed.{standing_of, IsResettled}
 use Rattle.sc_repair.specs.Newcomer.{newcomer}
 use Rattle.sc_repair.specs.Locality.{is_among, TellsRegion}
 use Rattle.sc_repair.specs.Rewinding.{rewind_point}
-use Rattle.sc_repair.specs.Standing.{matching_of, Standing, CountsInside, CountsRegion, KeepsOthers}
+use Rattle.sc_repair.specs.Standing.{matching_of, Standing, CountsInside, CountsRegion, IsAmended, IsCertified, KeepsOthers}
 use Rattle.sc_repair.proofs.LiesApart.{region-alike}
 use Rattle.sc_repair.proofs.Resumption.{length-students}
 
@@ -91,3 +93,18 @@ same-test p q same = λ t i. both (p i) (q i) (same i) t
 pub counts-region : (m : Market) (a : Amendment) (region : List ℕ) (standing : Standing) → TellsRegion m a (is_among region) → CountsInside (is_among region) (rewind_point m a) standing → CountsRegion m a standing
 counts-region m a region standing tells counts test told =
     subst (λ p. CountsInside p (rewind_point m a) standing) (same-test (is_among region) test (λ i. (λ first. (told i).1 ((tells i).0 first), λ second. (tells i).1 ((told i).0 second)))) counts
+
+-- an amendment whose region was settled anew, in papers that are the amended ones once they are cut at the end
+pub settled-anew : (m p n : Market) (a : Amendment) (region : List ℕ) (places given : List (ℕ × ℕ)) (old chains : List Chain) (point end proposals made : ℕ) → TellsRegion m a (is_among region) → n ≡ after m a → cut p end ≡ n → point ≡ rewind_point m a
+    → IsResettled p (is_among region) point end places given old chains made → IsAmended {E = AllocError} (Ok tt) (standing_of m places old proposals) a (standing_of n given chains made)
+settled-anew m p n a region places given old chains point end proposals made tells accepted whole at resettled =
+    let new : Standing = standing_of n given chains made in
+    record {
+      certified = subst (λ q. IsCertified (standing_of q given chains made)) whole resettled.certified;
+      accepted = accepted;
+      stays = subst (λ k. take k (logs_in chains) ≡ take k (logs_in old)) at resettled.stays;
+      others = keeps-others (standing_of m places old proposals) new a region tells accepted resettled.others;
+      proposals = counts-region m a region new tells
+          (subst (λ k. CountsInside (is_among region) k new) at (subst (λ q. CountsInside (is_among region) point (standing_of q given chains made)) whole resettled.proposals));
+      unchanged = tt;
+    }

@@ -35,7 +35,7 @@ resumed-requires g c =
     let standing : c.in_ok-standings.standings.choices.items ≡ next_choices_after m (log_of test first) (filter test (take c.args.part.point (students_of m))) =
     c.in_ok-standings.ensures
     ∙ ap (λ ps. next_choices_after m (joined (logs_at ps old)) (map (student_at m) ps)) c.positions_before-positions.ensures
-    ∙ before-stand m old marks c.args.part.point c.args.part.end c.requires.given.turns.in_order c.requires.given.turns.within c.requires.given.turns.nobody_new c.requires.given.turns.one_each c.requires.given.turns.differ c.requires.given.theirs in
+    ∙ before-stand m old marks c.args.part.point c.args.part.end c.requires.given.turns c.requires.given.theirs in
     (log_of test first, subst (AreNextChoices m (log_of test first)) (sym standing) (stand-inside m test first c.args.part.point c.requires.given.well_formed c.requires.given.apart c.requires.given.theirs c.requires.given.segmented))
 
 pub take_turns-requires-clause-on : goal.take_turns-requires-clause-on
@@ -48,7 +48,7 @@ take_turns-requires-clause-on g c =
     let standing : c.in_ok-standings.standings.choices.items ≡ next_choices_after m (log_of test first) (filter test (take c.args.part.point (students_of m))) =
     c.in_ok-standings.ensures
     ∙ ap (λ ps. next_choices_after m (joined (logs_at ps old)) (map (student_at m) ps)) c.positions_before-positions.ensures
-    ∙ before-stand m old marks c.args.part.point c.args.part.end c.requires.given.turns.in_order c.requires.given.turns.within c.requires.given.turns.nobody_new c.requires.given.turns.one_each c.requires.given.turns.differ c.requires.given.theirs in
+    ∙ before-stand m old marks c.args.part.point c.args.part.end c.requires.given.turns c.requires.given.theirs in
     inside-begins m test old first (length old - c.args.part.end) (view_of g.R.Roll.keys g.R.Roll.seats c.in_ok-round.round) c.args.part.point c.requires.given.apart
     (length-take-le c.args.part.point old (omega (arith, c.requires.given.turns.in_order, c.requires.given.turns.nobody_new))) refl c.requires.given.theirs c.requires.given.segmented c.requires.given.others c.in_ok-round.ensures.fits
     (λ i. c.in_ok-round.ensures.entered i ∙ ap (λ ss. stands ss i) standing)

@@ -19,7 +19,7 @@ loop-position-init g c =
     let log = (view_of g.R.Roll.keys g.R.Roll.seats c.args.round.now).log in
     let old = c.args.old.now in
     let marks = c.args.part.region.now in
-    let are = are-turns m old marks c.args.part.point c.args.part.end c.requires.turns.in_order c.requires.turns.within c.requires.turns.nobody_new c.requires.turns.one_each c.requires.turns.differ c.requires.turns.step in (
+    let are = are-turns m old marks c.args.part.point c.args.part.end c.requires.turns in (
       turns-begin m (is_among (marked_in marks old)) old marks c.args.part.point (length old - c.args.part.end) c.args.part.end are _ (chains_in log c.args.renewed.now) (ap (chains_in log) c.requires.none) c.requires.on,
       c.requires.ready,
       subst (λ (spans : List Span). AreWithin log spans) (sym c.requires.none) (none-within log),
@@ -31,7 +31,7 @@ unreachable-requires g c =
     let old = c.args.old.now in
     let marks = c.args.part.region.now in
     let at = c.loop-position.position-index in
-    let are = are-turns m old marks c.args.part.point c.args.part.end c.requires.turns.in_order c.requires.turns.within c.requires.turns.nobody_new c.requires.turns.one_each c.requires.turns.differ c.requires.turns.step in
+    let are = are-turns m old marks c.args.part.point c.args.part.end c.requires.turns in
     let turns_are : c.positions_from-turns.result.now ≡ marked_from marks (c.args.part.point + (length old - c.args.part.end)) =
     c.positions_from-turns.ensures ∙ ap (λ n. marked_from marks (c.args.part.point + (n - c.args.part.end))) c.len.ensures in
     let low : at < length (marked_from marks (c.args.part.point + (length old - c.args.part.end))) = omega (arith, ap (λ (ps : List ℕ). length ps) turns_are, c.loop-position-test.true) in
@@ -45,7 +45,7 @@ enter_turn-requires-clause-may g c =
     let old = c.args.old.now in
     let marks = c.args.part.region.now in
     let at = c.loop-position.position-index in
-    let are = are-turns m old marks c.args.part.point c.args.part.end c.requires.turns.in_order c.requires.turns.within c.requires.turns.nobody_new c.requires.turns.one_each c.requires.turns.differ c.requires.turns.step in
+    let are = are-turns m old marks c.args.part.point c.args.part.end c.requires.turns in
     let turns_are : c.positions_from-turns.result.now ≡ marked_from marks (c.args.part.point + (length old - c.args.part.end)) =
     c.positions_from-turns.ensures ∙ ap (λ n. marked_from marks (c.args.part.point + (n - c.args.part.end))) c.len.ensures in
     let low : at < length (marked_from marks (c.args.part.point + (length old - c.args.part.end))) = omega (arith, ap (λ (ps : List ℕ). length ps) turns_are, c.loop-position-test.true) in
@@ -64,7 +64,7 @@ loop-position-preserved g c =
     let old = c.args.old.now in
     let marks = c.args.part.region.now in
     let at = c.loop-position.position-index in
-    let are = are-turns m old marks c.args.part.point c.args.part.end c.requires.turns.in_order c.requires.turns.within c.requires.turns.nobody_new c.requires.turns.one_each c.requires.turns.differ c.requires.turns.step in
+    let are = are-turns m old marks c.args.part.point c.args.part.end c.requires.turns in
     let turns_are : c.positions_from-turns.result.now ≡ marked_from marks (c.args.part.point + (length old - c.args.part.end)) =
     c.positions_from-turns.ensures ∙ ap (λ n. marked_from marks (c.args.part.point + (n - c.args.part.end))) c.len.ensures in
     let low : at < length (marked_from marks (c.args.part.point + (length old - c.args.part.end))) = omega (arith, ap (λ (ps : List ℕ). length ps) turns_are, c.loop-position-test.true) in
@@ -82,7 +82,7 @@ returns-clause-on g c =
     let m = c.args.part.papers.now in
     let old = c.args.old.now in
     let marks = c.args.part.region.now in
-    let are = are-turns m old marks c.args.part.point c.args.part.end c.requires.turns.in_order c.requires.turns.within c.requires.turns.nobody_new c.requires.turns.one_each c.requires.turns.differ c.requires.turns.step in
+    let are = are-turns m old marks c.args.part.point c.args.part.end c.requires.turns in
     let turns_are : c.positions_from-turns.result.now ≡ marked_from marks (c.args.part.point + (length old - c.args.part.end)) =
     c.positions_from-turns.ensures ∙ ap (λ n. marked_from marks (c.args.part.point + (n - c.args.part.end))) c.len.ensures in
     turns-end m (is_among (marked_in marks old)) old marks c.args.part.point (length old - c.args.part.end) c.args.part.end are c.loop-position.position-index (chains_in (view_of g.R.Roll.keys g.R.Roll.seats c.loop-position.round).log c.loop-position.renewed) _ c.loop-position.invariant.0

@@ -1,43 +1,40 @@
-use Rattle.std.proofs.Common.{◌≡◌, ℕ, List, length, true, false, Contains, ap, sym, subst, ◌∙◌, IfSome, take, arith}
+use Rattle.std.proofs.Common.{◌≡◌, ℕ, List, Ok, length, true, false, Contains, ap, sym, subst, ◌∙◌, IfSome, arith}
 use Rattle.std.specs.Option.{IsSomeAnd}
 use Rattle.std.proofs.lemmas.List.{take_all}
-use Rattle.sc_papers.specs.declared.key.Key.{Key}
-use Rattle.sc_seats.specs.Roll.{RollView}
+use Rattle.std.specs.declared.alloc.AllocError.{AllocError}
 use Rattle.sc_region.specs.Region.{amended_school}
 use Rattle.sc_repair.specs.Rejoining.{school_in, CanRejoin, HasJoined, HasLeft, HasSeats, StandsInside}
 use Rattle.sc_papers.specs.Market.{Market, students_of}
 use Rattle.sc_papers.specs.Restriction.{cut, AreApart}
 use Rattle.sc_papers.specs.Verdict.{after, verdict}
 use Rattle.sc_papers.specs.WellFormed.{WellFormed, WithinLimits}
-use Rattle.sc_checkpoint.specs.Chains.{logs_in, students_in, Chain}
+use Rattle.sc_checkpoint.specs.Chains.{students_in}
 use Rattle.sc_engine.specs.Leaving.{AreWithin, StandAt}
 use Rattle.sc_engine.specs.Round.{is_spent, view_of}
 use Rattle.sc_engine.specs.RoundView.{without_log}
 use Rattle.sc_region.specs.Marks.{marked}
 use Rattle.sc_region.specs.Telling.{MarkRegion}
 use Rattle.sc_repair.specs.Changed.{standing_of, HaveChanged}
-use Rattle.sc_repair.specs.Locality.{is_among, marked_in, TellsRegion}
+use Rattle.sc_repair.specs.Locality.{is_among, marked_in}
 use Rattle.sc_region.specs.Districts.{AreDistricts}
 use Rattle.sc_repair.specs.Newcomer.{StandsAfter}
 use Rattle.sc_repair.specs.Representation.{IsKept}
 use Rattle.sc_repair.specs.Rewinding.{rewind_point}
-use Rattle.sc_repair.specs.Standing.{Standing, CountsInside, CountsRegion, IsCertified, KeepsOthers}
-use Rattle.sc_repair.proofs.Admitted.{still-certified}
+use Rattle.sc_repair.specs.Standing.{Standing, IsAmended, IsCertified}
+use Rattle.sc_repair.proofs.Admitted.{keys, same-standing, seats, unamended}
 use Rattle.sc_repair.proofs.Changed.{in-place-changed, whole-cut-of}
 use Rattle.sc_repair.proofs.InStep.{students-stay}
 use Rattle.sc_repair.proofs.LiesApart.{region-apart}
 use Rattle.sc_repair.proofs.Rejoining.{amended-in, change, gone-some, if-some, region-tells, joins-inside, rejoined, rejoined-some, stand-at, stand-still, waits, waits-some}
 use Rattle.sc_repair.proofs.Resumption.{length-students}
-use Rattle.sc_repair.proofs.Regional.{counts-region, keeps-others, marks-count, marks-tell}
+use Rattle.sc_repair.proofs.Regional.{marks-count, settled-anew}
 use Rattle.sc_repair.proofs.settlement.Settlement.change.Goals as goal
 
 pub resettle-settled-requires : goal.resettle-settled-requires
 resettle-settled-requires c =
     let m = c.self.inside.papers in
     let test = is_among (marked_in c.in_ok-region.region c.self.inside.segments) in
-    let tells : TellsRegion m c.args.amendment test =
-    subst (λ is. TellsRegion m c.args.amendment (is_among (marked c.in_ok-region.region is))) (sym c.self.invariant.theirs)
-    (marks-tell m c.args.amendment c.in_ok-region.region c.self.invariant.certified.well_formed (ap (λ (s : Standing). verdict s.papers c.args.amendment) c.self.view_is ∙ c.requires.allowed) c.requires.no_entry (subst (λ p. MarkRegion p c.args.amendment c.in_ok-region.region) c.deref.ensures c.in_ok-region.ensures.region).region) in
+    let tells = region-tells m c.args.amendment c.in_ok-region.region c.self.inside.segments c.self.invariant.certified.well_formed (ap (λ (s : Standing). verdict s.papers c.args.amendment) c.self.view_is ∙ c.requires.allowed) c.requires.no_entry (subst (λ p. MarkRegion p c.args.amendment c.in_ok-region.region) c.deref.ensures c.in_ok-region.ensures.region) c.self.invariant.theirs in
     record {
       changed = subst (λ p. HaveChanged p c.self.inside.places c.self.inside.segments test c.point_in-point.result c.students_len-end.result) (sym c.deref-5.ensures)
           (in-place-changed m c.apply_reversibly.new.self c.args.amendment c.point_in-point.result c.students_len-end.result c.self.invariant.certified.well_formed (ap (λ (s : Standing). verdict s.papers c.args.amendment) c.self.view_is ∙ c.requires.allowed) c.requires.no_entry
@@ -49,12 +46,6 @@ resettle-settled-requires c =
           }) tells);
       one_each = marks-count m c.in_ok-region.region c.self.inside.segments (subst (λ p. MarkRegion p c.args.amendment c.in_ok-region.region) c.deref.ensures c.in_ok-region.ensures.region).one_each c.self.invariant.theirs;
     }
-
-abbrev keys : RollView → List Key
-keys roll = roll.keys
-
-abbrev seats : RollView → ℕ
-seats roll = roll.seats
 
 pub let_leave-requires-clause-within : goal.let_leave-requires-clause-within
 let_leave-requires-clause-within c =
@@ -171,55 +162,21 @@ pub invariant_of-self-in-Err : goal.invariant_of-self-in-Err
 invariant_of-self-in-Err c =
     let papers = c.take_back.ensures c.self.inside.papers c.in-Ok.ensures.back in
     record {
-      certified = still-certified c.self.inside.papers c.take_back.new.self c.self.inside.segments c.resettle-settled.new.segments c.self.inside.places c.resettle-settled.new.places c.self.inside.proposals
-          papers c.in-Err.ensures.unchanged.0 c.in-Err.ensures.unchanged.1 c.self.invariant.certified;
+      certified = subst IsCertified (sym (same-standing papers c.in-Err.ensures.unchanged.0 c.in-Err.ensures.unchanged.1 c.self.inside.proposals)) c.self.invariant.certified;
       theirs = ap students_in c.in-Err.ensures.unchanged.1 ∙ c.self.invariant.theirs ∙ ap students_of (sym papers);
       round = tt;
       districts = tt;
     }
 
 pub returns-in-Ok-settled : goal.returns-in-Ok-settled
-returns-in-Ok-settled c = record {
-  certified =
-      subst (λ n. IsCertified (standing_of n c.resettle-settled.new.places c.resettle-settled.new.segments c.in-Ok-settled.proposals)) (ap (λ p. cut p c.students_len-end.result) c.deref-5.ensures ∙ whole-cut-of c.apply_reversibly.new.self c.students_len-end.result (c.students_len-end.ensures.count ∙ ap (λ (p : Market). length p.students) c.deref-4.ensures)) c.in-Ok-settled.ensures.resettled.certified;
-  accepted = c.in-Ok.ensures.accepted ∙ ap (λ (s : Standing). after s.papers c.args.amendment) c.self.view_is;
-  stays =
-      subst (λ (s : Standing). take (rewind_point s.papers c.args.amendment) (logs_in c.resettle-settled.new.segments) ≡ take (rewind_point s.papers c.args.amendment) s.segments) c.self.view_is
-      (subst (λ k. take k (logs_in c.resettle-settled.new.segments) ≡ take k (logs_in c.self.inside.segments)) (c.point_in-point.ensures ∙ ap (λ p. rewind_point p c.args.amendment) c.deref-2.ensures) c.in-Ok-settled.ensures.resettled.stays);
-  others =
-      let m = c.self.inside.papers in
-      let test = is_among (marked_in c.in_ok-region.region c.self.inside.segments) in
-      let tells : TellsRegion m c.args.amendment test =
-      subst (λ is. TellsRegion m c.args.amendment (is_among (marked c.in_ok-region.region is))) (sym c.self.invariant.theirs)
-      (marks-tell m c.args.amendment c.in_ok-region.region c.self.invariant.certified.well_formed (ap (λ (s : Standing). verdict s.papers c.args.amendment) c.self.view_is ∙ c.requires.allowed) c.requires.no_entry (subst (λ p. MarkRegion p c.args.amendment c.in_ok-region.region) c.deref.ensures c.in_ok-region.ensures.region).region) in
-      let old : Standing = record { papers = m; places = c.self.inside.places; segments = logs_in c.self.inside.segments; proposals = c.self.inside.proposals } in
-      let new : Standing = record { papers = c.apply_reversibly.new.self; places = c.resettle-settled.new.places; segments = logs_in c.resettle-settled.new.segments; proposals = c.in-Ok-settled.proposals } in
-      subst (λ (s : Standing). KeepsOthers s c.args.amendment new) c.self.view_is
-      (keeps-others old new c.args.amendment (marked_in c.in_ok-region.region c.self.inside.segments) tells c.in-Ok.ensures.accepted c.in-Ok-settled.ensures.resettled.others);
-  proposals =
-      let m = c.self.inside.papers in
-      let test = is_among (marked_in c.in_ok-region.region c.self.inside.segments) in
-      let tells : TellsRegion m c.args.amendment test =
-      subst (λ is. TellsRegion m c.args.amendment (is_among (marked c.in_ok-region.region is))) (sym c.self.invariant.theirs)
-      (marks-tell m c.args.amendment c.in_ok-region.region c.self.invariant.certified.well_formed (ap (λ (s : Standing). verdict s.papers c.args.amendment) c.self.view_is ∙ c.requires.allowed) c.requires.no_entry (subst (λ p. MarkRegion p c.args.amendment c.in_ok-region.region) c.deref.ensures c.in_ok-region.ensures.region).region) in
-      let new : Standing = record { papers = c.apply_reversibly.new.self; places = c.resettle-settled.new.places; segments = logs_in c.resettle-settled.new.segments; proposals = c.in-Ok-settled.proposals } in
-      subst (λ (s : Standing). CountsRegion s.papers c.args.amendment new) c.self.view_is
-      (counts-region m c.args.amendment (marked_in c.in_ok-region.region c.self.inside.segments) new tells
-      (subst (λ k. CountsInside test k new) (c.point_in-point.ensures ∙ ap (λ p. rewind_point p c.args.amendment) c.deref-2.ensures)
-      (subst (λ n. CountsInside test c.point_in-point.result (standing_of n c.resettle-settled.new.places c.resettle-settled.new.segments c.in-Ok-settled.proposals)) (ap (λ p. cut p c.students_len-end.result) c.deref-5.ensures ∙ whole-cut-of c.apply_reversibly.new.self c.students_len-end.result (c.students_len-end.ensures.count ∙ ap (λ (p : Market). length p.students) c.deref-4.ensures)) c.in-Ok-settled.ensures.resettled.proposals)));
-  unchanged = tt;
-}
+returns-in-Ok-settled c =
+    let m = c.self.inside.papers in
+    let tells = region-tells m c.args.amendment c.in_ok-region.region c.self.inside.segments c.self.invariant.certified.well_formed (ap (λ (s : Standing). verdict s.papers c.args.amendment) c.self.view_is ∙ c.requires.allowed) c.requires.no_entry (subst (λ p. MarkRegion p c.args.amendment c.in_ok-region.region) c.deref.ensures c.in_ok-region.ensures.region) c.self.invariant.theirs in
+    subst (λ (s : Standing). IsAmended {E = AllocError} (Ok tt) s c.args.amendment (standing_of c.apply_reversibly.new.self c.resettle-settled.new.places c.resettle-settled.new.segments c.in-Ok-settled.proposals)) c.self.view_is
+    (settled-anew m c.deref-5.result.now c.apply_reversibly.new.self c.args.amendment (marked_in c.in_ok-region.region c.self.inside.segments) c.self.inside.places c.resettle-settled.new.places c.self.inside.segments c.resettle-settled.new.segments c.point_in-point.result c.students_len-end.result c.self.inside.proposals c.in-Ok-settled.proposals
+    tells c.in-Ok.ensures.accepted (ap (λ p. cut p c.students_len-end.result) c.deref-5.ensures ∙ whole-cut-of c.apply_reversibly.new.self c.students_len-end.result (c.students_len-end.ensures.count ∙ ap (λ (p : Market). length p.students) c.deref-4.ensures)) (c.point_in-point.ensures ∙ ap (λ p. rewind_point p c.args.amendment) c.deref-2.ensures) c.in-Ok-settled.ensures.resettled)
 
 pub returns : goal.returns
-returns c = record {
-  certified =
-      still-certified c.self.inside.papers c.take_back.new.self c.self.inside.segments c.resettle-settled.new.segments c.self.inside.places c.resettle-settled.new.places c.self.inside.proposals
-      (c.take_back.ensures c.self.inside.papers c.in-Ok.ensures.back) c.in-Err.ensures.unchanged.0 c.in-Err.ensures.unchanged.1 c.self.invariant.certified;
-  accepted = tt;
-  stays = tt;
-  others = tt;
-  proposals = tt;
-  unchanged =
-      let standing : Market → List (ℕ × ℕ) → List Chain → Standing = λ m places chains. record { papers = m; places = places; segments = logs_in chains; proposals = c.self.inside.proposals } in
-      (λ t. standing (c.take_back.ensures c.self.inside.papers c.in-Ok.ensures.back t) (c.in-Err.ensures.unchanged.0 t) (c.in-Err.ensures.unchanged.1 t)) ∙ c.self.view_is;
-}
+returns c =
+    let same = same-standing (c.take_back.ensures c.self.inside.papers c.in-Ok.ensures.back) c.in-Err.ensures.unchanged.0 c.in-Err.ensures.unchanged.1 c.self.inside.proposals in
+    unamended c.in-Err.refused (same ∙ c.self.view_is) (subst IsCertified (sym same) c.self.invariant.certified)

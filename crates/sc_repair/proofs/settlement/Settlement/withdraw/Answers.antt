@@ -1,7 +1,6 @@
-use Rattle.std.proofs.Common.{◌≡◌, ◌-◌, ℕ, Contains, List, length, ap, refl, sym, subst, ◌∙◌, IfSome, take, arith}
+use Rattle.std.proofs.Common.{◌≡◌, ◌-◌, Contains, Ok, length, ap, refl, sym, subst, ◌∙◌, IfSome, arith}
 use Rattle.std.specs.Option.{IsSomeAnd}
-use Rattle.sc_papers.specs.declared.key.Key.{Key}
-use Rattle.sc_seats.specs.Roll.{RollView}
+use Rattle.std.specs.declared.alloc.AllocError.{AllocError}
 use Rattle.sc_engine.specs.Leaving.{AreWithin, StandAt}
 use Rattle.sc_engine.specs.Round.{view_of}
 use Rattle.sc_papers.specs.Market.{Market, students_of}
@@ -9,20 +8,19 @@ use Rattle.sc_papers.specs.Restriction.{cut, AreApart}
 use Rattle.sc_papers.specs.Verdict.{after, verdict}
 use Rattle.sc_papers.specs.WellFormed.{WellFormed, WithinLimits}
 use Rattle.sc_papers.specs.declared.amendment.Amendment.TheVariants.{Withdraw}
-use Rattle.sc_checkpoint.specs.Chains.{logs_in, students_in, Chain}
-use Rattle.sc_region.specs.Marks.{marked}
+use Rattle.sc_checkpoint.specs.Chains.{students_in}
 use Rattle.sc_region.specs.Telling.{MarkRegion}
 use Rattle.sc_repair.specs.Changed.{standing_of, HaveChanged}
-use Rattle.sc_repair.specs.Locality.{is_among, marked_in, TellsRegion}
+use Rattle.sc_repair.specs.Locality.{is_among, marked_in}
 use Rattle.sc_region.specs.Districts.{AreDistricts}
 use Rattle.sc_repair.specs.Rejoining.{before_leaving, CanRejoin, HasJoined, HasLeft, StandBehind, StandsInside}
 use Rattle.sc_repair.specs.Rewinding.{rewind_point}
-use Rattle.sc_repair.specs.Standing.{Standing, CountsInside, CountsRegion, IsCertified, KeepsOthers}
-use Rattle.sc_repair.proofs.Admitted.{still-certified}
+use Rattle.sc_repair.specs.Standing.{Standing, IsAmended, IsCertified}
+use Rattle.sc_repair.proofs.Admitted.{keys, same-standing, seats, unamended}
 use Rattle.sc_repair.proofs.Changed.{leaver-back, leaver-changed, leaver-from, leaver-gone, leaver-others, leaver-within}
 use Rattle.sc_repair.proofs.LiesApart.{region-apart}
 use Rattle.sc_repair.proofs.Rejoining.{change, follows-waits, follows-withdrawn, gone-some, if-some, joins-withdrawn, region-tells, rejoined, rejoined-some, room-stood, stand-at, stand-behind, waits-moved, withdrawn}
-use Rattle.sc_repair.proofs.Regional.{counts-region, keeps-others, marks-count, marks-tell}
+use Rattle.sc_repair.proofs.Regional.{marks-count, settled-anew}
 use Rattle.sc_repair.proofs.settlement.Settlement.withdraw.Goals as goal
 
 pub move_student-requires-clause-from : goal.move_student-requires-clause-from
@@ -33,9 +31,7 @@ pub resettle-settled-requires : goal.resettle-settled-requires
 resettle-settled-requires c =
     let m = c.self.inside.papers in
     let test = is_among (marked_in c.in_ok-region.region c.self.inside.segments) in
-    let tells : TellsRegion m (Withdraw c.args.student) test =
-    subst (λ is. TellsRegion m (Withdraw c.args.student) (is_among (marked c.in_ok-region.region is))) (sym c.self.invariant.theirs)
-    (marks-tell m (Withdraw c.args.student) c.in_ok-region.region c.self.invariant.certified.well_formed (ap (λ (s : Standing). verdict s.papers (Withdraw c.args.student)) c.self.view_is ∙ c.requires) refl (subst (λ p. MarkRegion p (Withdraw c.args.student) c.in_ok-region.region) c.deref.ensures c.in_ok-region.ensures.region).region) in
+    let tells = region-tells m (Withdraw c.args.student) c.in_ok-region.region c.self.inside.segments c.self.invariant.certified.well_formed (ap (λ (s : Standing). verdict s.papers (Withdraw c.args.student)) c.self.view_is ∙ c.requires) refl (subst (λ p. MarkRegion p (Withdraw c.args.student) c.in_ok-region.region) c.deref.ensures c.in_ok-region.ensures.region) c.self.invariant.theirs in
     record {
       changed = subst (λ p. HaveChanged p c.self.inside.places c.self.inside.segments test c.point_in-point.result (c.students_len-last.result - 1)) (sym c.deref-5.ensures)
           (leaver-changed c.self.inside.papers c.move_student.new.self (Withdraw c.args.student) c.args.student c.point_in-point.result (c.students_len-last.result - 1) c.self.invariant.certified.well_formed (ap (λ (s : Standing). verdict s.papers (Withdraw c.args.student)) c.self.view_is ∙ c.requires) refl (c.point_in-point.ensures ∙ ap (λ p. rewind_point p (Withdraw c.args.student)) c.deref-2.ensures) (ap (λ n. n - 1) (c.students_len-last.ensures.count ∙ ap (λ (p : Market). length p.students) c.deref-4.ensures))
@@ -47,12 +43,6 @@ resettle-settled-requires c =
           }) tells);
       one_each = marks-count m c.in_ok-region.region c.self.inside.segments (subst (λ p. MarkRegion p (Withdraw c.args.student) c.in_ok-region.region) c.deref.ensures c.in_ok-region.ensures.region).one_each c.self.invariant.theirs;
     }
-
-abbrev keys : RollView → List Key
-keys roll = roll.keys
-
-abbrev seats : RollView → ℕ
-seats roll = roll.seats
 
 pub let_leave-requires-clause-within : goal.let_leave-requires-clause-within
 let_leave-requires-clause-within c =
@@ -164,73 +154,24 @@ invariant_of-self-in-Err c =
     let papers : c.move_student-in-Err.new.self ≡ c.self.inside.papers =
     c.move_student-in-Err.ensures ∙ leaver-back c.self.inside.papers c.move_student.new.self (Withdraw c.args.student) c.args.student c.point_in-point.result (c.students_len-last.result - 1) c.self.invariant.certified.well_formed (ap (λ (s : Standing). verdict s.papers (Withdraw c.args.student)) c.self.view_is ∙ c.requires) refl (c.point_in-point.ensures ∙ ap (λ p. rewind_point p (Withdraw c.args.student)) c.deref-2.ensures) (ap (λ n. n - 1) (c.students_len-last.ensures.count ∙ ap (λ (p : Market). length p.students) c.deref-4.ensures)) c.move_student.ensures in
     record {
-      certified = still-certified c.self.inside.papers c.move_student-in-Err.new.self c.self.inside.segments c.resettle-settled.new.segments c.self.inside.places c.resettle-settled.new.places c.self.inside.proposals
-          papers c.in-Err.ensures.unchanged.0 c.in-Err.ensures.unchanged.1 c.self.invariant.certified;
+      certified = subst IsCertified (sym (same-standing papers c.in-Err.ensures.unchanged.0 c.in-Err.ensures.unchanged.1 c.self.inside.proposals)) c.self.invariant.certified;
       theirs = ap students_in c.in-Err.ensures.unchanged.1 ∙ c.self.invariant.theirs ∙ ap students_of (sym papers);
       round = tt;
       districts = tt;
     }
 
 pub returns-in-Ok : goal.returns-in-Ok
-returns-in-Ok c = record {
-  certified =
-      let papers : c.withdraw.new.self ≡ after c.self.inside.papers (Withdraw c.args.student) =
-      c.withdraw.ensures ∙ leaver-gone c.self.inside.papers c.move_student.new.self (Withdraw c.args.student) c.args.student c.point_in-point.result (c.students_len-last.result - 1) c.self.invariant.certified.well_formed (ap (λ (s : Standing). verdict s.papers (Withdraw c.args.student)) c.self.view_is ∙ c.requires) refl (c.point_in-point.ensures ∙ ap (λ p. rewind_point p (Withdraw c.args.student)) c.deref-2.ensures) (ap (λ n. n - 1) (c.students_len-last.ensures.count ∙ ap (λ (p : Market). length p.students) c.deref-4.ensures)) c.move_student.ensures in
-      let same : cut c.deref-5.result.now (c.students_len-last.result - 1) ≡ c.withdraw.new.self =
-      ap (λ p. cut p (c.students_len-last.result - 1)) c.deref-5.ensures
-      ∙ leaver-others c.self.inside.papers c.move_student.new.self (Withdraw c.args.student) c.args.student c.point_in-point.result (c.students_len-last.result - 1) c.self.invariant.certified.well_formed (ap (λ (s : Standing). verdict s.papers (Withdraw c.args.student)) c.self.view_is ∙ c.requires) refl (c.point_in-point.ensures ∙ ap (λ p. rewind_point p (Withdraw c.args.student)) c.deref-2.ensures) (ap (λ n. n - 1) (c.students_len-last.ensures.count ∙ ap (λ (p : Market). length p.students) c.deref-4.ensures)) c.move_student.ensures ∙ sym papers in
-      subst (λ n. IsCertified (standing_of n c.resettle-settled.new.places c.resettle-settled.new.segments c.in-Ok.proposals)) same c.in-Ok.ensures.resettled.certified;
-  accepted =
-      let papers : c.withdraw.new.self ≡ after c.self.inside.papers (Withdraw c.args.student) =
-      c.withdraw.ensures ∙ leaver-gone c.self.inside.papers c.move_student.new.self (Withdraw c.args.student) c.args.student c.point_in-point.result (c.students_len-last.result - 1) c.self.invariant.certified.well_formed (ap (λ (s : Standing). verdict s.papers (Withdraw c.args.student)) c.self.view_is ∙ c.requires) refl (c.point_in-point.ensures ∙ ap (λ p. rewind_point p (Withdraw c.args.student)) c.deref-2.ensures) (ap (λ n. n - 1) (c.students_len-last.ensures.count ∙ ap (λ (p : Market). length p.students) c.deref-4.ensures)) c.move_student.ensures in
-      papers ∙ ap (λ (s : Standing). after s.papers (Withdraw c.args.student)) c.self.view_is;
-  stays = subst (λ (s : Standing). take (rewind_point s.papers (Withdraw c.args.student)) (logs_in c.resettle-settled.new.segments) ≡ take (rewind_point s.papers (Withdraw c.args.student)) s.segments) c.self.view_is
-      (subst (λ k. take k (logs_in c.resettle-settled.new.segments) ≡ take k (logs_in c.self.inside.segments)) (c.point_in-point.ensures ∙ ap (λ p. rewind_point p (Withdraw c.args.student)) c.deref-2.ensures) c.in-Ok.ensures.resettled.stays);
-  others =
-      let m = c.self.inside.papers in
-      let test = is_among (marked_in c.in_ok-region.region c.self.inside.segments) in
-      let tells : TellsRegion m (Withdraw c.args.student) test =
-      subst (λ is. TellsRegion m (Withdraw c.args.student) (is_among (marked c.in_ok-region.region is))) (sym c.self.invariant.theirs)
-      (marks-tell m (Withdraw c.args.student) c.in_ok-region.region c.self.invariant.certified.well_formed (ap (λ (s : Standing). verdict s.papers (Withdraw c.args.student)) c.self.view_is ∙ c.requires) refl (subst (λ p. MarkRegion p (Withdraw c.args.student) c.in_ok-region.region) c.deref.ensures c.in_ok-region.ensures.region).region) in
-      let papers : c.withdraw.new.self ≡ after c.self.inside.papers (Withdraw c.args.student) =
-      c.withdraw.ensures ∙ leaver-gone c.self.inside.papers c.move_student.new.self (Withdraw c.args.student) c.args.student c.point_in-point.result (c.students_len-last.result - 1) c.self.invariant.certified.well_formed (ap (λ (s : Standing). verdict s.papers (Withdraw c.args.student)) c.self.view_is ∙ c.requires) refl (c.point_in-point.ensures ∙ ap (λ p. rewind_point p (Withdraw c.args.student)) c.deref-2.ensures) (ap (λ n. n - 1) (c.students_len-last.ensures.count ∙ ap (λ (p : Market). length p.students) c.deref-4.ensures)) c.move_student.ensures in
-      let old : Standing = record { papers = m; places = c.self.inside.places; segments = logs_in c.self.inside.segments; proposals = c.self.inside.proposals } in
-      let new : Standing = record { papers = c.withdraw.new.self; places = c.resettle-settled.new.places; segments = logs_in c.resettle-settled.new.segments; proposals = c.in-Ok.proposals } in
-      subst (λ (s : Standing). KeepsOthers s (Withdraw c.args.student) new) c.self.view_is
-      (keeps-others old new (Withdraw c.args.student) (marked_in c.in_ok-region.region c.self.inside.segments) tells papers c.in-Ok.ensures.resettled.others);
-  proposals =
-      let m = c.self.inside.papers in
-      let test = is_among (marked_in c.in_ok-region.region c.self.inside.segments) in
-      let tells : TellsRegion m (Withdraw c.args.student) test =
-      subst (λ is. TellsRegion m (Withdraw c.args.student) (is_among (marked c.in_ok-region.region is))) (sym c.self.invariant.theirs)
-      (marks-tell m (Withdraw c.args.student) c.in_ok-region.region c.self.invariant.certified.well_formed (ap (λ (s : Standing). verdict s.papers (Withdraw c.args.student)) c.self.view_is ∙ c.requires) refl (subst (λ p. MarkRegion p (Withdraw c.args.student) c.in_ok-region.region) c.deref.ensures c.in_ok-region.ensures.region).region) in
-      let papers : c.withdraw.new.self ≡ after c.self.inside.papers (Withdraw c.args.student) =
-      c.withdraw.ensures ∙ leaver-gone c.self.inside.papers c.move_student.new.self (Withdraw c.args.student) c.args.student c.point_in-point.result (c.students_len-last.result - 1) c.self.invariant.certified.well_formed (ap (λ (s : Standing). verdict s.papers (Withdraw c.args.student)) c.self.view_is ∙ c.requires) refl (c.point_in-point.ensures ∙ ap (λ p. rewind_point p (Withdraw c.args.student)) c.deref-2.ensures) (ap (λ n. n - 1) (c.students_len-last.ensures.count ∙ ap (λ (p : Market). length p.students) c.deref-4.ensures)) c.move_student.ensures in
-      let same : cut c.deref-5.result.now (c.students_len-last.result - 1) ≡ c.withdraw.new.self =
-      ap (λ p. cut p (c.students_len-last.result - 1)) c.deref-5.ensures
-      ∙ leaver-others c.self.inside.papers c.move_student.new.self (Withdraw c.args.student) c.args.student c.point_in-point.result (c.students_len-last.result - 1) c.self.invariant.certified.well_formed (ap (λ (s : Standing). verdict s.papers (Withdraw c.args.student)) c.self.view_is ∙ c.requires) refl (c.point_in-point.ensures ∙ ap (λ p. rewind_point p (Withdraw c.args.student)) c.deref-2.ensures) (ap (λ n. n - 1) (c.students_len-last.ensures.count ∙ ap (λ (p : Market). length p.students) c.deref-4.ensures)) c.move_student.ensures ∙ sym papers in
-      let new : Standing = record { papers = c.withdraw.new.self; places = c.resettle-settled.new.places; segments = logs_in c.resettle-settled.new.segments; proposals = c.in-Ok.proposals } in
-      subst (λ (s : Standing). CountsRegion s.papers (Withdraw c.args.student) new) c.self.view_is
-      (counts-region m (Withdraw c.args.student) (marked_in c.in_ok-region.region c.self.inside.segments) new tells
-      (subst (λ k. CountsInside test k new) (c.point_in-point.ensures ∙ ap (λ p. rewind_point p (Withdraw c.args.student)) c.deref-2.ensures)
-      (subst (λ n. CountsInside test c.point_in-point.result (standing_of n c.resettle-settled.new.places c.resettle-settled.new.segments c.in-Ok.proposals)) same c.in-Ok.ensures.resettled.proposals)));
-  unchanged = tt;
-}
+returns-in-Ok c =
+    let m = c.self.inside.papers in
+    let tells = region-tells m (Withdraw c.args.student) c.in_ok-region.region c.self.inside.segments c.self.invariant.certified.well_formed (ap (λ (s : Standing). verdict s.papers (Withdraw c.args.student)) c.self.view_is ∙ c.requires) refl (subst (λ p. MarkRegion p (Withdraw c.args.student) c.in_ok-region.region) c.deref.ensures c.in_ok-region.ensures.region) c.self.invariant.theirs in
+    let papers : c.withdraw.new.self ≡ after m (Withdraw c.args.student) = c.withdraw.ensures ∙ leaver-gone c.self.inside.papers c.move_student.new.self (Withdraw c.args.student) c.args.student c.point_in-point.result (c.students_len-last.result - 1) c.self.invariant.certified.well_formed (ap (λ (s : Standing). verdict s.papers (Withdraw c.args.student)) c.self.view_is ∙ c.requires) refl (c.point_in-point.ensures ∙ ap (λ p. rewind_point p (Withdraw c.args.student)) c.deref-2.ensures) (ap (λ n. n - 1) (c.students_len-last.ensures.count ∙ ap (λ (p : Market). length p.students) c.deref-4.ensures)) c.move_student.ensures in
+    let whole : cut c.deref-5.result.now (c.students_len-last.result - 1) ≡ c.withdraw.new.self = ap (λ p. cut p (c.students_len-last.result - 1)) c.deref-5.ensures ∙ leaver-others c.self.inside.papers c.move_student.new.self (Withdraw c.args.student) c.args.student c.point_in-point.result (c.students_len-last.result - 1) c.self.invariant.certified.well_formed (ap (λ (s : Standing). verdict s.papers (Withdraw c.args.student)) c.self.view_is ∙ c.requires) refl (c.point_in-point.ensures ∙ ap (λ p. rewind_point p (Withdraw c.args.student)) c.deref-2.ensures) (ap (λ n. n - 1) (c.students_len-last.ensures.count ∙ ap (λ (p : Market). length p.students) c.deref-4.ensures)) c.move_student.ensures ∙ sym papers in
+    subst (λ (s : Standing). IsAmended {E = AllocError} (Ok tt) s (Withdraw c.args.student) (standing_of c.withdraw.new.self c.resettle-settled.new.places c.resettle-settled.new.segments c.in-Ok.proposals)) c.self.view_is
+    (settled-anew m c.deref-5.result.now c.withdraw.new.self (Withdraw c.args.student) (marked_in c.in_ok-region.region c.self.inside.segments) c.self.inside.places c.resettle-settled.new.places c.self.inside.segments c.resettle-settled.new.segments c.point_in-point.result (c.students_len-last.result - 1) c.self.inside.proposals c.in-Ok.proposals
+    tells papers whole (c.point_in-point.ensures ∙ ap (λ p. rewind_point p (Withdraw c.args.student)) c.deref-2.ensures) c.in-Ok.ensures.resettled)
 
 pub returns : goal.returns
-returns c = record {
-  certified =
-      let papers : c.move_student-in-Err.new.self ≡ c.self.inside.papers =
-      c.move_student-in-Err.ensures ∙ leaver-back c.self.inside.papers c.move_student.new.self (Withdraw c.args.student) c.args.student c.point_in-point.result (c.students_len-last.result - 1) c.self.invariant.certified.well_formed (ap (λ (s : Standing). verdict s.papers (Withdraw c.args.student)) c.self.view_is ∙ c.requires) refl (c.point_in-point.ensures ∙ ap (λ p. rewind_point p (Withdraw c.args.student)) c.deref-2.ensures) (ap (λ n. n - 1) (c.students_len-last.ensures.count ∙ ap (λ (p : Market). length p.students) c.deref-4.ensures)) c.move_student.ensures in
-      still-certified c.self.inside.papers c.move_student-in-Err.new.self c.self.inside.segments c.resettle-settled.new.segments c.self.inside.places c.resettle-settled.new.places c.self.inside.proposals
-      papers c.in-Err.ensures.unchanged.0 c.in-Err.ensures.unchanged.1 c.self.invariant.certified;
-  accepted = tt;
-  stays = tt;
-  others = tt;
-  proposals = tt;
-  unchanged =
-      let papers : c.move_student-in-Err.new.self ≡ c.self.inside.papers =
-      c.move_student-in-Err.ensures ∙ leaver-back c.self.inside.papers c.move_student.new.self (Withdraw c.args.student) c.args.student c.point_in-point.result (c.students_len-last.result - 1) c.self.invariant.certified.well_formed (ap (λ (s : Standing). verdict s.papers (Withdraw c.args.student)) c.self.view_is ∙ c.requires) refl (c.point_in-point.ensures ∙ ap (λ p. rewind_point p (Withdraw c.args.student)) c.deref-2.ensures) (ap (λ n. n - 1) (c.students_len-last.ensures.count ∙ ap (λ (p : Market). length p.students) c.deref-4.ensures)) c.move_student.ensures in
-      let standing : Market → List (ℕ × ℕ) → List Chain → Standing = λ m places chains. record { papers = m; places = places; segments = logs_in chains; proposals = c.self.inside.proposals } in
-      (λ t. standing (papers t) (c.in-Err.ensures.unchanged.0 t) (c.in-Err.ensures.unchanged.1 t)) ∙ c.self.view_is;
-}
+returns c =
+    let papers : c.move_student-in-Err.new.self ≡ c.self.inside.papers = c.move_student-in-Err.ensures ∙ leaver-back c.self.inside.papers c.move_student.new.self (Withdraw c.args.student) c.args.student c.point_in-point.result (c.students_len-last.result - 1) c.self.invariant.certified.well_formed (ap (λ (s : Standing). verdict s.papers (Withdraw c.args.student)) c.self.view_is ∙ c.requires) refl (c.point_in-point.ensures ∙ ap (λ p. rewind_point p (Withdraw c.args.student)) c.deref-2.ensures) (ap (λ n. n - 1) (c.students_len-last.ensures.count ∙ ap (λ (p : Market). length p.students) c.deref-4.ensures)) c.move_student.ensures in
+    let same = same-standing papers c.in-Err.ensures.unchanged.0 c.in-Err.ensures.unchanged.1 c.self.inside.proposals in
+    unamended c.in-Err.refused (same ∙ c.self.view_is) (subst IsCertified (sym same) c.self.invariant.certified)
