@@ -70,7 +70,7 @@ fn count_student(
     position: usize,
     place: Option<SchoolNo>,
 )
-    requires within { position < length papers.now.students }
+    requires limit { position < MOST_STUDENTS }
     requires schools { length tallies.old ≡ length papers.now.schools }
     requires few { All (λ t. t.held ≤ position) tallies.old }
     ensures schools { length tallies.new ≡ length papers.now.schools }
@@ -80,7 +80,7 @@ fn count_student(
         → AreTalliesAmong papers.now a (take (position + 1) (students_of papers.now)) tallies.new }
 {
     // This call tells that the papers are well-formed and within their limits.
-    prove!(position < papers.students_len());
+    prove!(papers.students_len() <= MOST_STUDENTS);
     if let Some((at, key)) = held_at(papers, position, place) {
         count_at(tallies, at, key, position);
     }
@@ -102,7 +102,7 @@ fn no_tallies(alloc: Global, count: usize) -> Result<Vec<Tally>, AllocError>
 
 /// Counts the students, who have these schools in order of entry, where nobody is counted yet.
 fn count_students(tallies: &mut [Tally], papers: &FlatPapers, places: &[Option<SchoolNo>])
-    requires places { length places.now ≡ length papers.now.students }
+    requires limit { length places.now ≤ MOST_STUDENTS }
     requires nobody { tallies.old ≡ replicate (length papers.now.schools) no_tally }
     ensures schools { length tallies.new ≡ length papers.now.schools }
     ensures tallies { (a : Matching) → ArePlaces papers.now a places.now → AreTallies papers.now a tallies.new }
