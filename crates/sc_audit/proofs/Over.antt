@@ -7,13 +7,13 @@ use Rattle.std.proofs.lemmas.Map.Entries.{length-keys_of}
 use Rattle.std.proofs.lemmas.Option.{none-some, same_Some, slice_get-get_or}
 use Rattle.sc_papers.specs.Market.{Market, students_of, seats_of}
 use Rattle.sc_papers.specs.Matching.{held, WithinSeats}
-use Rattle.sc_audit.specs.AuditView.{AuditView, next_of, keys_at, waiting_school, Fits}
+use Rattle.sc_audit.specs.AuditView.{AuditView, next_of, keys_at, Fits}
 use Rattle.sc_audit.specs.Least.{LeastOf}
 use Rattle.sc_audit.specs.Over.{IsFirstOver}
 use Rattle.sc_audit.specs.declared.waiting.Waiting.{Waiting}
 use Rattle.sc_papers.proofs.Positions.{among-student, position-at, student-position}
 use Rattle.sc_audit.proofs.Entries.{waiting-over, kept-within}
-use Rattle.sc_audit.proofs.Pasts.{Stands, stands-from, waits-next, waits-among, waits-aside, waits-made, waits-school, aside-past}
+use Rattle.sc_audit.proofs.Pasts.{waiting_school, Stands, stands-from, waits-next, waits-among, waits-aside, waits-made, waits-school, aside-past}
 use Rattle.sc_audit.proofs.Steps.{stander-next}
 
 -- who stands at a school without being kept waits there

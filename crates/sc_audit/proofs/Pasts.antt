@@ -12,7 +12,7 @@ use Rattle.sc_papers.specs.Matching.{Matching, has}
 use Rattle.sc_papers.specs.declared.key.Key.{Key}
 use Rattle.sc_papers.proofs.Priority.{before-irrefl}
 use Rattle.sc_papers.proofs.Rejections.{has-true, has-some}
-use Rattle.sc_audit.specs.AuditView.{AuditView, stand_of, next_of, keys_at, is_past, past_at, waiting_at, waiting_rank, waiting_school, KeepsBest, Fits}
+use Rattle.sc_audit.specs.AuditView.{AuditView, stand_of, next_of, keys_at, is_past, past_at, waiting_at, waiting_rank, KeepsBest, Fits}
 use Rattle.sc_audit.specs.declared.waiting.Waiting.{Waiting}
 use Rattle.sc_audit.proofs.Keeping.{keys-hold, keys-own}
 use Rattle.sc_audit.proofs.Tables.{all-from, keys-read, read-mapped, stander-among}
@@ -135,6 +135,10 @@ waits-at m l i s rank found = go (waiting_at m l i) refl found
 pub waits-not : (m : Market) (l : AuditView) (i s rank : ℕ) → waiting_rank (waiting_at m l i) s ≡ None → Waits m l i s rank → ⊥
 waits-not m l i s rank none waits =
     none-some rank (sym none ∙ ap (λ o. waiting_rank o s) (waits-made m l i s rank waits) ∙ cond-true (nat_eq s s) (Some rank) None (eq-eqb s s refl))
+
+-- the school at which a student stands without being kept
+abbrev pub waiting_school : Market → AuditView → ℕ → Option ℕ
+waiting_school m l i = option_map (λ (waiting : Waiting). waiting.school) (waiting_at m l i)
 
 -- at any school
 pub waits-school : (m : Market) (l : AuditView) (i s : ℕ) → waiting_school m l i ≡ Some s → (rank : ℕ) × Waits m l i s rank

@@ -1,7 +1,7 @@
 -- What the auditor keeps of students and schools.
 use Rattle.std.specs.Prelude.{◌≡◌, ℕ, ◌<◌, ◌≤◌, nat_eq, ◌==◌, Bool, true, false, ◌&&◌, List, [], ◌∷◌, ◌++◌, length, map, Option, None, Some, All, count_by, position, slice_get, slice_index_or, if◌then◌else◌}
 use Rattle.std.specs.List.{list_all}
-use Rattle.std.specs.Option.{option_and_then, option_map, option_map_or}
+use Rattle.std.specs.Option.{option_and_then, option_map_or}
 use Rattle.sc_papers.specs.Key.{key_of, is_ahead, is_before}
 use Rattle.sc_papers.specs.Log.{next_choice, IsValidEntry}
 use Rattle.sc_papers.specs.Market.{Market, choices_of, schools_of, seats_of, students_of}
@@ -45,10 +45,6 @@ past_at m kept i rank = option_and_then (λ s. if is_past m kept i s then Some (
 -- where a student stands without being kept
 unfoldable pub waiting_at : Market → AuditView → ℕ → Option Waiting
 waiting_at m l i = option_and_then (past_at m l.kept i) (stand_of m l.stands i)
-
--- the school at which a student stands without being kept
-abbrev pub waiting_school : Market → AuditView → ℕ → Option ℕ
-waiting_school m l i = option_map (λ (waiting : Waiting). waiting.school) (waiting_at m l i)
 
 -- the rank at which a student waits, if they do at s
 abbrev pub waiting_rank : Option Waiting → ℕ → Option ℕ

@@ -2,10 +2,10 @@ use Rattle.std.proofs.Common.{◌≤◌, ◌<◌, ◌∙◌, ap, length, arith}
 use Rattle.std.specs.Option.{option_map}
 use Rattle.sc_papers.specs.Market.{students_of, student_at}
 use Rattle.sc_audit.specs.AuditState.{view_of}
-use Rattle.sc_audit.specs.AuditView.{waiting_school}
 use Rattle.sc_audit.specs.declared.waiting.Waiting.{Waiting}
 use Rattle.sc_audit.proofs.Lessers.{least-none, least-more}
 use Rattle.sc_audit.proofs.Over.{least-over, least-within}
+use Rattle.sc_audit.proofs.Pasts.{waiting_school}
 use Rattle.sc_papers.proofs.Hands.{hand-there}
 use Rattle.sc_audit.proofs.audit_state.AuditState.least_over.Goals as goal
 

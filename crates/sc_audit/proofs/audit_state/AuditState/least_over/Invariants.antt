@@ -1,7 +1,7 @@
 use Rattle.sc_papers.specs.Market.{students_of}
 use Rattle.sc_audit.specs.Least.{LeastOf}
 use Rattle.sc_audit.specs.AuditState.{view_of}
-use Rattle.sc_audit.specs.AuditView.{waiting_school}
+use Rattle.sc_audit.proofs.Pasts.{waiting_school}
 use Rattle.sc_audit.proofs.audit_state.AuditState.least_over.Given as goal
 
 abbrev pub invariant-loop-position : goal.invariant-loop-position
