@@ -1,4 +1,4 @@
-use Rattle.std.proofs.Common.{arith, refl}
+use Rattle.std.proofs.Common.{arith}
 use Rattle.sc_intake.proofs.Bounded.{length-below_header, length-records_in}
 use Rattle.sc_intake.proofs.RowLemmas.{AreRows-none}
 use Rattle.sc_intake.proofs.sheet.open_rows.Goals as goal
