@@ -7,10 +7,12 @@ ghost use Rattle.sc_report.specs.declared.report.ReportFault.TheVariants as faul
 ghost use Rattle.sc_tallies.specs.Places.{ArePlaces};
 
 use crate::matched::Matched;
-use crate::pages::write_pages;
-use crate::text::{report_pages, report_pages_of};
+use crate::pages::{Pages, write_pages};
+use crate::text::fill_report;
 use crate::watched::{DeviceFailed, Watched};
+use sc_papers::FlatPapers;
 use sc_repair::Clearing;
+use sc_tallies::places_of;
 use std::alloc::{AllocError, Global};
 use std::io::Write;
 use thiserror::Error;
@@ -58,7 +60,7 @@ pub fn write_report_of<W: Write>(
         (W.contents (device_of to.old)) (W.contents (device_of to.new)) result }
     ensures failed { has_failed to.new ≡ (has_failed to.old || is_write_fault result) }
 {
-    let pages = report_pages_of(alloc, matched)?;
+    let pages = fill_report(Pages::new(alloc), alloc, matched)?.finish()?;
     write_pages(to, pages.as_slice())?;
     Ok(())
 }
@@ -73,7 +75,8 @@ pub fn write_report<W: Write>(
         (W.contents (device_of to.old)) (W.contents (device_of to.new)) result }
     ensures failed { has_failed to.new ≡ (has_failed to.old || is_write_fault result) }
 {
-    let pages = report_pages(alloc, clearing)?;
-    write_pages(to, pages.as_slice())?;
-    Ok(())
+    let papers: &FlatPapers = clearing.papers();
+    let places = places_of(alloc, papers, clearing.places())?;
+    let matched = Matched { papers, places };
+    write_report_of(alloc, matched, to)
 }

@@ -5,7 +5,7 @@ ghost use Rattle.sc_repair.specs.Standing.{matching_of};
 ghost use Rattle.sc_report.specs.Cutoff.{cutoff_rows, rows_in_order};
 ghost use Rattle.sc_report.specs.CutoffText.{cutoff_lines};
 ghost use Rattle.sc_report.specs.Entrants.{numbers_of, AreRising, Holds};
-ghost use Rattle.sc_report.specs.Pages.{pages_text, text_so_far};
+ghost use Rattle.sc_report.specs.Pages.{text_so_far};
 ghost use Rattle.sc_report.specs.Text.{assignment_line, assignment_lines, assignment_text, place_text, report_text, IsReportText};
 ghost use Rattle.sc_tallies.specs.Places.{ArePlaces};
 
@@ -110,7 +110,11 @@ fn push_report(
 }
 
 /// Fills pages on which nothing stands with the report text of papers and of the school that each student has.
-fn fill_report(mut pages: Pages, alloc: Global, matched: Matched<'_>) -> Result<Pages, AllocError>
+pub(crate) fn fill_report(
+    mut pages: Pages,
+    alloc: Global,
+    matched: Matched<'_>,
+) -> Result<Pages, AllocError>
     requires empty { text_so_far pages ≡ [] }
     requires places { length matched.places.items ≡ length matched.papers.now.students }
     ensures { IfOk result (λ filled. (a : Matching) → ArePlaces matched.entry.papers.now a matched.entry.places.items
@@ -131,19 +135,6 @@ fn fill_report(mut pages: Pages, alloc: Global, matched: Matched<'_>) -> Result<
     Ok(pages)
 }
 
-/// The report text of papers and of the school that each student has, as `report_text_of` makes it, on pages.
-pub(crate) fn report_pages_of(
-    alloc: Global,
-    matched: Matched<'_>,
-) -> Result<Vec<Vec<u8>>, AllocError>
-    requires { length matched.places.items ≡ length matched.papers.now.students }
-    ensures { IfOk result (λ pages. (a : Matching) → ArePlaces matched.entry.papers.now a matched.entry.places.items
-        → IsReportText matched.entry.papers.now a (pages_text pages.items)) }
-{
-    let pages = fill_report(Pages::new(alloc), alloc, matched)?;
-    pages.finish()
-}
-
 /// The report text of papers and of the school that each student has, of which there is one for each student in order of
 /// entry, `None` where they have none: the assignment text, the cutoff text and the reason text. The only error is want of memory. The cost is one pass over the students for the cutoffs, a sort of the
 /// students' and the schools' numbers, and one pass for the lines.
@@ -154,18 +145,6 @@ pub fn report_text_of(alloc: Global, matched: Matched<'_>) -> Result<Vec<u8>, Al
 {
     let pages = fill_report(Pages::whole(alloc), alloc, matched)?;
     pages.into_text(alloc)
-}
-
-/// The report text of the standing assignment, as `report_pages_of` makes it.
-pub(crate) fn report_pages(alloc: Global, clearing: &Clearing) -> Result<Vec<Vec<u8>>, AllocError>
-    ensures { IfOk result (λ pages. IsReportText clearing.now.standing.papers
-        (matching_of clearing.now.standing) (pages_text pages.items)) }
-{
-    let papers: &FlatPapers = clearing.papers();
-    let places = places_of(alloc, papers, clearing.places())?;
-    let matched = Matched { papers, places };
-    let pages = report_pages_of(alloc, matched)?;
-    Ok(pages)
 }
 
 /// The report text of the standing assignment, as `report_text_of` makes it.
