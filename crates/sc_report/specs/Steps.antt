@@ -1,10 +1,19 @@
 -- What the steps of reading and of comparing do. Public contracts do not cite it.
-use Rattle.std.specs.Prelude.{◌++◌, ◌<◌, ◌≡◌, ◌≤◌, length, take, List, Option, ℕ}
+use Rattle.std.specs.Prelude.{◌++◌, ◌<◌, ◌≡◌, ◌≤◌, length, take, List, Option, Result, ℕ}
 use Rattle.std.specs.Io.KnownBytes.{Consumes}
 use Rattle.sc_report.specs.Comparing.{common, ComparesWith}
+use Rattle.sc_report.specs.Watched.{device_of}
+use Rattle.sc_report.specs.Whole.{GivesAtMost, ReaderFailsAsTold}
 use Rattle.sc_report.specs.declared.comparing.Meeting.TheVariants.{Alike, Ended}
 use Rattle.sc_report.specs.declared.comparing.Meeting.{Meeting}
 use Rattle.sc_report.specs.declared.comparing.Met.{Met}
+use Rattle.sc_report.specs.declared.watched.Watched.{Watched}
+use Rattle.sc_report.specs.declared.whole.ReadFault.{ReadFault}
+
+-- a call took no more than so many bytes of a reader, where they are known, and it has failed since if the call tells so
+pub record TakesAtMost {V R : Type 0} (limit : ℕ) (remaining : R → Option (List ℕ)) (old new : Watched R) (result : Result V ReadFault) : Type 0 where
+  pub few : GivesAtMost limit (remaining (device_of old)) (remaining (device_of new))
+  pub failed : ReaderFailsAsTold old new result
 
 -- a reader gave `count` more bytes, which stand after those that it had given
 abbrev pub GivesMore : Option (List ℕ) → Option (List ℕ) → List ℕ → List ℕ → ℕ → Type 0

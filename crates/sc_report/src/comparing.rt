@@ -1,8 +1,8 @@
 //! Comparing an input with a text, piece by piece.
-ghost use Rattle.std.specs.Prelude.{◌≡◌, ℕ, ◌+◌, ◌<◌, ◌≤◌, List, Option, length, take, IfOk, OnErr};
+ghost use Rattle.std.specs.Prelude.{◌≡◌, ℕ, ◌+◌, ◌<◌, ◌≤◌, List, Option, length, take, IfOk};
 ghost use Rattle.std.specs.Io.KnownBytes.{Consumes, IsAtEnd};
 ghost use Rattle.sc_report.specs.Comparing.{common, line_ends, ComparesWith};
-ghost use Rattle.sc_report.specs.Steps.{GoesOn, Meets};
+ghost use Rattle.sc_report.specs.Steps.{GoesOn, Meets, TakesAtMost};
 ghost use Rattle.sc_report.specs.Watched.{device_of};
 ghost use Rattle.sc_report.specs.Whole.{GivesAtMost, ReaderFailsAsTold};
 
@@ -72,9 +72,7 @@ fn meet_piece<R: Read>(
     ensures bound { IfOk result (λ met. met.came ≤ length piece.old) }
     ensures end { IfOk result (λ met. met.came ≡ 0 → 0 < length piece.old
         → IsAtEnd (R.remaining (device_of from.new))) }
-    ensures lost { OnErr result (GivesAtMost (length piece.old)
-        (R.remaining (device_of from.old)) (R.remaining (device_of from.new))) }
-    ensures failed { ReaderFailsAsTold from.old from.new result }
+    ensures takes { TakesAtMost (length piece.old) R.remaining from.old from.new result }
 {
     let came = from.read(piece)?;
     let alike = alike_len(rest, &piece[..came]);
@@ -102,9 +100,8 @@ fn meet_next<R: Read>(
     ensures met { IfOk result (λ met. (bytes : Option (List ℕ))
         → Consumes bytes (R.remaining (device_of from.old)) (take len text.now)
         → GoesOn text.now len bytes (R.remaining (device_of from.new)) met) }
-    ensures few { GivesAtMost (length piece.old) (R.remaining (device_of from.old)) (R.remaining (device_of from.new)) }
+    ensures takes { TakesAtMost (length piece.old) R.remaining from.old from.new result }
     ensures room { length piece.new ≡ length piece.old }
-    ensures failed { ReaderFailsAsTold from.old from.new result }
 {
     let met = meet_piece(from, piece, &text[len..])?;
     let alike = len + met.alike;

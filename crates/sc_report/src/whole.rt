@@ -1,9 +1,9 @@
 //! Writing a text whole and reading an input whole.
-ghost use Rattle.std.specs.Prelude.{◌≡◌, ◌-◌, ◌<◌, ◌≤◌, ◌||◌, length, vec_items, vec_len, IfOk, OnErr, is_err};
+ghost use Rattle.std.specs.Prelude.{◌≡◌, ◌-◌, ◌<◌, ◌≤◌, ◌||◌, length, vec_items, vec_len, IfOk, is_err};
 ghost use Rattle.std.specs.Io.KnownBytes.{IsAtEnd};
-ghost use Rattle.sc_report.specs.Steps.{GivesMore};
+ghost use Rattle.sc_report.specs.Steps.{GivesMore, TakesAtMost};
 ghost use Rattle.sc_report.specs.Watched.{device_of, has_failed};
-ghost use Rattle.sc_report.specs.Whole.{GivesAtMost, ReaderFailsAsTold, ReadsWhole, WritesWhole};
+ghost use Rattle.sc_report.specs.Whole.{ReaderFailsAsTold, ReadsWhole, WritesWhole};
 ghost use Rattle.sc_report.specs.declared.whole.ReadFault.TheVariants.{Device, OutOfMemory};
 
 use crate::watched::{DeviceFailed, Watched};
@@ -95,9 +95,7 @@ fn read_piece<R: Read>(
     ensures bound { IfOk result (λ count. count ≤ length piece.old) }
     ensures end { IfOk result (λ count. count ≡ 0 → 0 < length piece.old →
         IsAtEnd (R.remaining (device_of from.new))) }
-    ensures lost { OnErr result (GivesAtMost (length piece.old) (R.remaining (device_of from.old))
-        (R.remaining (device_of from.new))) }
-    ensures failed { ReaderFailsAsTold from.old from.new result }
+    ensures takes { TakesAtMost (length piece.old) R.remaining from.old from.new result }
 {
     let count = from.read(piece)?;
     given.extend_from_slice(&piece[..count])?;

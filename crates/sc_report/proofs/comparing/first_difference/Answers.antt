@@ -17,15 +17,15 @@ pieces-preserved g c =
       room = c.pieces.invariant.room;
       small = c.pieces.invariant.small;
       consumed = goes.2;
-      failed = c.in_ok-more.ensures.failed ∙ or-false _ ∙ c.pieces.invariant.failed;
+      failed = c.in_ok-more.ensures.takes.failed ∙ or-false _ ∙ c.pieces.invariant.failed;
     }
 
 pub returns-in_err-more-clause-limit : goal.returns-in_err-more-clause-limit
 returns-in_err-more-clause-limit g c =
-    GivesAtMost-more (length c.args.text.now + 61440) (length c.deref_mut.result.now) _ _ _ (take c.pieces.len c.args.text.now) c.pieces.invariant.consumed c.in_err-more.ensures.few
+    GivesAtMost-more (length c.args.text.now + 61440) (length c.deref_mut.result.now) _ _ _ (take c.pieces.len c.args.text.now) c.pieces.invariant.consumed c.in_err-more.ensures.takes.few
     (omega (arith, length-take c.pieces.len c.args.text.now, c.pieces.invariant.small, c.deref_mut.ensures.len))
 
 pub returns-in-Ended-clause-limit : goal.returns-in-Ended-clause-limit
 returns-in-Ended-clause-limit g c =
-    GivesAtMost-more (length c.args.text.now + 61440) (length c.deref_mut.result.now) _ _ _ (take c.pieces.len c.args.text.now) c.pieces.invariant.consumed c.in_ok-more.ensures.few
+    GivesAtMost-more (length c.args.text.now + 61440) (length c.deref_mut.result.now) _ _ _ (take c.pieces.len c.args.text.now) c.pieces.invariant.consumed c.in_ok-more.ensures.takes.few
     (omega (arith, length-take c.pieces.len c.args.text.now, c.pieces.invariant.small, c.deref_mut.ensures.len))
