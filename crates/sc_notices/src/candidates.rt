@@ -3,7 +3,6 @@ ghost use Rattle.std.specs.Prelude.{◌≡◌, ◌+◌, ◌<◌, ◌≤◌, ◌=
 ghost use Rattle.std.specs.List.{before_first, list_any, position_or_len};
 ghost use Rattle.sc_papers.specs.Assignment.{assigned};
 ghost use Rattle.sc_papers.specs.Market.{choices_of, schools_of, student_at, students_of};
-ghost use Rattle.sc_papers.specs.WellFormed.{WellFormed};
 ghost use Rattle.sc_notices.specs.Explanation.{is_given};
 ghost use Rattle.sc_notices.specs.KeyLists.{AddsKeys, AreCandidates, TakesKeys};
 
@@ -94,7 +93,7 @@ fn add_preferred(
 
 /// The keys of those who have each school by an assignment, and of those who wait for it. The only error is want of
 /// memory, which is taken for each of the choices up to the one that a student has. One pass over the students' choices,
-/// without a look-up by number of a choice's school. Papers are always well-formed, and this call tells its callers so.
+/// without a look-up by number of a choice's school.
 pub(crate) fn find_candidates(
     alloc: Global,
     papers: &Papers,
@@ -102,7 +101,6 @@ pub(crate) fn find_candidates(
 ) -> Result<Candidates, AllocError>
     ensures candidates { IfOk result (λ found.
         AreCandidates papers.now (assigned places.now) (students_of papers.now) found.admitted found.waiting) }
-    ensures well_formed { OnOk result (WellFormed papers.now) }
 {
     let mut candidates = Candidates {
         admitted: KeyLists::empty(alloc, papers.schools_len())?,

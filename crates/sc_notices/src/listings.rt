@@ -1,7 +1,6 @@
 //! How many students list each school.
-ghost use Rattle.std.specs.Prelude.{◌≡◌, ℕ, ◌+◌, ◌<◌, ◌≤◌, nat_eq, count_by, length, replicate, slice_index, take, All, IfOk, OnOk};
+ghost use Rattle.std.specs.Prelude.{◌≡◌, ℕ, ◌+◌, ◌<◌, ◌≤◌, nat_eq, count_by, length, replicate, slice_index, take, All, IfOk};
 ghost use Rattle.sc_papers.specs.Market.{students_of};
-ghost use Rattle.sc_papers.specs.WellFormed.{WellFormed};
 ghost use Rattle.sc_notices.specs.Counting.{AreListings};
 ghost use Rattle.sc_notices.specs.Summary.{listed};
 
@@ -34,7 +33,6 @@ fn no_listings(alloc: Global, count: usize) -> Result<Vec<u32>, AllocError>
 /// memory, which is taken for each school. One pass over the students' choices, without a look-up by number.
 pub(crate) fn listings(alloc: Global, papers: &FlatPapers) -> Result<Vec<u32>, AllocError>
     ensures counts { IfOk result (λ counts. AreListings papers.now (students_of papers.now) counts.items) }
-    ensures well_formed { OnOk result (WellFormed papers.now) }
 {
     let mut counts = no_listings(alloc, papers.schools_len())?;
     for position in 0..papers.students_len() {
