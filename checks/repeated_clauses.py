@@ -5,7 +5,8 @@
     python3 checks/repeated_clauses.py --wide   also private functions with more than ten clauses or six parameters, and
                                                 clauses wider than 120 columns
 
-A function is private unless it is `pub`. What a trait asks of its methods is the trait's, and is left out.
+A function is private unless other crates can call it: it is `pub`, and its crate passes its name on, that of its type, or
+its module. What a trait asks of its methods is the trait's, and is left out.
 """
 import collections
 import pathlib
@@ -58,16 +59,28 @@ def parameters_of(head):
     return count
 
 
+def passed_on(crate):
+    """The names that a crate passes on to others: functions, types, and modules that are open to them."""
+    names = set()
+    for path in crate.glob("src/**/*.rt"):
+        for found in re.finditer(r"^pub (?:mod|use (?:[a-z_]+::)+)\s*(\{[^}]*\}|[A-Za-z_]+);", path.read_text(encoding="utf-8"), re.MULTILINE):
+            names.update(re.findall(r"[A-Za-z_]+", found.group(1)))
+    return names
+
+
 def private_functions():
     """The file, the name and the head of each private function."""
-    for path in sorted(pathlib.Path("crates").glob("*/src/**/*.rt")):
-        of_a_trait, lines = False, path.read_text(encoding="utf-8").split("\n")
-        for at, line in enumerate(lines):
-            if re.match(r"(impl|pub trait|trait|fn|pub)\b", line):
-                of_a_trait = re.match(r"(pub )?trait\b|impl\b.* for ", line) is not None
-            named = re.match(r" *(pub(?:\([a-z]+\))? )?(?:const )?fn ([a-z_0-9]+)", line)
-            if named and (named.group(1) or "").strip() != "pub" and not of_a_trait:
-                yield path, named.group(2), head_of(lines, at)
+    for crate in sorted(pathlib.Path("crates").iterdir()):
+        open_names = passed_on(crate)
+        for path in sorted(crate.glob("src/**/*.rt")):
+            of_a_trait, of, lines = False, path.stem, path.read_text(encoding="utf-8").split("\n")
+            for at, line in enumerate(lines):
+                if re.match(r"(impl|pub trait|trait|fn|pub)\b", line):
+                    of_a_trait = re.match(r"(pub )?trait\b|impl\b.* for ", line) is not None
+                    of = (re.findall(r"^impl(?:<.*?>)? ([A-Za-z]+)", line) or [path.stem])[0]
+                named = re.match(r" *(pub(?:\([a-z]+\))? )?(?:const )?fn ([a-z_0-9]+)", line)
+                if named and not of_a_trait and not (named.group(1) == "pub " and {of, named.group(2)} & open_names):
+                    yield path, named.group(2), head_of(lines, at)
 
 
 def main():

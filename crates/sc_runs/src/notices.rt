@@ -4,8 +4,6 @@ ghost use Rattle.std.specs.Prelude.{◌≡◌, true, Option, None, Some, IfOk, I
 ghost use Rattle.sc_papers.specs.Market.{Market};
 ghost use Rattle.sc_papers.specs.Matching.{Matching};
 ghost use Rattle.sc_repair.specs.Standing.{matching_of};
-ghost use Rattle.sc_report.specs.Watched.{device_of};
-ghost use Rattle.sc_runs.specs.Failing.{OutputFailsAsTold};
 ghost use Rattle.sc_runs.specs.Inputs.{opening_turns};
 ghost use Rattle.sc_runs.specs.Notices.{is_known, notice_text, Notice, TellsStanding, WritesNotice};
 ghost use Rattle.sc_runs.specs.Standing.{journal_turns, AllTakeWithin, TellsFiles};
@@ -149,10 +147,9 @@ pub fn notice_files<S: Subject, R: Read, W: Write>(
     asked: Option<S>,
     out: &mut Watched<W>,
 ) -> Result<Told<S>, RunFault>
-    ensures told { TellsFiles (TellsStanding S.notice asked) seed.now
-        (opening_turns R.remaining opening.old opening.new) (journal_turns R.remaining journal.old journal.new)
-        (W.contents (device_of out.old)) (W.contents (device_of out.new)) result }
-    ensures failed { OutputFailsAsTold out.old out.new result }
+    ensures told { OutputGets (TellsFiles (TellsStanding S.notice asked) seed.now
+        (opening_turns R.remaining opening.old opening.new) (journal_turns R.remaining journal.old journal.new))
+        W.contents out.old out.new result }
     ensures limit { AllTakeWithin R.remaining opening.old opening.new journal.old journal.new }
     ensures stays { is_some journal.new ≡ is_some journal.old }
 {

@@ -1,14 +1,13 @@
 //! From papers to what is written of their assignment.
 
-ghost use Rattle.sc_report.specs.Watched.{device_of};
-ghost use Rattle.sc_runs.specs.Failing.{OutputFailsAsTold};
 ghost use Rattle.sc_runs.specs.Opening.{IsCertificate, IsReport, WritesText};
+ghost use Rattle.sc_runs.specs.Steps.{OutputGets};
 
 use crate::fault::RunFault;
-use crate::writing::{write_flushed_report, write_log};
+use crate::writing::{flush_output, write_log};
 use sc_engine::{settle, settle_by_first_keys};
 use sc_papers::FlatPapers;
-use sc_report::{Matched, Watched};
+use sc_report::{Matched, ReportFault, Watched, write_report_of};
 use std::alloc::Global;
 use std::io::Write;
 
@@ -19,16 +18,16 @@ pub fn report_papers<W: Write>(
     papers: &FlatPapers,
     out: &mut Watched<W>,
 ) -> Result<(), RunFault>
-    ensures bytes { WritesText (IsReport papers.now)
-        (W.contents (device_of out.old)) (W.contents (device_of out.new)) result }
-    ensures failed { OutputFailsAsTold out.old out.new result }
+    ensures { OutputGets (WritesText (IsReport papers.now)) W.contents out.old out.new result }
 {
-    match settle_by_first_keys(alloc, papers) {
-        Ok(places) => {
-            let matched = Matched { papers, places };
-            write_flushed_report(alloc, matched, out)
-        }
-        Err(_) => Err(RunFault::OutOfMemory),
+    let places = match settle_by_first_keys(alloc, papers) {
+        Ok(places) => places,
+        Err(_) => return Err(RunFault::OutOfMemory),
+    };
+    match write_report_of(alloc, Matched { papers, places }, out) {
+        Ok(()) => flush_output(out),
+        Err(ReportFault::Write) => Err(RunFault::WriteOut),
+        Err(ReportFault::OutOfMemory) => Err(RunFault::OutOfMemory),
     }
 }
 
@@ -39,9 +38,7 @@ pub fn log_papers<W: Write>(
     papers: &FlatPapers,
     out: &mut Watched<W>,
 ) -> Result<(), RunFault>
-    ensures bytes { WritesText (IsCertificate papers.now)
-        (W.contents (device_of out.old)) (W.contents (device_of out.new)) result }
-    ensures failed { OutputFailsAsTold out.old out.new result }
+    ensures { OutputGets (WritesText (IsCertificate papers.now)) W.contents out.old out.new result }
 {
     match settle(alloc, papers) {
         Ok(settled) => {

@@ -96,10 +96,9 @@ fn tell_files<R: Read, W: Write>(
     which: StandingText,
     out: &mut Watched<W>,
 ) -> Result<Tail, RunFault>
-    ensures told { TellsFiles (WritesOfStanding (IsStandingText which)) seed.now
-        (opening_turns R.remaining opening.old opening.new) (journal_turns R.remaining journal.old journal.new)
-        (W.contents (device_of out.old)) (W.contents (device_of out.new)) result }
-    ensures failed { OutputFailsAsTold out.old out.new result }
+    ensures told { OutputGets (TellsFiles (WritesOfStanding (IsStandingText which)) seed.now
+        (opening_turns R.remaining opening.old opening.new) (journal_turns R.remaining journal.old journal.new))
+        W.contents out.old out.new result }
     ensures limit { AllTakeWithin R.remaining opening.old opening.new journal.old journal.new }
     ensures stays { is_some journal.new ≡ is_some journal.old }
 {

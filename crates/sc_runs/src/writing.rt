@@ -1,31 +1,26 @@
 //! Writing to the output: a line, a text, a report and a log.
 
-ghost use Rattle.std.specs.Prelude.{◌≡◌, length, IfErr};
+ghost use Rattle.std.specs.Prelude.{◌≡◌, IfErr};
 ghost use Rattle.std.specs.Io.KnownBytes.{Keeps};
-ghost use Rattle.sc_papers.specs.Matching.{Matching};
 ghost use Rattle.sc_repair.specs.Standing.{matching_of};
 ghost use Rattle.sc_report.specs.LogText.{log_text};
 ghost use Rattle.sc_report.specs.Text.{IsReportText};
 ghost use Rattle.sc_report.specs.Watched.{device_of};
 ghost use Rattle.sc_runs.specs.Failing.{OutputFailsAsTold};
 ghost use Rattle.sc_runs.specs.Opening.{WritesText};
-ghost use Rattle.sc_runs.specs.Steps.{WritesExactly};
+ghost use Rattle.sc_runs.specs.Steps.{OutputGets, WritesExactly};
 ghost use Rattle.sc_runs.specs.declared.fault.RunFault.TheVariants.{WriteOut};
-ghost use Rattle.sc_tallies.specs.Places.{ArePlaces};
 
 use crate::fault::RunFault;
 use sc_papers::Rejection;
 use sc_repair::Clearing;
-use sc_report::{
-    Matched, ReportFault, Watched, log_text, write_report, write_report_of, write_whole,
-};
+use sc_report::{ReportFault, Watched, log_text, write_report, write_whole};
 use std::alloc::Global;
 use std::io::Write;
 
 /// Writes a line, or any text, and does not flush it.
 pub fn write_line<W: Write>(line: &[u8], out: &mut Watched<W>) -> Result<(), RunFault>
-    ensures bytes { WritesExactly line.now (W.contents (device_of out.old)) (W.contents (device_of out.new)) result }
-    ensures failed { OutputFailsAsTold out.old out.new result }
+    ensures { OutputGets (WritesExactly line.now) W.contents out.old out.new result }
 {
     match write_whole(out, line) {
         Ok(()) => Ok(()),
@@ -47,8 +42,7 @@ pub fn flush_output<W: Write>(out: &mut Watched<W>) -> Result<(), RunFault>
 
 /// Writes a text, and flushes it.
 pub fn write_text<W: Write>(text: &[u8], out: &mut Watched<W>) -> Result<(), RunFault>
-    ensures bytes { WritesExactly text.now (W.contents (device_of out.old)) (W.contents (device_of out.new)) result }
-    ensures failed { OutputFailsAsTold out.old out.new result }
+    ensures { OutputGets (WritesExactly text.now) W.contents out.old out.new result }
 {
     if let Err(fault) = write_line(text, out) {
         return Err(fault);
@@ -62,31 +56,11 @@ pub fn write_standing_report<W: Write>(
     clearing: &Clearing,
     out: &mut Watched<W>,
 ) -> Result<(), RunFault>
-    ensures bytes { WritesText (IsReportText clearing.now.standing.papers (matching_of clearing.now.standing))
-        (W.contents (device_of out.old)) (W.contents (device_of out.new)) result }
-    ensures failed { OutputFailsAsTold out.old out.new result }
+    ensures { OutputGets (WritesText (IsReportText clearing.now.standing.papers (matching_of clearing.now.standing)))
+        W.contents out.old out.new result }
 {
     match write_report(alloc, clearing, out) {
         Ok(()) => Ok(()),
-        Err(ReportFault::Write) => Err(RunFault::WriteOut),
-        Err(ReportFault::OutOfMemory) => Err(RunFault::OutOfMemory),
-    }
-}
-
-/// Writes the report of papers and what the students have, and flushes it.
-pub fn write_flushed_report<W: Write>(
-    alloc: Global,
-    matched: Matched<'_>,
-    out: &mut Watched<W>,
-) -> Result<(), RunFault>
-    requires { length matched.places.items ≡ length matched.papers.now.students }
-    ensures bytes { (a : Matching) → ArePlaces matched.entry.papers.now a matched.entry.places.items
-        → WritesText (IsReportText matched.entry.papers.now a)
-        (W.contents (device_of out.old)) (W.contents (device_of out.new)) result }
-    ensures failed { OutputFailsAsTold out.old out.new result }
-{
-    match write_report_of(alloc, matched, out) {
-        Ok(()) => flush_output(out),
         Err(ReportFault::Write) => Err(RunFault::WriteOut),
         Err(ReportFault::OutOfMemory) => Err(RunFault::OutOfMemory),
     }
@@ -98,9 +72,7 @@ pub fn write_log<W: Write>(
     log: &[Rejection],
     out: &mut Watched<W>,
 ) -> Result<(), RunFault>
-    ensures bytes { WritesText (λ text. text ≡ log_text log.now)
-        (W.contents (device_of out.old)) (W.contents (device_of out.new)) result }
-    ensures failed { OutputFailsAsTold out.old out.new result }
+    ensures { OutputGets (WritesText (λ text. text ≡ log_text log.now)) W.contents out.old out.new result }
 {
     match log_text(alloc, log) {
         Ok(text) => write_text(text.as_slice(), out),

@@ -1,4 +1,4 @@
-use Rattle.std.proofs.Common.{◌++◌}
+use Rattle.std.proofs.Common.{◌++◌, rules}
 use Rattle.sc_report.specs.Watched.{device_of, has_failed}
 use Rattle.sc_runs.specs.Inputs.{opening_turns}
 use Rattle.sc_runs.specs.Notices.{TellsStanding}
@@ -7,18 +7,24 @@ use Rattle.sc_runs.specs.Steps.{texts_of}
 use Rattle.sc_runs.proofs.Standings.{TellsFiles-read, unfailed-unread}
 use Rattle.sc_runs.proofs.notices.notice_files.Goals as goal
 
-pub returns-in-Err-clause-failed : goal.returns-in-Err-clause-failed
-returns-in-Err-clause-failed g c =
-    unfailed-unread (Unit {0}) (has_failed c.args.out.now)
-    (opening_turns g.R.Read.remaining c.args.opening.now c.read_opening_and.new.opening ++ journal_turns g.R.Read.remaining c.args.journal.now c.read_opening_and.new.last)
-    c.in-Err.fault c.in-Err.ensures.ended
+pub returns-in-Err-clause-told : goal.returns-in-Err-clause-told
+returns-in-Err-clause-told g c = record {
+  bytes = search rules;
+  failed =
+      unfailed-unread (Unit {0}) (has_failed c.args.out.now)
+      (opening_turns g.R.Read.remaining c.args.opening.now c.read_opening_and.new.opening ++ journal_turns g.R.Read.remaining c.args.journal.now c.read_opening_and.new.last)
+      c.in-Err.fault c.in-Err.ensures.ended;
+}
 
 pub returns-clause-told : goal.returns-clause-told
-returns-clause-told g c =
-    TellsFiles-read (TellsStanding g.S.Subject.notice c.args.asked) c.args.seed.now
-    (opening_turns g.R.Read.remaining c.args.opening.now c.read_opening_and.new.opening) (journal_turns g.R.Read.remaining c.args.journal.now c.read_opening_and.new.last)
-    (texts_of c.in-Ok.texts.opening) c.in-Ok.texts.last.items
-    c.as_slices.result.schools.now c.as_slices.result.roster.now c.as_slices.result.lists.now c.as_slice.result.now
-    (g.W.Write.contents (device_of c.args.out.now)) (g.W.Write.contents (device_of c.notice_texts.new.out)) c.notice_texts.result
-    c.in-Ok.ensures.read c.in-Ok.ensures.last (record { schools_same = c.as_slices.ensures.schools; roster_same = c.as_slices.ensures.roster; lists_same = c.as_slices.ensures.lists })
-    c.as_slice.ensures.value c.notice_texts.ensures.bytes
+returns-clause-told g c = record {
+  bytes =
+      TellsFiles-read (TellsStanding g.S.Subject.notice c.args.asked) c.args.seed.now
+      (opening_turns g.R.Read.remaining c.args.opening.now c.read_opening_and.new.opening) (journal_turns g.R.Read.remaining c.args.journal.now c.read_opening_and.new.last)
+      (texts_of c.in-Ok.texts.opening) c.in-Ok.texts.last.items
+      c.as_slices.result.schools.now c.as_slices.result.roster.now c.as_slices.result.lists.now c.as_slice.result.now
+      (g.W.Write.contents (device_of c.args.out.now)) (g.W.Write.contents (device_of c.notice_texts.new.out)) c.notice_texts.result
+      c.in-Ok.ensures.read c.in-Ok.ensures.last (record { schools_same = c.as_slices.ensures.schools; roster_same = c.as_slices.ensures.roster; lists_same = c.as_slices.ensures.lists })
+      c.as_slice.ensures.value c.notice_texts.ensures.bytes;
+  failed = c.notice_texts.ensures.failed;
+}
