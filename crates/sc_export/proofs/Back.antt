@@ -12,7 +12,7 @@ use Rattle.std.proofs.lemmas.Cmp.{nat_eq_equiv}
 use Rattle.std.proofs.lemmas.List.Elements.{All-head, All-tail}
 use Rattle.csv.specs.Records.{field_at}
 use Rattle.sc_papers.specs.Market.{Market, is_school, is_student}
-use Rattle.sc_papers.specs.Verdict.{after, objections_to_enter, verdict}
+use Rattle.sc_papers.specs.Verdict.{objections_to_enter, verdict}
 use Rattle.sc_papers.specs.WellFormed.{IsProper, IsShort, WellFormed, WithinLimits}
 use Rattle.sc_papers.specs.declared.amendment.Amendment.TheVariants.{Enter}
 use Rattle.sc_papers.specs.declared.amendment.Refusal.TheVariants.{RosterFull, StudentExists}
@@ -20,9 +20,7 @@ use Rattle.sc_papers.specs.declared.limits.TheConstants.{MOST_SCHOOLS, MOST_STUD
 use Rattle.sc_papers.specs.declared.records.School.{School}
 use Rattle.sc_papers.specs.declared.records.Student.{Student}
 use Rattle.sc_papers.proofs.Unobjected.{none-first_of, none-no_choices, none-refuse_if, none-too_long, none-twice_in, none-unknown_in, none-unknown_school}
-use Rattle.sc_intake.specs.Fault.{◌>>=◌}
 use Rattle.sc_intake.specs.File.{after_header}
-use Rattle.sc_intake.specs.Lists as lists
 use Rattle.sc_intake.specs.Lists.{choices_of, list_number, lists_in}
 use Rattle.sc_intake.specs.Papers.{all_entered, entered_by, filled, opening, papers_in, papers_of}
 use Rattle.sc_intake.specs.Roster.{is_roster_header, roster_in, roster_number, student_of}

@@ -1,5 +1,5 @@
 -- Fields that are read as what was written in them.
-use Rattle.std.proofs.Common.{◌≡◌, ◌∙◌, ◌<◌, ◌≤◌, ◌==◌, ◌&&◌, ◌^◌, ◌+◌, ℕ, Bool, true, false, List, [], ◌∷◌, ◌++◌, length, map, Option, Some, None, Ok, refl, sym, ap, arith, append_assoc, reverse}
+use Rattle.std.proofs.Common.{◌≡◌, ◌∙◌, ◌<◌, ◌≤◌, ◌==◌, ◌&&◌, ◌^◌, ℕ, Bool, true, false, List, [], ◌∷◌, ◌++◌, length, map, Option, Some, None, Ok, refl, sym, ap, arith, append_assoc, reverse}
 use Rattle.std.specs.Prelude.{nat_le, flat_map, ok_or, if◌then◌else◌, ⊤}
 use Rattle.std.specs.Char.{is_ascii_digit}
 use Rattle.std.specs.Fmt.{decimal}
@@ -15,10 +15,8 @@ use Rattle.std.proofs.lemmas.List.Elements.{All-head, All-tail}
 use Rattle.sc_decimal.specs.Number.{has_leading_zero, read_number, read_plain_number}
 use Rattle.sc_decimal.proofs.Spelling.{number-decimal, own}
 use Rattle.sc_intake.specs.Blanks.{is_blank, trim_start, trimmed}
-use Rattle.sc_intake.specs.Fault.{◌>>=◌}
 use Rattle.sc_intake.specs.Field.{all_schools, as_school_or_none, is_within, numbers_in, number_of, number_or_none, numbers_after, within, word_of, words, words_after}
 use Rattle.sc_intake.specs.declared.blanks.Blanks.TheVariants.{InLine}
-use Rattle.sc_intake.specs.declared.fault.Cause.{Cause}
 use Rattle.sc_intake.specs.declared.fault.Cause.TheVariants.{Number}
 use Rattle.sc_journal.specs.Line.{further_text, list_text}
 use Rattle.sc_journal.specs.Spelling.{IsSchool, IsSchoolOrNone}

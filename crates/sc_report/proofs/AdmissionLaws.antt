@@ -1,4 +1,4 @@
--- In a stable matching each student has the first of its choices that admits it, and a matching within
+-- In a stable matching each student has the first of their choices that admits them, and a matching within
 -- seats where that is so is stable.
 use Rattle.std.proofs.Common.{◌≡◌, ◌↔◌, inl, inr, refl, sym, ◌∙◌, ap, subst, ℕ, ◌<◌, ◌==◌, true, false, not, List, length, Option, None, Some, Contains, slice_get, arith}
 use Rattle.std.specs.Prelude.{nat_lt}

@@ -1,4 +1,4 @@
--- A row stands once for each choice that a student prefers to what it has, and for no other.
+-- A row stands once for each choice that a student prefers to what they have, and for no other.
 use Rattle.std.proofs.Common.{◌≡◌, inl, inr, refl, sym, ◌∙◌, ap, subst, ℕ, zero, suc, ◌+◌, ◌≤◌, ◌==◌, nat_eq, Bool, false, cond, ◌&&◌, List, [], ◌∷◌, map, Option, None, Some, Contains, slice_get, count_by, sum_by, arith}
 use Rattle.std.specs.List.{before_first, flat_map, IsDistinct}
 use Rattle.std.proofs.lemmas.Bool.{cases_Bool, cases_lt, eqb-true, eq-eqb, ne_eqb, false≢true}

@@ -1,4 +1,4 @@
--- In a stable matching one reason applies to each choice that a student prefers to what it has.
+-- In a stable matching one reason applies to each choice that a student prefers to what they have.
 use Rattle.std.proofs.Common.{◌≡◌, inl, inr, refl, sym, ◌∙◌, ap, subst, ℕ, ◌<◌, ◌==◌, nat_eq, Bool, true, false, List, length, get_or, filter, Option, None, Some, arith}
 use Rattle.std.specs.Prelude.{nat_lt}
 use Rattle.std.proofs.lemmas.Bool.{cases_Bool, cond-true, cond-false, eq-eqb, false≢true}

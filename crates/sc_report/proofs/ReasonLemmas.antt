@@ -38,7 +38,7 @@ before-passes p x xs passes = ap (λ n. take n (x ∷ xs)) (cond-false (not (p x
 before-length : (p : ℕ → Bool) (xs : List ℕ) → length (before_first p xs) ≡ position_or_len p xs
 before-length p xs = length-take-le (position_or_len p xs) xs (prefix_len-le-length (λ x. not (p x)) xs)
 
--- a student's rows are as many as the choices before what it has
+-- a student's rows are as many as the choices before what they have
 rows-length : (m : Market) (a : Matching) (i : ℕ) → length (reasons_of m a i) ≡ position_or_len (λ s. has a s i) (choices_of m i)
 unfolding reasons_of
 rows-length m a i = length-map (preferred m a i) (reason_row m a i) ∙ before-length (λ s. has a s i) (choices_of m i)

@@ -1,4 +1,4 @@
--- Admission by cutoffs: which schools let a student in, and the first of its choices that does.
+-- Admission by cutoffs: which schools let a student in, and the first of their choices that does.
 --
 -- Source: E. M. Azevedo and J. D. Leshno, A Supply and Demand Framework for Two-Sided Matching Markets
 -- (2016), where what a student has in a stable matching is its demand at the cutoffs.

@@ -1,4 +1,4 @@
--- Reasons: why a student does not have a choice that it prefers to what it has.
+-- Reasons: why a student does not have a choice that they prefer to what they have.
 use Rattle.std.specs.Prelude.{ℕ, ◌<◌, ◌≡◌, ◌==◌, ◌&&◌, true, nat_eq, nat_lt, List, map, flat_map, count_by, position, slice_get, Option, Some, if◌then◌else◌}
 use Rattle.std.specs.List.{before_first}
 use Rattle.std.specs.Option.{option_and_then}

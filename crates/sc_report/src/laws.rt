@@ -39,16 +39,16 @@ pub fn each_place_not_given_has_one_row()
         → rows_for m a i s ≡ 0 }
 {}
 
-/// In a stable matching the reason of each choice that a student prefers to what it has is true of
+/// In a stable matching the reason of each choice that a student prefers to what they have is true of
 /// the school's cutoff and the student's key: no case is left over.
 pub fn reason_applies()
     ensures { (m : Market) (a : Matching) → WellFormed m → IsStable m a → (i s : ℕ) → Prefers m i s (a i)
         → Applies (cutoff m a s) (key_of m i s) (reason m a i s) }
 {}
 
-/// What a student has in a stable matching can be read from the cutoffs alone: the first of its choices
-/// that admits it, or none where no choice does. The school that it has admits it, and each choice that
-/// it prefers does not, for one reason.
+/// What a student has in a stable matching can be read from the cutoffs alone: the first of their choices
+/// that admits them, or none where no choice does. The school that they have admits them, and each choice that
+/// they prefer does not, for one reason.
 pub fn first_choice_that_admits()
     ensures first { (m : Market) (a : Matching) → WellFormed m → IsStable m a → (i : ℕ) → a i ≡ first_admitting m a i }
     ensures has { (m : Market) (a : Matching) → WellFormed m → IsStable m a → (i s : ℕ) → a i ≡ Some s
@@ -60,7 +60,7 @@ pub fn first_choice_that_admits()
 {}
 
 /// Cutoffs certify stability: a matching within seats is stable exactly where each student has the first
-/// of its choices that admits it by the cutoffs of that matching.
+/// of their choices that admits them by the cutoffs of that matching.
 pub fn cutoffs_certify_stability()
     ensures { (m : Market) (a : Matching) → WellFormed m
         → (IsStable m a ↔ (WithinSeats m a × ((i : ℕ) → a i ≡ first_admitting m a i))) }

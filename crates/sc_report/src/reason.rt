@@ -1,4 +1,4 @@
-//! Reasons: why a student does not have a choice that it prefers to what it has.
+//! Reasons: why a student does not have a choice that they prefer to what they have.
 ghost use Rattle.std.specs.Prelude.{◌≡◌, ◌<◌, ◌≤◌, ◌++◌, ◌==◌, ℕ, false, flat_map, length, slice_get, None, Some, All, IfOk, IfSome, IsSome, MatchOption, OnOk};
 ghost use Rattle.std.specs.Option.{option_map_or};
 ghost use Rattle.sc_papers.specs.Market.{Market, choices_of};
@@ -26,7 +26,7 @@ pub enum Reason {
     Lottery,
 }
 
-/// A student, a choice that it prefers to what it has, and why it does not have it.
+/// A student, a choice that they prefer to what they have, and why they do not have it.
 #[derive(Clone, Copy, Debug, PartialEq, Eq)]
 pub struct ReasonRow {
     pub student: StudentNo,
@@ -133,7 +133,7 @@ fn push_reasons(
     Ok(())
 }
 
-/// Why no student has a choice that it prefers to what it has: one row for each such choice, the
+/// Why no student has a choice that they prefer to what they have: one row for each such choice, the
 /// students by rising number, and a student's rows in order of choice. The only error is want of
 /// memory. The cost is one pass over the students, a sort of their numbers, and a look-up for each row.
 pub fn reasons(alloc: Global, clearing: &Clearing) -> Result<Vec<ReasonRow>, AllocError>

@@ -132,7 +132,7 @@ pub(crate) fn push_reason_lines(
     Ok(())
 }
 
-/// The reason text: a header, and a line for each choice that a student prefers to what it has, with
+/// The reason text: a header, and a line for each choice that a student prefers to what they have, with
 /// the reason, by the students' rising numbers and in order of choice. The only error is want of
 /// memory. The cost is that of `reasons`, and memory is taken for the text and in proportion to the schools.
 pub fn reason_text(alloc: Global, clearing: &Clearing) -> Result<Vec<u8>, AllocError>
