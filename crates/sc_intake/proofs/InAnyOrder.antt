@@ -1,42 +1,37 @@
--- A roster and lists of the same students in any order: one row more, one list more, one student more.
-use Rattle.std.proofs.Common.{◌≡◌, ℕ, suc, ◌+◌, ◌<◌, ◌≤◌, Bool, true, false, nat_eq, List, [], ◌∷◌, ◌++◌, length, map, take, drop, get_or, inl, inr, refl, sym, ap, ◌∙◌, arith, Ok, Some, append_assoc}
+-- A roster and lists of the same students in any order: one student more, by the list of a line.
+use Rattle.std.proofs.Common.{◌≡◌, ℕ, zero, suc, ◌+◌, ◌<◌, ◌≤◌, Bool, true, false, nat_eq, List, [], ◌∷◌, ◌++◌, length, map, take, drop, get_or, inl, inr, refl, sym, ap, ◌∙◌, arith, Ok, Some}
 use Rattle.std.specs.Prelude.{Result, ◌||◌, nat_le}
 use Rattle.std.specs.List.{IsDistinct, list_any}
-use Rattle.std.proofs.lemmas.Bool.{cases_Bool, eqb-true, or_cases}
+use Rattle.std.proofs.Math.Bool.{or-true}
+use Rattle.std.proofs.lemmas.Bool.{cases_Bool, cases_lt, eqb-true, or_cases}
 use Rattle.std.proofs.lemmas.Bool.Decides.{nat_tests}
 use Rattle.std.proofs.lemmas.Cmp.{nat_eq_equiv}
-use Rattle.std.proofs.lemmas.List.{append-nil, get_or-map, get_or_append_left, get_or_at, length-map, length_push, map-append, take-append-drop}
+use Rattle.std.proofs.lemmas.List.{drop_all, get_or-map, get_or_append_left, get_or_at, length-drop, length-map, length_push, map-append, take-append-drop}
 use Rattle.std.proofs.lemmas.List.Folds.{list_any-append, list_any_at}
 use Rattle.std.proofs.lemmas.Map.Keys.{IsDistinct-from_apart, IsDistinct-push, apart_from_distinct}
-use Rattle.std.proofs.lemmas.Simd.{map-map}
 use Rattle.std.proofs.lemmas.Map.Made.{IsDistinct-from_count, length-from_keys, length-le_from_is_member}
+use Rattle.std.proofs.lemmas.Map.Steps.{length-le_from_distinct_below}
 use Rattle.std.proofs.Math.Seq.{drop-cons}
-use Rattle.sc_papers.specs.Market.{Market, is_student, schools_of}
-use Rattle.sc_papers.specs.Placed.{schools_at}
-use Rattle.sc_papers.specs.declared.amendment.Amendment.TheVariants.{Enter}
+use Rattle.sc_papers.specs.Market.{Market, is_student}
 use Rattle.sc_papers.specs.declared.limits.TheConstants.{MOST_STUDENTS}
-use Rattle.sc_papers.specs.declared.records.School.{School}
-use Rattle.sc_intake.specs.AnyOrder.{AreDifferent, AreKept, AreTold, told, told_by}
 use Rattle.sc_intake.specs.File.{rows_after}
-use Rattle.sc_intake.specs.Lists.{choices_of, list_number, lists_in, next_list}
-use Rattle.sc_intake.specs.Papers.{all_entered, amended, entered_by, filled, list_of, opening}
-use Rattle.sc_intake.specs.Roster.{roster_in, roster_number}
+use Rattle.sc_intake.specs.Lists.{choices_of, list_number, next_list}
+use Rattle.sc_intake.specs.Papers.{all_entered, list_of}
+use Rattle.sc_intake.specs.Roster.{next_student, roster_number, student_of}
 use Rattle.sc_intake.specs.Rows.{next_row, row_at}
-use Rattle.sc_intake.specs.Tidy.{TakesList}
-use Rattle.sc_intake.specs.Together.{papers_below}
-use Rattle.sc_intake.specs.declared.any_order.KeptList.{KeptList}
+use Rattle.sc_intake.specs.Tidy.{TakesRow}
+use Rattle.sc_intake.specs.Together.{EntersNext, Fill}
 use Rattle.sc_intake.specs.declared.fault.Cause.{Cause}
 use Rattle.sc_intake.specs.declared.fault.IntakeFault.{IntakeFault}
 use Rattle.sc_intake.specs.declared.fault.Source.{Source}
-use Rattle.sc_intake.specs.declared.fault.Source.TheVariants.{Lists}
+use Rattle.sc_intake.specs.declared.fault.Source.TheVariants.{Roster, Lists}
 use Rattle.sc_intake.specs.declared.lists.ListRow.{ListRow}
 use Rattle.sc_intake.specs.declared.roster.RosterRow.{RosterRow}
-use Rattle.sc_intake.specs.declared.schools.SchoolRow.{SchoolRow}
 use Rattle.sc_intake.proofs.InStep.{in-numbers, list-at, none-missing}
-use Rattle.sc_intake.proofs.PaperLemmas.{all_entered-more, entered-students, filled-all, or-false}
-use Rattle.sc_intake.proofs.ReadTogether.{added-row, may-enter}
-use Rattle.sc_intake.proofs.RowLemmas.{row-step}
-use Rattle.sc_intake.proofs.SeenLemmas.{none-at}
+use Rattle.sc_intake.proofs.PaperLemmas.{entered-students, filled-all, or-false}
+use Rattle.sc_intake.proofs.ReadTogether.{added-row, all_entered-push, entered-more, may-enter}
+use Rattle.sc_intake.proofs.RowLemmas.{row-end, row-step}
+use Rattle.sc_intake.proofs.SeenLemmas.{none-at, same-number}
 
 -- of different numbers the first ones differ
 distinct-first : (ns : List ℕ) (n : ℕ) → IsDistinct nat_eq (ns ++ n ∷ []) → IsDistinct nat_eq ns
@@ -63,24 +58,6 @@ row-more most number read source width reading rows left rest fields row so_far 
     let within : nat_le most (length rows) ≡ false = grind (arith, nat_tests) in
     row-step 2 source (next_row most number read width) reading rows (rows ++ row ∷ []) left rest fields (so_far (distinct-first (map number rows) (number row) numbers)) next
     (added-row most number read width (length rows + 2) rows fields row within is (distinct-last (map number rows) (number row) numbers))
-
--- as many rows were read as lists are kept
-as-many : (schools : List ℕ) (lists : List KeptList) (rows : List ListRow) → AreTold schools lists rows → length rows ≡ length lists
-as-many schools lists rows kept = sym (length-map rows told) ∙ ap length kept ∙ length-map lists (told_by schools)
-
--- one list more is kept
-pub AreKept-more : (schools : List ℕ) (width : ℕ) (reading : Result (List ListRow) IntakeFault) (lists : List KeptList) (left rest : List (List (List ℕ))) (list : KeptList)
-    → AreKept schools lists reading (λ rows. rows_after 2 Lists (next_list width) rows left) → length lists < MOST_STUDENTS
-    → TakesList width (length lists + 2) left rest list.student (schools_at schools list.choices)
-    → AreKept schools (lists ++ list ∷ []) reading (λ rows. rows_after 2 Lists (next_list width) rows rest)
-AreKept-more schools width reading lists left rest list are room takes =
-    let many = as-many schools lists are.rows are.kept in
-    let same : told takes.list ≡ told_by schools list = rw (takes.theirs, takes.chosen) refl in
-    record {
-      rows = are.rows ++ takes.list ∷ [];
-      kept = map-append told are.rows (takes.list ∷ []) ∙ (λ t. are.kept t ++ same t ∷ []) ∙ sym (map-append (told_by schools) lists (list ∷ []));
-      read = row-more MOST_STUDENTS list_number choices_of Lists width reading are.rows left rest takes.takes.fields takes.list are.read takes.takes.next (rw many room) (rw many takes.takes.reads);
-    }
 
 any-push : (i n : ℕ) (ns : List ℕ) → (list_any (nat_eq i) ns || nat_eq i n) ≡ list_any (nat_eq i) (ns ++ n ∷ [])
 any-push i n ns = ap (λ (b : Bool). list_any (nat_eq i) ns || b) (or-false (nat_eq i n)) ∙ sym (list_any-append (nat_eq i) ns (n ∷ []))
@@ -109,102 +86,188 @@ module _ (xs ys : List ℕ) (differ : IsDistinct nat_eq xs) (among : (i : ℕ) �
   others-differ : IsDistinct nat_eq ys
   others-differ = IsDistinct-from_count nat_eq_equiv ys (sym (length-from_keys nat_eq_equiv xs ys differ same-members) ∙ many)
 
--- the numbers of the rows of which lists are kept
-numbers-kept : (schools : List ℕ) (lists : List KeptList) (rows : List ListRow) → AreTold schools lists rows → map list_number rows ≡ map (λ (l : KeptList). l.student) lists
-numbers-kept schools lists rows kept = sym (map-map (λ p. p.0) told rows) ∙ ap (map (λ p. p.0)) kept ∙ map-map (λ p. p.0) (told_by schools) lists
+-- a row of the lists is this one
+pub record IsRow (width : ℕ) (lists : List (List (List ℕ))) (k : ℕ) (list : ListRow) : Type 0 where
+  pub left : List (List (List ℕ))
+  pub takes : TakesRow choices_of width (k + 2) (drop k lists) left list
 
--- the students of the earlier rows of a roster entered, each with a list of theirs, and the papers are now these
-pub record AreEntered (roster : List RosterRow) (lists : List KeptList) (m : Market) (left : List RosterRow) (n : Market) : Type 0 where
+module _ (width : ℕ) (lists : List (List (List ℕ))) where
+  -- it is no other
+  same-row : (k : ℕ) (a b : ListRow) → IsRow width lists k a → IsRow width lists k b → a ≡ b
+  same-row k a b is other =
+      let next = is.takes.next in
+      let other_next = other.takes.next in
+      let fields : is.takes.fields ≡ other.takes.fields = cc in
+      let reads = is.takes.reads in
+      let other_reads : row_at choices_of width (k + 2) is.takes.fields ≡ Ok b = rw fields other.takes.reads in
+      cc
+
+  -- it is one of them
+  row-within : (k : ℕ) (list : ListRow) → IsRow width lists k list → k < length lists
+  row-within k list is =
+      let size : length (drop k lists) ≡ suc (length is.left) = ap length is.takes.next in
+      omega (arith, size, length-drop k lists)
+
+  -- the others are left
+  left-after : (k : ℕ) (list : ListRow) (is : IsRow width lists k list) → is.left ≡ drop (suc k) lists
+  left-after k list is =
+      let both : is.takes.fields ∷ is.left ≡ get_or lists k [] ∷ drop (suc k) lists = sym is.takes.next ∙ drop-cons lists k [] (row-within k list is) in
+      cc
+
+  -- the first rows, where each is one
+  record AreRowsTo (k : ℕ) : Type 0 where
+    rows : List ListRow
+    many : length rows ≡ k
+    each : (j : ℕ) (list : ListRow) → j < k → IsRow width lists j list → get_or rows j list ≡ list
+    read : IsDistinct nat_eq (map list_number rows) → rows_after 2 Lists (next_list width) [] lists ≡ rows_after 2 Lists (next_list width) rows (drop k lists)
+
+  rows-to : (all : (j : ℕ) → j < length lists → (list : ListRow) × IsRow width lists j list) → length lists ≤ MOST_STUDENTS → (k : ℕ) → k ≤ length lists → AreRowsTo k
+  rows-to all few zero within = record { rows = []; many = refl; each = λ j list below is. absurd (omega arith); read = λ differ. refl }
+  rows-to all few (suc k) within =
+      let before = rows-to all few k (omega arith) in
+      let found = all k (omega arith) in
+      let list = found.0 in
+      let is = found.1 in
+      let size = length_push before.rows list in
+      let reads : row_at choices_of width (length before.rows + 2) is.takes.fields ≡ Ok list = rw before.many is.takes.reads in
+      record {
+        rows = before.rows ++ list ∷ [];
+        many = omega (arith, before.many);
+        each = λ j other below is_other. elim (cases_lt j k) [
+          | inl earlier ↦ get_or_append_left before.rows (list ∷ []) other j (omega (arith, before.many)) ∙ before.each j other earlier is_other
+          | inr not ↦
+              let last : j ≡ k = omega arith in
+              let here : IsRow width lists k other = rw last at is_other in
+              get_or_at before.rows list [] other j (before.many ∙ sym last) ∙ same-row k list other is here
+        ];
+        read = λ differ. row-more MOST_STUDENTS list_number choices_of Lists width (rows_after 2 Lists (next_list width) [] lists) before.rows (drop k lists) (drop (suc k) lists) is.takes.fields list
+            before.read (rw (left-after k list is) at is.takes.next) (omega (arith, before.many)) reads differ;
+      }
+
+-- each row of the lists that has been read stands among these rows
+abbrev pub HaveRows : ℕ → List (List (List ℕ)) → List ListRow → Type 0
+HaveRows width lists rows = (k : ℕ) (list : ListRow) → IsRow width lists k list → (k < length rows) × (get_or rows k list ≡ list)
+
+-- the students of the roster so far entered papers `m`, each by a row of the lists, so that they are now `n`
+pub record AreEntered (width list_width : ℕ) (roster lists : List (List (List ℕ))) (m : Market) (left : List (List (List ℕ))) (n : Market) : Type 0 where
   pub earlier : List RosterRow
-  pub parts : roster ≡ earlier ++ left
-  pub different : AreDifferent earlier
+  pub read : rows_after 2 Roster (next_student width) [] roster ≡ rows_after 2 Roster (next_student width) earlier left
+  pub different : IsDistinct nat_eq (map roster_number earlier)
   pub students : (i : ℕ) → is_student n i ≡ list_any (nat_eq i) (map roster_number earlier)
-  pub schools : n.schools ≡ m.schools
-  pub listed : (i : ℕ) → list_any (nat_eq i) (map roster_number earlier) ≡ true → list_any (nat_eq i) (map (λ (l : KeptList). l.student) lists) ≡ true
-  pub entered : (rows : List ListRow) → AreTold (schools_of m) lists rows → IsDistinct nat_eq (map list_number rows) → all_entered rows m roster ≡ all_entered rows n left
+  pub counted : length n.students ≡ length earlier
+  pub few : length earlier ≤ MOST_STUDENTS
+  pub lines : List ℕ
+  pub once : IsDistinct nat_eq lines
+  pub as_many : length lines ≡ length earlier
+  pub used : (k : ℕ) → list_any (nat_eq k) lines ≡ true → (list : ListRow) × IsRow list_width lists k list × (list_any (nat_eq list.student) (map roster_number earlier) ≡ true)
+  pub listed : (i : ℕ) → list_any (nat_eq i) (map roster_number earlier) ≡ true → (k : ℕ) × (list : ListRow) × IsRow list_width lists k list × (list.student ≡ i)
+  pub entered : (rows : List ListRow) → HaveRows list_width lists rows → IsDistinct nat_eq (map list_number rows) → all_entered rows m earlier ≡ Ok n
 
 -- nobody entered
-pub AreEntered-none : (roster : List RosterRow) (lists : List KeptList) (m : Market) → m.students ≡ [] → AreEntered roster lists m roster m
-unfolding IsDistinct
-AreEntered-none roster lists m fresh = record {
+pub AreEntered-none : (width list_width : ℕ) (roster lists : List (List (List ℕ))) (m : Market) → m.students ≡ [] → AreEntered width list_width roster lists m roster m
+unfolding IsDistinct all_entered
+AreEntered-none width list_width roster lists m fresh = record {
   earlier = [];
-  parts = refl;
+  read = refl;
   different = tt;
   students = λ i. rw fresh refl;
-  schools = refl;
+  counted = ap length fresh;
+  few = omega arith;
+  lines = [];
+  once = tt;
+  as_many = refl;
+  used = λ k among. cc among;
   listed = λ i among. cc among;
-  entered = λ rows kept differ. refl;
+  entered = λ rows have differ. refl;
 }
 
 -- one student more entered
-pub AreEntered-more : (roster : List RosterRow) (lists : List KeptList) (m : Market) (left rest : List RosterRow) (n k : Market) (row : RosterRow) (at : ℕ) (list : KeptList)
-    → AreEntered roster lists m left n → left ≡ row ∷ rest → at < length lists → list ≡ get_or lists at list → list.student ≡ row.student
-    → amended n (Enter row.student row.zone row.siblings (schools_at (schools_of n) list.choices) row.continuing) ≡ Ok k
-    → AreEntered roster lists m rest k
-AreEntered-more roster lists m left rest n k row at list are next within found same enters =
-    let theirs : ListRow = record { row = 0; student = list.student; choices = schools_at (schools_of n) list.choices } in
-    let may = may-enter n k row theirs enters in
-    let new : list_any (nat_eq row.student) (map roster_number are.earlier) ≡ false = sym (are.students row.student) ∙ may.0 in
+pub AreEntered-more : (width list_width : ℕ) (roster lists : List (List (List ℕ))) (m : Market) (left rest : List (List (List ℕ))) (n k : Market) (row : RosterRow) (line : ℕ) (lists_left : List (List (List ℕ)))
+    → AreEntered width list_width roster lists m left n → TakesRow student_of width (length n.students + 2) left rest row
+    → EntersNext list_width (line + 2) (drop line lists) lists_left n row k → AreEntered width list_width roster lists m rest k
+AreEntered-more width list_width roster lists m left rest n k row line lists_left are takes next =
+    let list = next.list in
+    let is : IsRow list_width lists line list = record { left = lists_left; takes = next.takes } in
+    let may = may-enter n k row list next.entered in
+    let numbers = map roster_number are.earlier in
+    let new : list_any (nat_eq row.student) numbers ≡ false = sym (are.students row.student) ∙ may.0 in
     let pushed = map-append roster_number are.earlier (row ∷ []) in
-    let number : get_or (map (λ (l : KeptList). l.student) lists) at 0 ≡ row.student =
-    get_or-map (λ (l : KeptList). l.student) lists at list 0 within ∙ ap (λ (l : KeptList). l.student) (sym found) ∙ same in
+    let among : (i : ℕ) → list_any (nat_eq i) (map roster_number (are.earlier ++ row ∷ [])) ≡ (list_any (nat_eq i) numbers || nat_eq i row.student) =
+    λ i. ap (list_any (nat_eq i)) pushed ∙ sym (any-push i row.student numbers) in
+    let size = length_push are.earlier row in
+    let within : length n.students < MOST_STUDENTS = let room = may.1 in grind (arith, nat_tests) in
+    let unused : list_any (nat_eq line) are.lines ≡ false = elim (cases_Bool (list_any (nat_eq line) are.lines)) [
+      | inl there ↦
+          let (other, was, known) = are.used line there in
+          let same : other ≡ list = same-row list_width lists line other list was is in
+          let again : list_any (nat_eq row.student) numbers ≡ true = rw (next.same, ← same) known in
+          cc
+      | inr not ↦ not
+    ] in
     record {
       earlier = are.earlier ++ row ∷ [];
-      parts = are.parts ∙ ap (λ (rows : List RosterRow). are.earlier ++ rows) next ∙ sym (append_assoc are.earlier (row ∷ []) rest);
-      different = rw pushed (IsDistinct-push nat_eq_equiv (map roster_number are.earlier) row.student are.different new);
-      students = λ i. entered-students n k row (Some theirs) enters i ∙ ap (λ (b : Bool). b || nat_eq i row.student) (are.students i) ∙ any-push i row.student (map roster_number are.earlier)
-          ∙ ap (list_any (nat_eq i)) (sym pushed);
-      schools = ap (λ (p : Market). p.schools) (sym may.2) ∙ are.schools;
-      listed = λ i among. elim (or_cases (list_any (nat_eq i) (map roster_number are.earlier)) (nat_eq i row.student)
-          (any-push i row.student (map roster_number are.earlier) ∙ ap (list_any (nat_eq i)) (sym pushed) ∙ among)) [
-            | inl before ↦ are.listed i before
-            | inr last ↦
-                list_any_at (nat_eq i) (map (λ (l : KeptList). l.student) lists) at 0 (rw (length-map lists (λ (l : KeptList). l.student)) within) (rw number last)
-          ];
-      entered = λ rows kept differ.
-          let there : at < length rows = rw (as-many (schools_of m) lists rows kept) within in
-          let one : told (get_or rows at theirs) ≡ told_by (schools_of m) list =
-          sym (get_or-map told rows at theirs (told theirs) there) ∙ ap (λ (all : List (ℕ × List ℕ)). get_or all at (told theirs)) kept
-          ∙ get_or-map (told_by (schools_of m)) lists at list (told theirs) within ∙ ap (told_by (schools_of m)) (sym found) in
-          let student : (get_or rows at theirs).student ≡ row.student = ap (λ (p : ℕ × List ℕ). p.0) one ∙ same in
-          let choices : (get_or rows at theirs).choices ≡ schools_at (schools_of n) list.choices =
-          ap (λ (p : ℕ × List ℕ). p.1) one ∙ ap (λ (schools : List (ℕ × School)). schools_at (map (λ e. e.0) schools) list.choices) (sym are.schools) in
-          let split : rows ≡ take at rows ++ get_or rows at theirs ∷ drop (suc at) rows =
-          sym (take-append-drop at rows) ∙ ap (λ (more : List ListRow). take at rows ++ more) (drop-cons rows at theirs there) in
-          let has : list_of rows row.student ≡ Some (get_or rows at theirs) = rw (← student) (list-at rows (take at rows) (drop (suc at) rows) (get_or rows at theirs) split differ) in
-          let by_it : entered_by n row (Some (get_or rows at theirs)) ≡ Ok k = rw choices enters in
-          are.entered rows kept differ ∙ ap (all_entered rows n) next ∙ all_entered-more rows n k row rest (ap (entered_by n row) has ∙ by_it);
+      read = row-step 2 Roster (next_student width) _ are.earlier (are.earlier ++ row ∷ []) left rest takes.fields are.read takes.next
+          (added-row MOST_STUDENTS roster_number student_of width (length are.earlier + 2) are.earlier takes.fields row (rw are.counted at may.1) (rw are.counted at takes.reads) new);
+      different = rw pushed (IsDistinct-push nat_eq_equiv numbers row.student are.different new);
+      students = λ i. entered-students n k row (Some list) next.entered i ∙ ap (λ (b : Bool). b || nat_eq i row.student) (are.students i) ∙ sym (among i);
+      counted = entered-more n k row (Some list) next.entered ∙ ap (λ (count : ℕ). count + 1) are.counted ∙ sym size;
+      few = omega (arith, are.counted);
+      lines = are.lines ++ line ∷ [];
+      once = IsDistinct-push nat_eq_equiv are.lines line are.once unused;
+      as_many = length_push are.lines line ∙ ap (λ (count : ℕ). count + 1) are.as_many ∙ sym size;
+      used = λ q there. elim (or_cases (list_any (nat_eq q) are.lines) (nat_eq q line) (any-push q line are.lines ∙ there)) [
+        | inl before ↦
+            let (other, was, known) = are.used q before in
+            (other, was, among other.student ∙ rw known refl)
+        | inr last ↦
+            let at : q ≡ line = eqb-true q line last in
+            let own : nat_eq list.student row.student ≡ true = let same = next.same in grind (arith, nat_tests) in
+            let here : IsRow list_width lists q list = rw at is in
+            (list, here, among list.student ∙ rw own (or-true (list_any (nat_eq list.student) numbers)))
+      ];
+      listed = λ i there. elim (or_cases (list_any (nat_eq i) numbers) (nat_eq i row.student) (sym (among i) ∙ there)) [
+        | inl before ↦ are.listed i before
+        | inr last ↦ (line, list, is, sym next.same ∙ sym (eqb-true i row.student last))
+      ];
+      entered = λ rows have differ.
+          let (there, found) = have line list is in
+          let split : rows ≡ take line rows ++ list ∷ drop (suc line) rows =
+          sym (take-append-drop line rows) ∙ ap (λ (more : List ListRow). take line rows ++ more) (drop-cons rows line list there ∙ ap (λ (l : ListRow). l ∷ drop (suc line) rows) found) in
+          let has : list_of rows row.student ≡ Some list = rw next.same (list-at rows (take line rows) (drop (suc line) rows) list split differ) in
+          all_entered-push rows m n k are.earlier row (are.entered rows have differ) (rw has next.entered);
     }
 
-module _ (roster : List RosterRow) (lists : List KeptList) (m : Market) (left : List RosterRow) (n : Market) (are : AreEntered roster lists m left n) (end : left ≡ []) where
-  whole : roster ≡ are.earlier
-  whole = are.parts ∙ ap (λ (rows : List RosterRow). are.earlier ++ rows) end ∙ append-nil are.earlier
-
-  -- all are different
-  pub AreEntered-different : AreDifferent roster
-  AreEntered-different = rw whole are.different
-
-  -- all entered, and no list is left
-  pub AreEntered-all : length roster ≡ length lists → (rows : List ListRow) → AreTold (schools_of m) lists rows
-      → IsDistinct nat_eq (map list_number rows) × (filled m roster rows ≡ Ok n)
-  unfolding all_entered
-  AreEntered-all many rows kept =
-      let numbers = numbers-kept (schools_of m) lists rows kept in
-      let among : (i : ℕ) → list_any (nat_eq i) (map roster_number roster) ≡ true → list_any (nat_eq i) (map list_number rows) ≡ true =
-      λ i is. rw numbers (are.listed i (rw whole at is)) in
-      let same_length : length (map roster_number roster) ≡ length (map list_number rows) =
-      length-map roster roster_number ∙ many ∙ sym (as-many (schools_of m) lists rows kept) ∙ sym (length-map rows list_number) in
-      let differ = others-differ (map roster_number roster) (map list_number rows) AreEntered-different among same_length in
-      let known = none-missing roster rows (λ i there. in-numbers roster i ∙ no-others (map roster_number roster) (map list_number rows) AreEntered-different among same_length i there) in (
-        differ,
-        filled-all m n roster rows (are.entered rows kept differ ∙ ap (all_entered rows n) end) known,
-      )
-
--- what the rows of both files make
-pub papers-of-kept : (seed : List ℕ) (schools : List SchoolRow) (roster lists : List ℕ) (roster_rows : List RosterRow) (kept : List KeptList) (m n : Market)
-    → (AreDifferent roster_rows → roster_in roster ≡ Ok roster_rows) → AreKept (schools_of m) kept (lists_in lists) Ok → m ≡ opening seed schools → AreDifferent roster_rows
-    → ((rows : List ListRow) → AreTold (schools_of m) kept rows → IsDistinct nat_eq (map list_number rows) × (filled m roster_rows rows ≡ Ok n))
-    → papers_below seed schools roster lists ≡ Ok n
-papers-of-kept seed schools roster lists roster_rows kept m n read lists_read opened differ entered =
-    let (lists_differ, fills) = entered lists_read.rows lists_read.kept in
-    rw (read differ, lists_read.read lists_differ, ← opened) fills
+-- all entered, and no list is left
+pub AreEntered-all : (width list_width : ℕ) (roster lists : List (List (List ℕ))) (m : Market) (left : List (List (List ℕ))) (n : Market)
+    → AreEntered width list_width roster lists m left n → left ≡ [] → length n.students ≡ length lists → Fill width list_width roster lists m n
+AreEntered-all width list_width roster lists m left n are end many =
+    let all : (j : ℕ) → j < length lists → (list : ListRow) × IsRow list_width lists j list = λ j below. elim (cases_Bool (list_any (nat_eq j) are.lines)) [
+      | inl there ↦ let (list, is, known) = are.used j there in (list, is)
+      | inr none ↦
+          let fewer = length-le_from_distinct_below (are.lines ++ j ∷ []) (length lists) (IsDistinct-push nat_eq_equiv are.lines j are.once none)
+          (λ q there. elim (or_cases (list_any (nat_eq q) are.lines) (nat_eq q j) (any-push q j are.lines ∙ there)) [
+            | inl before ↦ let (list, is, known) = are.used q before in row-within list_width lists q list is
+            | inr last ↦ rw (eqb-true q j last) below
+          ]) in
+          absurd (omega (arith, are.counted, are.as_many, length_push are.lines j))
+    ] in
+    let whole = rows-to list_width lists all (omega (arith, are.counted, are.few)) (length lists) (omega arith) in
+    let rows = whole.rows in
+    let have : HaveRows list_width lists rows = λ k list is. let below = row-within list_width lists k list is in (omega (arith, whole.many), whole.each k list below is) in
+    let roster_numbers = map roster_number are.earlier in
+    let among : (i : ℕ) → list_any (nat_eq i) roster_numbers ≡ true → list_any (nat_eq i) (map list_number rows) ≡ true = λ i there.
+    let (k, list, is, same) = are.listed i there in
+    let (below, found) = have k list is in
+    let number : get_or (map list_number rows) k 0 ≡ i = get_or-map list_number rows k list 0 below ∙ ap list_number found ∙ same in
+    list_any_at (nat_eq i) (map list_number rows) k 0 (rw (length-map rows list_number) below) (rw number (same-number i)) in
+    let same_length : length roster_numbers ≡ length (map list_number rows) =
+    length-map are.earlier roster_number ∙ sym are.counted ∙ many ∙ sym whole.many ∙ sym (length-map rows list_number) in
+    let differ = others-differ roster_numbers (map list_number rows) are.different among same_length in
+    let known = none-missing are.earlier rows (λ i there. in-numbers are.earlier i ∙ no-others roster_numbers (map list_number rows) are.different among same_length i there) in
+    record {
+      roster_rows = are.earlier;
+      list_rows = rows;
+      roster_read = row-end 2 Roster (next_student width) _ are.earlier left are.read end;
+      lists_read = row-end 2 Lists (next_list list_width) _ rows (drop (length lists) lists) (whole.read differ) (drop_all (length lists) lists (omega arith));
+      full = filled-all m n are.earlier rows (are.entered rows have differ) known;
+    }

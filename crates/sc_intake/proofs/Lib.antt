@@ -1,6 +1,7 @@
 pub mod Cutting
 pub mod CursorMoves
 pub mod Lines
+pub mod LineStarts
 pub mod LineCut
 pub mod PlainCutting
 pub mod Runs

@@ -13,9 +13,9 @@ pub mod Checking
 pub mod Script
 pub mod Log
 -- what the crate's own functions, its models and their proofs need
-pub mod AnyOrder
 pub mod Cursor
 pub mod Choice
+pub mod TextLines
 pub mod Plain
 pub mod Reading
 pub mod Representation

@@ -1,11 +1,11 @@
--- The roster and the lists read together, row by row. Only the crate's own functions and their proofs need this.
-use Rattle.std.specs.Prelude.{◌≡◌, ℕ, List, [], map, Some, Result, Ok}
+-- The roster and the lists, read together. Only the crate's own functions and their proofs need this.
+use Rattle.std.specs.Prelude.{◌≡◌, ℕ, List, [], Some, Result, Ok}
 use Rattle.sc_papers.specs.Market.{Market}
 use Rattle.sc_intake.specs.Fault.{◌>>=◌}
 use Rattle.sc_intake.specs.File.{rows_after}
-use Rattle.sc_intake.specs.Lists.{choices_of, list_number, lists_in, next_list}
-use Rattle.sc_intake.specs.Papers.{all_entered, entered_by, papers_of}
-use Rattle.sc_intake.specs.Roster.{next_student, roster_in, roster_number}
+use Rattle.sc_intake.specs.Lists.{choices_of, lists_in, next_list}
+use Rattle.sc_intake.specs.Papers.{entered_by, filled, papers_of}
+use Rattle.sc_intake.specs.Roster.{next_student, roster_in}
 use Rattle.sc_intake.specs.Tidy.{TakesRow}
 use Rattle.sc_intake.specs.declared.fault.IntakeFault.{IntakeFault}
 use Rattle.sc_intake.specs.declared.fault.Source.TheVariants.{Roster, Lists}
@@ -27,12 +27,10 @@ pub record EntersNext (width number : ℕ) (lists lists_left : List (List (List 
   pub same : row.student ≡ list.student
   pub entered : entered_by m row (Some list) ≡ Ok n
 
--- both files were read so far: the records from here on go on after rows of the same students, who entered papers `m`
--- one by one, so that they are now `n`
-pub record AreReadTo (width list_width : ℕ) (roster lists : List (List (List ℕ))) (m : Market) (roster_left lists_left : List (List (List ℕ))) (n : Market) : Type 0 where
+-- the records of a roster and of lists, under headers of so many fields, are rows that fill papers `m`, so that they are now `n`
+pub record Fill (width list_width : ℕ) (roster lists : List (List (List ℕ))) (m n : Market) : Type 0 where
   pub roster_rows : List RosterRow
   pub list_rows : List ListRow
-  pub roster_read : rows_after 2 Roster (next_student width) [] roster ≡ rows_after 2 Roster (next_student width) roster_rows roster_left
-  pub lists_read : rows_after 2 Lists (next_list list_width) [] lists ≡ rows_after 2 Lists (next_list list_width) list_rows lists_left
-  pub step : map roster_number roster_rows ≡ map list_number list_rows
-  pub entered : all_entered list_rows m roster_rows ≡ Ok n
+  pub roster_read : rows_after 2 Roster (next_student width) [] roster ≡ Ok roster_rows
+  pub lists_read : rows_after 2 Lists (next_list list_width) [] lists ≡ Ok list_rows
+  pub full : filled m roster_rows list_rows ≡ Ok n

@@ -1,145 +1,86 @@
 //! The papers of a roster and lists of the same students, in whatever order either stands.
 //!
-//! Each row is read once and kept, of a list where the schools of its choices stand. Both files' numbers are sorted, and
-//! who has the same rank in both orders is taken for the same student. That is a guess: whether it is right is
-//! seen as the students enter, and so is that no number comes twice. So what is proved here does not rest on the sort.
-//! Where each student of the roster has a list, and there are as many lists as students, no list is left.
+//! Where each line of the lists begins is noted, and the numbers of both files are sorted: who has the same rank in both
+//! orders is taken for the same student. That is a guess: whether it is right is seen as the students enter, each by the
+//! list that is read where their line begins, and so is that no number comes twice. So what is proved here does not rest on
+//! the sort. Where each student of the roster has a list, and there are as many lists as students, no list is left.
 
-ghost use Rattle.std.specs.Prelude.{◌≡◌, [], All, List, map, nat_eq, IfSome, Ok};
+ghost use Rattle.std.specs.Prelude.{◌≡◌, [], IfSome, Ok};
 ghost use Rattle.std.specs.Bool.{OnTrue};
-ghost use Rattle.std.specs.List.{IsDistinct};
-ghost use Rattle.sc_intake.specs.AnyOrder.{AreDifferent, AreKept, AreTold};
-ghost use Rattle.sc_intake.specs.Lists.{list_number, lists_in};
-ghost use Rattle.sc_intake.specs.Papers.{filled};
-ghost use Rattle.sc_intake.specs.Roster.{roster_in};
-ghost use Rattle.sc_intake.specs.Together.{papers_below};
-ghost use Rattle.sc_intake.specs.declared.lists.ListRow.{ListRow as ListedRow};
-ghost use Rattle.sc_papers.specs.Market.{schools_of};
-ghost use Rattle.sc_papers.specs.Placed.{AreOfSchools};
+ghost use Rattle.sc_intake.specs.Together.{papers_below, Fill};
 
-use crate::below::{below_header, likely_students, next_placed, next_student};
+use crate::below::{Below, below_header, likely_students, next_student};
 use crate::lists::ListRow;
-use crate::papers::{enter_placed, open_with_room};
+use crate::papers::open_with_room;
+use crate::records::Records;
 use crate::roster::RosterRow;
 use crate::schools::SchoolRows;
-use sc_papers::{ChosenPositions, FlatPapers, MOST_STUDENTS, PlacedChoices, Seed, StudentNo};
+use crate::text_lines::{TextLines, likely_numbers};
+use crate::together::enter_next;
+use sc_papers::{FlatPapers, PlacedChoices, Seed};
 use std::alloc::Global;
 
-/// What is kept of a row of the lists.
-#[derive(Drop)]
-struct KeptList {
-    student: StudentNo,
-    choices: ChosenPositions,
-}
+/// For how many students the lines of their lists are brought into near memory together.
+const AHEAD: usize = 16;
 
-/// A number of a file, and in which of its rows it stands.
-#[derive(Clone, Copy)]
-struct NumberedRow {
-    number: u32,
-    row: u32,
-}
-
-/// The rows of the text of a roster, if their numbers differ, which is not looked at. `None` says nothing of the text: a
-/// row has a fault, there are too many, or memory is wanting.
-fn students_in(alloc: Global, text: &[u8]) -> Option<Vec<RosterRow>>
-    ensures { IfSome result (λ rows. AreDifferent rows.items → roster_in text.now ≡ Ok rows.items) }
-{
-    let mut below = below_header::<RosterRow>(alloc, text)?;
-    let mut rows = Vec::with_capacity(alloc, likely_students(text)).ok()?;
-    'rows: while let Some(row) = next_student(alloc, rows.len() as u64 + 2, &mut below)? {
-        if rows.len() >= MOST_STUDENTS {
-            return None;
-        }
-        rows.push(row).ok()?;
-    }
-    Some(rows)
-}
-
-/// What is to be kept of the rows of the text of lists, if their numbers differ, which is not looked at. `None` says
-/// nothing of the text: a row has a fault, no student may have its choices, there are too many, or memory is wanting.
-fn lists_in(alloc: Global, papers: &FlatPapers, text: &[u8], room: usize) -> Option<Vec<KeptList>>
-    ensures kept { IfSome result (λ lists. AreKept (schools_of papers.now) lists.items (lists_in text.now) Ok) }
-    ensures within { IfSome result (λ lists. All (λ list. AreOfSchools papers.now list.choices) lists.items) }
-{
-    let mut below = below_header::<ListRow>(alloc, text)?;
-    let mut placed = PlacedChoices::new();
-    let mut lists = Vec::with_capacity(alloc, room).ok()?;
-    'rows: while let Some(student) = next_placed(
-        alloc,
-        lists.len() as u64 + 2,
-        papers,
-        &mut below,
-        &mut placed,
-    )? {
-        if lists.len() >= MOST_STUDENTS {
-            return None;
-        }
-        let choices = placed.chosen().copy();
-        lists.push(KeptList { student, choices }).ok()?;
-    }
-    Some(lists)
-}
-
-/// Where the numbers of rows stand, by rising number. The sort is one pass where they rise already.
-fn rows_by_number<R, F: Fn(&R) -> u32>(
-    alloc: Global,
-    rows: &[R],
-    number: F,
-) -> Option<Vec<NumberedRow>>
-    requires { F.IsAlwaysCallable number }
-{
-    let mut numbered = Vec::with_capacity(alloc, rows.len()).ok()?;
-    for (row, found) in rows.iter().enumerate() {
-        let row = u32::try_from(row).ok()?;
-        let number = number(found);
-        numbered.push(NumberedRow { number, row }).ok()?;
-    }
-    numbered.sort_unstable_by_key(|row| row.number);
-    Some(numbered)
-}
-
-/// For each student of the roster where their list stands, if both files are of the same students; a guess otherwise.
-/// To search for each number would take longer than to sort them all.
-fn likely_lists(alloc: Global, roster: &[RosterRow], lists: &[KeptList]) -> Option<Vec<u32>> {
-    let students = rows_by_number(alloc, roster, |row| row.student.get())?;
-    let listed = rows_by_number(alloc, lists, |list| list.student.get())?;
-    let mut likely = Vec::from_elem(alloc, 0, roster.len()).ok()?;
+/// For each line of the roster which line of the lists is its student's, if both files are of the same students; a guess
+/// otherwise. To search for each number would take longer than to sort them all.
+fn likely_lists(alloc: Global, roster: &[u8], lists: &TextLines<'_>) -> Option<Vec<u32>> {
+    let students = likely_numbers(alloc, roster, lists.len())?;
+    let listed = lists.by_number(alloc)?;
+    let mut likely = Vec::from_elem(alloc, 0, students.len()).ok()?;
     for (student, list) in students.iter().zip(listed.iter()) {
-        *likely.get_mut(student.row as usize)? = list.row;
+        *likely.get_mut(student.line as usize)? = list.line;
     }
     Some(likely)
 }
 
-/// Enters the students of the roster, each with the list that stands there, and says whether it is theirs, each of them may
-/// enter, and no list is left. Otherwise, or where memory is wanting, the papers are no longer to be used.
+/// The lines of the next students, as many as are looked at together.
+fn next_lines(likely: &[u32], entered: usize) -> &[u32] {
+    let from = entered.min(likely.len());
+    &likely[from..likely.len().min(from + AHEAD)]
+}
+
+/// Enters the students of the roster, each with the list of the line that stands there, and says whether it is theirs, each of
+/// them may enter, and no list is left. Otherwise, or where memory is wanting, the papers are no longer to be used.
 fn enter_each(
+    alloc: Global,
     papers: &mut FlatPapers,
-    roster: Vec<RosterRow>,
-    lists: &[KeptList],
-    likely: Vec<u32>,
+    roster: &mut Below<'_>,
+    width: usize,
+    lists: &TextLines<'_>,
+    likely: &[u32],
 ) -> bool
-    requires fresh { papers.old.students ≡ [] }
-    requires within { All (λ list. AreOfSchools papers.old list.choices) lists.now }
-    ensures different { OnTrue result (AreDifferent roster.items) }
-    ensures entered { OnTrue result ((rows : List ListedRow) → AreTold (schools_of papers.old) lists.now rows
-        → IsDistinct nat_eq (map list_number rows) × (filled papers.old roster.items rows ≡ Ok papers.new)) }
+    requires { papers.old.students ≡ [] }
+    ensures { OnTrue result (Fill roster.old.width width roster.old.records.left lists.now papers.old papers.new) }
 {
-    if roster.len() != lists.len() {
-        return false;
-    }
-    let mut likely = likely.into_iter();
-    for row in roster {
-        let Some(at) = likely.next() else {
+    let mut list = Below {
+        width,
+        records: Records::none(alloc),
+    };
+    let mut placed = PlacedChoices::new();
+    'rows: loop {
+        let entered = papers.students_len();
+        let Some(next) = next_student(alloc, entered as u64 + 2, roster) else {
             return false;
         };
-        let Some(list) = lists.get(at as usize) else {
+        let Some(row) = next else {
+            return entered == lists.len();
+        };
+        if entered % AHEAD == 0 && !lists.begin_with_digits(next_lines(likely, entered)) {
+            return false;
+        }
+        let Some(line) = likely.get(entered) else {
             return false;
         };
-        if list.student != row.student || !enter_placed(papers, row, &list.choices) {
+        let Some(text) = lists.from(*line as usize) else {
+            return false;
+        };
+        list.records.go_on(alloc, text);
+        if !enter_next(alloc, *line as u64 + 2, papers, row, &mut list, &mut placed) {
             return false;
         }
     }
-    true
 }
 
 /// The papers of a roster and lists that have no fault and are of the same students. `None` says nothing of them.
@@ -152,12 +93,13 @@ pub(crate) fn papers_in_any_order(
 ) -> Option<FlatPapers>
     ensures { IfSome result (λ papers. papers_below seed schools.now roster.now lists.now ≡ Ok papers) }
 {
-    let students = students_in(alloc, roster)?;
-    let opened = open_with_room(alloc, seed, schools.as_slice(), students.len());
-    let mut papers = opened.ok()?;
-    let choices = lists_in(alloc, &papers, lists, students.len())?;
-    let likely = likely_lists(alloc, students.as_slice(), choices.as_slice())?;
-    if !enter_each(&mut papers, students, choices.as_slice(), likely) {
+    let room = likely_students(roster);
+    let mut roster = below_header::<RosterRow>(alloc, roster)?;
+    let lists = below_header::<ListRow>(alloc, lists)?;
+    let listed = TextLines::of(alloc, lists.records.plain_text()?, room)?;
+    let likely = likely_lists(alloc, roster.records.plain_text()?, &listed)?;
+    let mut papers = open_with_room(alloc, seed, schools.as_slice(), listed.len()).ok()?;
+    if !enter_each(alloc, &mut papers, &mut roster, lists.width, &listed, likely.as_slice()) {
         return None;
     }
     Some(papers)

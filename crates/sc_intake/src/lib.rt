@@ -31,6 +31,7 @@ mod script_faults;
 mod script_records;
 mod seen;
 mod sheet;
+mod text_lines;
 mod tidy_rows;
 mod together;
 

@@ -49,17 +49,26 @@ fn ends_line(byte: u8) -> bool
     byte == b'\n' || byte == b'\r'
 }
 
-/// The text from its first byte that ends no line: an empty line is no record.
+/// How many bytes a text begins with that end lines: an empty line is no record.
+pub(crate) fn line_ends_len(text: &[u8]) -> usize
+    ensures within { result ≤ length text.now }
+    ensures records { plain_records (drop result text.now) ≡ plain_records text.now }
+    ensures begins { (c : ℕ) → (cs : List ℕ) → drop result text.now ≡ c ∷ cs → ends_line c ≡ false }
+{
+    for start in 0..text.len() {
+        if !ends_line(text[start]) {
+            return start;
+        }
+    }
+    text.len()
+}
+
+/// The text from its first byte that ends no line.
 fn without_line_ends(text: &[u8]) -> &[u8]
     ensures records { plain_records result.now ≡ plain_records text.now }
     ensures begins { (c : ℕ) → (cs : List ℕ) → result.now ≡ c ∷ cs → ends_line c ≡ false }
 {
-    for start in 0..text.len() {
-        if !ends_line(text[start]) {
-            return &text[start..];
-        }
-    }
-    &[]
+    &text[line_ends_len(text)..]
 }
 
 /// How many bytes stand before the first comma or line end of a text, or its length where there is none. The text is
@@ -88,6 +97,16 @@ fn split_line(text: &[u8]) -> (&[u8], &[u8])
         Some(end) => (&text[..end], &text[end + 1..]),
         None => (text, &[]),
     }
+}
+
+/// The length of a text's first line, with its line end where it has one.
+pub(crate) fn line_len(text: &[u8]) -> usize
+    ensures within { result ≤ length text.now }
+    ensures rest { drop result text.now ≡ after_line text.now }
+    ensures some { 1 ≤ length text.now → 1 ≤ result }
+{
+    let (_, rest) = split_line(text);
+    text.len() - rest.len()
 }
 
 /// How many fields a line has.

@@ -3,7 +3,7 @@
 ghost use Rattle.std.specs.Prelude.{◌≡◌, ◌⊎◌, [], Err, IfErr, IfOk, IfSome, Ok};
 ghost use Rattle.std.specs.Bool.{OnTrue};
 ghost use Rattle.sc_intake.specs.Papers.{papers_in, IsWantOfMemory};
-ghost use Rattle.sc_intake.specs.Together.{papers_below, AreReadTo, EntersNext};
+ghost use Rattle.sc_intake.specs.Together.{papers_below, EntersNext, Fill};
 
 use crate::any_order::papers_in_any_order;
 use crate::below::{Below, below_header, is_at_end, likely_students, next_placed, next_student};
@@ -18,7 +18,7 @@ use std::alloc::Global;
 /// Enters a student of the roster with the next list, whose number this is, and says whether the list is the student's,
 /// who may enter by it. Otherwise, or where memory is wanting, the papers are no longer to be used. What stands in
 /// `placed` before is of no account.
-fn enter_next(
+pub(crate) fn enter_next(
     alloc: Global,
     number: u64,
     papers: &mut FlatPapers,
@@ -47,8 +47,8 @@ fn enter_together(
     lists: &mut Below<'_>,
 ) -> bool
     requires { papers.old.students ≡ [] }
-    ensures { OnTrue result (AreReadTo roster.old.width lists.old.width
-        roster.old.records.left lists.old.records.left papers.old [] [] papers.new) }
+    ensures { OnTrue result (Fill roster.old.width lists.old.width
+        roster.old.records.left lists.old.records.left papers.old papers.new) }
 {
     let mut placed = PlacedChoices::new();
     'rows: loop {
@@ -95,9 +95,10 @@ fn papers_together(
 /// There are three ways, each tried where the one before gave up. Where the lists stand in the order of the roster, row
 /// by row, and nothing is wrong, both are read together: no row is kept, no list is copied and none is looked up. Then
 /// the cost is the length of the texts, a look-up for each school named, and a draw of the lottery for each student.
-/// Where they stand in any other order and nothing is wrong, the roster's rows are kept, and of each list where its
-/// schools stand, and the numbers of both are sorted. Where something is wrong, the roster and the lists are read once more, each alone, which finds the
-/// first fault, and what is more than reading is the cost of `papers_of` without its records.
+/// Where they stand in any other order, neither text has a quote and nothing is wrong, it is noted where each list begins,
+/// the numbers of both are sorted, and each list is read as its student enters. Otherwise the roster and the lists are read
+/// once more, each alone, which finds the first fault where there is one, and what is more than reading is the cost of
+/// `papers_of` without its records.
 pub fn read_flat_papers(
     alloc: Global,
     seed: Seed,

@@ -1,8 +1,10 @@
-use Rattle.std.proofs.Common.{◌+◌, length, refl, ◌∙◌}
+use Rattle.std.proofs.Common.{◌≡◌, ◌+◌, [], length, refl, ◌∙◌}
+use Rattle.std.proofs.lemmas.Bool.{OnTrue_at, OnTrue_from}
 use Rattle.sc_intake.specs.Lists.{choices_of}
 use Rattle.sc_intake.specs.Roster.{student_of}
 use Rattle.sc_intake.specs.Tidy.{TakesRow}
-use Rattle.sc_intake.proofs.ReadTogether.{AreReadTo-more, AreReadTo-none, room-left}
+use Rattle.sc_intake.specs.Together.{Fill}
+use Rattle.sc_intake.proofs.ReadTogether.{AreReadTo-end, AreReadTo-more, AreReadTo-none, room-left}
 use Rattle.sc_intake.proofs.together.enter_together.Goals as goal
 
 pub rows-init : goal.rows-init
@@ -28,3 +30,12 @@ rows-preserved c =
       same ∙ width,
       list_same ∙ list_width,
     )
+
+pub returns-in_default-next : goal.returns-in_default-next
+returns-in_default-next c = OnTrue_from c.is_at_end.result
+    (Fill c.args.roster.now.width c.args.lists.now.width c.args.roster.now.records.left c.args.lists.now.records.left c.args.papers.now c.rows.papers) (λ at_end.
+    let (so_far, width, list_width) = c.rows.invariant in
+    let end : c.rows.roster.records.left ≡ [] = rw c.in_default-next.is at c.in-Some.ensures.row in
+    let lists_end : c.rows.lists.records.left ≡ [] = OnTrue_at at_end c.is_at_end.ensures in
+    rw (← width, ← list_width) (AreReadTo-end c.rows.roster.width c.rows.lists.width c.args.roster.now.records.left c.args.lists.now.records.left c.args.papers.now c.rows.papers
+    c.rows.roster.records.left c.rows.lists.records.left so_far end lists_end))

@@ -1,6 +1,6 @@
 use Rattle.std.proofs.Common.{◌≡◌, ◌-◌, length}
 use Rattle.sc_papers.specs.declared.limits.TheConstants.{MOST_STUDENTS}
-use Rattle.sc_intake.specs.Together.{AreReadTo}
+use Rattle.sc_intake.proofs.ReadTogether.{AreReadTo}
 use Rattle.sc_intake.proofs.together.enter_together.Given as goal
 
 abbrev pub invariant-rows : goal.invariant-rows

@@ -2,7 +2,7 @@ use Rattle.std.proofs.Common.{◌≡◌, ◌+◌, true, drop, get_or, sym, ◌�
 use Rattle.std.proofs.lemmas.List.{at_drop_more}
 use Rattle.sc_intake.specs.Plain.{ends_line, plain_records}
 use Rattle.sc_intake.proofs.Lines.{records-skip}
-use Rattle.sc_intake.proofs.plain_records.without_line_ends.Goals as goal
+use Rattle.sc_intake.proofs.plain_records.line_ends_len.Goals as goal
 
 pub loop-start-preserved : goal.loop-start-preserved
 loop-start-preserved c =
