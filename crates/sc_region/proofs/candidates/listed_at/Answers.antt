@@ -1,14 +1,9 @@
-use Rattle.std.proofs.Common.{◌<◌, ap, sym, subst, ◌∙◌, length, take, get_or, take_all, Contains, arith}
+use Rattle.std.proofs.Common.{◌<◌, ap, sym, subst, ◌∙◌, length, get_or, take_all, Contains, arith}
 use Rattle.std.proofs.lemmas.List.Elements.{Contains-get_or}
 use Rattle.sc_region.specs.Districts.{lists_in, students_in}
 use Rattle.sc_region.proofs.Firsts.{list-read}
-use Rattle.sc_region.proofs.Listed.{HasListed, HasPositions, listed-begun, listed-more}
+use Rattle.sc_region.proofs.Listed.{HasPositions, listed-more}
 use Rattle.sc_region.proofs.candidates.listed_at.Goals as goal
-
-pub loop-school-init : goal.loop-school-init
-loop-school-init c =
-    subst (HasListed c.args.papers.now (lists_in c.args.firsts.now.items) (take 0 c.args.schools.now)) (sym c.new-positions.ensures.items)
-    (listed-begun c.args.papers.now (lists_in c.args.firsts.now.items) c.args.schools.now)
 
 pub index-requires : goal.index-requires
 index-requires c =

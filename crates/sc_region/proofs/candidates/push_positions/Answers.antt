@@ -3,12 +3,9 @@ use Rattle.std.proofs.lemmas.List.{get_or-map, length-map}
 use Rattle.sc_papers.specs.Market.{students_of, student_at}
 use Rattle.sc_region.specs.declared.first.First.{First}
 use Rattle.sc_region.specs.Districts.{students_in}
-use Rattle.sc_region.proofs.Listed.{HasPositions, positions-absent, positions-begun, positions-found}
+use Rattle.sc_region.proofs.Listed.{HasPositions, positions-absent, positions-found}
 use Rattle.sc_region.proofs.candidates.push_positions.Goals as goal
 use Rattle.sc_region.proofs.candidates.push_positions.Goals.{in-Some+in_ok-push, in_default}
-
-pub loop-first-init : goal.loop-first-init
-loop-first-init c = positions-begun c.args.papers.now (students_in c.args.firsts.now) c.args.positions.now.items c.requires
 
 pub loop-first-preserved : goal.loop-first-preserved
 loop-first-preserved c =

@@ -1,6 +1,6 @@
 use Rattle.std.proofs.Common.{◌≡◌, ◌+◌, ◌++◌, ◌∷◌, [], ap, sym, ◌∙◌, length, take, get_or}
 use Rattle.std.specs.List.{fold, range_with_len}
-use Rattle.std.proofs.lemmas.List.{take_more, map-append, take_all}
+use Rattle.std.proofs.lemmas.List.{take_more, map-append}
 use Rattle.std.proofs.lemmas.List.Elements.{Contains-get_or}
 use Rattle.std.proofs.lemmas.List.Sums.{fold-append}
 use Rattle.std.proofs.lemmas.List.FromFn.{length-range_with_len}
@@ -35,8 +35,3 @@ loop-position-preserved c =
           ∙ fold-append (joined_choices m) (range_with_len 0 (length (schools_of m))) (students_at m (take at xs)) (student_at m (get_or xs at 0) ∷ [])),
       c.join_choices.ensures.one_each,
     )
-
-pub returns-clause-joined : goal.returns-clause-joined
-returns-clause-joined c =
-    c.loop-position.invariant.0
-    ∙ ap (λ ps. joined_students c.args.papers.now (students_at c.args.papers.now ps)) (take_all c.loop-position.position-index c.args.positions.now c.loop-position-test.false)

@@ -1,4 +1,4 @@
-use Rattle.std.proofs.Common.{◌≡◌, ◌<◌, ap, refl, sym, ◌∙◌, length, get_or, take_all, arith}
+use Rattle.std.proofs.Common.{◌≡◌, ◌<◌, refl, sym, ◌∙◌, length, get_or, arith}
 use Rattle.std.proofs.lemmas.List.Sums.{fold_more}
 use Rattle.sc_papers.specs.Market.{choices_of, student_at}
 use Rattle.sc_region.specs.Groups.{first_choice, joined, joined_list, position_of}
@@ -36,12 +36,3 @@ loop-choice-preserved c =
           ∙ sym (fold_more (λ g s. joined g (position_of m (first_choice m i)) (position_of m s)) c.args.groups.now choices at 0 low),
       c.join.ensures.one_each ∙ c.loop-choice.invariant.1,
     )
-
-pub returns-clause-joined : goal.returns-clause-joined
-returns-clause-joined c =
-    let m = c.args.papers.now in
-    let i = student_at m c.args.position in
-    let choices = choices_of m i in
-    c.loop-choice.invariant.0
-    ∙ ap (joined_list m (first_choice m i) c.args.groups.now)
-    (take_all c.loop-choice.choice-index choices (omega (arith, c.loop-choice-test.false, choices-count m c.choice_positions_at-choice-items.result.now choices c.choice_positions_at-choice-items.ensures)))

@@ -1,6 +1,6 @@
-use Rattle.std.proofs.Common.{◌≡◌, ◌<◌, ◌≤◌, ◌++◌, ◌+◌, ◌==◌, ap, sym, ◌∙◌, drop, length, map, set, take, take_all, arith}
+use Rattle.std.proofs.Common.{◌≡◌, ◌<◌, ◌++◌, ◌+◌, ◌==◌, ap, sym, ◌∙◌, drop, length, map, set, take, arith}
 use Rattle.std.proofs.lemmas.Bool.{cond-false, cond-true, eq-eqb, ne_eqb}
-use Rattle.std.proofs.lemmas.List.{append-nil, drop_all, set-get_or}
+use Rattle.std.proofs.lemmas.List.{set-get_or}
 use Rattle.std.proofs.lemmas.List.Edits.{map_over_more}
 use Rattle.sc_region.specs.Groups.{moved}
 use Rattle.sc_region.proofs.grouping.renumber.Goals as goal
@@ -23,11 +23,3 @@ loop-position-preserved c =
       | else-index-lost w ↦
           ap (λ (v : _). v.items) w.groups-is ∙ sym (set-get_or now at x) ∙ ap (set now at) (sym c.index.ensures ∙ sym (cond-false (x == lost) kept x (ne_eqb x lost w.if-index-lost.false))) ∙ more
     ]
-
-pub returns : goal.returns
-returns c =
-    let old = c.args.groups.now.items in
-    let past : length old ≤ c.loop-position.position = omega (arith, c.loop-position-test.false, c.len-position-end.ensures, c.args.groups.now.ok.0) in
-    c.loop-position.invariant
-    ∙ (λ t. map (moved c.args.kept c.args.lost) (take_all c.loop-position.position old past t) ++ drop_all c.loop-position.position old past t)
-    ∙ append-nil (map (moved c.args.kept c.args.lost) old)
