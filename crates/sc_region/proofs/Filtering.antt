@@ -1,9 +1,9 @@
 -- What a filter keeps of a list.
-use Rattle.std.proofs.Common.{◌≡◌, inl, inr, sym, ap, subst, ◌∙◌, ℕ, ◌+◌, ◌≤◌, nat_eq, Bool, true, false, List, [], ◌∷◌, ◌++◌, length, take, cond, Some, Contains, filter, slice_get, arith}
-use Rattle.std.specs.List.{AllByRecursion, IsDistinct}
-use Rattle.std.proofs.lemmas.Bool.{cases_Bool, cond-true, cond-false, false≢true}
+use Rattle.std.proofs.Common.{◌≡◌, inl, inr, sym, ap, subst, ◌∙◌, ℕ, ◌+◌, ◌≤◌, nat_eq, Bool, true, false, List, [], ◌∷◌, ◌++◌, length, take, cond, Some, Contains, filter, slice_get}
+use Rattle.std.specs.List.{IsDistinct}
+use Rattle.std.proofs.lemmas.Bool.{cases_Bool, false≢true}
 use Rattle.std.proofs.lemmas.List.{append-nil, take_all}
-use Rattle.std.proofs.lemmas.List.Elements.{filter_more}
+use Rattle.std.proofs.lemmas.List.Elements.{All-contains, All-contains_itself, All-filter, All-from_recursion, filter_more, filter_passes, recursion_from_All}
 use Rattle.std.proofs.lemmas.Option.{get_or_from_slice_get, slice_get_within}
 use Rattle.sc_papers.proofs.Counting.{contains-cons, contains-head, contains-tail}
 
@@ -23,31 +23,18 @@ filter-kept p (x ∷ xs) i among passes = elim (cases_Bool (p x)) [
 ]
 
 pub filter-among : (p : ℕ → Bool) (xs : List ℕ) (i : ℕ) → Contains (filter p xs) i → Contains xs i × (p i ≡ true)
-filter-among p [] i (k, low, at) = absurd (omega (arith, low))
-filter-among p (x ∷ xs) i among = elim (cases_Bool (p x)) [
-  | inl kept ↦
-      let in_list : Contains (x ∷ filter p xs) i = subst (λ list. Contains list i) (cond-true (p x) (x ∷ filter p xs) (filter p xs) kept) among in
-      elim (contains-cons x (filter p xs) i in_list) [
-        | inl same ↦ (subst (Contains (x ∷ xs)) same (contains-head x xs), ap p (sym same) ∙ kept)
-        | inr later ↦ let rest = filter-among p xs i later in (contains-tail x xs i rest.0, rest.1)
-      ]
-  | inr dropped ↦
-      let rest = filter-among p xs i (subst (λ list. Contains list i) (cond-false (p x) (x ∷ filter p xs) (filter p xs) dropped) among) in
-      (contains-tail x xs i rest.0, rest.1)
-]
-
-filter-all : (P : ℕ → Type 0) (p : ℕ → Bool) (xs : List ℕ) → AllByRecursion P xs → AllByRecursion P (filter p xs)
-filter-all P p [] all = all
-filter-all P p (x ∷ xs) all = elim (cases_Bool (p x)) [
-  | inl kept ↦ rw kept (all.0, filter-all P p xs all.1)
-  | inr dropped ↦ rw dropped (filter-all P p xs all.1)
-]
+filter-among p xs i among = (
+  All-contains (Contains xs) (filter p xs) i (All-filter p (Contains xs) xs (All-contains_itself xs)) among,
+  All-contains (λ j. p j ≡ true) (filter p xs) i (filter_passes p xs) among,
+)
 
 pub filter-differ : (p : ℕ → Bool) (xs : List ℕ) → IsDistinct nat_eq xs → IsDistinct nat_eq (filter p xs)
 unfolding IsDistinct
 filter-differ p [] differ = differ
 filter-differ p (x ∷ xs) differ = elim (cases_Bool (p x)) [
-  | inl kept ↦ rw kept (filter-all (λ y. nat_eq x y ≡ false) p xs differ.0, filter-differ p xs differ.1)
+  | inl kept ↦
+      let Other : ℕ → Type 0 = λ y. nat_eq x y ≡ false in
+      rw kept (recursion_from_All Other (filter p xs) (All-filter p Other xs (All-from_recursion Other xs differ.0)), filter-differ p xs differ.1)
   | inr dropped ↦ rw dropped (filter-differ p xs differ.1)
 ]
 

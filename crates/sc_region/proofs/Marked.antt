@@ -1,7 +1,7 @@
 -- Those of a list who are marked.
-use Rattle.std.proofs.Common.{◌≡◌, inl, inr, refl, ap, sym, subst, ◌∙◌, ℕ, zero, suc, nat_eq, Bool, true, false, List, [], ◌∷◌, ◌++◌, get_or, take, cond, Some, Contains, slice_get, arith}
+use Rattle.std.proofs.Common.{◌≡◌, inl, inr, refl, ap, sym, subst, ◌∙◌, ℕ, zero, suc, nat_eq, Bool, true, false, List, [], ◌∷◌, get_or, cond, Some, Contains, slice_get, arith}
 use Rattle.std.specs.List.{list_any, IsDistinct}
-use Rattle.std.proofs.lemmas.Bool.{cases_Bool, cond-true, eqb-true, false≢true, false_from_ne_true}
+use Rattle.std.proofs.lemmas.Bool.{cases_Bool, eqb-true, false≢true, false_from_ne_true}
 use Rattle.std.proofs.lemmas.Map.Views.{Contains-from_any}
 use Rattle.std.proofs.lemmas.Option.{none-some, same_Some}
 use Rattle.sc_papers.proofs.Choices.{one-place}
@@ -51,16 +51,3 @@ marked-told marks xs at i differ here =
           let (other, there, passes) = marked-from marks xs i (Contains-from_any eqb-true i (marked marks xs) among) in
           false≢true (sym fails ∙ ap (λ k. get_or marks k false) (one-place xs at other i differ here there) ∙ passes)))
     ]
-
--- of the first of a list, one position after the other
-pub marked-more : (marks : List Bool) (xs : List ℕ) (at i : ℕ) → slice_get xs at ≡ Some i → get_or marks at false ≡ true → marked marks (take (suc at) xs) ≡ marked marks (take at xs) ++ i ∷ []
-marked-more marks [] at i here passes = absurd (none-some i here)
-marked-more [] (x ∷ xs) at i here passes = absurd (false≢true passes)
-marked-more (mark ∷ marks) (x ∷ xs) zero i here passes =
-    cond-true mark (x ∷ marked marks []) (marked marks []) passes ∙ ap (λ y. y ∷ []) (same_Some x i here)
-marked-more (mark ∷ marks) (x ∷ xs) (suc at) i here passes = go mark (marked-more marks xs at i here passes)
-  where
-    go : (b : Bool) → marked marks (take (suc at) xs) ≡ marked marks (take at xs) ++ i ∷ []
-        → cond b (x ∷ marked marks (take (suc at) xs)) (marked marks (take (suc at) xs)) ≡ cond b (x ∷ marked marks (take at xs)) (marked marks (take at xs)) ++ i ∷ []
-    go true more = ap (λ ys. x ∷ ys) more
-    go false more = more
