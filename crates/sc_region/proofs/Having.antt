@@ -3,7 +3,7 @@ use Rattle.std.proofs.Common.{◌≡◌, ◌↔◌, ◌==◌, inl, inr, ◌<◌,
 use Rattle.std.proofs.lemmas.Bool.{eqb-true, eq-eqb}
 use Rattle.std.proofs.lemmas.Map.Entries.{length-keys_of}
 use Rattle.std.proofs.lemmas.Option.{slice_get_within}
-use Rattle.sc_papers.specs.Market.{Market, is_school, is_student, schools_of, student_at, students_of}
+use Rattle.sc_papers.specs.Market.{Market, is_student, schools_of, student_at, students_of}
 use Rattle.sc_papers.specs.Verdict.{verdict}
 use Rattle.sc_papers.specs.WellFormed.{WellFormed}
 use Rattle.sc_papers.specs.declared.amendment.Amendment.{Amendment}
@@ -13,7 +13,7 @@ use Rattle.sc_papers.proofs.Hands.{hand-is, hand-student}
 use Rattle.sc_papers.proofs.Positions.{among-student, student-among}
 use Rattle.sc_papers.proofs.Students.{lister-among}
 use Rattle.sc_region.specs.Groups.{first_choice, group_of, is_member, joined_students, position_of, schools_of_group, positions_in, start_of, students_at, widened}
-use Rattle.sc_region.specs.Districts.{AreDistricts, AreWidened, DistrictsView, firsts_at, lists_in}
+use Rattle.sc_region.specs.Districts.{AreDistricts, AreSearchedFrom, AreWidened, DistrictsView, firsts_at, lists_in}
 use Rattle.sc_region.specs.Region.{InRegion}
 use Rattle.sc_region.specs.Telling.{AreOfRegion, HeldTogether}
 use Rattle.std.specs.List.Sorted.{IsStrictlyIncreasing}
@@ -22,12 +22,11 @@ use Rattle.std.proofs.lemmas.List.Kept.{IsStrictlyIncreasing-filter}
 use Rattle.std.specs.List.{range_with_len}
 use Rattle.std.proofs.lemmas.List.Elements.{Contains-get_or}
 use Rattle.std.proofs.lemmas.List.FromFn.{get_or-range_with_len, length-range_with_len}
-use Rattle.sc_region.proofs.Changes.{start-known}
 use Rattle.std.proofs.lemmas.List.{length-map}
 use Rattle.sc_region.specs.declared.first.First.{First}
 use Rattle.sc_region.proofs.Firsts.{names}
 use Rattle.sc_region.proofs.Filtering.{filter-among, filter-kept}
-use Rattle.sc_region.proofs.Joining.{AreWhole, first-known, joined-partial, joined-together, position-within}
+use Rattle.sc_region.proofs.Joining.{first-known, joined-partial, joined-together, position-within}
 use Rattle.sc_region.proofs.Reaching.{in-member, member-in, partial-in}
 
 -- a student of the papers is in the region just where their first choice is in the group of the school to begin with
@@ -92,23 +91,11 @@ module _ (m : Market) (a : Amendment) (well : WellFormed m) (allowed : verdict m
   )
 
 -- whoever's first choice the lists of a few join with the school to begin with, is in the region
-module _ (m : Market) (a : Amendment) (well : WellFormed m) (allowed : verdict m a ≡ None) (few : List ℕ) (within : (p : ℕ) → Contains few p → p < length (students_of m)) where
-  few-in : (i : ℕ) → Contains (students_of m) i → group_of m (joined_students m (students_at m few)) (first_choice m i) ≡ group_of m (joined_students m (students_at m few)) (start_of m a)
-      → InRegion m a i
-  few-in = partial-in m a well allowed (joined_students m (students_at m few)) (joined-partial m well a (students_at m few) (at-known m few within))
-
-  -- so where they join all schools, they tell the region
-  pub whole-tell : AreWhole m (joined_students m (students_at m few))
-      → ((at : ℕ) → at < length (joined_students m (students_at m few)) → slice_index (joined_students m (students_at m few)) at ≡ slice_index (joined_students m (students_at m few)) 0)
-      → TellRegion m a (joined_students m (students_at m few))
-  unfolding is_member
-  whole-tell whole together i known = (
-    λ passes. few-in i (student-among m i known) (eqb-true _ _ passes),
-    λ inside. eq-eqb _ _ (first (first_choice m i) (first-known m well i known) ∙ sym (first (start_of m a) (start-known m a well allowed))),
-  )
-    where
-      first : (s : ℕ) → is_school m s ≡ true → group_of m (joined_students m (students_at m few)) s ≡ slice_index (joined_students m (students_at m few)) 0
-      first s s_known = together (position_of m s) (omega (arith, (position-within m s s_known).0, whole))
+few-in : (m : Market) (a : Amendment) → WellFormed m → verdict m a ≡ None → (few : List ℕ) → ((p : ℕ) → Contains few p → p < length (students_of m))
+    → (i : ℕ) → Contains (students_of m) i → group_of m (joined_students m (students_at m few)) (first_choice m i) ≡ group_of m (joined_students m (students_at m few)) (start_of m a)
+    → InRegion m a i
+few-in m a well allowed few within =
+    partial-in m a well allowed (joined_students m (students_at m few)) (joined-partial m well a (students_at m few) (at-known m few within))
 
 -- of rising positions that have all of the region, those that the groups tell are the region's
 module _ (m : Market) (a : Amendment) (groups : List ℕ) (tell : TellRegion m a groups) (positions : List ℕ) (rising : IsStrictlyIncreasing positions)
@@ -133,13 +120,15 @@ module _ (m : Market) (a : Amendment) (groups : List ℕ) (tell : TellRegion m a
           filter-kept told positions p (enough p (slice_get_within (students_of m) p i here) (subst (InRegion m a) (sym own) inside))
           (ap (λ j. is_member m groups (group_of m groups (start_of m a)) j) own ∙ (tell i known).1 inside)
 
-  pub region-told : (at : ℕ) → at ≡ position_of m (start_of m a) → AreOfRegion m a (positions_in m groups (slice_index groups at) positions)
+  pub region-told : (at : ℕ) → at ≡ position_of m (start_of m a) → (numbers found : List ℕ) (group : ℕ) → numbers ≡ groups → group ≡ slice_index groups at
+      → found ≡ positions_in m numbers group positions → AreOfRegion m a found
   unfolding positions_in
-  region-told at its = subst (λ q. AreOfRegion m a (positions_in m groups (slice_index groups q) positions)) (sym its) (record {
-    rising = IsStrictlyIncreasing-filter told positions rising;
-    within = λ p among. omega (arith, within p (filter-among told positions p among).0, length-keys_of m.students);
-    exact = positions-exact;
-  })
+  region-told at its numbers found group same own are =
+      subst (AreOfRegion m a) (sym (are ∙ (λ t. positions_in m (same t) ((own ∙ ap (slice_index groups) its) t) positions))) (record {
+        rising = IsStrictlyIncreasing-filter told positions rising;
+        within = λ p among. omega (arith, within p (filter-among told positions p among).0, length-keys_of m.students);
+        exact = positions-exact;
+      })
 
 -- no list leaves its district, so the region lies in the widened one to begin with
 district-near : (m : Market) (a : Amendment) → WellFormed m → (d : DistrictsView) → AreWidened m a d → (group : ℕ) → group ≡ group_of m d.groups (start_of m a)
@@ -169,57 +158,76 @@ pub position-kept : (groups : List ℕ) (group at : ℕ) → at < length groups 
 unfolding schools_of_group
 position-kept groups group at low is = filter-kept (λ q. slice_index groups q == group) (range_with_len 0 (length groups)) at (range-has (length groups) at low) (eq-eqb _ _ is)
 
--- each has a list of students
-pub position-listed : (m : Market) (d : DistrictsView) → AreDistricts m d → (groups : List ℕ) → length groups ≡ length (schools_of m) → (lists : List (Vec First Global)) → lists_in lists ≡ d.firsts
-    → (group at : ℕ) → Contains (schools_of_group groups group) at → at < length lists
-position-listed m d districts groups one_each lists are group at among =
-    omega (arith, (position-among groups group at among).0, one_each, districts.firsts_each, ap length are, length-map lists names)
+-- each is that of a school of the papers, and has a list of students
+pub position-low : (m : Market) (d : DistrictsView) → AreDistricts m d → (schools : List ℕ) (group at : ℕ) → schools ≡ schools_of_group d.groups group → Contains schools at → at < length (schools_of m)
+position-low m d districts schools group at are among = omega (arith, (position-among d.groups group at (subst (λ xs. Contains xs at) are among)).0, districts.one_each)
+
+pub position-listed : (m : Market) (d : DistrictsView) → AreDistricts m d → (lists : List (Vec First Global)) → lists_in lists ≡ d.firsts → (at : ℕ) → at < length (schools_of m) → at < length lists
+position-listed m d districts lists are at low = omega (arith, low, districts.firsts_each, ap length are, length-map lists names)
 
 -- the widened districts tell the region, where the lists of a few hold the one to begin with together
-pub held-tell : (m : Market) (a : Amendment) → WellFormed m → (d : DistrictsView) → AreWidened m a d
-    → (at : ℕ) → at ≡ position_of m (start_of m a) → HeldTogether m (schools_of_group d.groups (slice_index d.groups at)) at → TellRegion m a d.groups
+pub held-tell : (m : Market) (a : Amendment) → WellFormed m → (d : DistrictsView) → AreWidened m a d → (at : ℕ) → at ≡ position_of m (start_of m a)
+    → (schools : List ℕ) → schools ≡ schools_of_group d.groups (slice_index d.groups at) → HeldTogether m schools at → TellRegion m a d.groups
 unfolding is_member
-held-tell m a well d before at its held i known = (to, from)
+held-tell m a well d before at its schools are held i known = (to, from)
   where
     first : ℕ
     first = first_choice m i
 
-    groups : List ℕ
-    groups = d.groups
-
-    low : position_of m first < length groups
+    low : position_of m first < length d.groups
     low = omega (arith, (position-within m first (first-known m well i known)).0, before.districts.one_each)
 
-    to : is_member m groups (group_of m groups (start_of m a)) i ≡ true → InRegion m a i
+    to : is_member m d.groups (group_of m d.groups (start_of m a)) i ≡ true → InRegion m a i
     to passes =
-        let own : slice_index groups (position_of m first) ≡ slice_index groups at = eqb-true _ _ passes ∙ ap (slice_index groups) (sym its) in
+        let own : slice_index d.groups (position_of m first) ≡ slice_index d.groups at = eqb-true _ _ passes ∙ ap (slice_index d.groups) (sym its) in
+        let here = subst (λ xs. Contains xs (position_of m first)) (sym are) (position-kept d.groups (slice_index d.groups at) (position_of m first) low own) in
         few-in m a well before.allowed held.few held.within i (student-among m i known)
-        (held.together (position_of m first) (position-kept groups (slice_index groups at) (position_of m first) low own)
-        ∙ ap (slice_index (joined_students m (students_at m held.few))) its)
+        (held.together (position_of m first) here ∙ ap (slice_index (joined_students m (students_at m held.few))) its)
 
-    from : InRegion m a i → is_member m groups (group_of m groups (start_of m a)) i ≡ true
-    from inside = eq-eqb _ _ (district-near m a well d before (group_of m groups (start_of m a)) refl i inside known)
+    from : InRegion m a i → is_member m d.groups (group_of m d.groups (start_of m a)) i ≡ true
+    from inside = eq-eqb _ _ (district-near m a well d before (group_of m d.groups (start_of m a)) refl i inside known)
 
--- the students who are listed in a district are all who have their first choice there
-pub district-listed : (m : Market) → WellFormed m → (d : DistrictsView) → AreDistricts m d → (group : ℕ) (schools : List ℕ) → schools ≡ schools_of_group d.groups group
-    → (firsts : List (List ℕ)) → firsts ≡ d.firsts → (positions : List ℕ)
-    → ((other p : ℕ) → Contains schools other → p < length (students_of m) → Contains (firsts_at firsts other) (student_at m p) → Contains positions p)
-    → (p : ℕ) → p < length (students_of m) → group_of m d.groups (first_choice m (student_at m p)) ≡ group → Contains positions p
-district-listed m well d districts group schools all_schools firsts same positions listed p low here =
-    let known = hand-student m p (omega (arith, low, length-keys_of m.students)) in
-    let first = first_choice m (student_at m p) in
-    let within = (position-within m first (first-known m well (student_at m p) known)).0 in
-    listed (position_of m first) p
-    (subst (λ xs. Contains xs (position_of m first)) (sym all_schools) (position-kept d.groups group (position_of m first) (omega (arith, within, districts.one_each)) here))
-    low (subst (λ fs. Contains (firsts_at fs (position_of m first)) (student_at m p)) (sym same) (districts.listed (student_at m p) (student-among m (student_at m p) known)))
+-- districts, the schools of the one to begin with, and rising positions of students: of all whose first choice is in that one, and so of all of the region
+pub record HasDistrict (m : Market) (a : Amendment) (d : DistrictsView) (start : ℕ) (schools positions : List ℕ) : Type 0 where
+  pub before : AreWidened m a d
+  pub low : start < length d.groups
+  pub schools_are : schools ≡ schools_of_group d.groups (slice_index d.groups start)
+  pub rising : IsStrictlyIncreasing positions
+  pub within : (p : ℕ) → Contains positions p → p < length (students_of m)
+  pub all : (p : ℕ) → p < length (students_of m) → group_of m d.groups (first_choice m (student_at m p)) ≡ slice_index d.groups start → Contains positions p
+  pub enough : (p : ℕ) → p < length (students_of m) → InRegion m a (student_at m p) → Contains positions p
 
--- so they have all of the region
-pub district-enough : (m : Market) (a : Amendment) → WellFormed m → (d : DistrictsView) → AreWidened m a d → (group : ℕ) → group ≡ group_of m d.groups (start_of m a)
-    → (positions : List ℕ) → ((p : ℕ) → p < length (students_of m) → group_of m d.groups (first_choice m (student_at m p)) ≡ group → Contains positions p)
-    → (p : ℕ) → p < length (students_of m) → InRegion m a (student_at m p) → Contains positions p
-district-enough m a well d before group its positions listed p low inside =
-    let known = hand-student m p (omega (arith, low, length-keys_of m.students)) in
-    listed p low (district-near m a well d before group its (student_at m p) inside known)
+-- those of the students who are listed there are such
+pub listed-district : (m : Market) (a : Amendment) → WellFormed m → (d now : DistrictsView) → d ≡ now → (start : ℕ) → AreSearchedFrom m a now start
+    → (schools : List ℕ) → schools ≡ schools_of_group now.groups (slice_index now.groups start) → (found positions : List ℕ) → positions ≡ found → IsStrictlyIncreasing found
+    → ((p : ℕ) → Contains found p → p < length (students_of m))
+    → ((at p : ℕ) → Contains schools at → p < length (students_of m) → Contains (firsts_at d.firsts at) (student_at m p) → Contains found p)
+    → HasDistrict m a d start schools positions
+listed-district m a well d now view start searched schools are found positions same rising within listed = subst (HasDistrict m a d start schools) (sym same) (record {
+  before = before;
+  low = omega (arith, searched.within, before.districts.one_each);
+  schools_are = schools_are;
+  rising = rising;
+  within = within;
+  all = all;
+  enough = λ p low inside. all p low (district-near m a well d before (slice_index d.groups start) (ap (slice_index d.groups) searched.start) (student_at m p) inside (known p low));
+})
+  where
+    before : AreWidened m a d
+    before = subst (AreWidened m a) (sym view) searched.widened
+
+    schools_are : schools ≡ schools_of_group d.groups (slice_index d.groups start)
+    schools_are = are ∙ ap (λ (v : DistrictsView). schools_of_group v.groups (slice_index v.groups start)) (sym view)
+
+    known : (p : ℕ) → p < length (students_of m) → is_student m (student_at m p) ≡ true
+    known p low = hand-student m p (omega (arith, low, length-keys_of m.students))
+
+    all : (p : ℕ) → p < length (students_of m) → group_of m d.groups (first_choice m (student_at m p)) ≡ slice_index d.groups start → Contains found p
+    all p low here =
+        let at = position_of m (first_choice m (student_at m p)) in
+        let there = (position-within m (first_choice m (student_at m p)) (first-known m well (student_at m p) (known p low))).0 in
+        listed at p (subst (λ xs. Contains xs at) (sym schools_are) (position-kept d.groups (slice_index d.groups start) at (omega (arith, there, before.districts.one_each)) here)) low
+        (before.districts.listed (student_at m p) (student-among m (student_at m p) (known p low)))
 
 -- positions in a range
 range-rising : (count : ℕ) → IsStrictlyIncreasing (range_with_len 0 count)
@@ -229,8 +237,8 @@ range-rising count k low =
     omega (arith, get_or-range_with_len 0 count k 0 (omega (arith, next)), get_or-range_with_len 0 count (k + 1) 0 next)
 
 -- groups that tell the region tell it of all students
-pub all-told : (m : Market) (a : Amendment) (groups : List ℕ) → TellRegion m a groups → (start : ℕ) → start ≡ position_of m (start_of m a)
-    → AreOfRegion m a (positions_in m groups (slice_index groups start) (range_with_len 0 (length (students_of m))))
-all-told m a groups tell start its =
+pub all-told : (m : Market) (a : Amendment) (groups : List ℕ) → TellRegion m a groups → (at : ℕ) → at ≡ position_of m (start_of m a) → (numbers found : List ℕ) (group : ℕ) → numbers ≡ groups → group ≡ slice_index groups at
+    → found ≡ positions_in m numbers group (range_with_len 0 (length (students_of m))) → AreOfRegion m a found
+all-told m a groups tell =
     region-told m a groups tell (range_with_len 0 (length (students_of m))) (range-rising (length (students_of m)))
-    (λ p among. range-low (length (students_of m)) p among) (λ p low inside. range-has (length (students_of m)) p low) start its
+    (range-low (length (students_of m))) (λ p low inside. range-has (length (students_of m)) p low)

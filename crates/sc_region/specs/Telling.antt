@@ -6,12 +6,6 @@ use Rattle.sc_papers.specs.declared.amendment.Amendment.{Amendment}
 use Rattle.sc_region.specs.Groups.{joined_students, students_at}
 use Rattle.sc_region.specs.Region.{InRegion}
 
--- groups that the lists of some students join, who stand at these positions
-pub record AreOfSome (m : Market) (groups : List ℕ) : Type 0 where
-  pub some : List ℕ
-  pub within : (p : ℕ) → Contains some p → p < length (students_of m)
-  pub joined : groups ≡ joined_students m (students_at m some)
-
 -- the lists of some students, who stand at these positions, join schools with the one to begin with, each by its position
 pub record HeldTogether (m : Market) (schools : List ℕ) (start : ℕ) : Type 0 where
   pub few : List ℕ

@@ -16,7 +16,7 @@ use std::alloc::{AllocError, Global};
 
 // How many lists for each school are tried at first, to see whether they hold all schools together: of lists of twelve choices
 // fewer than one for each school mostly do, of short ones more.
-pub(crate) const LISTS_FOR_SCHOOL: usize = 4;
+const LISTS_FOR_SCHOOL: usize = 4;
 
 /// The positions of the schools of a group, rising. One pass over all schools, so that what follows passes over these alone.
 pub(crate) fn schools_of_group(
@@ -118,29 +118,44 @@ fn hold_together(groups: &mut SchoolGroups, schools: &[usize], start: usize) -> 
     true
 }
 
+/// Positions of students that lie evenly among all, a few for each school.
+pub(crate) fn spread_positions(alloc: Global, papers: &FlatPapers) -> Result<Vec<usize>, AllocError>
+    ensures { IfOk result (λ positions. (p : ℕ) → Contains positions.items p → p < length (students_of papers.now)) }
+{
+    let students = papers.students_len();
+    let few = papers.schools_len().saturating_mul(LISTS_FOR_SCHOOL);
+    let step = students.checked_div(few).unwrap_or(0).saturating_add(1);
+    let mut positions = Vec::new(alloc);
+    let mut position: usize = 0;
+    'step: while position < students {
+        positions.push(position)?;
+        position = position.saturating_add(step);
+    }
+    Ok(positions)
+}
+
 /// Of the students who may be in the region, as many as there are lists that most often hold their district together.
-fn first_few<'a>(schools: &[usize], candidates: &'a [usize]) -> &'a [usize]
+pub(crate) fn first_few<'a>(schools: &[usize], candidates: &'a [usize]) -> &'a [usize]
     ensures { (p : ℕ) → Contains result.now p → Contains candidates.now p }
 {
     let few = schools.len().saturating_mul(LISTS_FOR_SCHOOL);
     &candidates[..few.min(candidates.len())]
 }
 
-/// Whether the lists of a few of these students join the schools at these positions with the school to begin with. They mostly do so
+/// Whether the lists of a few students join the schools at these positions with the school to begin with. They mostly do so
 /// for the schools of a district, and then whoever has their first choice in it is in the region, and no other lists are joined.
 pub(crate) fn few_hold_together(
     alloc: Global,
     papers: &FlatPapers,
     schools: &[usize],
     start: usize,
-    candidates: &[usize],
+    few: &[usize],
 ) -> Result<bool, AllocError>
     requires schools { (at : ℕ) → Contains schools.now at → at < length (schools_of papers.now) }
     requires start { start < length (schools_of papers.now) }
-    requires within { (p : ℕ) → Contains candidates.now p → p < length (students_of papers.now) }
+    requires within { (p : ℕ) → Contains few.now p → p < length (students_of papers.now) }
     ensures { IfOk result (λ together. together ≡ true → HeldTogether papers.now schools.now start) }
 {
-    let few = first_few(schools, candidates);
     let mut groups = groups_among(alloc, papers, few)?;
     Ok(hold_together(&mut groups, schools, start))
 }

@@ -5,12 +5,15 @@ ghost use Rattle.sc_papers.specs.Market.{schools_of, students_of};
 ghost use Rattle.sc_region.specs.Districts.{listed_by, firsts_at, unlisted_by, lists_in, new_first, students_in};
 ghost use Rattle.sc_region.specs.Groups.{first_choice, position_of, IsAllowedBeside};
 
-use crate::candidates::{count_at, few_hold_together, listed_at, positions_in, schools_of_group};
+use crate::candidates::{
+    count_at, few_hold_together, first_few, listed_at, positions_in, schools_of_group,
+    spread_positions,
+};
 use crate::first::First;
 use crate::grouping::{first_position_at, groups_among, groups_of, position_of, regroup};
 use crate::marks::RegionPositions;
 use crate::members::positions_of;
-use crate::reach::{are_one, first_choice, groups_of_few, new_choices, widen};
+use crate::reach::{first_choice, new_choices, widen};
 use sc_papers::{Amendment, FlatPapers, MOST_STUDENTS, StudentNo};
 use std::alloc::{AllocError, Global};
 use std::marker::Model;
@@ -197,30 +200,34 @@ impl Districts {
         widen(papers, amendment, &mut self.groups)
     }
 
-    /// The positions of the region's students, rising, found among all students, by passes that ask nobody's position by number. Given is the
-    /// position of the school to begin with. Where the lists of a few do not join all schools, those of all make the groups of the
-    /// districts anew.
+    /// The positions of the region's students, rising, found among all students, by passes that ask nobody's position by number. Given are
+    /// the position of the school to begin with and those of the schools of its district. Where the lists of a few do not hold the
+    /// district together, those of all make the groups of the districts anew.
     fn positions_among_all(
         &mut self,
         alloc: Global,
         papers: &FlatPapers,
         amendment: &Amendment,
         start: usize,
+        schools: &[usize],
     ) -> Result<Vec<usize>, AllocError>
-        requires { AreSearchedFrom papers.now amendment.now self.old start }
+        requires searched { AreSearchedFrom papers.now amendment.now self.old start }
+        requires schools { schools.now ≡ schools_of_group self.old.groups (slice_index self.old.groups start) }
         ensures region { IfOk result (λ positions. AreOfRegion papers.now amendment.now positions.items) }
         ensures widened { AreWidened papers.now amendment.now self.new }
     {
         // This call tells that the papers are well-formed.
         prove!(papers.students_len() <= MOST_STUDENTS);
-        let few = groups_of_few(alloc, papers)?;
-        if are_one(few.as_slice()) {
-            let positions = positions_of(alloc, papers, few.as_slice(), few[start])?;
+        let few = spread_positions(alloc, papers)?;
+        if few_hold_together(alloc, papers, schools, start, few.as_slice())? {
+            let group = self.groups[start];
+            let positions = positions_of(alloc, papers, self.groups.as_slice(), group)?;
             return Ok(positions);
         }
-        self.groups = groups_of(alloc, papers)?.into_numbers();
-        widen(papers, amendment, &mut self.groups);
-        let positions = positions_of(alloc, papers, self.groups.as_slice(), self.groups[start])?;
+        let mut exact = groups_of(alloc, papers)?.into_numbers();
+        widen(papers, amendment, &mut exact);
+        let positions = positions_of(alloc, papers, exact.as_slice(), exact[start])?;
+        self.groups = exact;
         Ok(positions)
     }
 
@@ -245,7 +252,7 @@ impl Districts {
         let listed = candidates.as_slice();
         // This call tells that the papers are well-formed.
         prove!(papers.students_len() <= MOST_STUDENTS);
-        if few_hold_together(alloc, papers, schools, start, listed)? {
+        if few_hold_together(alloc, papers, schools, start, first_few(schools, listed))? {
             let positions = positions_in(alloc, papers, self.groups.as_slice(), group, listed)?;
             return Ok(positions);
         }
@@ -297,7 +304,7 @@ impl Districts {
         let schools = district.as_slice();
         let students = papers.students_len();
         if count_at(&self.firsts, schools) > students / WIDE {
-            let positions = self.positions_among_all(alloc, papers, amendment, start)?;
+            let positions = self.positions_among_all(alloc, papers, amendment, start, schools)?;
             return Ok(RegionPositions::at(students, positions));
         }
         let positions = self.positions_among_listed(alloc, papers, amendment, start, schools)?;

@@ -1,15 +1,13 @@
 //! How far an amendment reaches.
 
-ghost use Rattle.std.specs.Prelude.{◌≡◌, ◌↔◌, ◌<◌, ℕ, None, true, length, slice_index, Contains, OnOk, IfOk, IfErr};
+ghost use Rattle.std.specs.Prelude.{◌≡◌, ◌↔◌, ℕ, None, true, length, Contains, OnOk, IfOk, IfErr};
 ghost use Rattle.std.specs.List.Sorted.{IsStrictlyIncreasing};
-ghost use Rattle.sc_papers.specs.Market.{is_school, is_student, schools_of, students_of};
+ghost use Rattle.sc_papers.specs.Market.{is_school, is_student, schools_of};
 ghost use Rattle.sc_papers.specs.Verdict.{verdict, IsRefusal};
 ghost use Rattle.sc_region.specs.Groups.{first_choice, group_of, members_beside, new_choices, position_of, start_of, widened, IsAllowedBeside};
 ghost use Rattle.sc_region.specs.Region.{InRegion};
-ghost use Rattle.sc_region.specs.Telling.{AreOfSome};
 
-use crate::candidates::LISTS_FOR_SCHOOL;
-use crate::grouping::{groups_among, groups_of, join_list, position_of};
+use crate::grouping::{groups_of, join_list, position_of};
 use crate::members::is_member;
 use crate::region_list::RegionList;
 use sc_papers::{Amendment, FlatPapers, MOST_STUDENTS, Refusal, SchoolNo, StudentNo};
@@ -126,43 +124,4 @@ pub fn region(
     // And this one that its numbers rise.
     prove!(region.len() <= usize::MAX);
     Ok(region)
-}
-
-/// Positions of students that lie evenly among all, a few for each school.
-fn spread_positions(alloc: Global, papers: &FlatPapers) -> Result<Vec<usize>, AllocError>
-    ensures { IfOk result (λ positions. (p : ℕ) → Contains positions.items p → p < length (students_of papers.now)) }
-{
-    let students = papers.students_len();
-    let few = papers.schools_len().saturating_mul(LISTS_FOR_SCHOOL);
-    let step = students.checked_div(few).unwrap_or(0).saturating_add(1);
-    let mut positions = Vec::new(alloc);
-    let mut position: usize = 0;
-    'step: while position < students {
-        positions.push(position)?;
-        position = position.saturating_add(step);
-    }
-    Ok(positions)
-}
-
-/// Whether all schools are in one group, that of the first.
-pub(crate) fn are_one(groups: &[usize]) -> bool
-    ensures { result ≡ true → (position : ℕ) → position < length groups.now
-        → slice_index groups.now position ≡ slice_index groups.now 0 }
-{
-    for position in 0..groups.len() {
-        if groups[position] != groups[0] {
-            return false;
-        }
-    }
-    true
-}
-
-/// The groups that the lists of a few students join, who lie evenly among all: all schools, where they are those of one city.
-pub(crate) fn groups_of_few(alloc: Global, papers: &FlatPapers) -> Result<Vec<usize>, AllocError>
-    ensures one_each { IfOk result (λ groups. length groups.items ≡ length (schools_of papers.now)) }
-    ensures few { IfOk result (λ groups. AreOfSome papers.now groups.items) }
-{
-    let few = spread_positions(alloc, papers)?;
-    let groups = groups_among(alloc, papers, few.as_slice())?;
-    Ok(groups.into_numbers())
 }

@@ -1,60 +1,51 @@
-use Rattle.std.proofs.Common.{◌≡◌, ◌<◌, ℕ, List, ap, sym, subst, ◌∙◌, length, arith}
-use Rattle.std.specs.List.{range_with_len}
+use Rattle.std.proofs.Common.{◌<◌, ℕ, List, ap, sym, subst, ◌∙◌, length, Contains, arith}
 use Rattle.std.specs.Prelude.{slice_index}
 use Rattle.std.proofs.lemmas.List.{get_or_read}
-use Rattle.sc_papers.specs.Market.{students_of}
 use Rattle.sc_papers.proofs.Positions.{student-among}
 use Rattle.sc_region.specs.Districts.{lists_in, AreDistricts, AreWidened, DistrictsView}
-use Rattle.sc_region.specs.Groups.{positions_in}
-use Rattle.sc_region.specs.Telling.{AreOfRegion}
-use Rattle.sc_region.proofs.Having.{all-told, whole-tell, TellRegion}
+use Rattle.sc_region.specs.Groups.{schools_of_group}
+use Rattle.sc_region.proofs.Having.{all-told, held-tell, position-low, TellRegion}
 use Rattle.sc_region.proofs.Reaching.{region-marked}
 use Rattle.sc_region.proofs.Regrouping.{all-joined, all-widened}
 use Rattle.sc_region.proofs.districts.Districts.positions_among_all.Goals as goal
 
-pub returns-then-are_one-clause-region : goal.returns-then-are_one-clause-region
-returns-then-are_one-clause-region c =
-    let m = c.args.papers.now in
-    let a = c.args.amendment.now in
-    let numbers = c.in_ok-few.few.items in
-    let few = c.in_ok-few.ensures.few in
-    let whole = c.in_ok-few.ensures.one_each in
-    let one : (at : ℕ) → at < length numbers → slice_index numbers at ≡ slice_index numbers 0 =
-    λ at low. subst (λ (gs : List ℕ). slice_index gs at ≡ slice_index gs 0) c.as_slice.ensures.value (c.are_one.ensures c.if-are_one.true at (omega (arith, low, ap length c.as_slice.ensures.value))) in
-    let tell : TellRegion m a numbers =
-    subst (TellRegion m a) (sym few.joined)
-    (whole-tell m a c.students_len.ensures.well_formed c.requires.widened.allowed few.some few.within (ap length (sym few.joined) ∙ whole)
-    (λ at low. subst (λ (gs : List ℕ). slice_index gs at ≡ slice_index gs 0) few.joined (one at (omega (arith, low, ap length few.joined))))) in
-    let own : c.index.result.now ≡ slice_index numbers c.args.start = get_or_read numbers c.args.start c.index.result.now (omega (arith, c.requires.within, whole)) c.index.ensures 0 in
-    let is : c.in_ok-positions.positions.items ≡ positions_in m numbers (slice_index numbers c.args.start) (range_with_len 0 (length (students_of m))) =
-    c.in_ok-positions.ensures ∙ (λ t. positions_in m (c.as_slice-then-are_one.ensures.value t) (own t) (range_with_len 0 (length (students_of m)))) in
-    subst (AreOfRegion m a) (sym is) (all-told m a numbers tell c.args.start c.requires.start)
+pub few_hold_together-requires-clause-schools : goal.few_hold_together-requires-clause-schools
+few_hold_together-requires-clause-schools c at among = position-low c.args.papers.now c.args.self.now c.requires.searched.widened.districts c.args.schools.now _ at c.requires.schools among
 
-pub returns-in_err-positions-2-clause-widened : goal.returns-in_err-positions-2-clause-widened
-returns-in_err-positions-2-clause-widened c =
+pub few_hold_together-requires-clause-within : goal.few_hold_together-requires-clause-within
+few_hold_together-requires-clause-within c p among = c.in_ok-few.ensures p (subst (λ xs. Contains xs p) c.as_slice.ensures.value among)
+
+pub returns-then-branch-clause-region : goal.returns-then-branch-clause-region
+returns-then-branch-clause-region c =
     let m = c.args.papers.now in
     let a = c.args.amendment.now in
+    let start = c.args.start in
+    let its = c.requires.searched.start in
     let d : DistrictsView = record { groups = c.self.inside.groups.items; firsts = lists_in c.self.inside.firsts.items } in
-    subst (λ (gs : List ℕ). AreWidened m a (record { groups = gs; firsts = d.firsts })) (sym (all-joined m a _ _ c.widen.ensures.widened (c.into_numbers.ensures ∙ c.in_ok-groups_of.ensures.joined)))
-    (all-widened m a c.students_len.ensures.well_formed c.requires.widened.allowed d (subst (AreDistricts m) (sym c.self.view_is) c.requires.widened.districts))
+    let before : AreWidened m a d = subst (AreWidened m a) (sym c.self.view_is) c.requires.searched.widened in
+    let are = c.requires.schools ∙ ap (λ (v : DistrictsView). schools_of_group v.groups (slice_index v.groups start)) (sym c.self.view_is) in
+    let tell = held-tell m a c.students_len.ensures.well_formed d before start its c.args.schools.now are (c.in_ok-few_hold_together.ensures c.if-branch.true) in
+    let low : start < length d.groups = omega (arith, c.requires.searched.within, before.districts.one_each) in
+    all-told m a d.groups tell start its c.as_slice-then-branch.result.now c.in_ok-positions.positions.items c.index-group.result.now
+    c.as_slice-then-branch.ensures.value (get_or_read d.groups start c.index-group.result.now low c.index-group.ensures 0) c.in_ok-positions.ensures
 
 pub returns-clause-region : goal.returns-clause-region
 returns-clause-region c =
     let m = c.args.papers.now in
     let a = c.args.amendment.now in
-    let numbers = c.widen.new.groups.items in
-    let tell : TellRegion m a numbers =
-    subst (TellRegion m a) (sym (all-joined m a _ _ c.widen.ensures.widened (c.into_numbers.ensures ∙ c.in_ok-groups_of.ensures.joined))) (λ i known. region-marked m a c.students_len.ensures.well_formed c.requires.widened.allowed i (student-among m i known)) in
-    let own : c.index-2.result.now ≡ slice_index numbers c.args.start =
-    get_or_read numbers c.args.start c.index-2.result.now (omega (arith, c.requires.within, c.widen.ensures.one_each)) c.index-2.ensures 0 in
-    let is : c.in_ok-positions-2.positions.items ≡ positions_in m numbers (slice_index numbers c.args.start) (range_with_len 0 (length (students_of m))) =
-    c.in_ok-positions-2.ensures ∙ (λ t. positions_in m (c.as_slice-2.ensures.value t) (own t) (range_with_len 0 (length (students_of m)))) in
-    subst (AreOfRegion m a) (sym is) (all-told m a numbers tell c.args.start c.requires.start)
+    let start = c.args.start in
+    let exact = c.widen.new.groups.items in
+    let tell : TellRegion m a exact =
+    subst (TellRegion m a) (sym (all-joined m a _ _ c.widen.ensures.widened (c.into_numbers-exact.ensures ∙ c.in_ok-groups_of.ensures.joined)))
+    (λ i known. region-marked m a c.students_len.ensures.well_formed c.requires.searched.widened.allowed i (student-among m i known)) in
+    let low : start < length exact = omega (arith, c.requires.searched.within, c.widen.ensures.one_each) in
+    all-told m a exact tell start c.requires.searched.start c.as_slice-2.result.now c.in_ok-positions-2.positions.items c.index.result.now
+    c.as_slice-2.ensures.value (get_or_read exact start c.index.result.now low c.index.ensures 0) c.in_ok-positions-2.ensures
 
 pub returns-clause-widened : goal.returns-clause-widened
 returns-clause-widened c =
     let m = c.args.papers.now in
     let a = c.args.amendment.now in
     let d : DistrictsView = record { groups = c.self.inside.groups.items; firsts = lists_in c.self.inside.firsts.items } in
-    subst (λ (gs : List ℕ). AreWidened m a (record { groups = gs; firsts = d.firsts })) (sym (all-joined m a _ _ c.widen.ensures.widened (c.into_numbers.ensures ∙ c.in_ok-groups_of.ensures.joined)))
-    (all-widened m a c.students_len.ensures.well_formed c.requires.widened.allowed d (subst (AreDistricts m) (sym c.self.view_is) c.requires.widened.districts))
+    subst (λ (gs : List ℕ). AreWidened m a (record { groups = gs; firsts = d.firsts })) (sym (all-joined m a _ _ c.widen.ensures.widened (c.into_numbers-exact.ensures ∙ c.in_ok-groups_of.ensures.joined)))
+    (all-widened m a c.students_len.ensures.well_formed c.requires.searched.widened.allowed d (subst (AreDistricts m) (sym c.self.view_is) c.requires.searched.widened.districts))

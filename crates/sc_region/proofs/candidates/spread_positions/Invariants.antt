@@ -1,5 +1,5 @@
 use Rattle.std.proofs.Common.{◌<◌, ◌-◌, ℕ, Contains}
-use Rattle.sc_region.proofs.reach.spread_positions.Given as goal
+use Rattle.sc_region.proofs.candidates.spread_positions.Given as goal
 
 abbrev pub invariant-step : goal.invariant-step
 invariant-step l = (p : ℕ) → Contains l.positions.items p → p < l.students

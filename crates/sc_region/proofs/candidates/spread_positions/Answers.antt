@@ -1,7 +1,7 @@
 use Rattle.std.proofs.Common.{inl, inr, subst, Contains, arith}
 use Rattle.std.proofs.lemmas.List.Elements.{Contains-push_cases}
 use Rattle.std.proofs.lemmas.Map.Entries.{length-keys_of}
-use Rattle.sc_region.proofs.reach.spread_positions.Goals as goal
+use Rattle.sc_region.proofs.candidates.spread_positions.Goals as goal
 
 pub step-preserved : goal.step-preserved
 step-preserved c p among = elim (Contains-push_cases c.step.positions.items c.step.position p (subst (λ xs. Contains xs p) c.in_ok-push.ensures.items among)) [
