@@ -55,26 +55,9 @@ impl Segments {
         }
     }
 
-    /// No segments, and room for so many of them and so many rejections. The only error is a refused growth.
-    fn with_room(alloc: Global, students: usize, rejections: usize) -> Result<Self, AllocError>
-        ensures { IfOk result (λ segments. segments ≡ []) }
-    {
-        Ok(Segments {
-            alloc,
-            spans: Vec::with_capacity(alloc, students)?,
-            entries: Vec::with_capacity(alloc, rejections)?,
-            gone: 0,
-        })
-    }
-
     /// How many entries belong to segments.
     fn entries_kept(&self) -> usize {
         self.entries.len().saturating_sub(self.gone)
-    }
-
-    /// Whether so many entries have gone that a copy of the others costs less than what made them go.
-    fn is_untidy(&self) -> bool {
-        self.gone / 2 > self.entries_kept().saturating_add(self.spans.len())
     }
 
     /// Puts the student's segment at the end. A refused growth changes nothing. The cost is the
@@ -152,7 +135,12 @@ impl Segments {
         requires { k ≤ length self.now }
         ensures { IfOk result (λ segments. segments ≡ take k self.now) }
     {
-        let mut copy = Segments::with_room(self.alloc, k, self.entries_kept())?;
+        let mut copy = Segments {
+            alloc: self.alloc,
+            spans: Vec::with_capacity(self.alloc, k)?,
+            entries: Vec::with_capacity(self.alloc, self.entries_kept())?,
+            gone: 0,
+        };
         for position in 0..k {
             copy.push(self.student(position), self.segment(position))?;
         }
@@ -237,11 +225,12 @@ impl Segments {
         Ok(())
     }
 
-    /// A copy of the entries that belong to segments alone, where many do not and there is room for it.
+    /// A copy of the entries that belong to segments alone, where so many have gone that it costs less than what made them go,
+    /// and where there is room for it.
     fn tidy_copy(&self) -> Option<Self>
         ensures { IfSome result (λ copy. copy ≡ self.now) }
     {
-        if !self.is_untidy() {
+        if self.gone / 2 <= self.entries_kept().saturating_add(self.spans.len()) {
             return None;
         }
         self.copy_prefix(self.len()).ok()
