@@ -1,22 +1,11 @@
 -- Segments as chains, and their log, one position after the other.
-use Rattle.std.proofs.Common.{◌≡◌, ap, sym, ◌∙◌, ℕ, zero, suc, ◌+◌, List, [], ◌∷◌, ◌++◌, length, min, Some, take, slice_get, append-nil, arith}
+use Rattle.std.proofs.Common.{◌≡◌, ap, sym, ◌∙◌, ℕ, ◌+◌, List, [], ◌∷◌, ◌++◌, length, min, Some, take, slice_get, append-nil, arith}
 use Rattle.std.proofs.lemmas.List.{length-append, take_more}
 use Rattle.std.proofs.lemmas.Grind.{flat_map-append}
-use Rattle.std.proofs.lemmas.Option.{get_or_from_slice_get, none-some, same_Some, slice_get_within}
+use Rattle.std.proofs.lemmas.Option.{get_or_from_slice_get, slice_get_within}
 use Rattle.sc_papers.specs.Restriction.{joined}
 use Rattle.sc_papers.specs.declared.rejection.Rejection.{Rejection}
-use Rattle.sc_checkpoint.specs.Chains.{logs_in, students_in, Chain}
-
--- the student and the rejections of the chain at an index
-pub student-at : (chains : List Chain) (k : ℕ) (chain : Chain) → slice_get chains k ≡ Some chain → slice_get (students_in chains) k ≡ Some chain.student
-student-at [] k chain here = absurd (none-some chain here)
-student-at (first ∷ rest) zero chain here = ap (λ (c : Chain). Some c.student) (same_Some first chain here)
-student-at (first ∷ rest) (suc k) chain here = student-at rest k chain here
-
-pub log-at : (chains : List Chain) (k : ℕ) (chain : Chain) → slice_get chains k ≡ Some chain → slice_get (logs_in chains) k ≡ Some chain.rejections
-log-at [] k chain here = absurd (none-some chain here)
-log-at (first ∷ rest) zero chain here = ap (λ (c : Chain). Some c.rejections) (same_Some first chain here)
-log-at (first ∷ rest) (suc k) chain here = log-at rest k chain here
+use Rattle.sc_checkpoint.specs.Chains.{Chain}
 
 -- one more segment, joined
 pub joined-next : (segments : List (List Rejection)) (k : ℕ) (s : List Rejection) → slice_get segments k ≡ Some s → joined (take (k + 1) segments) ≡ joined (take k segments) ++ s

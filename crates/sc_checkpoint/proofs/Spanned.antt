@@ -1,8 +1,9 @@
 -- Segments as spans of one list of entries.
-use Rattle.std.proofs.Common.{◌≡◌, refl, ap, subst, ◌∙◌, ℕ, zero, suc, ◌+◌, ◌-◌, ◌≤◌, List, [], ◌∷◌, ◌++◌, length, map, take, drop, set, Some, slice_get, slice_range, arith, length-drop}
+use Rattle.std.proofs.Common.{◌≡◌, refl, ap, sym, subst, ◌∙◌, ℕ, zero, suc, ◌+◌, ◌-◌, ◌<◌, ◌≤◌, List, [], ◌∷◌, ◌++◌, length, get_or, map, take, drop, set, Some, slice_get, slice_range, arith, length-drop}
 use Rattle.std.proofs.Math.Seq.{drop-append_seam, drop-append-add}
-use Rattle.std.proofs.lemmas.List.{drop-append-le, length-append, map_push, take-append-le, take_all}
-use Rattle.std.proofs.lemmas.Option.{same_Some, none-some}
+use Rattle.std.proofs.lemmas.List.{drop-append-le, length-append, length-map, map_push, take-append-le, take_all}
+use Rattle.std.proofs.lemmas.Option.{same_Some, none-some, slice_get-map, slice_get_read}
+use Rattle.std.specs.Option.{option_map}
 use Rattle.std.specs.List.{remove}
 use Rattle.sc_papers.specs.declared.rejection.Rejection.{Rejection}
 use Rattle.sc_checkpoint.specs.Chains.{replaced, with_chain, Chain}
@@ -10,11 +11,12 @@ use Rattle.sc_checkpoint.specs.Spans.{chain_in, chains_in, shifted, AreWithin, I
 use Rattle.sc_checkpoint.specs.declared.span.Span.{Span}
 use Rattle.sc_checkpoint.proofs.Replacing.{map-replaced}
 
--- the chain of a span
-pub chain-here : (entries : List Rejection) (spans : List Span) (k : ℕ) (span : Span) → slice_get spans k ≡ Some span → slice_get (chains_in entries spans) k ≡ Some (chain_in entries span)
-chain-here entries [] k span here = absurd (none-some span here)
-chain-here entries (first ∷ rest) zero span here = ap (λ (s : Span). Some (chain_in entries s)) (same_Some first span here)
-chain-here entries (first ∷ rest) (suc k) span here = chain-here entries rest k span here
+-- the chain at a position, by the span that is read there
+pub chain-read : (entries : List Rejection) (spans : List Span) (chains : List Chain) → chains_in entries spans ≡ chains → (k : ℕ) (span : Span) → k < length chains → span ≡ get_or spans k span
+    → slice_get chains k ≡ Some (chain_in entries span)
+chain-read entries spans chains are k span low is =
+    let within : k < length spans = omega (arith, low, ap (λ (cs : List Chain). length cs) are, length-map spans (chain_in entries)) in
+    ap (λ cs. slice_get cs k) (sym are) ∙ slice_get-map (chain_in entries) spans k ∙ ap (option_map (chain_in entries)) (slice_get_read spans (length spans) k span refl within is)
 
 -- what lies in the first of two lists, what in the second, and the whole second
 range-left : (xs ys : List Rejection) (from to : ℕ) → from ≤ to → to ≤ length xs → slice_range (xs ++ ys) from to ≡ slice_range xs from to

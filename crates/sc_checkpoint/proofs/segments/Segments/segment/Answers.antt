@@ -1,18 +1,14 @@
-use Rattle.std.proofs.Common.{◌<◌, refl, ap, length, slice_get, slice_range, Some, sym, ◌∙◌, arith}
-use Rattle.std.proofs.lemmas.List.{length-map}
-use Rattle.std.proofs.lemmas.Option.{slice_get_read}
-use Rattle.sc_checkpoint.specs.Chains.{logs_in}
-use Rattle.sc_checkpoint.specs.Spans.{chain_in}
-use Rattle.sc_checkpoint.proofs.Joining.{log-at}
-use Rattle.sc_checkpoint.proofs.Spanned.{chain-here}
+use Rattle.std.proofs.Common.{ap, slice_range, Some, sym, ◌∙◌}
+use Rattle.std.specs.Option.{option_map}
+use Rattle.std.proofs.lemmas.Option.{slice_get-map}
+use Rattle.sc_checkpoint.specs.Chains.{Chain}
+use Rattle.sc_checkpoint.proofs.Spanned.{chain-read}
 use Rattle.sc_checkpoint.proofs.segments.Segments.segment.Goals as goal
 
 pub returns : goal.returns
 returns c =
-    let spans = c.self.inside.spans.items in
-    let entries = c.self.inside.entries.items in
     let span = c.index-span.result.now in
-    let low : c.args.k < length spans = omega (arith, ap length c.self.view_is, length-map spans (chain_in entries)) in
-    ap (λ all. slice_get (logs_in all) c.args.k) (sym c.self.view_is)
-    ∙ log-at _ c.args.k (chain_in entries span) (chain-here entries spans c.args.k span (slice_get_read spans (length spans) c.args.k span refl low c.index-span.ensures))
+    slice_get-map (λ (chain : Chain). chain.rejections) c.args.self.now c.args.k
+    ∙ ap (option_map (λ (chain : Chain). chain.rejections))
+    (chain-read c.self.inside.entries.items c.self.inside.spans.items c.args.self.now c.self.view_is c.args.k span c.requires c.index-span.ensures)
     ∙ ap (λ all. Some (slice_range all span.start span.end)) (sym c.deref.ensures.value)
