@@ -1,20 +1,13 @@
 -- Sets of ranks, kept as the bits of a number.
-use Rattle.std.proofs.Common.{◌≡◌, inl, inr, ap, sym, ◌∙◌, ℕ, ◌+◌, ◌-◌, ◌*◌, ◌%◌, ◌^◌, ◌<◌, ◌==◌, Bool, true, false, ◌||◌, arith, w32}
+use Rattle.std.proofs.Common.{◌≡◌, inl, inr, ap, sym, ◌∙◌, ℕ, ◌+◌, ◌-◌, ◌*◌, ◌%◌, ◌^◌, ◌<◌, ◌==◌, ◌||◌, arith, w32}
 use lib.Count.{count_trailing_zeros}
+use Rattle.std.proofs.Math.Bool.{or-false, or-true}
 use Rattle.std.specs.Int.{bit_at, trailing_ones}
 use Rattle.std.specs.Int.RustNames.{bit_or}
 use Rattle.std.proofs.lemmas.Bool.{cases_eq, eq-eqb, ne_eqb}
 use Rattle.std.proofs.lemmas.Nat.Bits.{bit_at-trailing_ones, bit_at_ones, bit_at_set_same, bit_at_set_other}
 use Rattle.sc_checkpoint.specs.Ranks.{has_rank, IsFirstOutside}
 use Rattle.sc_checkpoint.specs.declared.rank_set.RankSet.{RankSet}
-
-or-true : (b : Bool) → (b || true) ≡ true
-or-true true = λ i. true
-or-true false = λ i. true
-
-or-false : (b : Bool) → (b || false) ≡ b
-or-false true = λ i. true
-or-false false = λ i. false
 
 pub set-bit : (bits rank other : ℕ) → rank < 32 → (bit_at (bit_or bits (1 * 2 ^ rank % 4294967296)) other == 1) ≡ (bit_at bits other == 1 || other == rank)
 set-bit bits rank other low =

@@ -1,5 +1,6 @@
 -- One more entry of a log, put into a table of ranks.
-use Rattle.std.proofs.Common.{◌≡◌, inl, inr, refl, ap, sym, ◌∙◌, ℕ, ◌<◌, ◌==◌, nat_eq, nat_lt, Bool, true, false, ◌&&◌, ◌||◌, List, [], ◌∷◌, ◌++◌, length, get_or, set, Some, None, slice_get, position, arith, length-set}
+use Rattle.std.proofs.Common.{◌≡◌, inl, inr, refl, ap, sym, ◌∙◌, ℕ, ◌<◌, ◌==◌, nat_eq, nat_lt, Bool, false, ◌&&◌, ◌||◌, List, [], ◌∷◌, ◌++◌, length, get_or, set, Some, None, slice_get, position, arith, length-set}
+use Rattle.std.proofs.Math.Bool.{or-false}
 use Rattle.std.specs.List.{position_or_len}
 use Rattle.std.proofs.lemmas.Bool.{cases_eq, cases_lt, cond-true, lt-ltb, eqb-true, eq-eqb, ne_eqb, false≢true, false_from_ne_true, and_parts}
 use Rattle.std.proofs.lemmas.List.{get_or-set_same, get_or-set_other}
@@ -15,16 +16,6 @@ use Rattle.sc_papers.proofs.Rejections.{is_of, rejected-push}
 use Rattle.sc_papers.proofs.Students.{choices-differ, choices-short}
 use Rattle.sc_checkpoint.specs.Ranks.{has_rank, AreTabled}
 use Rattle.sc_checkpoint.specs.declared.rank_set.RankSet.{RankSet}
-
-or-false : (b : Bool) → (b || false) ≡ b
-or-false true = refl
-or-false false = refl
-
--- a position is that of a member that passes
-pub position-here : (test : ℕ → Bool) (xs : List ℕ) (k : ℕ) → position test xs ≡ Some k → (x : ℕ) × (slice_get xs k ≡ Some x) × (test x ≡ true)
-position-here test xs k found =
-    let parts = position-Some test xs k 0 found in
-    (get_or xs k 0, slice_get-get_or xs k 0 parts.0, parts.1)
 
 -- where there is no position, no member passes
 pub position-none : (test : ℕ → Bool) (xs : List ℕ) (k x : ℕ) → position test xs ≡ None → slice_get xs k ≡ Some x → test x ≡ false
@@ -63,24 +54,16 @@ table-kept m students log e table apart before = record {
 pub unknown-nowhere : (m : Market) (i : ℕ) → position (nat_eq i) (students_of m) ≡ None → (at : ℕ) → slice_get (students_of m) at ≡ Some i → ⊥
 unknown-nowhere m i none at here = false≢true (sym (position-none (nat_eq i) (students_of m) at i none here) ∙ eq-eqb i i refl)
 
-pub table-unknown : (m : Market) (students : List ℕ) (log : List Rejection) (e : Rejection) (table : List RankSet) → ((at : ℕ) → slice_get students at ≡ Some e.student → ⊥) → AreTabled m students log table → AreTabled m students (log ++ e ∷ []) table
-table-unknown m students log e table none = table-kept m students log e table (λ at rank low at_student at_school. none at at_student)
-
 pub table-unlisted : (m : Market) (students : List ℕ) (log : List Rejection) (e : Rejection) (table : List RankSet) → position (λ s. s == e.school) (choices_of m e.student) ≡ None → AreTabled m students log table → AreTabled m students (log ++ e ∷ []) table
 table-unlisted m students log e table none =
     table-kept m students log e table (λ at rank low at_student at_school.
     absurd (false≢true (sym (position-none (λ s. s == e.school) (choices_of m e.student) rank e.school none at_school) ∙ eq-eqb e.school e.school refl)))
 
--- the entry's student stands at their position
-pub student-here : (m : Market) (i at : ℕ) → position (nat_eq i) (students_of m) ≡ Some at → slice_get (students_of m) at ≡ Some i
-student-here m i at found =
-    let here = position-here (nat_eq i) (students_of m) at found in
-    here.1 ∙ ap Some (sym (eqb-true i here.0 here.2))
-
+-- the school stands at its rank
 school-here : (m : Market) (i s rank : ℕ) → position (λ t. t == s) (choices_of m i) ≡ Some rank → slice_get (choices_of m i) rank ≡ Some s
 school-here m i s rank found =
-    let here = position-here (λ t. t == s) (choices_of m i) rank found in
-    here.1 ∙ ap Some (eqb-true here.0 s here.2)
+    let (low, is, first) = position-Some (λ t. t == s) (choices_of m i) rank 0 found in
+    slice_get-get_or (choices_of m i) rank 0 low ∙ ap Some (eqb-true (get_or (choices_of m i) rank 0) s is)
 
 -- a set has room for the rank of a choice
 pub rank-low : (m : Market) (i s rank : ℕ) → WithinLimits m → position (λ t. t == s) (choices_of m i) ≡ Some rank → rank < 32
