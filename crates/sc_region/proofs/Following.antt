@@ -1,5 +1,5 @@
 -- What an accepted amendment changes in the districts.
-use Rattle.std.proofs.Common.{◌≡◌, ◌⊎◌, inl, inr, ◌<◌, refl, sym, ap, subst, ◌∙◌, ℕ, ◌==◌, nat_eq, true, false, List, [], length, cond, Option, Some, None, Contains, is_some, arith}
+use Rattle.std.proofs.Common.{◌≡◌, ◌⊎◌, inl, inr, ◌<◌, refl, sym, ap, subst, ◌∙◌, ℕ, ◌==◌, nat_eq, false, List, [], length, cond, Option, Some, None, Contains, is_some, arith}
 use Rattle.std.specs.Prelude.{slice_index}
 use Rattle.std.specs.List.{position_or_len}
 use Rattle.std.specs.Option.{option_map_or}
@@ -8,7 +8,7 @@ use Rattle.std.proofs.lemmas.Bool.Decides.{nat_tests}
 use Rattle.std.proofs.lemmas.Cmp.{nat_eq_equiv}
 use Rattle.std.proofs.lemmas.Map.{keys-set_value, lookup-remove_entry}
 use Rattle.std.proofs.lemmas.Option.{none-some}
-use Rattle.sc_papers.specs.Market.{Market, choices_of, is_school, school_of, schools_of, student_of, students_of}
+use Rattle.sc_papers.specs.Market.{Market, choices_of, school_of, schools_of, student_of, students_of}
 use Rattle.sc_papers.specs.Verdict.{after, changed_school, changed_student, objections_to_rerank, verdict, with_student, without_student}
 use Rattle.sc_papers.specs.WellFormed.{WellFormed}
 use Rattle.sc_papers.specs.declared.amendment.Amendment.{Amendment}
@@ -23,7 +23,7 @@ use Rattle.sc_region.specs.Districts.{AreDistricts, DistrictsView, listed_by, fi
 use Rattle.sc_region.specs.Groups.{first_choice, new_choices, position_of, start_of, widened}
 use Rattle.sc_region.proofs.Changes.{changed-found, changed-own, correct-known, enter-may, is-held, one-key, push-found, removed-found, rerank-known}
 use Rattle.sc_region.proofs.Choosing.{first-listed}
-use Rattle.sc_region.proofs.Joining.{list-whole}
+use Rattle.sc_region.proofs.Joining.{list-coarser}
 use Rattle.sc_region.proofs.Reaching.{region-together}
 
 -- the schools stay as they are
@@ -142,14 +142,14 @@ listed_by-some m (Close t count) allowed i is = absurd (none-some i is)
 listed_by-some m (Correct j zone siblings continuing) allowed i is = absurd (none-some i is)
 
 -- the widened districts, with the students listed anew, are districts of the papers after the amendment
-pub districts-after : (m : Market) (a : Amendment) → WellFormed m → WellFormed (after m a) → verdict m a ≡ None → (d : DistrictsView) → AreDistricts m d → is_school m (start_of m a) ≡ true
+pub districts-after : (m : Market) (a : Amendment) → WellFormed m → WellFormed (after m a) → verdict m a ≡ None → (d : DistrictsView) → AreDistricts m d
     → (firsts : List (List ℕ)) → length firsts ≡ length d.firsts
     → ((p i : ℕ) → (unlisted_by a ≡ Some i → ⊥) → Contains (firsts_at d.firsts p) i → Contains (firsts_at firsts p) i)
     → ((i : ℕ) → listed_by a ≡ Some i → Contains (firsts_at firsts (position_of m (new_first a))) i)
     → AreDistricts (after m a) (record { groups = widened m a d.groups; firsts = firsts })
 unfolding widened
-districts-after m a well after_well allowed d districts known firsts one_each others moved = record {
-  one_each = list-whole m (start_of m a) known d.groups (new_choices a) districts.one_each ∙ sym (ap length (schools-stay m a));
+districts-after m a well after_well allowed d districts firsts one_each others moved = record {
+  one_each = (list-coarser m (start_of m a) d.groups (new_choices a) districts.one_each).whole ∙ sym (ap length (schools-stay m a));
   closed = λ i s listed.
       let i_known = among-student (after m a) i (lister-among (after m a) i s listed) in
       rw (schools-stay m a)

@@ -1,8 +1,8 @@
 -- What joining lists does to the groups of schools.
-use Rattle.std.proofs.Common.{◌≡◌, ◌⊎◌, inl, inr, sym, ap, subst, ◌∙◌, ℕ, [], ◌∷◌, Contains, ◌<◌, ◌==◌, nat_eq, true, List, length, min, max, get_or, Some, None, Bool, position, arith}
+use Rattle.std.proofs.Common.{◌≡◌, ◌⊎◌, inl, inr, sym, ap, subst, ◌∙◌, ℕ, [], ◌∷◌, Contains, ◌<◌, nat_eq, true, List, length, min, max, get_or, Some, None, Bool, position, arith}
 use Rattle.std.specs.List.{fold, position_or_len, range_with_len}
 use Rattle.std.specs.Prelude.{nat_lt, slice_index}
-use Rattle.std.proofs.lemmas.Bool.{cases_Bool, cases_lt, eqb-true}
+use Rattle.std.proofs.lemmas.Bool.{cases_Bool, cases_eq}
 use Rattle.std.proofs.lemmas.Bool.Decides.{nat_tests}
 use Rattle.std.proofs.lemmas.List.{get_or_default, get_or-map, length-map}
 use Rattle.sc_papers.specs.Market.{Market, choices_of, is_school, is_student, schools_of, students_of}
@@ -18,32 +18,19 @@ use Rattle.sc_region.specs.Region.{Lists}
 
 -- after a move two groups are one where they were one, or where they are the two that the move makes one
 moved-same : (x y g h : ℕ) → moved (min x y) (max x y) g ≡ moved (min x y) (max x y) h → (g ≡ h) ⊎ (((g ≡ x) × (h ≡ y)) ⊎ ((g ≡ y) × (h ≡ x)))
-moved-same x y g h same = elim (cases_Bool (g == max x y)) [
-  | inl lost ↦ elim (cases_Bool (h == max x y)) [
-    | inl both ↦ inl (eqb-true g (max x y) lost ∙ sym (eqb-true h (max x y) both))
-    | inr kept ↦
-        let g_is : g ≡ max x y = eqb-true g (max x y) lost in
-        let h_is : min x y ≡ h = rw (lost, kept) at same in
-        inr (two x y g h g_is h_is)
-  ]
-  | inr kept ↦ elim (cases_Bool (h == max x y)) [
-    | inl lost ↦
-        let h_is : h ≡ max x y = eqb-true h (max x y) lost in
-        let g_is : g ≡ min x y = rw (lost, kept) at same in
-        inr (swapped (two x y h g h_is (sym g_is)))
-    | inr both ↦ let one : g ≡ h = rw (kept, both) at same in inl one
+moved-same x y g h same = elim (cases_eq g h) [
+  | inl one ↦ inl one
+  | inr apart ↦ elim (cases_eq g x) [
+    | inl first ↦ inr (inl (first, second x y g h same apart first))
+    | inr other ↦ inr (inr (swapped x y g h same apart other))
   ]
 ]
   where
-    two : (x y g h : ℕ) → g ≡ max x y → min x y ≡ h → ((g ≡ x) × (h ≡ y)) ⊎ ((g ≡ y) × (h ≡ x))
-    two x y g h g_is h_is = elim (cases_lt x y) [
-      | inl below ↦ inr (omega arith, omega arith)
-      | inr above ↦ inl (omega arith, omega arith)
-    ]
+    second : (x y g h : ℕ) → moved (min x y) (max x y) g ≡ moved (min x y) (max x y) h → (g ≡ h → ⊥) → g ≡ x → h ≡ y
+    second x y g h same apart first = grind (arith, nat_tests)
 
-    swapped : ((h ≡ x) × (g ≡ y)) ⊎ ((h ≡ y) × (g ≡ x)) → ((g ≡ x) × (h ≡ y)) ⊎ ((g ≡ y) × (h ≡ x))
-    swapped (inl (a, b)) = inr (b, a)
-    swapped (inr (a, b)) = inl (b, a)
+    swapped : (x y g h : ℕ) → moved (min x y) (max x y) g ≡ moved (min x y) (max x y) h → (g ≡ h → ⊥) → (g ≡ x → ⊥) → (g ≡ y) × (h ≡ x)
+    swapped x y g h same apart other = (grind (arith, nat_tests), grind (arith, nat_tests))
 
 moved-joins : (x y : ℕ) → moved (min x y) (max x y) x ≡ moved (min x y) (max x y) y
 moved-joins x y = grind (arith, nat_tests)
@@ -66,8 +53,9 @@ position-within m s known =
 abbrev pub AreWhole : Market → List ℕ → Type 0
 AreWhole m groups = length groups ≡ length (schools_of m)
 
--- schools of the papers that were in one group are so still
+-- and groups in which schools of the papers that were in one group are so still
 pub record Coarser (m : Market) (old new : List ℕ) : Type 0 where
+  pub whole : AreWhole m new
   pub kept : (s t : ℕ) → is_school m s ≡ true → is_school m t ≡ true → group_of m old s ≡ group_of m old t → group_of m new s ≡ group_of m new t
 
 pub joined-whole : (m : Market) (groups : List ℕ) (a b : ℕ) → AreWhole m groups → AreWhole m (joined groups a b)
@@ -98,13 +86,40 @@ pub record IsPartial (m : Market) (a : Amendment) (groups : List ℕ) : Type 0 w
   pub whole : AreWhole m groups
   pub sound : (s t : ℕ) → is_school m s ≡ true → is_school m t ≡ true → group_of m groups s ≡ group_of m groups t → Linked m a s t
 
-Coarser-trans : (m : Market) (first second third : List ℕ) → Coarser m first second → Coarser m second third → Coarser m first third
-Coarser-trans m first second third one two = record { kept = λ s t s_known t_known same. two.kept s t s_known t_known (one.kept s t s_known t_known same) }
+-- what each step of a fold does to groups
+module _ {X : Type 0} (m : Market) (step : List ℕ → X → List ℕ) (each : (x : X) (groups : List ℕ) → AreWhole m groups → Coarser m groups (step groups x)) where
+  fold-coarser : (xs : List X) (groups : List ℕ) → AreWhole m groups → Coarser m groups (fold step groups xs)
+  fold-coarser [] groups whole = record { whole = whole; kept = λ s t s_known t_known same. same }
+  fold-coarser (x ∷ xs) groups whole =
+      let next = each x groups whole in
+      let all = fold-coarser xs (step groups x) next.whole in record {
+        whole = all.whole;
+        kept = λ s t s_known t_known same. all.kept s t s_known t_known (next.kept s t s_known t_known same);
+      }
+
+  -- what a step brings about stays so where coarser groups keep it
+  fold-brings : (Holds : X → List ℕ → Type 0) → ((x : X) (groups : List ℕ) → AreWhole m groups → Holds x (step groups x))
+      → ((x : X) (old new : List ℕ) → Coarser m old new → Holds x old → Holds x new)
+      → (xs : List X) (groups : List ℕ) → AreWhole m groups → (x : X) → Contains xs x → Holds x (fold step groups xs)
+  fold-brings Holds brings keeps [] groups whole x (k, low, at) = absurd (omega (arith, low))
+  fold-brings Holds brings keeps (y ∷ xs) groups whole x among =
+      let next = (each y groups whole).whole in
+      elim (contains-cons y xs x among) [
+        | inl same ↦ subst (λ z. Holds z (fold step (step groups y) xs)) same (keeps y (step groups y) (fold step (step groups y) xs) (fold-coarser xs (step groups y) next) (brings y groups whole))
+        | inr later ↦ fold-brings Holds brings keeps xs (step groups y) next x later
+      ]
+
+-- what each step keeps, all keep
+fold-keeps : {X : Type 0} (step : List ℕ → X → List ℕ) (P : List ℕ → Type 0) (xs : List X) → ((x : X) → Contains xs x → (groups : List ℕ) → P groups → P (step groups x))
+    → (groups : List ℕ) → P groups → P (fold step groups xs)
+fold-keeps step P [] each groups holds = holds
+fold-keeps step P (x ∷ xs) each groups holds = fold-keeps step P xs (λ y among. each y (contains-tail x xs y among)) (step groups x) (each x (contains-head x xs) groups holds)
 
 -- two schools joined
 module _ (m : Market) (groups : List ℕ) (f s : ℕ) (whole : AreWhole m groups) where
   join-coarser : Coarser m groups (joined groups (position_of m f) (position_of m s))
   join-coarser = record {
+    whole = joined-whole m groups (position_of m f) (position_of m s) whole;
     kept = λ u v u_known v_known same.
         joined-moves m groups f s u whole u_known
         ∙ ap (moved (min (group_of m groups f) (group_of m groups s)) (max (group_of m groups f) (group_of m groups s))) same
@@ -132,94 +147,28 @@ join-partial m a groups f s f_known s_known link before = record {
 }
 
 -- each school of a list joined to one school
-module _ (m : Market) (f : ℕ) (f_known : is_school m f ≡ true) where
-  pub list-whole : (groups list : List ℕ) → AreWhole m groups → AreWhole m (joined_list m f groups list)
-  unfolding joined_list
-  list-whole groups [] whole = whole
-  list-whole groups (s ∷ list) whole = list-whole (joined groups (position_of m f) (position_of m s)) list (joined-whole m groups (position_of m f) (position_of m s) whole)
+pub list-coarser : (m : Market) (f : ℕ) (groups list : List ℕ) → AreWhole m groups → Coarser m groups (joined_list m f groups list)
+unfolding joined_list
+list-coarser m f groups list whole = fold-coarser m (λ g s. joined g (position_of m f) (position_of m s)) (λ s g g_whole. join-coarser m g f s g_whole) list groups whole
 
-  pub list-coarser : (groups list : List ℕ) → AreWhole m groups → Coarser m groups (joined_list m f groups list)
+module _ (m : Market) (f : ℕ) (f_known : is_school m f ≡ true) (list : List ℕ) (known : (s : ℕ) → Contains list s → is_school m s ≡ true) where
+  pub list-together : (groups : List ℕ) → AreWhole m groups → (s : ℕ) → Contains list s → group_of m (joined_list m f groups list) s ≡ group_of m (joined_list m f groups list) f
   unfolding joined_list
-  list-coarser groups [] whole = record { kept = λ s t s_known t_known same. same }
-  list-coarser groups (s ∷ list) whole =
-      let next = joined groups (position_of m f) (position_of m s) in
-      Coarser-trans m groups next (joined_list m f next list) (join-coarser m groups f s whole)
-      (list-coarser next list (joined-whole m groups (position_of m f) (position_of m s) whole))
+  list-together groups whole s among =
+      fold-brings m (λ g t. joined g (position_of m f) (position_of m t)) (λ t g g_whole. join-coarser m g f t g_whole)
+      (λ t g. is_school m t ≡ true → group_of m g t ≡ group_of m g f) (λ t g g_whole t_known. join-together m g f t g_whole f_known t_known)
+      (λ t old new coarser holds t_known. coarser.kept t f t_known f_known (holds t_known)) list groups whole s among (known s among)
 
-  pub list-together : (groups list : List ℕ) → AreWhole m groups → ((s : ℕ) → Contains list s → is_school m s ≡ true)
-      → (s : ℕ) → Contains list s → group_of m (joined_list m f groups list) s ≡ group_of m (joined_list m f groups list) f
+  pub list-partial : (a : Amendment) (groups : List ℕ) → ((s : ℕ) → Contains list s → Linked m a f s) → IsPartial m a groups → IsPartial m a (joined_list m f groups list)
   unfolding joined_list
-  list-together groups [] whole known s (k, low, at) = absurd (omega (arith, low))
-  list-together groups (x ∷ list) whole known s among =
-      let next = joined groups (position_of m f) (position_of m x) in
-      let next_whole = joined-whole m groups (position_of m f) (position_of m x) whole in
-      let x_known = known x (contains-head x list) in
-      let first = (list-coarser next list next_whole).kept x f x_known f_known (join-together m groups f x whole f_known x_known) in
-      elim (contains-cons x list s among) [
-        | inl same ↦ ap (group_of m (joined_list m f next list)) (sym same) ∙ first
-        | inr later ↦ list-together next list next_whole (λ t in_list. known t (contains-tail x list t in_list)) s later
-      ]
-
-  pub list-partial : (a : Amendment) (groups list : List ℕ) → ((s : ℕ) → Contains list s → is_school m s ≡ true) → ((s : ℕ) → Contains list s → Linked m a f s)
-      → IsPartial m a groups → IsPartial m a (joined_list m f groups list)
-  unfolding joined_list
-  list-partial a groups [] known links before = before
-  list-partial a groups (x ∷ list) known links before =
-      list-partial a (joined groups (position_of m f) (position_of m x)) list
-      (λ s among. known s (contains-tail x list s among)) (λ s among. links s (contains-tail x list s among))
-      (join-partial m a groups f x f_known (known x (contains-head x list)) (links x (contains-head x list)) before)
+  list-partial a groups links before =
+      fold-keeps (λ g s. joined g (position_of m f) (position_of m s)) (IsPartial m a) list
+      (λ s among g g_before. join-partial m a g f s f_known (known s among) (links s among) g_before) groups before
 
 -- the choices of students joined
 module _ (m : Market) (well : WellFormed m) where
   pub first-known : (i : ℕ) → is_student m i ≡ true → is_school m (first_choice m i) ≡ true
   first-known i known = choice-known m well i (first_choice m i) (first-listed m well i known)
-
-  student-whole : (groups : List ℕ) (i : ℕ) → is_student m i ≡ true → AreWhole m groups → AreWhole m (joined_choices m groups i)
-  student-whole groups i known whole = list-whole m (first_choice m i) (first-known i known) groups (choices_of m i) whole
-
-  student-coarser : (groups : List ℕ) (i : ℕ) → is_student m i ≡ true → AreWhole m groups → Coarser m groups (joined_choices m groups i)
-  student-coarser groups i known whole = list-coarser m (first_choice m i) (first-known i known) groups (choices_of m i) whole
-
-  student-together : (groups : List ℕ) (i : ℕ) → is_student m i ≡ true → AreWhole m groups
-      → (s : ℕ) → Contains (choices_of m i) s → group_of m (joined_choices m groups i) s ≡ group_of m (joined_choices m groups i) (first_choice m i)
-  student-together groups i known whole = list-together m (first_choice m i) (first-known i known) groups (choices_of m i) whole (choice-known m well i)
-
-  student-partial : (a : Amendment) (groups : List ℕ) (i : ℕ) → is_student m i ≡ true → IsPartial m a groups → IsPartial m a (joined_choices m groups i)
-  student-partial a groups i known before =
-      list-partial m (first_choice m i) (first-known i known) a groups (choices_of m i) (choice-known m well i)
-      (λ s listed. shared i (first_choice m i) s (inl (first-listed m well i known)) (inl listed)) before
-
-  students-coarser : (groups students : List ℕ) → ((i : ℕ) → Contains students i → is_student m i ≡ true) → AreWhole m groups → Coarser m groups (fold (joined_choices m) groups students)
-  students-coarser groups [] known whole = record { kept = λ s t s_known t_known same. same }
-  students-coarser groups (i ∷ students) known whole =
-      let next = joined_choices m groups i in
-      let i_known = known i (contains-head i students) in
-      Coarser-trans m groups next (fold (joined_choices m) next students) (student-coarser groups i i_known whole)
-      (students-coarser next students (λ j among. known j (contains-tail i students j among)) (student-whole groups i i_known whole))
-
-  students-together : (groups students : List ℕ) → ((i : ℕ) → Contains students i → is_student m i ≡ true) → AreWhole m groups → (i : ℕ) → Contains students i
-      → (s : ℕ) → Contains (choices_of m i) s
-      → group_of m (fold (joined_choices m) groups students) s ≡ group_of m (fold (joined_choices m) groups students) (first_choice m i)
-  students-together groups [] known whole i (k, low, at) s listed = absurd (omega (arith, low))
-  students-together groups (x ∷ students) known whole i among s listed =
-      let next = joined_choices m groups x in
-      let x_known = known x (contains-head x students) in
-      let rest : (j : ℕ) → Contains students j → is_student m j ≡ true = λ j in_list. known j (contains-tail x students j in_list) in
-      let next_whole = student-whole groups x x_known whole in
-      elim (contains-cons x students i among) [
-        | inl same ↦
-            let listed_x : Contains (choices_of m x) s = subst (λ j. Contains (choices_of m j) s) (sym same) listed in
-            subst (λ j. group_of m (fold (joined_choices m) next students) s ≡ group_of m (fold (joined_choices m) next students) (first_choice m j)) same
-            ((students-coarser next students rest next_whole).kept s (first_choice m x) (choice-known m well x s listed_x) (first-known x x_known)
-            (student-together groups x x_known whole s listed_x))
-        | inr later ↦ students-together next students rest next_whole i later s listed
-      ]
-
-  students-partial : (a : Amendment) (groups students : List ℕ) → ((i : ℕ) → Contains students i → is_student m i ≡ true) → IsPartial m a groups → IsPartial m a (fold (joined_choices m) groups students)
-  students-partial a groups [] known before = before
-  students-partial a groups (i ∷ students) known before =
-      students-partial a (joined_choices m groups i) students (λ j among. known j (contains-tail i students j among))
-      (student-partial a groups i (known i (contains-head i students)) before)
 
   start-whole : AreWhole m (range_with_len 0 (length (schools_of m)))
   start-whole = length-range_with_len 0 (length (schools_of m))
@@ -239,12 +188,22 @@ module _ (m : Market) (well : WellFormed m) where
   -- the groups that the choices of some students join
   pub joined-partial : (a : Amendment) (students : List ℕ) → ((i : ℕ) → Contains students i → is_student m i ≡ true) → IsPartial m a (joined_students m students)
   unfolding joined_students
-  joined-partial a students known = students-partial a (range_with_len 0 (length (schools_of m))) students known (start-partial a)
+  joined-partial a students known =
+      fold-keeps (joined_choices m) (IsPartial m a) students
+      (λ i among groups before.
+      list-partial m (first_choice m i) (first-known i (known i among)) (choices_of m i) (choice-known m well i) a groups
+      (λ s listed. shared i (first_choice m i) s (inl (first-listed m well i (known i among))) (inl listed)) before)
+      (range_with_len 0 (length (schools_of m))) (start-partial a)
 
   pub joined-together : (students : List ℕ) → ((i : ℕ) → Contains students i → is_student m i ≡ true) → (i s : ℕ) → Contains students i → Contains (choices_of m i) s
       → group_of m (joined_students m students) s ≡ group_of m (joined_students m students) (first_choice m i)
   unfolding joined_students
-  joined-together students known i s among listed = students-together (range_with_len 0 (length (schools_of m))) students known start-whole i among s listed
+  joined-together students known i s among =
+      fold-brings m (joined_choices m) (λ j groups whole. list-coarser m (first_choice m j) groups (choices_of m j) whole)
+      (λ j groups. is_student m j ≡ true → (t : ℕ) → Contains (choices_of m j) t → group_of m groups t ≡ group_of m groups (first_choice m j))
+      (λ j groups whole j_known. list-together m (first_choice m j) (first-known j j_known) (choices_of m j) (choice-known m well j) groups whole)
+      (λ j old new coarser holds j_known t listed. coarser.kept t (first_choice m j) (choice-known m well j t listed) (first-known j j_known) (holds j_known t listed))
+      students (range_with_len 0 (length (schools_of m))) start-whole i among (known i among) s
 
   -- and of all
   pub grouped-partial : (a : Amendment) → IsPartial m a (joined_students m (students_of m))

@@ -76,7 +76,7 @@ module _ (m : Market) (a : Amendment) (well : WellFormed m) (allowed : verdict m
   widened-partial : IsPartial m a (widened m a groups)
   unfolding widened
   widened-partial =
-      list-partial m (start_of m a) (first_known m a well allowed) a groups (new_choices a) (new-known m a allowed) (new-linked m a well allowed) before
+      list-partial m (start_of m a) (first_known m a well allowed) (new_choices a) (new-known m a allowed) a groups (new-linked m a well allowed) before
 
 -- and so it is with the new choices joined
 pub member-in : (m : Market) (a : Amendment) → WellFormed m → verdict m a ≡ None → (groups : List ℕ) → IsPartial m a groups
@@ -88,12 +88,12 @@ module _ (m : Market) (a : Amendment) (well : WellFormed m) (allowed : verdict m
     (Of : ℕ → Type 0) (closed : (i s : ℕ) → Of i → Contains (choices_of m i) s → group_of m groups s ≡ group_of m groups (first_choice m i)) where
   pub widened-coarser : Coarser m groups (widened m a groups)
   unfolding widened
-  widened-coarser = list-coarser m (start_of m a) (first_known m a well allowed) groups (new_choices a) whole
+  widened-coarser = list-coarser m (start_of m a) groups (new_choices a) whole
 
   pub new-together : (s : ℕ) → Contains (new_choices a) s → group_of m (widened m a groups) s ≡ group_of m (widened m a groups) (start_of m a)
   unfolding widened
   new-together s among =
-      list-together m (start_of m a) (first_known m a well allowed) groups (new_choices a) whole (new-known m a allowed) s among
+      list-together m (start_of m a) (first_known m a well allowed) (new_choices a) (new-known m a allowed) groups whole s among
 
   old-together : (i s : ℕ) → Of i → Contains (choices_of m i) s → group_of m (widened m a groups) s ≡ group_of m (widened m a groups) (first_choice m i)
   old-together i s of listed =

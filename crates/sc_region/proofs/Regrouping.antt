@@ -12,7 +12,7 @@ use Rattle.sc_papers.proofs.Students.{choice-known, lister-among}
 use Rattle.sc_region.specs.Districts.{AreDistricts, AreWidened, DistrictsView}
 use Rattle.sc_region.specs.Groups.{first_choice, group_of, joined_list, joined_students, new_choices, position_of, start_of, widened}
 use Rattle.sc_region.proofs.Changes.{new-known, start-known}
-use Rattle.sc_region.proofs.Joining.{AreWhole, first-known, grouped-partial, grouped-together, joined-partial, joined-together, list-whole, position-within}
+use Rattle.sc_region.proofs.Joining.{AreWhole, first-known, grouped-partial, grouped-together, joined-partial, joined-together, list-coarser, position-within}
 use Rattle.sc_region.proofs.Reaching.{new-together, region_groups, widened-coarser}
 use Rattle.sc_region.proofs.Roots.{joined-nothing}
 
@@ -51,7 +51,7 @@ module _ (m : Market) (a : Amendment) (well : WellFormed m) (allowed : verdict m
   groups-widened groups whole closed d districts =
       together-widened m a allowed (record { groups = widened m a groups; firsts = d.firsts })
       (record {
-        one_each = list-whole m (start_of m a) (start-known m a well allowed) groups (new_choices a) whole;
+        one_each = (list-coarser m (start_of m a) groups (new_choices a) whole).whole;
         closed = λ i s listed.
             let known = among-student m i (lister-among m i s listed) in
             (widened-coarser m a well allowed groups whole (λ j. Unit {0}) (λ j t of old. closed j t old)).kept s (first_choice m i) (choice-known m well i s listed) (first-known m well i known) (closed i s listed);

@@ -3,7 +3,6 @@ use Rattle.std.proofs.lemmas.List.{length-map}
 use Rattle.sc_papers.proofs.Amending.{WellFormed-after}
 use Rattle.sc_papers.specs.Verdict.{after}
 use Rattle.sc_region.specs.Districts.{lists_in, AreDistricts, AreWidened, DistrictsView}
-use Rattle.sc_region.proofs.Changes.{start-known}
 use Rattle.sc_region.proofs.Firsts.{names}
 use Rattle.sc_region.proofs.Following.{districts-after}
 use Rattle.sc_region.proofs.districts.Districts.list_anew.Goals as goal
@@ -16,7 +15,7 @@ returns c =
     let d : DistrictsView = record { groups = c.districts.inside.groups.items; firsts = lists_in c.districts.inside.firsts.items } in
     let old : AreWidened m a d = subst (AreWidened m a) (sym c.districts.view_is) c.requires in
     subst (λ (gs : List ℕ). AreDistricts (after m a) (record { groups = gs; firsts = lists_in c.let_come.new.firsts.items })) old.joined
-    (districts-after m a well (WellFormed-after m a well c.requires.allowed) c.requires.allowed d old.districts (start-known m a well c.requires.allowed) (lists_in c.let_come.new.firsts.items)
+    (districts-after m a well (WellFormed-after m a well c.requires.allowed) c.requires.allowed d old.districts (lists_in c.let_come.new.firsts.items)
     (length-map c.let_come.new.firsts.items names ∙ c.in_ok-let_come.ensures.one_each ∙ c.let_leave.ensures.one_each ∙ sym (length-map c.districts.inside.firsts.items names))
     (λ p i stays among. c.in_ok-let_come.ensures.keeps p i (c.let_leave.ensures.others p i stays among))
     c.in_ok-let_come.ensures.moved)
