@@ -1,5 +1,5 @@
 -- What an accepted amendment changes in who lists what.
-use Rattle.std.proofs.Common.{◌≡◌, ◌⊎◌, inl, inr, refl, sym, ap, subst, ◌∙◌, ℕ, nat_eq, Bool, true, false, not, List, [], ◌∷◌, ◌++◌, cond, Option, Some, None, Contains, is_some, arith}
+use Rattle.std.proofs.Common.{◌≡◌, ◌⊎◌, inl, inr, refl, sym, ap, subst, ◌∙◌, ℕ, nat_eq, Bool, true, false, not, List, [], ◌∷◌, ◌++◌, cond, length, Option, Some, None, Contains, is_some, arith}
 use Rattle.std.specs.Prelude.{slice_index}
 use Rattle.std.specs.Option.{option_map_or, IsSome}
 use Rattle.std.specs.List.{IsDistinct, list_any}
@@ -9,8 +9,9 @@ use Rattle.std.specs.Map.{lookup}
 use Rattle.std.proofs.lemmas.Bool.{cases_Bool, cond-true, cond-false, eqb-true, eq-eqb, false≢true}
 use Rattle.std.proofs.lemmas.Cmp.{nat_eq_equiv}
 use Rattle.std.proofs.lemmas.List.Elements.{All-contains, All-head, Contains-get_or}
-use Rattle.std.proofs.lemmas.Map.{lookup-remove_entry, lookup-set_value}
-use Rattle.std.proofs.lemmas.Option.{none-some}
+use Rattle.std.proofs.lemmas.List.Edits.{insert_end}
+use Rattle.std.proofs.lemmas.Map.{lookup-insert, lookup-remove_entry, lookup-set_value, none_passes_from_lookup}
+use Rattle.std.proofs.lemmas.Option.{none-some, same_Some}
 use Rattle.sc_papers.specs.Market.{Market, choices_of, is_school, is_student, school_of, student_of}
 use Rattle.sc_papers.specs.Verdict.{after, changed_school, changed_student, objections_to_add, objections_to_close, objections_to_correct, objections_to_rerank, objections_to_withdraw, verdict, with_student, without_student}
 use Rattle.sc_papers.specs.WellFormed.{WellFormed}
@@ -22,76 +23,53 @@ use Rattle.sc_papers.specs.declared.records.Student.{Student}
 use Rattle.sc_papers.proofs.Counting.{contains-cons, contains-head, contains-tail}
 use Rattle.sc_papers.proofs.Entering.{MayEnter, MayEnter-allowed}
 use Rattle.sc_papers.proofs.Objections.{first_of-none, refuse_if-none, unknown_in-none}
-use Rattle.sc_papers.proofs.Students.{choice-known}
+use Rattle.sc_papers.proofs.Positions.{among-student}
+use Rattle.sc_papers.proofs.Students.{choice-known, lister-among}
+use Rattle.sc_region.specs.Districts.{listed_by, unlisted_by}
 use Rattle.sc_region.specs.Groups.{entrants, first_choice, new_choices, start_of}
 use Rattle.sc_region.specs.Region.{amended_school, amended_student, Lists}
 use Rattle.sc_region.proofs.Choosing.{first-listed}
 
--- who lists a school has a record that does, and the other way round
-listed-found : (m : Market) (i s : ℕ) → Contains (choices_of m i) s → (student : Student) × (student_of m i ≡ Some student) × Contains student.choices s
+-- what the papers hold of a student tells what they list
+choices-told : (m : Market) (i : ℕ) (student : Student) → student_of m i ≡ Some student → choices_of m i ≡ student.choices
 unfolding choices_of
-listed-found m i s listed = go (student_of m i) refl listed
-  where
-    go : (found : Option Student) → student_of m i ≡ found → Contains (option_map_or (λ student. student.choices) found []) s
-        → (student : Student) × (student_of m i ≡ Some student) × Contains student.choices s
-    go None is (k, low, at) = absurd (omega (arith, low))
-    go (Some student) is among = (student, is, among)
+choices-told m i student found = ap (λ o. option_map_or (λ (x : Student). x.choices) o []) found
 
-pub found-listed : (m : Market) (i s : ℕ) (student : Student) → student_of m i ≡ Some student → Contains student.choices s → Contains (choices_of m i) s
-unfolding choices_of
-found-listed m i s student found among = subst (λ o. Contains (option_map_or (λ student. student.choices) o []) s) (sym found) among
-
--- a look-up with one more entry at the end
-pub push-found : (es : List (ℕ × Student)) (j : ℕ) (new : Student) (i : ℕ) (student : Student) → lookup (nat_eq i) (es ++ (j, new) ∷ []) ≡ Some student
-    → (lookup (nat_eq i) es ≡ Some student) ⊎ ((j ≡ i) × (new ≡ student))
-push-found [] j new i student found = elim (cases_Bool (nat_eq i j)) [
-  | inl same ↦ let one : Some new ≡ Some student = rw same at found in inr (sym (eqb-true i j same), cc)
-  | inr other ↦ let none : None ≡ Some student = rw other at found in absurd (none-some student none)
-]
-push-found (e ∷ es) j new i student found = elim (cases_Bool (nat_eq i e.0)) [
-  | inl same ↦ let here : Some e.1 ≡ Some student = rw same at found in inl (rw same here)
-  | inr other ↦
-      let rest : lookup (nat_eq i) (es ++ (j, new) ∷ []) ≡ Some student = rw other at found in
-      rw other (push-found es j new i student rest)
+-- what is found at a key, where that of one key is another
+found-at : (j i : ℕ) (own other : Option Student) (student : Student) → cond (nat_eq j i) own other ≡ Some student
+    → ((j ≡ i → ⊥) × (other ≡ Some student)) ⊎ ((j ≡ i) × (own ≡ Some student))
+found-at j i own other student found = elim (cases_Bool (nat_eq j i)) [
+  | inl same ↦ inr (eqb-true j i same, sym (cond-true (nat_eq j i) own other same) ∙ found)
+  | inr apart ↦ inl (λ one. false≢true (sym apart ∙ eq-eqb j i one), sym (cond-false (nat_eq j i) own other apart) ∙ found)
 ]
 
-pub push-own : (es : List (ℕ × Student)) (j : ℕ) (new : Student) → lookup (nat_eq j) es ≡ None → lookup (nat_eq j) (es ++ (j, new) ∷ []) ≡ Some new
-push-own [] j new none = rw (eq-eqb j j refl) refl
-push-own (e ∷ es) j new none = elim (cases_Bool (nat_eq j e.0)) [
-  | inl same ↦ let some : Some e.1 ≡ None = rw same at none in absurd (none-some e.1 (sym some))
-  | inr other ↦ let rest : lookup (nat_eq j) es ≡ None = rw other at none in rw other (push-own es j new rest)
-]
+found-own : (j : ℕ) (own other : Option Student) → cond (nat_eq j j) own other ≡ own
+found-own j own other = cond-true (nat_eq j j) own other (eq-eqb j j refl)
 
-pub one-key : (j x y : ℕ) → nat_eq j x ≡ true → nat_eq j y ≡ nat_eq x y
+one-key : (j x y : ℕ) → nat_eq j x ≡ true → nat_eq j y ≡ nat_eq x y
 one-key j x y same = ap (λ k. nat_eq k y) (eqb-true j x same)
 
--- a look-up after a removal
-pub removed-found : (m : Market) → WellFormed m → (j i : ℕ) (student : Student) → student_of (without_student m j) i ≡ Some student → student_of m i ≡ Some student
-removed-found m well j i student found =
-    let step : student_of (without_student m j) i ≡ cond (nat_eq j i) None (student_of m i) =
-    lookup-remove_entry nat_eq_equiv (nat_eq j) (one-key j) i m.students well.students_differ in
-    elim (cases_Bool (nat_eq j i)) [
-      | inl same ↦ absurd (none-some student (sym (step ∙ cond-true (nat_eq j i) None (student_of m i) same) ∙ found))
-      | inr other ↦ sym (step ∙ cond-false (nat_eq j i) None (student_of m i) other) ∙ found
-    ]
+-- what the papers hold of students once one has entered, is withdrawn, or is changed
+entered : (m : Market) (j : ℕ) (new : Student) → student_of m j ≡ None → (i : ℕ) → student_of (with_student m j new) i ≡ cond (nat_eq j i) (Some new) (student_of m i)
+entered m j new none i =
+    ap (lookup (nat_eq i)) (sym (insert_end m.students (j, new)))
+    ∙ lookup-insert nat_eq_equiv j new i m.students (length m.students) (none_passes_from_lookup (nat_eq j) m.students none)
 
--- a look-up after a change of what the papers hold of a student whom they hold
-module _ (m : Market) (j : ℕ) (change : Student → Student) (old : Student) (held : student_of m j ≡ Some old) where
-  pub changed-step : (i : ℕ) → student_of (changed_student m j change) i ≡ cond (nat_eq j i) (Some (change old)) (student_of m i)
-  changed-step i =
-      rw held
-      (lookup-set_value nat_eq_equiv (nat_eq j) (one-key j) i (change old) m.students (subst IsSome (sym held) refl))
+withdrawn : (m : Market) → WellFormed m → (j i : ℕ) → student_of (without_student m j) i ≡ cond (nat_eq j i) None (student_of m i)
+withdrawn m well j i = lookup-remove_entry nat_eq_equiv (nat_eq j) (one-key j) i m.students well.students_differ
 
-  pub changed-found : (i : ℕ) (student : Student) → student_of (changed_student m j change) i ≡ Some student → (student_of m i ≡ Some student) ⊎ ((j ≡ i) × (change old ≡ student))
-  changed-found i student found = elim (cases_Bool (nat_eq j i)) [
-    | inl same ↦
-        let one : Some (change old) ≡ Some student = sym (changed-step i ∙ cond-true (nat_eq j i) (Some (change old)) (student_of m i) same) ∙ found in
-        inr (eqb-true j i same, cc)
-    | inr other ↦ inl (sym (changed-step i ∙ cond-false (nat_eq j i) (Some (change old)) (student_of m i) other) ∙ found)
-  ]
+changed : (m : Market) (j : ℕ) (change : Student → Student) (old : Student) → student_of m j ≡ Some old → (i : ℕ) → student_of (changed_student m j change) i ≡ cond (nat_eq j i) (Some (change old)) (student_of m i)
+changed m j change old held i =
+    rw held
+    (lookup-set_value nat_eq_equiv (nat_eq j) (one-key j) i (change old) m.students (subst IsSome (sym held) refl))
 
-  pub changed-own : student_of (changed_student m j change) j ≡ Some (change old)
-  changed-own = changed-step j ∙ cond-true (nat_eq j j) (Some (change old)) (student_of m j) (eq-eqb j j refl)
+-- a change of a school changes no student
+pub of-changed : {X : Type 0} (P : Market → Type 0) (found : Option X) (change : X → Market) (m : Market) → P m → ((x : X) → P (change x)) → P (option_map_or change found m)
+of-changed P None change m same changes = same
+of-changed P (Some x) change m same changes = changes x
+
+seated-student : (m : Market) (s : ℕ) (change : School → School) (i : ℕ) → student_of (changed_school m s change) i ≡ student_of m i
+seated-student m s change i = of-changed (λ n. student_of n i ≡ student_of m i) (school_of m s) _ m refl (λ school. refl)
 
 -- whom an amendment names, the papers hold, unless the student enters
 pub is-held : (m : Market) (i : ℕ) → is_student m i ≡ true → (student : Student) × (student_of m i ≡ Some student)
@@ -117,61 +95,77 @@ correct-known m i zone siblings continuing allowed = not-false (is_student m i) 
 pub enter-may : (m : Market) (i zone : ℕ) (siblings choices : List ℕ) (continuing : Option ℕ) → verdict m (Enter i zone siblings choices continuing) ≡ None → MayEnter m i (record { zone = zone; siblings = siblings; choices = choices; continuing = continuing })
 enter-may m i zone siblings choices continuing allowed = MayEnter-allowed m i (record { zone = zone; siblings = siblings; choices = choices; continuing = continuing }) allowed
 
--- a change of a school changes no list
-school-keeps : (m : Market) (t : ℕ) (change : School → School) (i : ℕ) → choices_of (changed_school m t change) i ≡ choices_of m i
-unfolding choices_of
-school-keeps m t change i = by_case (school_of m t) refl
-  where
-    by_case : (found : Option School) → school_of m t ≡ found → choices_of (changed_school m t change) i ≡ choices_of m i
-    by_case None e = rw e refl
-    by_case (Some school) e = rw e refl
+-- one who keeps their choices, and the amended student with new ones
+abbrev pub KeepsChoices : Market → Amendment → ℕ → Type 0
+KeepsChoices m a i = (unlisted_by a ≡ Some i → ⊥) × (is_student m i ≡ true) × (choices_of (after m a) i ≡ choices_of m i)
+
+abbrev pub ComesWithChoices : Market → Amendment → ℕ → Type 0
+ComesWithChoices m a i = (amended_student a ≡ Some i) × (listed_by a ≡ Some i) × (choices_of (after m a) i ≡ new_choices a)
+
+keeps : (m : Market) (a : Amendment) (i : ℕ) (old new : Student) → (unlisted_by a ≡ Some i → ⊥) → student_of m i ≡ Some old → student_of (after m a) i ≡ Some new → new.choices ≡ old.choices → KeepsChoices m a i
+keeps m a i old new stays was is same = (stays, ap is_some was, choices-told (after m a) i new is ∙ same ∙ sym (choices-told m i old was))
+
+-- each student of the papers after the amendment is one of these
+pub choices-after : (m : Market) (a : Amendment) → WellFormed m → verdict m a ≡ None → (i : ℕ) → is_student (after m a) i ≡ true → KeepsChoices m a i ⊎ ComesWithChoices m a i
+choices-after m (Enter j zone siblings choices continuing) well allowed i known =
+    let new : Student = record { zone = zone; siblings = siblings; choices = choices; continuing = continuing } in
+    let (student, found) = is-held (with_student m j new) i known in
+    elim (found-at j i (Some new) (student_of m i) student (sym (entered m j new (enter-may m j zone siblings choices continuing allowed).new i) ∙ found)) [
+      | inl (apart, before) ↦ inl (keeps m (Enter j zone siblings choices continuing) i student student (none-some i) before found refl)
+      | inr (same, is) ↦ inr (ap Some same, ap Some same, choices-told (with_student m j new) i student found ∙ ap (λ (x : Student). x.choices) (sym (same_Some new student is)))
+    ]
+choices-after m (Withdraw j) well allowed i known =
+    let (student, found) = is-held (without_student m j) i known in
+    elim (found-at j i None (student_of m i) student (sym (withdrawn m well j i) ∙ found)) [
+      | inl (apart, before) ↦ inl (keeps m (Withdraw j) i student student (λ leaves. apart (same_Some j i leaves)) before found refl)
+      | inr (same, none) ↦ absurd (none-some student none)
+    ]
+choices-after m (Rerank j choices) well allowed i known =
+    let change : Student → Student = λ student. record student { choices = choices } in
+    let (old, held) = is-held m j (rerank-known m j choices allowed) in
+    let (student, found) = is-held (changed_student m j change) i known in
+    elim (found-at j i (Some (change old)) (student_of m i) student (sym (changed m j change old held i) ∙ found)) [
+      | inl (apart, before) ↦ inl (keeps m (Rerank j choices) i student student (λ leaves. apart (same_Some j i leaves)) before found refl)
+      | inr (same, is) ↦ inr (ap Some same, ap Some same, choices-told (changed_student m j change) i student found ∙ ap (λ (x : Student). x.choices) (sym (same_Some (change old) student is)))
+    ]
+choices-after m (Add t count) well allowed i known =
+    let (student, found) = is-held (after m (Add t count)) i known in
+    inl (keeps m (Add t count) i student student (none-some i) (sym (seated-student m t _ i) ∙ found) found refl)
+choices-after m (Close t count) well allowed i known =
+    let (student, found) = is-held (after m (Close t count)) i known in
+    inl (keeps m (Close t count) i student student (none-some i) (sym (seated-student m t _ i) ∙ found) found refl)
+choices-after m (Correct j zone siblings continuing) well allowed i known =
+    let change : Student → Student = λ student. record student { zone = zone; siblings = siblings; continuing = continuing } in
+    let (old, held) = is-held m j (correct-known m j zone siblings continuing allowed) in
+    let (student, found) = is-held (changed_student m j change) i known in
+    elim (found-at j i (Some (change old)) (student_of m i) student (sym (changed m j change old held i) ∙ found)) [
+      | inl (apart, before) ↦ inl (keeps m (Correct j zone siblings continuing) i student student (none-some i) before found refl)
+      | inr (same, is) ↦
+          inl (keeps m (Correct j zone siblings continuing) i old student (none-some i) (subst (λ k. student_of m k ≡ Some old) same held) found (ap (λ (x : Student). x.choices) (sym (same_Some (change old) student is))))
+    ]
 
 -- what a student lists after the amendment is an old choice, or a new one of the amended student
 pub old-or_new : (m : Market) (a : Amendment) → WellFormed m → verdict m a ≡ None → (i s : ℕ) → Contains (choices_of (after m a) i) s
     → Contains (choices_of m i) s ⊎ ((amended_student a ≡ Some i) × Contains (new_choices a) s)
-old-or_new m (Enter j zone siblings choices continuing) well allowed i s listed =
-    let new : Student = record { zone = zone; siblings = siblings; choices = choices; continuing = continuing } in
-    let (student, found, among) = listed-found (with_student m j new) i s listed in
-    elim (push-found m.students j new i student found) [
-      | inl before ↦ inl (found-listed m i s student before among)
-      | inr (same, is) ↦ inr (ap Some same, subst (λ (x : Student). Contains x.choices s) (sym is) among)
-    ]
-old-or_new m (Withdraw j) well allowed i s listed =
-    let (student, found, among) = listed-found (without_student m j) i s listed in
-    inl (found-listed m i s student (removed-found m well j i student found) among)
-old-or_new m (Rerank j choices) well allowed i s listed =
-    let change : Student → Student = λ student. record student { choices = choices } in
-    let (old, held) = is-held m j (rerank-known m j choices allowed) in
-    let (student, found, among) = listed-found (changed_student m j change) i s listed in
-    elim (changed-found m j change old held i student found) [
-      | inl before ↦ inl (found-listed m i s student before among)
-      | inr (same, is) ↦ inr (ap Some same, subst (λ (x : Student). Contains x.choices s) (sym is) among)
-    ]
-old-or_new m (Add t count) well allowed i s listed = inl (subst (λ list. Contains list s) (school-keeps m t _ i) listed)
-old-or_new m (Close t count) well allowed i s listed = inl (subst (λ list. Contains list s) (school-keeps m t _ i) listed)
-old-or_new m (Correct j zone siblings continuing) well allowed i s listed =
-    let change : Student → Student = λ student. record student { zone = zone; siblings = siblings; continuing = continuing } in
-    let (old, held) = is-held m j (correct-known m j zone siblings continuing allowed) in
-    let (student, found, among) = listed-found (changed_student m j change) i s listed in
-    elim (changed-found m j change old held i student found) [
-      | inl before ↦ inl (found-listed m i s student before among)
-      | inr (same, is) ↦ inl (found-listed m i s old (subst (λ k. student_of m k ≡ Some old) same held) (subst (λ (x : Student). Contains x.choices s) (sym is) among))
-    ]
+old-or_new m a well allowed i s listed = elim (choices-after m a well allowed i (among-student (after m a) i (lister-among (after m a) i s listed))) [
+  | inl (stays, known, same) ↦ inl (subst (λ list. Contains list s) same listed)
+  | inr (is, comes, same) ↦ inr (is, subst (λ list. Contains list s) same listed)
+]
 
 -- the amended student lists the new choices
 pub new-listed : (m : Market) (a : Amendment) → verdict m a ≡ None → (i s : ℕ) → amended_student a ≡ Some i → Contains (new_choices a) s → Contains (choices_of (after m a) i) s
 new-listed m (Enter j zone siblings choices continuing) allowed i s is among =
     let new : Student = record { zone = zone; siblings = siblings; choices = choices; continuing = continuing } in
     let same : j ≡ i = cc in
-    subst (λ k. Contains (choices_of (with_student m j new) k) s) same
-    (found-listed (with_student m j new) j s new (push-own m.students j new (enter-may m j zone siblings choices continuing allowed).new) among)
+    let found = entered m j new (enter-may m j zone siblings choices continuing allowed).new j ∙ found-own j (Some new) (student_of m j) in
+    subst (λ k. Contains (choices_of (with_student m j new) k) s) same (subst (λ list. Contains list s) (sym (choices-told (with_student m j new) j new found)) among)
 new-listed m (Withdraw j) allowed i s is (k, low, at) = absurd (omega (arith, low))
 new-listed m (Rerank j choices) allowed i s is among =
     let change : Student → Student = λ student. record student { choices = choices } in
     let (old, held) = is-held m j (rerank-known m j choices allowed) in
     let same : j ≡ i = cc in
-    subst (λ k. Contains (choices_of (changed_student m j change) k) s) same
-    (found-listed (changed_student m j change) j s (change old) (changed-own m j change old held) among)
+    let found = changed m j change old held j ∙ found-own j (Some (change old)) (student_of m j) in
+    subst (λ k. Contains (choices_of (changed_student m j change) k) s) same (subst (λ list. Contains list s) (sym (choices-told (changed_student m j change) j (change old) found)) among)
 new-listed m (Add t count) allowed i s is (k, low, at) = absurd (omega (arith, low))
 new-listed m (Close t count) allowed i s is (k, low, at) = absurd (omega (arith, low))
 new-listed m (Correct j zone siblings continuing) allowed i s is (k, low, at) = absurd (omega (arith, low))
@@ -236,7 +230,7 @@ start-amended m (Correct j zone siblings continuing) s is = absurd (none-some s 
 pub start-first : (m : Market) (a : Amendment) → verdict m a ≡ None → (i s : ℕ) → amended_student a ≡ Some i → Contains (choices_of m i) s → start_of m a ≡ first_choice m i
 start-first m (Enter j zone siblings choices continuing) allowed i s is listed =
     let same : j ≡ i = cc in
-    let (student, found, among) = listed-found m i s listed in
+    let (student, found) = is-held m i (among-student m i (lister-among m i s listed)) in
     absurd (none-some student (sym (enter-may m j zone siblings choices continuing allowed).new ∙ ap (student_of m) same ∙ found))
 start-first m (Withdraw j) allowed i s is listed = let same : j ≡ i = cc in ap (first_choice m) same
 start-first m (Rerank j choices) allowed i s is listed = let same : j ≡ i = cc in ap (first_choice m) same
