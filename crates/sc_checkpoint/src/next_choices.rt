@@ -1,17 +1,15 @@
-//! The next choices of some students of the papers, by their own segments.
+//! Which choices have rejected some students of the papers, by their own segments.
 
 ghost use Rattle.std.specs.Prelude.{◌≡◌, ℕ, ◌<◌, ◌∷◌, [], None, Some, true, length, map, slice_get, IfOk, IfSome};
 ghost use Rattle.std.specs.List.Sorted.{IsStrictlyIncreasing};
 ghost use Rattle.sc_papers.specs.Market.{student_at, students_of};
 ghost use Rattle.sc_papers.specs.Restriction.{joined};
 ghost use Rattle.sc_checkpoint.specs.Chains.{logs_at};
-ghost use Rattle.sc_checkpoint.specs.NextChoices.{next_choices_after};
 ghost use Rattle.sc_checkpoint.specs.Positions.{CountUp, HaveSegments, LieBelow};
 ghost use Rattle.sc_checkpoint.specs.Ranks.{AreTabled, CanMark, MarksEntries};
 
 use crate::rank_set::RankSet;
 use crate::segments::Segments;
-use crate::standing::{Standing, Standings};
 use sc_papers::{FlatPapers, Hints, MOST_STUDENTS, Rejection, StudentNo};
 use std::alloc::{AllocError, Global};
 
@@ -134,7 +132,7 @@ fn hints_of(alloc: Global, segments: &Segments, positions: &[usize]) -> Result<H
 
 /// For each student at the positions, the ranks of the choices that rejected them, by the segments at the
 /// positions.
-fn rejected_ranks_at(
+pub(crate) fn rejected_ranks_at(
     alloc: Global,
     papers: &FlatPapers,
     segments: &Segments,
@@ -174,33 +172,4 @@ pub(crate) fn first_positions(alloc: Global, count: usize) -> Result<Vec<usize>,
         positions.push_reserved(position);
     }
     Ok(positions)
-}
-
-/// Where the students at the positions stand after the log of their own segments. The only error is a refused
-/// growth.
-pub(crate) fn next_choices_at_positions(
-    alloc: Global,
-    papers: &FlatPapers,
-    segments: &Segments,
-    positions: &[usize],
-) -> Result<Standings, AllocError>
-    requires { HaveSegments papers.now segments.now positions.now }
-    ensures { IfOk result (λ stands. stands.choices.items ≡ next_choices_after papers.now
-        (joined (logs_at positions.now segments.now)) (map (student_at papers.now) positions.now)) }
-{
-    // This call tells that the papers are within their limits, and so are their lists.
-    prove!(papers.students_len() <= MOST_STUDENTS);
-    let rejected = rejected_ranks_at(alloc, papers, segments, positions)?;
-    let mut choices = Vec::with_capacity(alloc, positions.len())?;
-    let mut ranks = Vec::with_capacity(alloc, positions.len())?;
-    for (turn, position) in positions.iter().enumerate() {
-        let Some(student) = papers.student_at(*position) else {
-            unreachable!()
-        };
-        let rank = rejected[turn].first_outside();
-        let next = papers.choice_at(*position, rank);
-        choices.push_reserved(Standing { student, next });
-        ranks.push(u8::try_from(rank).unwrap_or(0))?;
-    }
-    Ok(Standings { choices, ranks })
 }

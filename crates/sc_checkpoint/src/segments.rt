@@ -1,7 +1,7 @@
-use crate::next_choices::{first_positions, next_choices_at_positions};
+use crate::next_choices::{first_positions, rejected_ranks_at};
 use crate::span::{Span, Spans, push_span, replace_spans};
 use crate::standing::{Standing, Standings};
-use sc_papers::{FlatPapers, Rejection, StudentNo};
+use sc_papers::{FlatPapers, MOST_STUDENTS, Rejection, StudentNo};
 use std::alloc::{AllocError, Global};
 use std::marker::Model;
 
@@ -196,7 +196,21 @@ impl Segments {
             ≡ next_choices_after papers.now (joined (logs_at positions.now self.now))
             (map (student_at papers.now) positions.now)) }
     {
-        next_choices_at_positions(self.alloc, papers, self, positions)
+        // This call tells that the papers are within their limits, and so are their lists.
+        prove!(papers.students_len() <= MOST_STUDENTS);
+        let rejected = rejected_ranks_at(self.alloc, papers, self, positions)?;
+        let mut choices = Vec::with_capacity(self.alloc, positions.len())?;
+        let mut ranks = Vec::with_capacity(self.alloc, positions.len())?;
+        for (turn, position) in positions.iter().enumerate() {
+            let Some(student) = papers.student_at(*position) else {
+                unreachable!()
+            };
+            let rank = rejected[turn].first_outside();
+            let next = papers.choice_at(*position, rank);
+            choices.push_reserved(Standing { student, next });
+            ranks.push(u8::try_from(rank).unwrap_or(0))?;
+        }
+        Ok(Standings { choices, ranks })
     }
 
     /// Gives the segments at some positions up for renewed ones, in turn: one at each position. Their entries are those of

@@ -7,13 +7,13 @@ use Rattle.sc_papers.proofs.Hands.{hand-is}
 use Rattle.sc_checkpoint.specs.Chains.{logs_at}
 use Rattle.sc_checkpoint.proofs.Finding.{next-found, standings-more}
 use Rattle.sc_checkpoint.proofs.Passing.{picked-here}
-use Rattle.sc_checkpoint.proofs.next_choices.next_choices_at_positions.Goals as goal
+use Rattle.sc_checkpoint.proofs.segments.Segments.next_choices_of.Goals as goal
 
 pub loop-turn-preserved : goal.loop-turn-preserved
 loop-turn-preserved c =
     let m = c.args.papers.now in
     let ps = c.args.positions.now in
-    let log = joined (logs_at ps c.args.segments.now) in
+    let log = joined (logs_at ps c.args.self.now) in
     let table = c.in_ok-rejected.rejected.items in
     let at = c.loop-turn.turn in
     let i = c.in-Some.student in
