@@ -9,8 +9,8 @@ use Rattle.std.proofs.lemmas.Nat.Bits.{bit_at-trailing_ones, bit_at_ones, bit_at
 use Rattle.sc_checkpoint.specs.Ranks.{has_rank, IsFirstOutside}
 use Rattle.sc_checkpoint.specs.declared.rank_set.RankSet.{RankSet}
 
-pub set-bit : (bits rank other : ℕ) → rank < 32 → (bit_at (bit_or bits (1 * 2 ^ rank % 4294967296)) other == 1) ≡ (bit_at bits other == 1 || other == rank)
-set-bit bits rank other low =
+pub set_bit : (bits rank other : ℕ) → rank < 32 → (bit_at (bit_or bits (1 * 2 ^ rank % 4294967296)) other == 1) ≡ (bit_at bits other == 1 || other == rank)
+set_bit bits rank other low =
     elim (cases_eq other rank) [
       | inl same ↦
           ap (λ k. bit_at (bit_or bits (1 * 2 ^ rank % 4294967296)) k == 1) same

@@ -10,6 +10,7 @@ impl RankSet {
     ghost use Rattle.sc_checkpoint.specs.Ranks.{has_rank, IsFirstOutside};
 
     /// No ranks.
+    #[tactic(auto, unfolding(crate::specs::Ranks::has_rank))]
     pub(crate) fn new() -> Self
         ensures { (rank : ℕ) → has_rank result rank ≡ false }
     {
@@ -25,6 +26,7 @@ impl RankSet {
     }
 
     /// The set with one more rank.
+    #[tactic(auto, unfolding(crate::specs::Ranks::has_rank), using(crate::proofs::Bits::set_bit))]
     pub(crate) fn with(self, rank: usize) -> Self
         requires { rank < 32 }
         ensures { (other : ℕ) → has_rank result other ≡ (has_rank self other || other == rank) }
