@@ -1,13 +1,14 @@
 -- The first choice whose rank is not in a set, and where students stand.
 use Rattle.std.proofs.Common.{◌≡◌, refl, ap, sym, ◌∙◌, ℕ, ◌≤◌, Bool, not, List, [], ◌∷◌, ◌++◌, ◌+◌, length, take, Option, Some, None, find, slice_get, arith}
-use Rattle.std.proofs.lemmas.List.{take_more, map_push}
-use Rattle.std.proofs.lemmas.Option.{slice_get_within, get_or_from_slice_get}
+use Rattle.std.proofs.lemmas.List.{map_push}
+use Rattle.std.proofs.lemmas.Option.{slice_get_within}
 use Rattle.sc_papers.specs.Log.{is_rejected, next_choice}
 use Rattle.sc_papers.specs.Market.{choices_of, Market}
 use Rattle.sc_papers.specs.WellFormed.{WithinLimits}
 use Rattle.sc_papers.specs.declared.rejection.Rejection.{Rejection}
 use Rattle.sc_papers.proofs.Choices.{found-is, found-none, places-end}
 use Rattle.sc_papers.proofs.Students.{choices-short}
+use Rattle.sc_checkpoint.proofs.Joining.{take-next}
 use Rattle.sc_checkpoint.specs.Ranks.{has_rank, AreRejectedRanks, IsFirstOutside}
 use Rattle.sc_checkpoint.specs.NextChoices.{next_choices_after}
 use Rattle.sc_checkpoint.specs.declared.standing.Standing.{Standing}
@@ -31,12 +32,9 @@ outside-at set choices rank test short agree first =
 -- one more student who stands
 pub standings-more : (m : Market) (log : List Rejection) (students : List ℕ) (at i : ℕ) (choice : Standing) → slice_get students at ≡ Some i → choice ≡ record { student = i; next = next_choice m log i } → next_choices_after m log (take at students) ++ choice ∷ [] ≡ next_choices_after m log (take (at + 1) students)
 standings-more m log students at i choice here stands =
-    let more : take (at + 1) students ≡ take at students ++ i ∷ [] =
-    take_more students at i (slice_get_within students at i here)
-    ∙ ap (λ j. take at students ++ j ∷ []) (get_or_from_slice_get students at i i here) in
     ap (λ last. next_choices_after m log (take at students) ++ last ∷ []) stands
     ∙ sym (map_push (λ (j : ℕ). let s : Standing = record { student = j; next = next_choice m log j } in s) (take at students) i)
-    ∙ ap (next_choices_after m log) (sym more)
+    ∙ ap (next_choices_after m log) (sym (take-next students at i here))
 
 -- the first of a student's choices that is not among those that rejected them is their next choice
 pub next-found : (m : Market) (log : List Rejection) (i : ℕ) (set : RankSet) (rank : ℕ) → WithinLimits m → AreRejectedRanks m log i set → IsFirstOutside set rank

@@ -5,19 +5,16 @@ use Rattle.std.proofs.lemmas.Grind.{flat_map-append}
 use Rattle.std.proofs.lemmas.Option.{get_or_from_slice_get, slice_get_within}
 use Rattle.sc_papers.specs.Restriction.{joined}
 use Rattle.sc_papers.specs.declared.rejection.Rejection.{Rejection}
-use Rattle.sc_checkpoint.specs.Chains.{Chain}
+
+-- the first of a list and one more
+pub take-next : {X : Type 0} (xs : List X) (k : ℕ) (x : X) → slice_get xs k ≡ Some x → take (k + 1) xs ≡ take k xs ++ x ∷ []
+take-next xs k x here = take_more xs k x (slice_get_within xs k x here) ∙ ap (λ y. take k xs ++ y ∷ []) (get_or_from_slice_get xs k x x here)
 
 -- one more segment, joined
 pub joined-next : (segments : List (List Rejection)) (k : ℕ) (s : List Rejection) → slice_get segments k ≡ Some s → joined (take (k + 1) segments) ≡ joined (take k segments) ++ s
 joined-next segments k s here =
-    ap joined (take_more segments k [] (slice_get_within segments k s here) ∙ ap (λ last. take k segments ++ last ∷ []) (get_or_from_slice_get segments k s [] here))
-    ∙ flat_map-append (λ (segment : List Rejection). segment) (take k segments) (s ∷ [])
+    ap joined (take-next segments k s here) ∙ flat_map-append (λ (segment : List Rejection). segment) (take k segments) (s ∷ [])
     ∙ ap (λ last. joined (take k segments) ++ last) (append-nil s)
-
--- and one more chain
-pub take-next : (chains : List Chain) (k : ℕ) (chain : Chain) → slice_get chains k ≡ Some chain → take (k + 1) chains ≡ take k chains ++ chain ∷ []
-take-next chains k chain here =
-    take_more chains k chain (slice_get_within chains k chain here) ∙ ap (λ c. take k chains ++ c ∷ []) (get_or_from_slice_get chains k chain chain here)
 
 -- a count that stops at a greatest number
 pub counted-next : (before more most : ℕ) → min (min before most + more) most ≡ min (before + more) most

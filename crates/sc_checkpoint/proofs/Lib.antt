@@ -1,6 +1,5 @@
 mod Joining
 mod Bits
-mod Counting
 pub mod Marking
 mod Finding
 mod Passing

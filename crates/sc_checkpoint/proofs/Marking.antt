@@ -1,9 +1,8 @@
 -- One more entry of a log, put into a table of ranks.
-use Rattle.std.proofs.Common.{◌≡◌, inl, inr, refl, ap, sym, ◌∙◌, ℕ, ◌<◌, ◌==◌, nat_eq, nat_lt, Bool, false, ◌&&◌, ◌||◌, List, [], ◌∷◌, ◌++◌, length, get_or, set, Some, None, slice_get, position, arith, length-set}
+use Rattle.std.proofs.Common.{◌≡◌, inl, inr, refl, ap, sym, ◌∙◌, ℕ, ◌<◌, ◌==◌, nat_eq, nat_lt, Bool, false, ◌&&◌, ◌||◌, List, [], ◌∷◌, ◌++◌, length, get_or, set, Some, None, slice_get, position, arith}
 use Rattle.std.proofs.Math.Bool.{or-false}
 use Rattle.std.specs.List.{position_or_len}
 use Rattle.std.proofs.lemmas.Bool.{cases_eq, cases_lt, cond-true, lt-ltb, eqb-true, eq-eqb, ne_eqb, false≢true, false_from_ne_true, and_parts}
-use Rattle.std.proofs.lemmas.List.{get_or-set_same, get_or-set_other}
 use Rattle.std.proofs.lemmas.List.Quantifiers.{position-Some}
 use Rattle.std.proofs.lemmas.List.Sums.{fails_before_first}
 use Rattle.std.proofs.lemmas.Option.{none-some, same_Some, slice_get_within, slice_get-get_or, get_or_from_slice_get}
@@ -14,6 +13,7 @@ use Rattle.sc_papers.specs.declared.rejection.Rejection.{Rejection}
 use Rattle.sc_papers.proofs.Choices.{one-place}
 use Rattle.sc_papers.proofs.Rejections.{is_of, rejected-push}
 use Rattle.sc_papers.proofs.Students.{choices-differ, choices-short}
+use Rattle.sc_checkpoint.proofs.Replacing.{get-set-other, get-set-same}
 use Rattle.sc_checkpoint.specs.Ranks.{has_rank, AreTabled}
 use Rattle.sc_checkpoint.specs.declared.rank_set.RankSet.{RankSet}
 
@@ -102,10 +102,7 @@ table-marked m students log e table position_of rank_of old new well once studen
   where
     marked_row : (at i : ℕ) (ranks : RankSet) → slice_get students at ≡ Some i → slice_get (set table position_of new) at ≡ Some ranks → (rank s : ℕ) → slice_get (choices_of m i) rank ≡ Some s → at ≡ position_of → has_rank ranks rank ≡ is_rejected (log ++ e ∷ []) i s
     marked_row at i ranks at_student at_table rank s at_school same =
-        let low : position_of < length table = slice_get_within table position_of old old_at in
-        let long : position_of < length (set table position_of new) = omega (arith, low, length-set table position_of new) in
-        let written : slice_get (set table position_of new) position_of ≡ Some new =
-        slice_get-get_or (set table position_of new) position_of new long ∙ ap Some (get_or-set_same table position_of new new low) in
+        let written = get-set-same table position_of new (slice_get_within table position_of old old_at) in
         let is_new : ranks ≡ new = same_Some ranks new (sym at_table ∙ ap (slice_get (set table position_of new)) same ∙ written) in
         let at_position : slice_get students position_of ≡ Some i = ap (slice_get students) (sym same) ∙ at_student in
         let is_student : e.student ≡ i = same_Some e.student i (sym student ∙ at_position) in
@@ -119,10 +116,6 @@ table-marked m students log e table position_of rank_of old new well once studen
 
     other_row : (at i : ℕ) (ranks : RankSet) → slice_get students at ≡ Some i → slice_get (set table position_of new) at ≡ Some ranks → (rank s : ℕ) → slice_get (choices_of m i) rank ≡ Some s → (at ≡ position_of → ⊥) → has_rank ranks rank ≡ is_rejected (log ++ e ∷ []) i s
     other_row at i ranks at_student at_table rank s at_school apart =
-        let low : at < length table = omega (arith, slice_get_within (set table position_of new) at ranks at_table, length-set table position_of new) in
-        let here : slice_get table at ≡ Some ranks =
-        slice_get-get_or table at ranks low
-        ∙ ap Some (sym (get_or-set_other table position_of at new ranks apart) ∙ get_or_from_slice_get (set table position_of new) at ranks ranks at_table) in
-        before.at at i ranks at_student here rank s at_school
+        before.at at i ranks at_student (sym (get-set-other table position_of at new apart) ∙ at_table) rank s at_school
         ∙ sym (other-kept log e i s (λ same_student same_school.
         apart (once at position_of i at_student (student ∙ ap Some same_student))))

@@ -1,12 +1,23 @@
-use Rattle.std.proofs.Common.{◌≡◌, ◌≤◌, [], ap, sym, subst, ◌∙◌, length, map, take, arith}
-use Rattle.std.proofs.lemmas.List.{length-map, length-take}
+use Rattle.std.proofs.Common.{◌≡◌, ◌<◌, ◌≤◌, ℕ, List, [], ap, sym, subst, ◌∙◌, get_or, length, map, take, arith}
+use Rattle.std.proofs.lemmas.List.{get_or-map, get_or-take, get_or_default, length-map, length-take, length-take-le, same_lists}
 use Rattle.sc_papers.specs.Market.{student_at, students_of}
 use Rattle.sc_papers.specs.Restriction.{joined}
 use Rattle.sc_checkpoint.specs.Chains.{logs_at, logs_in, students_in, Chain}
 use Rattle.sc_checkpoint.specs.NextChoices.{next_choices_after}
 use Rattle.sc_checkpoint.specs.Positions.{CountUp}
-use Rattle.sc_checkpoint.proofs.Counting.{map-first}
 use Rattle.sc_checkpoint.proofs.segments.Segments.standings_at.Goals as goal
+
+-- what stands at the first positions is the first of the list
+map-first : {X : Type 0} (xs : List X) (d : X) (positions : List ℕ) → CountUp positions → length positions ≤ length xs → map (λ p. get_or xs p d) positions ≡ take (length positions) xs
+map-first xs d positions up few =
+    same_lists (map (λ p. get_or xs p d) positions) (take (length positions) xs)
+    (length-map positions (λ p. get_or xs p d) ∙ sym (length-take-le (length positions) xs few))
+    (λ k e within.
+    let low : k < length positions = omega (arith, within, length-map positions (λ p. get_or xs p d)) in
+    get_or-map (λ p. get_or xs p d) positions k 0 e low
+    ∙ ap (λ p. get_or xs p d) (up k low)
+    ∙ get_or_default xs k d e (omega (arith, low, few))
+    ∙ sym (get_or-take (length positions) xs k e low))
 
 pub returns : goal.returns
 returns c =
