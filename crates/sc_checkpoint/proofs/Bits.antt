@@ -22,9 +22,9 @@ set_bit bits rank other low =
     ]
 
 -- the number of ones at the low end is the first rank that is not in the set
-pub first-clear : (set : RankSet) (first : ℕ) → set.bits < 2 ^ 32 → first ≡ trailing_ones w32 set.bits → IsFirstOutside set first
+pub first_clear : (set : RankSet) (first : ℕ) → set.bits < 2 ^ 32 → first ≡ trailing_ones w32 set.bits → IsFirstOutside set first
 unfolding has_rank count_trailing_zeros
-first-clear set first fits is =
+first_clear set first fits is =
     elim (cases_eq (set.bits + 1) (2 ^ 32)) [
       | inl all ↦
           let bits : set.bits ≡ 2 ^ 32 - 1 = omega (arith, all) in

@@ -126,8 +126,8 @@ chains-replaced entries more spans positions renewed are =
     ∙ ap (replaced (chains_in entries spans) positions) (chains-shifted entries more renewed)
 
 -- one that is taken out
-pub chains-without : (entries : List Rejection) (spans : List Span) (k : ℕ) → chains_in entries (remove spans k) ≡ remove (chains_in entries spans) k
-chains-without entries [] zero = refl
-chains-without entries [] (suc k) = refl
-chains-without entries (first ∷ rest) zero = refl
-chains-without entries (first ∷ rest) (suc k) = ap (λ chains. chain_in entries first ∷ chains) (chains-without entries rest k)
+pub chains_without : (entries : List Rejection) (spans : List Span) (k : ℕ) → chains_in entries (remove spans k) ≡ remove (chains_in entries spans) k
+chains_without entries [] zero = refl
+chains_without entries [] (suc k) = refl
+chains_without entries (first ∷ rest) zero = refl
+chains_without entries (first ∷ rest) (suc k) = ap (λ chains. chain_in entries first ∷ chains) (chains_without entries rest k)

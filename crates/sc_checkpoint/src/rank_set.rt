@@ -18,6 +18,7 @@ impl RankSet {
     }
 
     /// The first rank that is not in the set, or 32 where each is.
+    #[tactic(auto, using(crate::proofs::Bits::first_clear))]
     pub(crate) fn first_outside(self) -> usize
         ensures { IsFirstOutside self result }
     {

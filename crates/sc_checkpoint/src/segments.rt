@@ -251,6 +251,7 @@ impl Segments {
     }
 
     /// Takes out the segment at a position. It takes no memory; whoever stands behind moves up by one.
+    #[tactic(auto, using(crate::proofs::Spanned::chains_without))]
     pub fn remove(&mut self, position: usize)
         requires { position < length self.old }
         ensures { self.new ≡ remove self.old position }
