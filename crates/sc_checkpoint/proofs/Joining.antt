@@ -11,10 +11,10 @@ pub take-next : {X : Type 0} (xs : List X) (k : ℕ) (x : X) → slice_get xs k 
 take-next xs k x here = take_more xs k x (slice_get_within xs k x here) ∙ ap (λ y. take k xs ++ y ∷ []) (get_or_from_slice_get xs k x x here)
 
 -- one more segment, joined
-pub joined-next : (segments : List (List Rejection)) (k : ℕ) (s : List Rejection) → slice_get segments k ≡ Some s → joined (take (k + 1) segments) ≡ joined (take k segments) ++ s
-joined-next segments k s here =
-    ap joined (take-next segments k s here) ∙ flat_map-append (λ (segment : List Rejection). segment) (take k segments) (s ∷ [])
-    ∙ ap (λ last. joined (take k segments) ++ last) (append-nil s)
+pub joined_next : (segments : List (List Rejection)) (k : ℕ) (s : List Rejection) → slice_get segments k ≡ Some s → joined (take k segments) ++ s ≡ joined (take (k + 1) segments)
+joined_next segments k s here =
+    ap (λ last. joined (take k segments) ++ last) (sym (append-nil s)) ∙ sym (flat_map-append (λ (segment : List Rejection). segment) (take k segments) (s ∷ []))
+    ∙ ap joined (sym (take-next segments k s here))
 
 -- a count that stops at a greatest number
 pub counted-next : (before more most : ℕ) → min (min before most + more) most ≡ min (before + more) most
@@ -25,4 +25,4 @@ pub count-next : (segments : List (List Rejection)) (k count most : ℕ) (s : Li
 count-next segments k count most s here is =
     ap (λ n. min (n + length s) most) is
     ∙ counted-next (length (joined (take k segments))) (length s) most
-    ∙ ap (λ n. min n most) (sym (ap (λ (log : List Rejection). length log) (joined-next segments k s here) ∙ length-append (joined (take k segments)) s))
+    ∙ ap (λ n. min n most) (sym (length-append (joined (take k segments)) s) ∙ ap (λ (log : List Rejection). length log) (joined_next segments k s here))

@@ -9,16 +9,19 @@ use Rattle.sc_papers.specs.Restriction.{joined}
 use Rattle.sc_papers.specs.declared.rejection.Rejection.{Rejection}
 use Rattle.sc_papers.proofs.Choices.{one-place}
 use Rattle.sc_papers.specs.WellFormed.{WellFormed}
-use Rattle.sc_checkpoint.specs.Chains.{logs_at, logs_in, students_in, Chain}
+use Rattle.sc_checkpoint.specs.Chains.{logs_at, logs_in, students_in, with_chain, Chain}
 use Rattle.sc_checkpoint.specs.Positions.{LieBelow}
-use Rattle.sc_checkpoint.proofs.Joining.{joined-next}
+use Rattle.sc_checkpoint.proofs.Joining.{joined_next, take-next}
 use Rattle.sc_checkpoint.proofs.Rising.{rising-once}
 
 -- the chain at a position, by its student and its rejections
-pub chain-at : (chains : List Chain) (at i : ℕ) (log : List Rejection) → slice_get (students_in chains) at ≡ Some i → slice_get (logs_in chains) at ≡ Some log → slice_get chains at ≡ Some (record { student = i; rejections = log })
+chain-at : (chains : List Chain) (at i : ℕ) (log : List Rejection) → slice_get (students_in chains) at ≡ Some i → slice_get (logs_in chains) at ≡ Some log → slice_get chains at ≡ Some (record { student = i; rejections = log })
 chain-at [] at i log here its = absurd (none-some i here)
 chain-at (chain ∷ chains) zero i log here its = λ t. Some (record { student = same_Some chain.student i here t; rejections = same_Some chain.rejections log its t })
 chain-at (chain ∷ chains) (suc at) i log here its = chain-at chains at i log here its
+
+pub chain_next : (chains : List Chain) (k i : ℕ) (log : List Rejection) → slice_get (students_in chains) k ≡ Some i → slice_get (logs_in chains) k ≡ Some log → with_chain (take k chains) i log ≡ take (k + 1) chains
+chain_next chains k i log here its = sym (take-next chains k (record { student = i; rejections = log }) (chain-at chains k i log here its))
 
 -- the student at the position that stands at an index
 pub picked-student : (m : Market) (positions : List ℕ) (k i : ℕ) → LieBelow (length (students_of m)) positions → slice_get (map (student_at m) positions) k ≡ Some i
@@ -45,6 +48,6 @@ picked-once m positions well rising within j k t here there =
 pub picked-next : (positions : List ℕ) (chains : List Chain) (k at : ℕ) (log : List Rejection) → k < length positions → get_or positions k 0 ≡ at → slice_get (logs_in chains) at ≡ Some log
     → joined (take (k + 1) (logs_at positions chains)) ≡ joined (take k (logs_at positions chains)) ++ log
 picked-next positions chains k at log low is here =
-    joined-next (logs_at positions chains) k log
+    sym (joined_next (logs_at positions chains) k log
     (slice_get-map (λ p. get_or (logs_in chains) p []) positions k ∙ ap (option_map (λ p. get_or (logs_in chains) p [])) (slice_get-get_or positions k 0 low)
-    ∙ ap Some (ap (λ p. get_or (logs_in chains) p []) is ∙ get_or_from_slice_get (logs_in chains) at log [] here))
+    ∙ ap Some (ap (λ p. get_or (logs_in chains) p []) is ∙ get_or_from_slice_get (logs_in chains) at log [] here)))

@@ -1,7 +1,7 @@
 -- Segments as spans of one list of entries.
 use Rattle.std.proofs.Common.{◌≡◌, refl, ap, sym, subst, ◌∙◌, ℕ, zero, suc, ◌+◌, ◌-◌, ◌<◌, ◌≤◌, List, [], ◌∷◌, ◌++◌, length, get_or, map, take, drop, set, Some, slice_get, slice_range, arith, length-drop}
 use Rattle.std.proofs.Math.Seq.{drop-append_seam, drop-append-add}
-use Rattle.std.proofs.lemmas.List.{drop-append-le, length-append, length-map, map_push, take-append-le, take_all}
+use Rattle.std.proofs.lemmas.List.{drop-append-le, length-append, length-map, length-take-le, map_push, take-append-drop, take-append-le, take_all}
 use Rattle.std.proofs.lemmas.Option.{same_Some, none-some, slice_get-map, slice_get_read}
 use Rattle.std.specs.Option.{option_map}
 use Rattle.std.specs.List.{remove}
@@ -92,13 +92,22 @@ chains-shifted entries more (first ∷ rest) =
     ∙ ap (λ chains. chain_in more first ∷ chains) (chains-shifted entries more rest)
 
 -- one more student's rejections
-pub chains-pushed : (entries more : List Rejection) (spans : List Span) (span : Span) → AreWithin entries spans → span.start ≡ length entries → span.end ≡ length entries + length more
+pub chains_pushed : (entries more : List Rejection) (spans : List Span) (span : Span) → AreWithin entries spans → span.start ≡ length entries → span.end ≡ length entries + length more
     → chains_in (entries ++ more) (spans ++ span ∷ []) ≡ with_chain (chains_in entries spans) span.student more
-chains-pushed entries more spans span are from to =
+chains_pushed entries more spans span are from to =
     map_push (chain_in (entries ++ more)) spans span
     ∙ ap (λ chains. chains ++ chain_in (entries ++ more) span ∷ []) (chains-grown entries more spans are)
     ∙ ap (λ log. chains_in entries spans ++ chain-with span.student log ∷ [])
     ((λ t. slice_range (entries ++ more) (from t) (to t)) ∙ range-last entries more)
+
+-- and of entries that are there by now
+pub chains_ended : (log : List Rejection) (spans : List Span) (at i : ℕ) → at ≤ length log → AreWithin (take at log) spans
+    → with_chain (chains_in (take at log) spans) i (drop at log) ≡ chains_in log (spans ++ record { student = i; start = at; end = length log } ∷ [])
+chains_ended log spans at i low are =
+    let first : length (take at log) ≡ at = length-take-le at log low in
+    let span : Span = record { student = i; start = at; end = length log } in
+    sym (chains_pushed (take at log) (drop at log) spans span are (sym first) (omega (arith, first, length-drop at log, low)))
+    ∙ ap (λ entries. chains_in entries (spans ++ span ∷ [])) (take-append-drop at log)
 
 -- spans that give way to others
 set-within : (entries : List Rejection) (spans : List Span) (k : ℕ) (span : Span) → AreWithin entries spans → IsWithin entries span → AreWithin entries (set spans k span)
@@ -113,14 +122,14 @@ within-replaced entries spans (position ∷ positions) [] are new = are
 within-replaced entries spans (position ∷ positions) (first ∷ rest) are new =
     within-replaced entries (set spans position first) positions rest (set-within entries spans position first are (head-within entries first rest new)) (tail-within entries first rest new)
 
-pub spans-replaced : (entries more : List Rejection) (spans : List Span) (positions : List ℕ) (renewed : List Span) → AreWithin entries spans → AreWithin more renewed
+pub spans_replaced : (entries more : List Rejection) (spans : List Span) (positions : List ℕ) (renewed : List Span) → AreWithin entries spans → AreWithin more renewed
     → AreWithin (entries ++ more) (replaced spans positions (map (shifted (length entries)) renewed))
-spans-replaced entries more spans positions renewed are new =
+spans_replaced entries more spans positions renewed are new =
     within-replaced (entries ++ more) spans positions (map (shifted (length entries)) renewed) (within-grown entries more spans are) (within-shifted entries more renewed new)
 
-pub chains-replaced : (entries more : List Rejection) (spans : List Span) (positions : List ℕ) (renewed : List Span) → AreWithin entries spans
+pub chains_replaced : (entries more : List Rejection) (spans : List Span) (positions : List ℕ) (renewed : List Span) → AreWithin entries spans
     → chains_in (entries ++ more) (replaced spans positions (map (shifted (length entries)) renewed)) ≡ replaced (chains_in entries spans) positions (chains_in more renewed)
-chains-replaced entries more spans positions renewed are =
+chains_replaced entries more spans positions renewed are =
     map-replaced (chain_in (entries ++ more)) spans positions (map (shifted (length entries)) renewed)
     ∙ ap (λ chains. replaced chains positions (chains_in (entries ++ more) (map (shifted (length entries)) renewed))) (chains-grown entries more spans are)
     ∙ ap (replaced (chains_in entries spans) positions) (chains-shifted entries more renewed)

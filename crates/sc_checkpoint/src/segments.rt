@@ -118,6 +118,7 @@ impl Segments {
 
     /// The log of the first `k` students as a value of its own: the first `k` segments joined. The only error is
     /// a refused growth. The cost is `k` and the log's length.
+    #[tactic(auto, using(crate::proofs::Joining::joined_next))]
     pub fn prefix(&self, k: usize) -> Result<Vec<Rejection>, AllocError>
         requires { k ≤ length self.now }
         ensures { IfOk result (λ log. log.items ≡ joined (take k (logs_in self.now))) }
@@ -131,6 +132,7 @@ impl Segments {
 
     /// The first `k` segments, or the error of a refused growth. The cost is `k` and the length of
     /// their log, which are copied.
+    #[tactic(auto, using(crate::proofs::Passing::chain_next))]
     pub fn copy_prefix(&self, k: usize) -> Result<Self, AllocError>
         requires { k ≤ length self.now }
         ensures { IfOk result (λ segments. segments ≡ take k self.now) }

@@ -40,6 +40,7 @@ impl Span {
 
 /// Puts a student's rejections at the end of the entries, and their span at the end of the spans. A refused growth
 /// changes no chain.
+#[tactic(auto, using(crate::proofs::Spanned::chains_pushed))]
 pub(crate) fn push_span(
     spans: &mut Vec<Span>,
     entries: &mut Vec<Rejection>,
@@ -94,6 +95,7 @@ impl Spans {
 
     /// Puts the segment of a student at the end, to whom the entries of the log belong from a place on. The others' come
     /// before that. A refused growth changes nothing. In constant time.
+    #[tactic(auto, using(crate::proofs::Spanned::chains_ended))]
     pub fn push(
         &mut self,
         student: StudentNo,
@@ -135,6 +137,7 @@ fn replace_at(spans: &mut Vec<Span>, positions: &[usize], renewed: &[Span], by: 
 
 /// Gives the spans at some positions up for renewed ones, in turn, whose entries come to the end of the entries. The
 /// answer is how many entries have no span any more that had one. A refused growth changes no chain.
+#[tactic(auto, using(crate::proofs::Spanned::chains_replaced, crate::proofs::Spanned::spans_replaced))]
 pub(crate) fn replace_spans(
     spans: &mut Vec<Span>,
     entries: &mut Vec<Rejection>,
