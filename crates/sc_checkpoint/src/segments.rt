@@ -241,8 +241,8 @@ impl Segments {
         Ok(())
     }
 
-    /// A copy of the entries that belong to segments alone, where so many have gone that it costs less than what made them go,
-    /// and where there is room for it.
+    /// A copy of the entries that belong to segments alone, where so many have gone that it costs less than what made
+    /// them go, and where there is room for it.
     fn tidy_copy(&self) -> Option<Self>
         ensures { IfSome result (λ copy. copy ≡ self.now) }
     {

@@ -1,17 +1,20 @@
 -- What joining lists does to the groups of schools.
-use Rattle.std.proofs.Common.{◌≡◌, ◌⊎◌, inl, inr, sym, ap, subst, ◌∙◌, ℕ, [], ◌∷◌, Contains, ◌<◌, nat_eq, true, List, length, min, max, get_or, Some, None, Bool, position, arith}
+use Rattle.std.proofs.Common.{◌≡◌, ◌⊎◌, inl, inr, sym, ap, subst, ◌∙◌, ℕ, [], ◌∷◌, Contains, ◌<◌, nat_eq, true, List, length, take, ◌+◌, min, max, get_or, Some, None, Bool, position, arith}
 use Rattle.std.specs.List.{fold, position_or_len, range_with_len}
-use Rattle.std.specs.Prelude.{nat_lt, slice_index}
+use Rattle.std.specs.Prelude.{nat_lt}
 use Rattle.std.proofs.lemmas.Bool.{cases_Bool, cases_eq}
 use Rattle.std.proofs.lemmas.Bool.Decides.{nat_tests}
-use Rattle.std.proofs.lemmas.List.{get_or_default, get_or-map, length-map}
-use Rattle.sc_papers.specs.Market.{Market, choices_of, is_school, is_student, schools_of, students_of}
+use Rattle.std.proofs.lemmas.List.{get_or_default, get_or-map, map_push, take_more}
+use Rattle.std.proofs.lemmas.List.Sums.{fold-append}
+use Rattle.std.proofs.lemmas.Map.Entries.{length-keys_of}
+use Rattle.sc_papers.specs.Market.{Market, choices_of, is_school, is_student, schools_of, student_at, students_of}
 use Rattle.sc_papers.specs.WellFormed.{WellFormed}
 use Rattle.sc_papers.proofs.Counting.{contains-cons, contains-head, contains-tail}
 use Rattle.sc_papers.proofs.Students.{choice-known, lister-among}
 use Rattle.sc_papers.proofs.Positions.{among-student, position-at, school-position}
-use Rattle.sc_region.specs.Groups.{first_choice, group_of, joined, joined_choices, joined_list, joined_students, moved, position_of}
+use Rattle.sc_region.specs.Groups.{first_choice, group_of, joined, joined_choices, joined_list, joined_students, moved, position_of, students_at}
 use Rattle.sc_region.proofs.Choosing.{first-listed}
+use Rattle.sc_region.proofs.Roots.{length-joined}
 use Rattle.std.proofs.lemmas.List.FromFn.{get_or-range_with_len, length-range_with_len}
 use Rattle.sc_papers.specs.declared.amendment.Amendment.{Amendment}
 use Rattle.sc_region.specs.Region.{Lists}
@@ -59,8 +62,7 @@ pub record Coarser (m : Market) (old new : List ℕ) : Type 0 where
   pub kept : (s t : ℕ) → is_school m s ≡ true → is_school m t ≡ true → group_of m old s ≡ group_of m old t → group_of m new s ≡ group_of m new t
 
 pub joined-whole : (m : Market) (groups : List ℕ) (a b : ℕ) → AreWhole m groups → AreWhole m (joined groups a b)
-unfolding joined
-joined-whole m groups a b whole = length-map groups (moved (min (slice_index groups a) (slice_index groups b)) (max (slice_index groups a) (slice_index groups b))) ∙ whole
+joined-whole m groups a b whole = length-joined groups a b ∙ whole
 
 joined-moves : (m : Market) (groups : List ℕ) (s t u : ℕ) → AreWhole m groups → is_school m u ≡ true
     → group_of m (joined groups (position_of m s) (position_of m t)) u ≡ moved (min (group_of m groups s) (group_of m groups t)) (max (group_of m groups s) (group_of m groups t)) (group_of m groups u)
@@ -164,6 +166,22 @@ module _ (m : Market) (f : ℕ) (f_known : is_school m f ≡ true) (list : List 
   list-partial a groups links before =
       fold-keeps (λ g s. joined g (position_of m f) (position_of m s)) (IsPartial m a) list
       (λ s among g g_before. join-partial m a g f s f_known (known s among) (links s among) g_before) groups before
+
+-- the groups before any choices are joined, and with those of one student more
+pub groups-begun : (m : Market) (count : ℕ) (groups : List ℕ) → count ≡ length m.schools → groups ≡ range_with_len 0 count → (groups ≡ joined_students m []) × AreWhole m groups
+unfolding joined_students
+groups-begun m count groups all begun =
+    let start = begun ∙ ap (range_with_len 0) (all ∙ sym (length-keys_of m.schools)) in
+    (start, ap (λ (gs : List ℕ). length gs) start ∙ length-range_with_len 0 (length (schools_of m)))
+
+pub joined_next : (m : Market) (positions : List ℕ) (at : ℕ) → at < length positions
+    → joined_students m (students_at m (take (at + 1) positions)) ≡ joined_choices m (joined_students m (students_at m (take at positions))) (student_at m (get_or positions at 0))
+unfolding joined_students
+joined_next m positions at low =
+    let start = range_with_len 0 (length (schools_of m)) in
+    let last = student_at m (get_or positions at 0) in
+    ap (fold (joined_choices m) start) (ap (students_at m) (take_more positions at 0 low) ∙ map_push (student_at m) (take at positions) (get_or positions at 0))
+    ∙ fold-append (joined_choices m) start (students_at m (take at positions)) (last ∷ [])
 
 -- the choices of students joined
 module _ (m : Market) (well : WellFormed m) where

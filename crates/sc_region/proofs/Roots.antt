@@ -3,7 +3,7 @@ use Rattle.std.proofs.Common.{◌≡◌, inl, inr, refl, sym, ap, subst, ◌∙�
 use Rattle.std.specs.Prelude.{slice_index}
 use Rattle.std.specs.List.{range_with_len}
 use Rattle.std.proofs.lemmas.Bool.{cases_Bool, cases_eq, cases_lt, cond-true, cond-false, eqb-true, eq-eqb, ne_eqb}
-use Rattle.std.proofs.lemmas.List.{get_or_past, get_or-set_same, get_or-set_other}
+use Rattle.std.proofs.lemmas.List.{length-map, get_or_past, get_or-set_same, get_or-set_other}
 use Rattle.std.proofs.lemmas.List.FromFn.{fill_by_all, get_or-range_with_len, get_or-map-range_with_len, length-map-range_with_len, length-range_with_len}
 use Rattle.std.proofs.lemmas.Simd.{map-map}
 use Rattle.sc_region.specs.Groups.{joined, moved}
@@ -45,8 +45,8 @@ module _ (parents : List ℕ) (low : AreParents parents) where
   unfolding root_of climbed
   root-parent k = climbed-enough k (suc k) k (omega arith) (omega arith) ∙ climbed-enough k (slice_index parents k) (slice_index parents k) (low k) (omega arith)
 
-  pub root-low : (k : ℕ) → root_of parents k ≤ k
-  root-low k =
+  pub root_low : (k : ℕ) → root_of parents k ≤ k
+  root_low k =
       by-parent (λ j. root_of parents j ≤ j) (λ j fixed. omega (arith, root-fixed j fixed)) (λ j below. omega (arith, root-parent j, low j, below)) k k (omega arith)
 
   -- a root is its own parent
@@ -107,25 +107,27 @@ linked-roots parents low kept lost order within kept_idle lost_idle =
     ]
 
 -- the roots as a list
-pub length-roots : (parents : List ℕ) → length (roots_of parents) ≡ length parents
+pub length_roots : (parents : List ℕ) → length (roots_of parents) ≡ length parents
 unfolding roots_of
-length-roots parents = length-map-range_with_len (root_of parents) 0 (length parents)
+length_roots parents = length-map-range_with_len (root_of parents) 0 (length parents)
 
 -- a position of theirs is one of the parents
 pub own-within : (parents roots : List ℕ) → roots_of parents ≡ roots → (k : ℕ) → k < length roots → k < length parents
-own-within parents roots are k low = omega (arith, low, ap (λ (xs : List ℕ). length xs) are, length-roots parents)
+own-within parents roots are k low = omega (arith, low, ap (λ (xs : List ℕ). length xs) are, length_roots parents)
 
-pub roots-at : (parents : List ℕ) (k : ℕ) → k < length parents → slice_index (roots_of parents) k ≡ root_of parents k
+pub roots_at : (parents : List ℕ) (k : ℕ) → k < length parents → slice_index (roots_of parents) k ≡ root_of parents k
 unfolding roots_of
-roots-at parents k within = get_or-map-range_with_len (root_of parents) 0 (length parents) k k 0 within (omega arith)
+roots_at parents k within = get_or-map-range_with_len (root_of parents) 0 (length parents) k k 0 within (omega arith)
 
-pub roots-same : (old new : List ℕ) → length new ≡ length old → ((k : ℕ) → root_of new k ≡ root_of old k) → roots_of new ≡ roots_of old
+pub roots_kept : (old new : List ℕ) → KeepsRoots old new → roots_of new ≡ roots_of old
 unfolding roots_of
-roots-same old new long same = λ t. map (λ k. same k t) (range_with_len 0 (long t))
+roots_kept old new keeps = λ t. map (λ k. keeps.roots k t) (range_with_len 0 (keeps.size t))
+
+pub ruleset told_roots = (length_roots, roots_at, roots_kept)
 
 -- positions with one parent have one root
-pub root-shared : (parents : List ℕ) → AreParents parents → (a b : ℕ) → slice_index parents a ≡ slice_index parents b → root_of parents a ≡ root_of parents b
-root-shared parents low a b same = root-parent parents low a ∙ ap (root_of parents) same ∙ sym (root-parent parents low b)
+pub root_shared : (parents : List ℕ) → AreParents parents → (a b : ℕ) → slice_index parents a ≡ slice_index parents b → root_of parents a ≡ root_of parents b
+root_shared parents low a b same = root-parent parents low a ∙ ap (root_of parents) same ∙ sym (root-parent parents low b)
 
 -- what is so of two numbers, is so of the lesser and of the greater
 of-both : (P : ℕ → Type 0) (x y : ℕ) → P x → P y → P (min x y) × P (max x y)
@@ -139,7 +141,7 @@ roots-joined : (parents : List ℕ) → AreParents parents → (a b : ℕ) → a
     → roots_of (set parents (max (root_of parents a) (root_of parents b)) (min (root_of parents a) (root_of parents b))) ≡ joined (roots_of parents) a b
 unfolding roots_of joined
 roots-joined parents low a b a_within b_within =
-    (λ t. map (λ k. linked-roots parents low kept lost (omega arith) (omega (arith, root-low parents low a, root-low parents low b)) idle.0 idle.1 k t) (range_with_len 0 (length-set parents lost kept t)))
+    (λ t. map (λ k. linked-roots parents low kept lost (omega arith) (omega (arith, root_low parents low a, root_low parents low b)) idle.0 idle.1 k t) (range_with_len 0 (length-set parents lost kept t)))
     ∙ sym (map-map (moved kept lost) (root_of parents) (range_with_len 0 (length parents)))
     ∙ (λ t. map (moved (min (sym at_a t) (sym at_b t)) (max (sym at_a t) (sym at_b t))) (map (root_of parents) (range_with_len 0 (length parents))))
   where
@@ -150,10 +152,10 @@ roots-joined parents low a b a_within b_within =
     lost = max (root_of parents a) (root_of parents b)
 
     at_a : slice_index (roots_of parents) a ≡ root_of parents a
-    at_a = roots-at parents a a_within
+    at_a = roots_at parents a a_within
 
     at_b : slice_index (roots_of parents) b ≡ root_of parents b
-    at_b = roots-at parents b b_within
+    at_b = roots_at parents b b_within
 
     idle : (slice_index parents kept ≡ kept) × (slice_index parents lost ≡ lost)
     idle = of-both (λ r. slice_index parents r ≡ r) (root_of parents a) (root_of parents b) (root-idle parents low a) (root-idle parents low b)
@@ -162,19 +164,19 @@ roots-joined parents low a b a_within b_within =
 start-is : (count k : ℕ) → k < count → slice_index (range_with_len 0 count) k ≡ k
 start-is count k within = omega (arith, get_or-range_with_len 0 count k 0 within)
 
-pub start-low : (count : ℕ) → AreParents (range_with_len 0 count)
-start-low count k = elim (cases_lt k count) [
+pub start_low : (count : ℕ) → AreParents (range_with_len 0 count)
+start_low count k = elim (cases_lt k count) [
   | inl within ↦ omega (arith, start-is count k within)
   | inr past ↦ omega (arith, get_or_past (range_with_len 0 count) k 0 (omega (arith, past, length-range_with_len 0 count)))
 ]
 
-pub roots-start : (count : ℕ) → roots_of (range_with_len 0 count) ≡ range_with_len 0 count
+pub roots_start : (count : ℕ) → roots_of (range_with_len 0 count) ≡ range_with_len 0 count
 unfolding roots_of
-roots-start count =
+roots_start count =
     sym (fill_by_all (root_of (range_with_len 0 count)) (range_with_len 0 count) (length (range_with_len 0 count)) 0 refl
     (λ k within.
     let is = start-is count k (omega (arith, within, length-range_with_len 0 count)) in
-    is ∙ sym (root-fixed (range_with_len 0 count) (start-low count) k is)))
+    is ∙ sym (root-fixed (range_with_len 0 count) (start_low count) k is)))
 
 -- parents that are roots below a bound, and as they were from it on
 pub record AreFlatBelow (parents now : List ℕ) (bound : ℕ) : Type 0 where
@@ -204,9 +206,9 @@ flat-more parents now at z low flat within is = record {
           ap (slice_index now) parent ∙ ap (slice_index now) fixed ∙ parent ∙ fixed ∙ sym (root-fixed parents low at fixed)
     ]
 
-pub flat-all : (parents now : List ℕ) (bound : ℕ) → AreFlatBelow parents now bound → length parents ≤ bound → now ≡ roots_of parents
+pub flat_all : (parents now : List ℕ) (bound : ℕ) → AreFlatBelow parents now bound → length parents ≤ bound → now ≡ roots_of parents
 unfolding roots_of
-flat-all parents now bound flat past =
+flat_all parents now bound flat past =
     fill_by_all (root_of parents) now (length parents) 0 flat.size (λ k within. flat.below k (omega (arith, within, past)))
 
 -- one step of a climb
@@ -244,8 +246,8 @@ pub climbed-joined : (old now : List ℕ) (a b kept lost : ℕ) → KeepsRoots o
     → AreParents (set now lost kept) × (roots_of (set now lost kept) ≡ joined (roots_of old) a b)
 climbed-joined old now a b kept lost keeps a_within b_within kept_is lost_is =
     subst (λ xs. AreParents xs × (roots_of xs ≡ joined (roots_of old) a b)) (sym list) (
-      set-low now keeps.low (max (root_of now a) (root_of now b)) (min (root_of now a) (root_of now b)) (omega (arith, root-low now keeps.low a, root-low now keeps.low b, a_low, b_low)) (omega arith),
-      roots-joined now keeps.low a b a_low b_low ∙ ap (λ xs. joined xs a b) (roots-same old now keeps.size keeps.roots),
+      set-low now keeps.low (max (root_of now a) (root_of now b)) (min (root_of now a) (root_of now b)) (omega (arith, root_low now keeps.low a, root_low now keeps.low b, a_low, b_low)) (omega arith),
+      roots-joined now keeps.low a b a_low b_low ∙ ap (λ xs. joined xs a b) (roots_kept old now keeps),
     )
   where
     a_low : a < length now
@@ -258,6 +260,10 @@ climbed-joined old now a b kept lost keeps a_within b_within kept_is lost_is =
     list = λ t. set now
         ((lost_is ∙ (λ s. max (sym (keeps.roots a) s) (sym (keeps.roots b) s))) t)
         ((kept_is ∙ (λ s. min (sym (keeps.roots a) s) (sym (keeps.roots b) s))) t)
+
+pub length-joined : (groups : List ℕ) (a b : ℕ) → length (joined groups a b) ≡ length groups
+unfolding joined
+length-joined groups a b = length-map groups (moved (min (slice_index groups a) (slice_index groups b)) (max (slice_index groups a) (slice_index groups b)))
 
 -- to join a group to itself changes nothing
 moved-nowhere : (k : ℕ) (groups : List ℕ) → map (moved k k) groups ≡ groups
@@ -276,4 +282,4 @@ joined-nothing groups a b same =
     (λ t. map (moved (least t) (most t)) groups) ∙ moved-nowhere (slice_index groups b) groups
 
 pub joined-one : (parents : List ℕ) (a b : ℕ) → a < length parents → b < length parents → root_of parents a ≡ root_of parents b → joined (roots_of parents) a b ≡ roots_of parents
-joined-one parents a b first second same = joined-nothing (roots_of parents) a b (roots-at parents a first ∙ same ∙ sym (roots-at parents b second))
+joined-one parents a b first second same = joined-nothing (roots_of parents) a b (roots_at parents a first ∙ same ∙ sym (roots_at parents b second))

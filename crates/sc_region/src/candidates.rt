@@ -19,6 +19,7 @@ use std::alloc::{AllocError, Global};
 const LISTS_FOR_SCHOOL: usize = 4;
 
 /// The positions of the schools of a group, rising. One pass over all schools, so that what follows passes over these alone.
+#[tactic(auto, unfolding(crate::specs::Groups::schools_of_group))]
 pub(crate) fn schools_of_group(
     alloc: Global,
     groups: &[usize],
@@ -120,7 +121,8 @@ fn hold_together(groups: &mut SchoolGroups, schools: &[usize], start: usize) -> 
 
 /// Positions of students that lie evenly among all, a few for each school.
 pub(crate) fn spread_positions(alloc: Global, papers: &FlatPapers) -> Result<Vec<usize>, AllocError>
-    ensures { IfOk result (λ positions. (p : ℕ) → Contains positions.items p → p < length (students_of papers.now)) }
+    ensures { IfOk result (λ positions. (p : ℕ) → Contains positions.items p
+        → p < length (students_of papers.now)) }
 {
     let students = papers.students_len();
     let few = papers.schools_len().saturating_mul(LISTS_FOR_SCHOOL);
@@ -142,8 +144,9 @@ pub(crate) fn first_few<'a>(schools: &[usize], candidates: &'a [usize]) -> &'a [
     &candidates[..few.min(candidates.len())]
 }
 
-/// Whether the lists of a few students join the schools at these positions with the school to begin with. They mostly do so
-/// for the schools of a district, and then whoever has their first choice in it is in the region, and no other lists are joined.
+/// Whether the lists of a few students join the schools at these positions with the school to begin with. They mostly
+/// do so for the schools of a district, and then whoever has their first choice in it is in the region, and no other
+/// lists are joined.
 pub(crate) fn few_hold_together(
     alloc: Global,
     papers: &FlatPapers,

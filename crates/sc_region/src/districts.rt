@@ -200,9 +200,9 @@ impl Districts {
         widen(papers, amendment, &mut self.groups)
     }
 
-    /// The positions of the region's students, rising, found among all students, by passes that ask nobody's position by number. Given are
-    /// the position of the school to begin with and those of the schools of its district. Where the lists of a few do not hold the
-    /// district together, those of all make the groups of the districts anew.
+    /// The positions of the region's students, rising, found among all students, by passes that ask nobody's position by
+    /// number. Given are the position of the school to begin with and those of the schools of its district. Where the
+    /// lists of a few do not hold the district together, those of all make the groups of the districts anew.
     fn positions_among_all(
         &mut self,
         alloc: Global,

@@ -47,6 +47,7 @@ fn join(groups: &mut Vec<usize>, a: usize, b: usize)
 /// Joins each school of a list to one school, and answers where that one stands. Each that was in another group costs a
 /// pass over the schools: that does for the few new choices of an amendment, and the lists of many students are joined in
 /// `SchoolGroups`.
+#[tactic(auto, unfolding(crate::specs::Groups::joined_list))]
 pub(crate) fn join_list(
     papers: &FlatPapers,
     groups: &mut Vec<usize>,
@@ -108,6 +109,7 @@ fn join_choices(papers: &FlatPapers, groups: &mut SchoolGroups, position: usize)
 }
 
 /// The groups that the choices of all students join.
+#[tactic(auto, using(std::proofs::lemmas::List::Sums::fold_more), unfolding(crate::specs::Groups::joined_students))]
 pub(crate) fn groups_of(alloc: Global, papers: &FlatPapers) -> Result<SchoolGroups, AllocError>
     ensures joined { IfOk result (λ groups. groups ≡ joined_students papers.now (students_of papers.now)) }
     ensures one_each { IfOk result (λ groups. length groups ≡ length (schools_of papers.now)) }
@@ -120,6 +122,7 @@ pub(crate) fn groups_of(alloc: Global, papers: &FlatPapers) -> Result<SchoolGrou
 }
 
 /// The groups that the choices of the students at these positions join.
+#[tactic(auto, using(crate::proofs::Joining::joined_next))]
 pub(crate) fn groups_among(
     alloc: Global,
     papers: &FlatPapers,

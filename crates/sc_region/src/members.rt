@@ -25,6 +25,7 @@ pub(crate) fn is_member(
 }
 
 /// The positions of the students of the papers whose first choice is in a group, rising.
+#[tactic(auto, unfolding(crate::specs::Groups::positions_in))]
 pub(crate) fn positions_of(
     alloc: Global,
     papers: &FlatPapers,

@@ -1,7 +1,5 @@
 //! The students of a region.
 
-ghost use Rattle.std.specs.Prelude.{◌≡◌, ◌==◌, ◌↔◌, IsTrue, Contains, length, slice_get};
-
 use sc_papers::StudentNo;
 use std::marker::Model;
 

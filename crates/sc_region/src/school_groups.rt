@@ -55,6 +55,7 @@ fn find_root(parents: &mut Vec<usize>, position: usize) -> usize
 }
 
 /// Whether two positions have one parent, and so one root.
+#[tactic(auto, using(crate::proofs::Roots::root_shared))]
 fn have_one_parent(parents: &Vec<usize>, a: usize, b: usize) -> bool
     requires first { a < length parents.now.items }
     requires second { b < length parents.now.items }
@@ -65,6 +66,7 @@ fn have_one_parent(parents: &Vec<usize>, a: usize, b: usize) -> bool
 }
 
 /// Makes each position's root its parent.
+#[tactic(auto, using(crate::proofs::Roots::flat_all))]
 fn flatten(parents: &mut Vec<usize>)
     requires { AreParents parents.old.items }
     ensures { parents.new.items ≡ roots_of parents.old.items }
@@ -81,6 +83,7 @@ impl SchoolGroups {
     ghost use Rattle.sc_region.specs.Groups.{joined, TellsGroup};
 
     /// Each of so many schools in a group of its own.
+    #[tactic(auto, using(crate::proofs::Roots::start_low, crate::proofs::Roots::roots_start))]
     pub(crate) fn new(alloc: Global, count: usize) -> Result<Self, AllocError>
         ensures { IfOk result (λ groups. groups ≡ range_with_len 0 count) }
     {
@@ -90,6 +93,7 @@ impl SchoolGroups {
     }
 
     /// Makes the groups at two positions one.
+    #[tactic(auto, using(crate::proofs::Roots::length_roots, crate::proofs::Roots::root_low))]
     pub(crate) fn join(&mut self, a: usize, b: usize)
         requires first { a < length self.old }
         requires second { b < length self.old }
@@ -106,6 +110,7 @@ impl SchoolGroups {
     }
 
     /// The number of the group at a position. It costs a climb.
+    #[tactic(auto, using(crate::proofs::Roots::told_roots))]
     pub(crate) fn group_at(&mut self, position: usize) -> usize
         requires { position < length self.old }
         ensures { TellsGroup self.old self.new position result }

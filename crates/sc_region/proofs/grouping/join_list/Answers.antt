@@ -1,12 +1,8 @@
-use Rattle.std.proofs.Common.{◌≡◌, ◌<◌, ap, refl, sym, ◌∙◌, length, get_or}
+use Rattle.std.proofs.Common.{◌≡◌, ◌<◌, ap, sym, ◌∙◌, length, get_or}
 use Rattle.std.proofs.lemmas.List.Sums.{fold_more}
 use Rattle.sc_region.specs.Groups.{joined, joined_list, position_of}
 use Rattle.sc_region.proofs.Joining.{joined-whole}
 use Rattle.sc_region.proofs.grouping.join_list.Goals as goal
-
-pub loop-school-init : goal.loop-school-init
-unfolding joined_list
-loop-school-init c = (refl, c.position_of-first_position.ensures.position, c.requires.one_each)
 
 pub loop-school-preserved : goal.loop-school-preserved
 unfolding joined_list

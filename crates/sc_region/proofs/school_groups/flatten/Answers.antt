@@ -1,7 +1,7 @@
 use Rattle.std.proofs.Common.{◌≡◌, ◌<◌, ap, ◌∙◌, length, arith}
 use Rattle.std.specs.Prelude.{slice_index}
 use Rattle.std.proofs.lemmas.List.{get_or_read}
-use Rattle.sc_region.proofs.Roots.{flat-all, flat-more}
+use Rattle.sc_region.proofs.Roots.{flat-more}
 use Rattle.sc_region.proofs.school_groups.flatten.Goals as goal
 
 pub loop-position-preserved : goal.loop-position-preserved
@@ -18,8 +18,3 @@ loop-position-preserved c =
     let x_low : x < length now = omega (arith, x_is, flat.from at (omega arith), c.requires at, now_within) in
     let y_is : y ≡ slice_index now x = get_or_read now x y x_low c.index.ensures 0 in
     flat-more old now at y c.requires flat within (y_is ∙ ap (slice_index now) x_is)
-
-pub returns : goal.returns
-returns c =
-    flat-all c.args.parents.now.items c.loop-position.parents.items c.loop-position.position c.loop-position.invariant
-    (omega (arith, c.loop-position-test.false, c.len-position-end.ensures, c.args.parents.now.ok.0))
