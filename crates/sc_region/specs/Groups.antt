@@ -71,11 +71,6 @@ entrants (Correct i zone siblings continuing) = []
 unfoldable pub schools_of_group : List ℕ → ℕ → List ℕ
 schools_of_group groups group = filter (λ at. slice_index groups at == group) (range_with_len 0 (length groups))
 
--- the number of the group at a position is told, and the groups stay
-pub record TellsGroup (old new : List ℕ) (at told : ℕ) : Type 0 where
-  pub group : told ≡ slice_index old at
-  pub same : new ≡ old
-
 -- an amendment that is not refused, beside a list with one entry for each school of the papers
 pub record IsAllowedBeside {X : Type 0} (m : Market) (a : Amendment) (entries : List X) : Type 0 where
   pub allowed : verdict m a ≡ None

@@ -78,9 +78,9 @@ fn flatten(parents: &mut Vec<usize>)
 }
 
 impl SchoolGroups {
-    ghost use Rattle.std.specs.Prelude.{◌≡◌, ◌<◌, length, IfOk};
+    ghost use Rattle.std.specs.Prelude.{◌≡◌, ◌<◌, length, slice_index, IfOk};
     ghost use Rattle.std.specs.List.{range_with_len};
-    ghost use Rattle.sc_region.specs.Groups.{joined, TellsGroup};
+    ghost use Rattle.sc_region.specs.Groups.{joined};
 
     /// Each of so many schools in a group of its own.
     #[tactic(auto, using(crate::proofs::Roots::start_low, crate::proofs::Roots::roots_start))]
@@ -113,7 +113,8 @@ impl SchoolGroups {
     #[tactic(auto, using(crate::proofs::Roots::told_roots))]
     pub(crate) fn group_at(&mut self, position: usize) -> usize
         requires { position < length self.old }
-        ensures { TellsGroup self.old self.new position result }
+        ensures group { result ≡ slice_index self.old position }
+        ensures same { self.new ≡ self.old }
     {
         find_root(&mut self.parents, position)
     }
