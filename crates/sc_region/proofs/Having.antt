@@ -11,7 +11,6 @@ use Rattle.sc_papers.proofs.Choices.{contains-at, place-of}
 use Rattle.sc_papers.proofs.Counting.{contains-cons, contains-head, contains-tail}
 use Rattle.sc_papers.proofs.Hands.{hand-is, hand-student}
 use Rattle.sc_papers.proofs.Positions.{among-student, student-among}
-use Rattle.sc_papers.proofs.Students.{lister-among}
 use Rattle.sc_region.specs.Groups.{first_choice, group_of, is_member, joined_students, position_of, schools_of_group, positions_in, start_of, students_at, widened}
 use Rattle.sc_region.specs.Districts.{AreDistricts, AreSearchedFrom, AreWidened, DistrictsView, firsts_at, lists_in}
 use Rattle.sc_region.specs.Region.{InRegion}
@@ -26,12 +25,8 @@ use Rattle.std.proofs.lemmas.List.{length-map}
 use Rattle.sc_region.specs.declared.first.First.{First}
 use Rattle.sc_region.proofs.Firsts.{names}
 use Rattle.sc_region.proofs.Filtering.{filter-among, filter-kept}
-use Rattle.sc_region.proofs.Joining.{first-known, joined-partial, joined-together, position-within}
-use Rattle.sc_region.proofs.Reaching.{in-member, member-in, partial-in}
-
--- a student of the papers is in the region just where their first choice is in the group of the school to begin with
-abbrev pub TellRegion : Market → Amendment → List ℕ → Type 0
-TellRegion m a groups = (i : ℕ) → is_student m i ≡ true → (is_member m groups (group_of m groups (start_of m a)) i ≡ true ↔ InRegion m a i)
+use Rattle.sc_region.proofs.Joining.{first-known, joined-partial, position-within}
+use Rattle.sc_region.proofs.Reaching.{in-member, partial-in, students-tell, TellRegion}
 
 -- what stands in a list stands, mapped, in the mapped one
 map-kept : (f : ℕ → ℕ) (xs : List ℕ) (x : ℕ) → Contains xs x → Contains (map f xs) (f x)
@@ -49,21 +44,6 @@ map-among f (x ∷ xs) y among = elim (contains-cons (f x) (map f xs) y among) [
   | inr later ↦ let (z, there, is) = map-among f xs y later in (z, contains-tail x xs z there, is)
 ]
 
--- students of the papers who have all of the region that are students of the papers
-module _ (m : Market) (a : Amendment) (well : WellFormed m) (allowed : verdict m a ≡ None) (students : List ℕ)
-    (known : (i : ℕ) → Contains students i → is_student m i ≡ true) (enough : (i : ℕ) → InRegion m a i → is_student m i ≡ true → Contains students i) where
-  candidate-in : (i : ℕ) → Contains (students_of m) i → is_member m (widened m a (joined_students m students)) (group_of m (widened m a (joined_students m students)) (start_of m a)) i ≡ true → InRegion m a i
-  unfolding is_member
-  candidate-in i among passes = member-in m a well allowed (joined_students m students) (joined-partial m well a students known) i among (eqb-true _ _ passes)
-
-  in-candidate : (i : ℕ) → InRegion m a i → is_student m i ≡ true → is_member m (widened m a (joined_students m students)) (group_of m (widened m a (joined_students m students)) (start_of m a)) i ≡ true
-  unfolding is_member
-  in-candidate i within i_known =
-      eq-eqb _ _
-      (in-member m a well allowed (joined_students m students) (joined-partial m well a students known).whole (InRegion m a)
-      (λ j s inside listed. joined-together m well students known j s (enough j inside (among-student m j (lister-among m j s listed))) listed)
-      (λ j inside. inside) i within i_known)
-
 -- whoever stands at some positions is in the papers
 pub at-known : (m : Market) (positions : List ℕ) → ((p : ℕ) → Contains positions p → p < length (students_of m)) → (i : ℕ) → Contains (students_at m positions) i → is_student m i ≡ true
 at-known m positions within i among =
@@ -78,24 +58,11 @@ listed-student m positions Of all i there its =
     let own : student_at m p ≡ i = hand-is m p i here in
     subst (Contains (students_at m positions)) own (map-kept (student_at m) positions p (all p (slice_get_within (students_of m) p i here) (subst Of (sym own) its)))
 
--- the lists of students who have all of the region tell it
-module _ (m : Market) (a : Amendment) (well : WellFormed m) (allowed : verdict m a ≡ None) (positions : List ℕ)
-    (within : (p : ℕ) → Contains positions p → p < length (students_of m)) (enough : (p : ℕ) → p < length (students_of m) → InRegion m a (student_at m p) → Contains positions p) where
-  at-enough : (i : ℕ) → InRegion m a i → is_student m i ≡ true → Contains (students_at m positions) i
-  at-enough i inside known = listed-student m positions (InRegion m a) enough i (student-among m i known) inside
-
-  pub all-tell : TellRegion m a (widened m a (joined_students m (students_at m positions)))
-  all-tell i known = (
-    λ passes. candidate-in m a well allowed (students_at m positions) (at-known m positions within) at-enough i (student-among m i known) passes,
-    λ inside. in-candidate m a well allowed (students_at m positions) (at-known m positions within) at-enough i inside known,
-  )
-
--- whoever's first choice the lists of a few join with the school to begin with, is in the region
-few-in : (m : Market) (a : Amendment) → WellFormed m → verdict m a ≡ None → (few : List ℕ) → ((p : ℕ) → Contains few p → p < length (students_of m))
-    → (i : ℕ) → Contains (students_of m) i → group_of m (joined_students m (students_at m few)) (first_choice m i) ≡ group_of m (joined_students m (students_at m few)) (start_of m a)
-    → InRegion m a i
-few-in m a well allowed few within =
-    partial-in m a well allowed (joined_students m (students_at m few)) (joined-partial m well a (students_at m few) (at-known m few within))
+-- the lists of students at positions that have all of the region tell it
+pub enough-tell : (m : Market) (a : Amendment) → WellFormed m → verdict m a ≡ None → (positions : List ℕ) → ((p : ℕ) → Contains positions p → p < length (students_of m))
+    → ((p : ℕ) → p < length (students_of m) → InRegion m a (student_at m p) → Contains positions p) → TellRegion m a (widened m a (joined_students m (students_at m positions)))
+enough-tell m a well allowed positions within enough =
+    students-tell m a well allowed (students_at m positions) (at-known m positions within) (λ i inside known. listed-student m positions (InRegion m a) enough i (student-among m i known) inside)
 
 -- of rising positions that have all of the region, those that the groups tell are the region's
 module _ (m : Market) (a : Amendment) (groups : List ℕ) (tell : TellRegion m a groups) (positions : List ℕ) (rising : IsStrictlyIncreasing positions)
@@ -181,7 +148,7 @@ held-tell m a well d before at its schools are held i known = (to, from)
     to passes =
         let own : slice_index d.groups (position_of m first) ≡ slice_index d.groups at = eqb-true _ _ passes ∙ ap (slice_index d.groups) (sym its) in
         let here = subst (λ xs. Contains xs (position_of m first)) (sym are) (position-kept d.groups (slice_index d.groups at) (position_of m first) low own) in
-        few-in m a well before.allowed held.few held.within i (student-among m i known)
+        partial-in m a well before.allowed (joined_students m (students_at m held.few)) (joined-partial m well a (students_at m held.few) (at-known m held.few held.within)) i (student-among m i known)
         (held.together (position_of m first) here ∙ ap (slice_index (joined_students m (students_at m held.few))) its)
 
     from : InRegion m a i → is_member m d.groups (group_of m d.groups (start_of m a)) i ≡ true

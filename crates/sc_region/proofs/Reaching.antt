@@ -1,5 +1,5 @@
 -- The groups that lists and the new choices join tell the region.
-use Rattle.std.proofs.Common.{◌≡◌, ◌⊎◌, ◌↔◌, inl, inr, sym, ap, subst, ◌∙◌, ℕ, ◌==◌, nat_eq, Bool, true, List, Some, None, Contains, IsTrue, filter}
+use Rattle.std.proofs.Common.{◌≡◌, ◌⊎◌, ◌↔◌, inl, inr, sym, ap, subst, ◌∙◌, ℕ, nat_eq, Bool, true, List, Some, None, Contains, filter}
 use Rattle.std.specs.List.{IsDistinct}
 use Rattle.std.proofs.lemmas.Bool.{eqb-true, eq-eqb}
 use Rattle.std.proofs.lemmas.List.Elements.{Contains-append_cases, Contains-append_left, Contains-append_right}
@@ -14,7 +14,7 @@ use Rattle.sc_region.specs.Groups.{entrants, first_choice, group_of, is_member, 
 use Rattle.sc_region.specs.Region.{amended_student, InRegion, amended, concerned, next, Lists}
 use Rattle.sc_region.proofs.Changes.{amended-known, amended-some, entrant-amended, entrants-differ, new-amended, new-known, new-listed, old-or_new, start-amended, start-first, start-known, start-listed}
 use Rattle.sc_region.proofs.Choosing.{first-listed}
-use Rattle.sc_region.proofs.Joining.{Linked, itself, shared, through, AreWhole, Coarser, IsPartial, grouped-partial, grouped-together, list-coarser, list-partial, list-together}
+use Rattle.sc_region.proofs.Joining.{Linked, itself, shared, through, AreWhole, Coarser, IsPartial, joined-partial, joined-together, list-coarser, list-partial, list-together}
 
 -- the groups that all lists join, those before the amendment and those after it
 unfoldable pub region_groups : Market → Amendment → List ℕ
@@ -128,51 +128,52 @@ module _ (m : Market) (a : Amendment) (well : WellFormed m) (allowed : verdict m
       → group_of m (widened m a groups) (first_choice m i) ≡ group_of m (widened m a groups) (start_of m a)
   in-member all i within known = in-near all i within (first_choice m i) (inl (first-listed m well i known))
 
+-- a student of the papers is in the region just where their first choice is in the group of the school to begin with
+abbrev pub TellRegion : Market → Amendment → List ℕ → Type 0
+TellRegion m a groups = (i : ℕ) → is_student m i ≡ true → (is_member m groups (group_of m groups (start_of m a)) i ≡ true ↔ InRegion m a i)
+
+-- the lists of students of the papers tell it, where all of them who are in it are among these
+pub students-tell : (m : Market) (a : Amendment) → WellFormed m → verdict m a ≡ None → (students : List ℕ) → ((i : ℕ) → Contains students i → is_student m i ≡ true)
+    → ((i : ℕ) → InRegion m a i → is_student m i ≡ true → Contains students i) → TellRegion m a (widened m a (joined_students m students))
+unfolding is_member
+students-tell m a well allowed students known enough i i_known = (
+  λ passes. member-in m a well allowed (joined_students m students) (joined-partial m well a students known) i (student-among m i i_known) (eqb-true _ _ passes),
+  λ inside.
+      eq-eqb _ _
+      (in-member m a well allowed (joined_students m students) (joined-partial m well a students known).whole (InRegion m a)
+      (λ j s within listed. joined-together m well students known j s (enough j within (among-student m j (lister-among m j s listed))) listed)
+      (λ j within. within) i inside i_known),
+)
+
 -- the groups that all lists join
 module _ (m : Market) (a : Amendment) (well : WellFormed m) (allowed : verdict m a ≡ None) where
-  all-in : (i : ℕ) → Contains (students_of m) i → group_of m (region_groups m a) (first_choice m i) ≡ group_of m (region_groups m a) (start_of m a) → InRegion m a i
+  pub all-tell : TellRegion m a (region_groups m a)
   unfolding region_groups
-  all-in = member-in m a well allowed (joined_students m (students_of m)) (grouped-partial m well a)
+  all-tell = students-tell m a well allowed (students_of m) (among-student m) (λ i within known. student-among m i known)
 
-  in-all : (i : ℕ) → InRegion m a i → is_student m i ≡ true → group_of m (region_groups m a) (first_choice m i) ≡ group_of m (region_groups m a) (start_of m a)
-  unfolding region_groups
-  in-all =
-      in-member m a well allowed (joined_students m (students_of m)) (grouped-partial m well a).whole (InRegion m a) (λ i s within listed. grouped-together m well i s listed) (λ i within. within)
+  abbrev test : ℕ → Bool
+  test = is_member m (region_groups m a) (group_of m (region_groups m a) (start_of m a))
 
   -- the members are the region
   pub region-exact : (i : ℕ) → (Contains (region_members m a) i ↔ InRegion m a i)
-  unfolding region_members members_of is_member
+  unfolding region_members members_of
   region-exact i = (to, from)
     where
-      test : ℕ → Bool
-      test j = group_of m (region_groups m a) (first_choice m j) == group_of m (region_groups m a) (start_of m a)
-
       to : Contains (region_members m a) i → InRegion m a i
       to among = elim (Contains-append_cases (filter test (students_of m)) (entrants a) i among) [
-        | inl member ↦ let (there, passes) = filter-among test (students_of m) i member in all-in i there (eqb-true _ _ passes)
+        | inl member ↦ let (there, passes) = filter-among test (students_of m) i member in (all-tell i (among-student m i there)).0 passes
         | inr enters ↦ amended i (entrant-amended m a i enters)
       ]
 
       from : InRegion m a i → Contains (region_members m a) i
       from within = elim (in-known m a well allowed i within) [
-        | inl known ↦
-            Contains-append_left (filter test (students_of m)) (entrants a) i
-            (filter-kept test (students_of m) i (student-among m i known) (eq-eqb _ _ (in-all i within known)))
+        | inl known ↦ Contains-append_left (filter test (students_of m)) (entrants a) i (filter-kept test (students_of m) i (student-among m i known) ((all-tell i known).1 within))
         | inr enters ↦ Contains-append_right (filter test (students_of m)) (entrants a) i enters
       ]
 
-  -- and of the students of the papers, those are in it whose first choice is in the group
-  pub region-marked : (i : ℕ) → Contains (students_of m) i → (IsTrue (is_member m (region_groups m a) (group_of m (region_groups m a) (start_of m a)) i) ↔ InRegion m a i)
-  unfolding is_member
-  region-marked i among = (
-    λ passes. all-in i among (eqb-true _ _ passes),
-    λ within. eq-eqb _ _ (in-all i within (among-student m i among)),
-  )
-
   -- and they differ
   pub region-differs : IsDistinct nat_eq (region_members m a)
-  unfolding region_members members_of is_member
+  unfolding region_members members_of
   region-differs =
-      entrants-differ m a allowed (members_of m (region_groups m a) (group_of m (region_groups m a) (start_of m a)))
-      (λ i among. among-student m i (filter-among (λ j. group_of m (region_groups m a) (first_choice m j) == group_of m (region_groups m a) (start_of m a)) (students_of m) i among).0)
-      (filter-differ (λ j. group_of m (region_groups m a) (first_choice m j) == group_of m (region_groups m a) (start_of m a)) (students_of m) well.students_differ)
+      entrants-differ m a allowed (filter test (students_of m)) (λ i among. among-student m i (filter-among test (students_of m) i among).0)
+      (filter-differ test (students_of m) well.students_differ)

@@ -1,11 +1,10 @@
 use Rattle.std.proofs.Common.{◌<◌, ℕ, List, ap, sym, subst, ◌∙◌, length, Contains, arith}
 use Rattle.std.specs.Prelude.{slice_index}
 use Rattle.std.proofs.lemmas.List.{get_or_read}
-use Rattle.sc_papers.proofs.Positions.{student-among}
 use Rattle.sc_region.specs.Districts.{lists_in, AreDistricts, AreWidened, DistrictsView}
 use Rattle.sc_region.specs.Groups.{schools_of_group}
-use Rattle.sc_region.proofs.Having.{all-told, held-tell, position-low, TellRegion}
-use Rattle.sc_region.proofs.Reaching.{region-marked}
+use Rattle.sc_region.proofs.Having.{all-told, held-tell, position-low}
+use Rattle.sc_region.proofs.Reaching.{all-tell, TellRegion}
 use Rattle.sc_region.proofs.Regrouping.{all-joined, all-widened}
 use Rattle.sc_region.proofs.districts.Districts.positions_among_all.Goals as goal
 
@@ -37,7 +36,7 @@ returns-clause-region c =
     let exact = c.widen.new.groups.items in
     let tell : TellRegion m a exact =
     subst (TellRegion m a) (sym (all-joined m a _ _ c.widen.ensures.widened (c.into_numbers-exact.ensures ∙ c.in_ok-groups_of.ensures.joined)))
-    (λ i known. region-marked m a c.students_len.ensures.well_formed c.requires.searched.widened.allowed i (student-among m i known)) in
+    (all-tell m a c.students_len.ensures.well_formed c.requires.searched.widened.allowed) in
     let low : start < length exact = omega (arith, c.requires.searched.within, c.widen.ensures.one_each) in
     all-told m a exact tell start c.requires.searched.start c.as_slice-2.result.now c.in_ok-positions-2.positions.items c.index.result.now
     c.as_slice-2.ensures.value (get_or_read exact start c.index.result.now low c.index.ensures 0) c.in_ok-positions-2.ensures

@@ -3,7 +3,8 @@ use Rattle.std.specs.Prelude.{slice_index, if◌then◌else◌}
 use Rattle.std.proofs.lemmas.List.{get_or_read}
 use Rattle.sc_region.specs.Districts.{lists_in, DistrictsView}
 use Rattle.sc_region.specs.Groups.{first_choice, group_of, students_at, widened}
-use Rattle.sc_region.proofs.Having.{all-tell, at-known, held-tell, listed-district, listed-student, position-listed, position-low, region-told, TellRegion}
+use Rattle.sc_region.proofs.Having.{at-known, enough-tell, held-tell, listed-district, listed-student, position-listed, position-low, region-told}
+use Rattle.sc_region.proofs.Reaching.{TellRegion}
 use Rattle.sc_region.proofs.Regrouping.{regrouped-widened}
 use Rattle.sc_region.proofs.districts.Districts.positions_among_listed.Goals as goal
 
@@ -57,7 +58,7 @@ returns-clause-region c =
     let has = listed-district m a well d c.args.self.now c.self.view_is start c.requires.searched c.args.schools.now c.requires.schools c.in_ok-candidates.candidates.items chosen
     c.as_slice-listed.ensures.value listed.rising listed.within listed.all in
     let joined = c.widen.ensures.widened ∙ ap (widened m a) (c.into_numbers-exact.ensures ∙ c.in_ok-groups_among.ensures.joined) in
-    let tell = subst (TellRegion m a) (sym joined) (all-tell m a well c.requires.searched.widened.allowed chosen has.within has.enough) in
+    let tell = subst (TellRegion m a) (sym joined) (enough-tell m a well c.requires.searched.widened.allowed chosen has.within has.enough) in
     let low : start < length exact = omega (arith, c.requires.searched.within, c.widen.ensures.one_each) in
     region-told m a exact tell chosen has.rising has.within has.enough start c.requires.searched.start c.as_slice-2.result.now c.in_ok-positions-2.positions.items c.index.result.now
     c.as_slice-2.ensures.value (get_or_read exact start c.index.result.now low c.index.ensures 0) c.in_ok-positions-2.ensures
