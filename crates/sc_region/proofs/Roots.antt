@@ -31,7 +31,7 @@ module _ (parents : List ℕ) (low : AreParents parents) where
   -- more steps than are needed lead no further
   climbed-enough : (few many k : ℕ) → k ≤ few → k ≤ many → climbed parents few k ≡ climbed parents many k
   unfolding climbed
-  climbed-enough zero many k within also = let fixed : slice_index parents k ≡ k = omega (arith, low k, within) in let none : k ≡ 0 = omega (arith, within) in sym (climbed-fixed many k fixed)
+  climbed-enough zero many k within also = let fixed : slice_index parents k ≡ k = omega (arith, low k, within) in sym (climbed-fixed many k fixed)
   climbed-enough (suc few) zero k within also = let fixed : slice_index parents k ≡ k = omega (arith, low k, also) in climbed-fixed (suc few) k fixed
   climbed-enough (suc few) (suc many) k within also = elim (cases_lt (slice_index parents k) k) [
     | inl before ↦ climbed-enough few many (slice_index parents k) (omega (arith, before, within)) (omega (arith, before, also))
