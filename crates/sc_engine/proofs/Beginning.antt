@@ -1,6 +1,6 @@
 -- A student who enters begins a chain.
-use Rattle.std.proofs.Common.{◌≡◌, inl, inr, refl, ap, sym, subst, ◌∙◌, ℕ, ◌<◌, ◌==◌, ◌≤◌, nat_eq, Bool, true, false, not, ◌&&◌, ◌||◌, List, [], ◌∷◌, ◌++◌, length, get_or, set, Option, Some, None, is_some, find, position, slice_get, arith, length-set, get_or-set_same, get_or-set_other}
-use Rattle.std.proofs.lemmas.Bool.{cases_Bool, cases_eq, eq-eqb, ne_eqb, false≢true, true≢false, and_left, and_right, or_right}
+use Rattle.std.proofs.Common.{◌≡◌, inl, inr, refl, ap, sym, subst, ◌∙◌, ℕ, ◌<◌, ◌==◌, ◌≤◌, nat_eq, Bool, true, false, not, ◌||◌, List, [], ◌∷◌, ◌++◌, length, get_or, set, Option, Some, None, is_some, find, position, slice_get, arith, length-set, get_or-set_same, get_or-set_other}
+use Rattle.std.proofs.lemmas.Bool.{cases_Bool, cases_eq, eq-eqb, ne_eqb, false≢true, true≢false, and_left, or_right}
 use Rattle.sc_papers.specs.Market.{Market, students_of, choices_of}
 use Rattle.sc_papers.specs.Matching.{has}
 use Rattle.sc_papers.specs.Log.{next_choice, is_rejected, IsSettled}
@@ -14,11 +14,11 @@ use Rattle.sc_papers.proofs.Rejections.{is_of, rejected-push, find-agree, has-ag
 use Rattle.sc_papers.proofs.Restriction.{restricted-restricts, next-kept, next-dropped}
 use Rattle.sc_papers.proofs.Subsets.{next-passes}
 use Rattle.sc_papers.proofs.Validity.{along}
-use Rattle.sc_engine.specs.RoundView.{RoundView, rank_of, next_of, has_entered, FitsBut, Fits, only, nobody, entered_papers, Continues, Midway, ChainEnds, Enters, CountsProposals, Extends, RollFits, roll_of}
+use Rattle.sc_engine.specs.RoundView.{RoundView, rank_of, next_of, has_entered, FitsBut, Fits, except, only, nobody, entered_papers, Continues, Midway, ChainEnds, Enters, CountsProposals, Extends, RollFits, roll_of}
 use Rattle.sc_engine.proofs.Tables.{rank-apart, rank-at, next-by, next-none}
 use Rattle.sc_engine.proofs.Tables as tables
 use Rattle.sc_engine.proofs.Rolls.{roll-fits_still}
-use Rattle.sc_engine.proofs.Proposals.{has-none, not-there, stays, standing-without, standing-others, counted-within}
+use Rattle.sc_engine.proofs.Proposals.{except-alike, has-left, has-none, standing-without, standing-others, counted-within}
 
 -- the student goes to a rank of their choices, with nothing else changed
 pub record Begun (m : Market) (r r' : RoundView) (i at rank : ℕ) : Type 0 where
@@ -71,15 +71,10 @@ counted-begun {m} {r} {r'} {i} begun =
       standing-others m r.ranks r'.ranks i (next-others begun),
     )
 
-stand-alike : {m : Market} {r r' : RoundView} {i at rank : ℕ} → Begun m r r' i at rank → (t j : ℕ) → (has (next_of m r.ranks) t j && not false) ≡ (has (next_of m r'.ranks) t j && not (j == i))
-stand-alike {m} {r} {r'} {i} begun t j = elim (cases_eq j i) [
-  | inl same ↦
-      stays (has (next_of m r.ranks) t j) ∙ has-none (next_of m r.ranks) t j (ap (next_of m r.ranks) same ∙ next-absent begun)
-      ∙ sym (and_right (has (next_of m r'.ranks) t j) (not (j == i)) (ap not (eq-eqb j i same)))
-  | inr apart ↦
-      stays (has (next_of m r.ranks) t j) ∙ sym (has-agree (next_of m r'.ranks) (next_of m r.ranks) t j (next-others begun j apart))
-      ∙ sym (not-there (has (next_of m r'.ranks) t j) j i (λ same. absurd (apart same)))
-]
+stand-alike : {m : Market} {r r' : RoundView} {i at rank : ℕ} → Begun m r r' i at rank → (t j : ℕ) → has (next_of m r.ranks) t j ≡ has (except (only i) (next_of m r'.ranks)) t j
+stand-alike {m} {r} {r'} {i} begun t j =
+    sym (has-left (next_of m r.ranks) i t (has-none (next_of m r.ranks) t i (next-absent begun)) j)
+    ∙ sym (has-agree (except (only i) (next_of m r'.ranks)) (except (only i) (next_of m r.ranks)) t j (except-alike (next_of m r'.ranks) (next_of m r.ranks) i (next-others begun) j))
 
 -- the rolls still fit, with the student away
 pub fits-begun : {m : Market} {r r' : RoundView} {i at rank : ℕ} → Begun m r r' i at rank → FitsBut m r' (only i)
@@ -88,8 +83,8 @@ fits-begun {m} {r} {r'} {i} {at} {rank} begun = record {
   within_limits = begun.fits.within_limits;
   ranks = begun.within;
   rolls = ap length begun.rolls ∙ begun.fits.rolls;
-  each = λ t. subst (λ rolls. RollFits m (next_of m r'.ranks) (only i) t (roll_of m rolls t)) (sym begun.rolls)
-      (roll-fits_still m (next_of m r.ranks) (next_of m r'.ranks) nobody (only i) t (roll_of m r.rolls t) (stand-alike begun t) (begun.fits.each t));
+  each = λ t. subst (λ rolls. RollFits m (except (only i) (next_of m r'.ranks)) t (roll_of m rolls t)) (sym begun.rolls)
+      (roll-fits_still m (next_of m r.ranks) (except (only i) (next_of m r'.ranks)) t (roll_of m r.rolls t) (stand-alike begun t) (begun.fits.each t));
   proposals = counted-within m r nobody r' (only i) (counted-begun begun) begun.fits.proposals;
 }
 

@@ -2,7 +2,7 @@
 use Rattle.std.proofs.Common.{◌≡◌, inl, inr, refl, ap, sym, subst, ◌∙◌, ℕ, ◌<◌, ◌≤◌, nat_eq, Bool, true, false, not, ◌&&◌, List, [], ◌∷◌, length, map, set, Option, None, Some, Contains, count_by, position, slice_get, slice_index_or, arith, length-set}
 use Rattle.std.specs.Map.{keys_of, lookup}
 use Rattle.std.specs.Option.{option_map_or}
-use Rattle.std.proofs.lemmas.Bool.{and_left, and_right, cases_Bool, cases_eq, cond-true}
+use Rattle.std.proofs.lemmas.Bool.{and_right, cases_Bool, cases_eq, cond-true}
 use Rattle.std.proofs.lemmas.List.Elements.{All-contains_itself, All-weaker}
 use Rattle.std.proofs.lemmas.Option.{none-some}
 use Rattle.sc_papers.specs.Key.{key_of}
@@ -22,7 +22,7 @@ use Rattle.sc_papers.proofs.Rewinding.{key_by, key-by}
 use Rattle.sc_papers.proofs.Students.{how_many-agree}
 use Rattle.sc_seats.specs.Roll.{RollView}
 use Rattle.sc_engine.specs.Leaving.{IsReseated}
-use Rattle.sc_engine.specs.RoundView.{Fits, RollFits, RoundView, next_of, no_roll, nobody, rank_of, roll_at, roll_of}
+use Rattle.sc_engine.specs.RoundView.{Fits, RollFits, RoundView, next_of, no_roll, rank_of, roll_at, roll_of}
 use Rattle.sc_engine.proofs.Leaving.{stander-lists}
 use Rattle.sc_engine.proofs.Proposals.{has-none}
 use Rattle.sc_engine.proofs.RollCounts.{counted, fits-counted}
@@ -77,25 +77,25 @@ module _ (m n : Market) (test : ℕ → Bool) (ranks ranks' : List (Option ℕ))
   stander-fails : (i s : ℕ) → next_of m ranks i ≡ Some s → test i ≡ false
   stander-fails i s next = elim (cases_Bool (test i)) [ inl passes ↦ absurd (none-some s (sym (next-none m ranks i (gone i passes)) ∙ next)) | inr fails ↦ fails ]
 
-  pub roll-changed : (s : ℕ) (old new : RollView) → RollFits m (next_of m ranks) nobody s old → new.keys ≡ old.keys → new.seats ≡ seats_of n s → RollFits n (next_of n ranks') nobody s new
-  roll-changed s old new fits keys seats = fits-counted n (next_of n ranks') nobody s new (record {
+  pub roll-changed : (s : ℕ) (old new : RollView) → RollFits m (next_of m ranks) s old → new.keys ≡ old.keys → new.seats ≡ seats_of n s → RollFits n (next_of n ranks') s new
+  roll-changed s old new fits keys seats = fits-counted n (next_of n ranks') s new (record {
     seats = seats;
     within = enough old.keys refl;
     keyed = All-weaker (Contains new.keys) (λ (key : Key). key ≡ key_of n key.student s) (λ key held.
-        let on = on-roll m (next_of m ranks) nobody s old key fits (subst (λ (ks : List Key). Contains ks key) keys held) in
+        let on = on-roll m (next_of m ranks) s old key fits (subst (λ (ks : List Key). Contains ks key) keys held) in
         on.own ∙ sym (key-outside key.student s (stander-fails key.student s on.stands))) new.keys (All-contains_itself new.keys);
     exact = λ p.
         ap (λ (ks : List Key). count_by (λ (key : Key). p key.student) ks) keys
-        ∙ (counted m (next_of m ranks) nobody s old fits).exact p
-        ∙ sym (counts-outside (λ j. p j && (has (next_of m ranks) s j && not false)) (λ j passes. and_right (p j) (has (next_of m ranks) s j && not false) (and_left (has (next_of m ranks) s j) (not false) (has-none (next_of m ranks) s j (next-none m ranks j (gone j passes))))))
-        ∙ how_many-agree n (λ j. p j && (has (next_of m ranks) s j && not false)) (λ j. p j && (has (next_of n ranks') s j && not false)) (λ j. ap (λ b. p j && (b && not false)) (has-agree (next_of m ranks) (next_of n ranks') s j (sym (next-changed j))));
+        ∙ (counted m (next_of m ranks) s old fits).exact p
+        ∙ sym (counts-outside (λ j. p j && has (next_of m ranks) s j) (λ j passes. and_right (p j) (has (next_of m ranks) s j) (has-none (next_of m ranks) s j (next-none m ranks j (gone j passes)))))
+        ∙ how_many-agree n (λ j. p j && has (next_of m ranks) s j) (λ j. p j && has (next_of n ranks') s j) (λ j. ap (λ b. p j && b) (has-agree (next_of m ranks) (next_of n ranks') s j (sym (next-changed j))));
   })
     where
       -- a school that somebody stands at has the seats that it had
       enough : (ks : List Key) → old.keys ≡ ks → length new.keys ≤ new.seats
       enough [] none = omega (arith, ap length keys, ap length none)
       enough (key ∷ rest) some =
-          let on = on-roll m (next_of m ranks) nobody s old key fits (subst (λ (l : List Key). Contains l key) (sym some) (contains-head key rest)) in
+          let on = on-roll m (next_of m ranks) s old key fits (subst (λ (l : List Key). Contains l key) (sym some) (contains-head key rest)) in
           omega (arith, ap length keys, fits.within, fits.seats, seats, alike.seats key.student s (stander-fails key.student s on.stands) (stander-lists m ranks key.student s on.stands))
 
 pub fits-changed : (m n : Market) (test : ℕ → Bool) (old new : RoundView) → AlikeOutside test m n → length n.schools ≡ length m.schools → WellFormed n → WithinLimits n

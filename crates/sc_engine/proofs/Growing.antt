@@ -1,5 +1,5 @@
 -- A round that fits papers fits them with more students at the end.
-use Rattle.std.proofs.Common.{◌≡◌, inl, inr, refl, ap, sym, subst, ◌∙◌, ℕ, zero, suc, ◌<◌, ◌≤◌, ◌==◌, nat_eq, Bool, true, false, not, ◌&&◌, List, [], ◌∷◌, ◌++◌, length, get_or, filter, take, Option, Some, None, Contains, is_some, position, slice_get, arith}
+use Rattle.std.proofs.Common.{◌≡◌, inl, inr, refl, ap, sym, subst, ◌∙◌, ℕ, zero, suc, ◌<◌, ◌≤◌, ◌==◌, nat_eq, Bool, true, false, ◌&&◌, List, [], ◌∷◌, ◌++◌, length, get_or, filter, take, Option, Some, None, Contains, is_some, position, slice_get, arith}
 use Rattle.std.specs.List.{list_any, take-map}
 use Rattle.std.specs.Option.{option_map_or}
 use Rattle.std.proofs.lemmas.Bool.{cases_Bool, cases_lt, cond-true, cond-false, eq-eqb, false≢true, or_left, or_right}
@@ -24,7 +24,8 @@ use Rattle.sc_papers.proofs.Students.{how_many-agree}
 use Rattle.sc_papers.proofs.Subsets.{well-cut}
 use Rattle.sc_seats.specs.Roll.{RollView}
 use Rattle.sc_engine.proofs.RollCounts.{counted, fits-counted}
-use Rattle.sc_engine.specs.RoundView.{RoundView, Continues, Fits, RollFits, entered_papers, has_entered, next_of, nobody, rank_of, roll_of, standing_but}
+use Rattle.sc_papers.specs.Progress.{placed}
+use Rattle.sc_engine.specs.RoundView.{RoundView, Continues, Fits, RollFits, entered_papers, has_entered, next_of, rank_of, roll_of}
 use Rattle.sc_engine.proofs.Rolls.{on-roll}
 use Rattle.sc_engine.proofs.Tables.{entered-among, length-mapped, next-by, next-entered, next-none, rank-at}
 
@@ -111,33 +112,32 @@ module _ (m : Market) (test : ℕ → Bool) (ranks : List (Option ℕ))
       both true b off = refl
       both false b off = sym off
 
-  standing-part : (away : ℕ → Bool) → standing_but (restricted m test) ranks away ≡ standing_but m ranks away
-  unfolding standing_but
-  standing-part away =
-      how_many-agree (restricted m test) (λ i. is_some (next_of (restricted m test) ranks i) && not (away i)) (λ i. is_some (next_of m ranks i) && not (away i)) (λ i. ap (λ o. is_some o && not (away i)) (next-part i))
-      ∙ part-counts (λ i. is_some (next_of m ranks i) && not (away i)) (λ i holds. stands i (next_of m ranks i) refl holds)
+  standing-part : placed (restricted m test) (next_of (restricted m test) ranks) ≡ placed m (next_of m ranks)
+  standing-part =
+      how_many-agree (restricted m test) (λ i. is_some (next_of (restricted m test) ranks i)) (λ i. is_some (next_of m ranks i)) (λ i. ap is_some (next-part i))
+      ∙ part-counts (λ i. is_some (next_of m ranks i)) (λ i holds. stands i (next_of m ranks i) refl holds)
     where
-      stands : (i : ℕ) (o : Option ℕ) → next_of m ranks i ≡ o → (is_some (next_of m ranks i) && not (away i)) ≡ true → test i ≡ true
-      stands i None is holds = absurd (false≢true (sym (ap (λ o. is_some o && not (away i)) is) ∙ holds))
+      stands : (i : ℕ) (o : Option ℕ) → next_of m ranks i ≡ o → is_some (next_of m ranks i) ≡ true → test i ≡ true
+      stands i None is holds = absurd (false≢true (sym (ap is_some is) ∙ holds))
       stands i (Some s) is holds = next-passes i s is
 
-  roll-part : (away : ℕ → Bool) (s : ℕ) (roll : RollView) → RollFits (restricted m test) (next_of (restricted m test) ranks) away s roll → RollFits m (next_of m ranks) away s roll
-  roll-part away s roll fits = fits-counted m (next_of m ranks) away s roll (record {
+  roll-part : (s : ℕ) (roll : RollView) → RollFits (restricted m test) (next_of (restricted m test) ranks) s roll → RollFits m (next_of m ranks) s roll
+  roll-part s roll fits = fits-counted m (next_of m ranks) s roll (record {
     seats = fits.seats ∙ seats-restricted m test s;
     within = fits.within;
     keyed = All-weaker (Contains roll.keys) (λ (key : Key). key ≡ key_of m key.student s) (λ key held.
-        let on = on-roll (restricted m test) (next_of (restricted m test) ranks) away s roll key fits held in
+        let on = on-roll (restricted m test) (next_of (restricted m test) ranks) s roll key fits held in
         on.own ∙ key-part key.student s (next-passes key.student s (sym (next-part key.student) ∙ on.stands))) roll.keys (All-contains_itself roll.keys);
     exact = λ p.
-        (counted (restricted m test) (next_of (restricted m test) ranks) away s roll fits).exact p
-        ∙ how_many-agree (restricted m test) (λ j. p j && (has (next_of (restricted m test) ranks) s j && not (away j))) (λ j. p j && (has (next_of m ranks) s j && not (away j)))
-        (λ j. ap (λ o. p j && (option_map_or (λ t. t == s) o false && not (away j))) (next-part j))
-        ∙ part-counts (λ j. p j && (has (next_of m ranks) s j && not (away j))) (λ j holds. held p j (has (next_of m ranks) s j) refl holds);
+        (counted (restricted m test) (next_of (restricted m test) ranks) s roll fits).exact p
+        ∙ how_many-agree (restricted m test) (λ j. p j && has (next_of (restricted m test) ranks) s j) (λ j. p j && has (next_of m ranks) s j)
+        (λ j. ap (λ o. p j && option_map_or (λ t. t == s) o false) (next-part j))
+        ∙ part-counts (λ j. p j && has (next_of m ranks) s j) (λ j holds. held p j (has (next_of m ranks) s j) refl holds);
   })
     where
-      held : (p : ℕ → Bool) (j : ℕ) (b : Bool) → has (next_of m ranks) s j ≡ b → (p j && (has (next_of m ranks) s j && not (away j))) ≡ true → test j ≡ true
+      held : (p : ℕ → Bool) (j : ℕ) (b : Bool) → has (next_of m ranks) s j ≡ b → (p j && has (next_of m ranks) s j) ≡ true → test j ≡ true
       held p j true is holds = next-passes j s (has-true (next_of m ranks) s j is)
-      held p j false is holds = absurd (false≢true (sym (ap (λ b. p j && (b && not (away j))) is ∙ off (p j)) ∙ holds))
+      held p j false is holds = absurd (false≢true (sym (ap (λ b. p j && b) is ∙ off (p j)) ∙ holds))
         where
           off : (a : Bool) → (a && false) ≡ false
           off true = refl
@@ -201,7 +201,7 @@ rolls-part : (m : Market) (test : ℕ → Bool) (r : RoundView) → Fits (restri
 unfolding restricted
 rolls-part m test r part = part.rolls
 
-each-part : (m : Market) (test : ℕ → Bool) (r : RoundView) → Fits (restricted m test) r → (s : ℕ) → RollFits (restricted m test) (next_of (restricted m test) r.ranks) nobody s (roll_of m r.rolls s)
+each-part : (m : Market) (test : ℕ → Bool) (r : RoundView) → Fits (restricted m test) r → (s : ℕ) → RollFits (restricted m test) (next_of (restricted m test) r.ranks) s (roll_of m r.rolls s)
 unfolding restricted roll_of
 each-part m test r part s = part.each s
 
@@ -217,8 +217,8 @@ fits-grown m k r well within fits =
       within_limits = within;
       ranks = omega (arith, fits.ranks, cut-short m k);
       rolls = rolls-part m test r part;
-      each = λ s. roll-part m test r.ranks same entered nobody s (roll_of m r.rolls s) (each-part m test r part s);
-      proposals = omega (arith, part.proposals, standing-part m test r.ranks same entered nobody);
+      each = λ s. roll-part m test r.ranks same entered s (roll_of m r.rolls s) (each-part m test r part s);
+      proposals = omega (arith, part.proposals, standing-part m test r.ranks same entered);
     }
 
 pub entered-grown : (m : Market) (k : ℕ) (r : RoundView) → WellFormed m → Fits (cut m k) r → (i : ℕ) → has_entered m r.ranks i ≡ has_entered (cut m k) r.ranks i

@@ -1,7 +1,7 @@
 -- Students who leave a round together, where nobody else lists a school that one of them lists.
-use Rattle.std.proofs.Common.{◌≡◌, ◌⊎◌, inl, inr, refl, ap, sym, subst, ◌∙◌, ℕ, ◌+◌, ◌<◌, nat_eq, Bool, true, false, not, ◌&&◌, List, [], ◌∷◌, length, take, get_or, map, set, Option, None, Some, Contains, IfSome, position, arith, length-set}
+use Rattle.std.proofs.Common.{◌≡◌, ◌⊎◌, inl, inr, refl, ap, sym, subst, ◌∙◌, ℕ, ◌+◌, ◌<◌, nat_eq, Bool, true, false, ◌&&◌, List, [], ◌∷◌, length, take, get_or, map, set, Option, None, Some, Contains, IfSome, position, arith, length-set}
 use Rattle.std.specs.Option.{option_map, option_map_or, unwrap_or}
-use Rattle.std.proofs.lemmas.Bool.{cases_Bool, cases_eq, false≢true, and_left, and_right}
+use Rattle.std.proofs.lemmas.Bool.{cases_Bool, cases_eq, false≢true, and_right}
 use Rattle.std.proofs.lemmas.List.{take_more}
 use Rattle.std.proofs.lemmas.List.Elements.{Contains-append_left, Contains-get_or, Contains-push, Contains-push_cases}
 use Rattle.sc_papers.specs.Key.{key_of}
@@ -20,7 +20,7 @@ use Rattle.sc_papers.proofs.Students.{how_many-none}
 use Rattle.sc_seats.specs.Roll.{RollView}
 use Rattle.sc_engine.specs.Leaving.{AreEmptied, AreWithin, Leave, SomeStands, StandAt, StandsThere}
 use Rattle.sc_engine.specs.Proposals.{IsProposal}
-use Rattle.sc_engine.specs.RoundView.{Fits, RollFits, RoundView, next_of, no_roll, nobody, rank_of, roll_at, roll_of}
+use Rattle.sc_engine.specs.RoundView.{Fits, RollFits, RoundView, next_of, no_roll, rank_of, roll_at, roll_of}
 use Rattle.sc_engine.proofs.Offers.{roll_at-mapped}
 use Rattle.sc_engine.proofs.Proposals.{has-none}
 use Rattle.sc_engine.proofs.Renewing.{roll-set_other, roll-set_same}
@@ -185,43 +185,42 @@ module _ (m : Market) (test : ℕ → Bool) (positions : List ℕ) (at : StandAt
       }
 
   -- a roll that stays fits, where nobody who passes stood there
-  fits-same : (s : ℕ) (roll : RollView) → RollFits m (next_of m old.ranks) nobody s roll → ((j : ℕ) → test j ≡ true → next_of m old.ranks j ≡ Some s → ⊥) → RollFits m (next_of m new.ranks) nobody s roll
-  fits-same s roll before nobody_stood = roll-fits_still m (next_of m old.ranks) (next_of m new.ranks) nobody nobody s roll alike before
+  fits-same : (s : ℕ) (roll : RollView) → RollFits m (next_of m old.ranks) s roll → ((j : ℕ) → test j ≡ true → next_of m old.ranks j ≡ Some s → ⊥) → RollFits m (next_of m new.ranks) s roll
+  fits-same s roll before nobody_stood = roll-fits_still m (next_of m old.ranks) (next_of m new.ranks) s roll alike before
     where
-      alike : (j : ℕ) → (has (next_of m old.ranks) s j && not false) ≡ (has (next_of m new.ranks) s j && not false)
+      alike : (j : ℕ) → has (next_of m old.ranks) s j ≡ has (next_of m new.ranks) s j
       alike j = elim (cases_Bool (test j)) [
         | inl passes ↦ elim (cases_Bool (has (next_of m old.ranks) s j)) [
           | inl holds ↦ absurd (nobody_stood j passes (has-true (next_of m old.ranks) s j holds))
-          | inr fails_there ↦ ap (λ b. b && not false) (fails_there ∙ sym (has-none (next_of m new.ranks) s j (next-gone j passes)))
+          | inr fails_there ↦ fails_there ∙ sym (has-none (next_of m new.ranks) s j (next-gone j passes))
         ]
-        | inr fails ↦ ap (λ b. b && not false) (has-agree (next_of m old.ranks) (next_of m new.ranks) s j (sym (next-stays j fails)))
+        | inr fails ↦ has-agree (next_of m old.ranks) (next_of m new.ranks) s j (sym (next-stays j fails))
       ]
 
-  fits-stayed : (s k : ℕ) → position (nat_eq s) (schools_of m) ≡ Some k → roll_at new.rolls k ≡ roll_at old.rolls k → RollFits m (next_of m new.ranks) nobody s (roll_at new.rolls k)
+  fits-stayed : (s k : ℕ) → position (nat_eq s) (schools_of m) ≡ Some k → roll_at new.rolls k ≡ roll_at old.rolls k → RollFits m (next_of m new.ranks) s (roll_at new.rolls k)
   fits-stayed s k school same =
-      let before : RollFits m (next_of m old.ranks) nobody s (roll_at old.rolls k) = subst (RollFits m (next_of m old.ranks) nobody s) (roll-at m old.rolls s k school) (fits.each s) in
-      subst (RollFits m (next_of m new.ranks) nobody s) (sym same)
+      let before : RollFits m (next_of m old.ranks) s (roll_at old.rolls k) = subst (RollFits m (next_of m old.ranks) s) (roll-at m old.rolls s k school) (fits.each s) in
+      subst (RollFits m (next_of m new.ranks) s) (sym same)
       (fits-same s (roll_at old.rolls k) before (λ j passes next.
       let some = there j s k passes next school in
       empty-roll (roll_at new.rolls k) (key_of m j s) (rolls.done some.p k some.among some.there)
-      (subst (λ (roll : RollView). Contains roll.keys (key_of m j s)) (sym same) (roll-holds m (next_of m old.ranks) nobody s (roll_at old.rolls k) j before (next-among m old.ranks j s next) next refl))))
+      (subst (λ (roll : RollView). Contains roll.keys (key_of m j s)) (sym same) (roll-holds m (next_of m old.ranks) s (roll_at old.rolls k) j before (next-among m old.ranks j s next) next))))
 
-  fits-unknown : (s : ℕ) → roll_of m old.rolls s ≡ no_roll → RollFits m (next_of m new.ranks) nobody s no_roll
+  fits-unknown : (s : ℕ) → roll_of m old.rolls s ≡ no_roll → RollFits m (next_of m new.ranks) s no_roll
   fits-unknown s is =
-      let before : RollFits m (next_of m old.ranks) nobody s no_roll = subst (RollFits m (next_of m old.ranks) nobody s) is (fits.each s) in
-      fits-same s no_roll before (λ j passes next. empty-roll no_roll (key_of m j s) refl (roll-holds m (next_of m old.ranks) nobody s no_roll j before (next-among m old.ranks j s next) next refl))
+      let before : RollFits m (next_of m old.ranks) s no_roll = subst (RollFits m (next_of m old.ranks) s) is (fits.each s) in
+      fits-same s no_roll before (λ j passes next. empty-roll no_roll (key_of m j s) refl (roll-holds m (next_of m old.ranks) s no_roll j before (next-among m old.ranks j s next) next))
 
   -- a roll that is emptied fits: all who stood there pass
   fits-emptied : (s k : ℕ) → position (nat_eq s) (schools_of m) ≡ Some k → roll_at new.rolls k ≡ record { keys = []; seats = (roll_at old.rolls k).seats } → SomeStands m old.ranks positions k
-      → RollFits m (next_of m new.ranks) nobody s (roll_at new.rolls k)
+      → RollFits m (next_of m new.ranks) s (roll_at new.rolls k)
   fits-emptied s k school empty some =
-      subst (RollFits m (next_of m new.ranks) nobody s) (sym empty)
-      (fits-counted m (next_of m new.ranks) nobody s (record { keys = []; seats = (roll_at old.rolls k).seats }) (record {
-        seats = (subst (RollFits m (next_of m old.ranks) nobody s) (roll-at m old.rolls s k school) (fits.each s)).seats;
+      subst (RollFits m (next_of m new.ranks) s) (sym empty)
+      (fits-counted m (next_of m new.ranks) s (record { keys = []; seats = (roll_at old.rolls k).seats }) (record {
+        seats = (subst (RollFits m (next_of m old.ranks) s) (roll-at m old.rolls s k school) (fits.each s)).seats;
         within = omega arith;
         keyed = λ j d low. absurd (omega (arith, low));
-        exact = λ p. sym (how_many-none m (λ j. p j && (has (next_of m new.ranks) s j && not false))
-            (λ j among. and_right (p j) (has (next_of m new.ranks) s j && not false) (and_left (has (next_of m new.ranks) s j) (not false) (nobody_stands j))));
+        exact = λ p. sym (how_many-none m (λ j. p j && has (next_of m new.ranks) s j) (λ j among. and_right (p j) (has (next_of m new.ranks) s j) (nobody_stands j)));
       }))
     where
       one : ℕ
@@ -245,11 +244,11 @@ module _ (m : Market) (test : ℕ → Bool) (positions : List ℕ) (at : StandAt
         ]
       ]
 
-  fits-left : (s : ℕ) → RollFits m (next_of m new.ranks) nobody s (roll_of m new.rolls s)
+  fits-left : (s : ℕ) → RollFits m (next_of m new.ranks) s (roll_of m new.rolls s)
   unfolding roll_of
   fits-left s = go (position (nat_eq s) (schools_of m)) refl
     where
-      go : (o : Option ℕ) → position (nat_eq s) (schools_of m) ≡ o → RollFits m (next_of m new.ranks) nobody s (option_map_or (roll_at new.rolls) o no_roll)
+      go : (o : Option ℕ) → position (nat_eq s) (schools_of m) ≡ o → RollFits m (next_of m new.ranks) s (option_map_or (roll_at new.rolls) o no_roll)
       go None is = fits-unknown s (ap (λ o. option_map_or (roll_at old.rolls) o no_roll) is)
       go (Some k) is = elim (rolls.each k) [ inl same ↦ fits-stayed s k is same | inr (empty, some) ↦ fits-emptied s k is empty some ]
 

@@ -1,6 +1,6 @@
 -- The moves of a chain, as the code makes them.
-use Rattle.std.proofs.Common.{◌≡◌, refl, ap, sym, subst, ◌∙◌, ℕ, ◌+◌, ◌<◌, nat_eq, Bool, List, [], ◌∷◌, ◌++◌, length, get_or, set, Option, Some, None, Contains, position, is_some, append_assoc, append-nil, arith}
-use Rattle.std.proofs.lemmas.Option.{same_Some}
+use Rattle.std.proofs.Common.{◌≡◌, refl, ap, sym, subst, ◌∙◌, ℕ, ◌+◌, ◌<◌, nat_eq, Bool, cond, List, [], ◌∷◌, ◌++◌, length, get_or, set, Option, Some, None, Contains, position, is_some, append_assoc, append-nil, arith}
+use Rattle.std.proofs.lemmas.Option.{none-some, same_Some}
 use Rattle.sc_papers.specs.Market.{Market, student_at, students_of, schools_of}
 use Rattle.sc_papers.specs.Key.{key_of}
 use Rattle.sc_papers.specs.WellFormed.{WellFormed}
@@ -10,9 +10,9 @@ use Rattle.sc_papers.specs.declared.rejection.Rejection.{Rejection}
 use Rattle.sc_seats.specs.Roll.{RollView}
 use Rattle.sc_papers.specs.declared.proposal.Proposal.{Proposal}
 use Rattle.sc_engine.specs.Proposals.{IsProposal}
-use Rattle.sc_engine.specs.RoundView.{RoundView, rank_of, next_of, choices_left, FitsBut, only, OffersAt, RollFits, roll_at, ChainEnds, ChainGoesOn, CountsProposals, nobody, Extends, PassedOver, Proposes}
+use Rattle.sc_engine.specs.RoundView.{RoundView, rank_of, next_of, choices_left, FitsBut, except, only, OffersAt, RollFits, roll_at, ChainEnds, ChainGoesOn, CountsProposals, nobody, Extends, PassedOver, Proposes}
 use Rattle.std.proofs.lemmas.Bool.{eq-eqb}
-use Rattle.sc_engine.proofs.Rolls.{away-off}
+use Rattle.sc_engine.proofs.Rolls.{on-roll}
 use Rattle.sc_engine.proofs.RollCounts.{key-student}
 use Rattle.sc_engine.proofs.Tables.{rank-at, rank-low, roll-at, stands-at, StandsAt, position-of, PositionOf}
 use Rattle.sc_engine.proofs.Proposals.{Proposed, put-out, Out, fits-held, fits-ended, counted-ended, counted-held}
@@ -86,8 +86,9 @@ goes-on m r r' proposer s at rolls out done same_rolls log moved one_more =
 -- what an offer asks of the roll
 pub roll-new : (m : Market) (r : RoundView) (proposer s at : ℕ) (key : Key) → FitsBut m r (only proposer) → position (nat_eq s) (schools_of m) ≡ Some at → key ≡ key_of m proposer s → Contains (roll_at r.rolls at).keys key → ⊥
 roll-new m r proposer s at key fits school is held =
-    away-off m (next_of m r.ranks) (only proposer) s (roll_at r.rolls at) proposer (subst (RollFits m (next_of m r.ranks) (only proposer) s) (roll-at m r.rolls s at school) (fits.each s)) (eq-eqb proposer proposer refl)
-    (subst (Contains (roll_at r.rolls at).keys) is held)
+    let others = except (only proposer) (next_of m r.ranks) in
+    let on = on-roll m others s (roll_at r.rolls at) key (subst (RollFits m others s) (roll-at m r.rolls s at school) (fits.each s)) held in
+    none-some s (sym (ap (λ away. cond away None (next_of m r.ranks key.student)) (eq-eqb key.student proposer (ap (λ (k : Key). k.student) is ∙ key-student m proposer s))) ∙ on.stands)
 
 -- one after the other
 extends-more : (old mid new : List Rejection) → Extends old mid → Extends mid new → Extends old new

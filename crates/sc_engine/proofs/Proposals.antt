@@ -1,6 +1,7 @@
 -- One proposal of a chain: what it keeps, and what it does to the log.
 use Rattle.std.proofs.Common.{◌≡◌, ◌⊎◌, inl, inr, refl, ap, sym, subst, ◌∙◌, ℕ, ◌+◌, ◌≤◌, ◌==◌, nat_eq, Bool, true, false, cond, not, ◌&&◌, List, ◌∷◌, length, Option, Some, None, Contains, is_some, count_by, position, arith}
-use Rattle.std.proofs.lemmas.Bool.{cases_eq, eq-eqb, ne_eqb, and_left, and_right, false_from_ne_true}
+use Rattle.std.specs.Option.{option_map_or}
+use Rattle.std.proofs.lemmas.Bool.{cases_eq, eq-eqb, ne_eqb, and_left, false_from_ne_true}
 use Rattle.std.proofs.lemmas.Option.{same_Some, none-some}
 use Rattle.std.proofs.lemmas.List.Elements.{All-contains, All-cons}
 use Rattle.std.proofs.lemmas.List.Sorted.{Contains-permutation, IsPermutation-sym, All-permutation}
@@ -18,7 +19,7 @@ use Rattle.sc_papers.proofs.Counting.{contains-cons, contains-head, contains-tai
 use Rattle.sc_papers.proofs.Rejections.{has-true, has-some}
 use Rattle.sc_papers.proofs.Students.{how_many-agree}
 use Rattle.sc_seats.specs.Roll.{RollView}
-use Rattle.sc_engine.specs.RoundView.{RoundView, next_of, roll_of, roll_at, RollFits, FitsBut, Fits, only, nobody, standing_but, CountsProposals, OffersAt}
+use Rattle.sc_engine.specs.RoundView.{RoundView, next_of, roll_of, roll_at, RollFits, FitsBut, Fits, except, only, nobody, standing_but, CountsProposals, OffersAt}
 use Rattle.sc_engine.proofs.Tables.{length-mapped, next-among, roll-at, roll-kept}
 use Rattle.sc_engine.proofs.RollCounts.{IsCounted, counted, fits-counted, key-student}
 use Rattle.sc_engine.proofs.Rolls.{on-roll, roll-holds, roll-fits_still, counts-held}
@@ -42,9 +43,35 @@ not-there a j y absent =
     keeps true b holds = holds
     keeps false b holds = refl
 
-pub stays : (a : Bool) → (a && not false) ≡ a
-stays true = refl
-stays false = refl
+-- what is asked of a student's place, where those who are away are left out
+pub asked-except : (test : Option ℕ → Bool) → test None ≡ false → (away : ℕ → Bool) (a : Matching) (j : ℕ) → test (except away a j) ≡ (test (a j) && not (away j))
+asked-except test none away a j = go (away j) (test (a j)) refl
+  where
+    go : (gone passes : Bool) → test (a j) ≡ passes → test (cond gone None (a j)) ≡ (passes && not gone)
+    go true true is = none
+    go true false is = none
+    go false true is = is
+    go false false is = is
+
+pub has-except : (away : ℕ → Bool) (a : Matching) (s j : ℕ) → has (except away a) s j ≡ (has a s j && not (away j))
+has-except away a s j = asked-except (λ o. option_map_or (λ t. t == s) o false) refl away a j
+
+-- leaving out one who does not have a school, the same have it
+pub has-left : (a : Matching) (i s : ℕ) → has a s i ≡ false → (j : ℕ) → has (except (only i) a) s j ≡ has a s j
+has-left a i s absent j = has-except (only i) a s j ∙ not-there (has a s j) j i (λ same. ap (has a s) same ∙ absent)
+
+-- leaving out one, where the others have the same
+pub except-alike : (a b : Matching) (i : ℕ) → ((j : ℕ) → (j ≡ i → ⊥) → a j ≡ b j) → (j : ℕ) → except (only i) a j ≡ except (only i) b j
+except-alike a b i same j = elim (cases_eq j i) [
+  | inl own ↦ ap (λ away. cond away None (a j)) (eq-eqb j i own) ∙ sym (ap (λ away. cond away None (b j)) (eq-eqb j i own))
+  | inr apart ↦ ap (λ o. cond (j == i) None o) (same j apart)
+]
+
+-- one who has the school, and the others
+pub split-except : (m : Market) → WellFormed m → (p : ℕ → Bool) (a : Matching) (s i : ℕ) → Contains (students_of m) i → a i ≡ Some s → how_many m (λ j. p j && has a s j) ≡ cond (p i) 1 0 + how_many m (λ j. p j && has (except (only i) a) s j)
+split-except m well p a s i among stands =
+    how_many-split_both m well p (has a s) i among (has-some a s i stands)
+    ∙ ap (λ n. cond (p i) 1 0 + n) (how_many-agree m (λ j. p j && (has a s j && not (j == i))) (λ j. p j && has (except (only i) a) s j) (λ j. ap (λ b. p j && b) (sym (has-except (only i) a s j))))
 
 -- a proposal as the code makes it: the student in hand stands at s, and their key is offered to the roll
 pub record Proposed (m : Market) (r : RoundView) (proposer s at : ℕ) (rolls : List RollView) (out : Option Key) : Type 0 where
@@ -55,11 +82,11 @@ pub record Proposed (m : Market) (r : RoundView) (proposer s at : ℕ) (rolls : 
 
 module _ {m : Market} {r : RoundView} {proposer s at : ℕ} {rolls : List RollView} {out : Option Key} (done : Proposed m r proposer s at rolls out) where
   -- the school's roll before
-  pub roll-before : RollFits m (next_of m r.ranks) (only proposer) s (roll_at r.rolls at)
-  roll-before = subst (RollFits m (next_of m r.ranks) (only proposer) s) (roll-at m r.rolls s at done.school) (done.fits.each s)
+  pub roll-before : RollFits m (except (only proposer) (next_of m r.ranks)) s (roll_at r.rolls at)
+  roll-before = subst (RollFits m (except (only proposer) (next_of m r.ranks)) s) (roll-at m r.rolls s at done.school) (done.fits.each s)
 
-  pub roll-before_counted : IsCounted m (next_of m r.ranks) (only proposer) s (roll_at r.rolls at)
-  roll-before_counted = counted m (next_of m r.ranks) (only proposer) s (roll_at r.rolls at) roll-before
+  pub roll-before_counted : IsCounted m (except (only proposer) (next_of m r.ranks)) s (roll_at r.rolls at)
+  roll-before_counted = counted m (except (only proposer) (next_of m r.ranks)) s (roll_at r.rolls at) roll-before
 
   -- the other schools' rolls stay
   pub roll-after_other : (t : ℕ) → (t ≡ s → ⊥) → roll_of m rolls t ≡ roll_of m r.rolls t
@@ -74,33 +101,26 @@ counted-within m r away r' away' counted within = omega (arith, counted, within)
 
 -- one who stands at a choice, and the others
 pub standing-split : (m : Market) → WellFormed m → (ranks : List (Option ℕ)) (i s : ℕ) → next_of m ranks i ≡ Some s → standing_but m ranks nobody ≡ 1 + standing_but m ranks (only i)
-unfolding standing_but
 standing-split m well ranks i s stands =
-    how_many-agree m (λ j. is_some (next_of m ranks j) && not false) (λ j. is_some (next_of m ranks j)) (λ j. stays (is_some (next_of m ranks j)))
-    ∙ how_many-split m well (λ j. is_some (next_of m ranks j)) i (next-among m ranks i s stands) (ap is_some stands)
+    how_many-split m well (λ j. is_some (next_of m ranks j)) i (next-among m ranks i s stands) (ap is_some stands)
+    ∙ ap (λ n. 1 + n) (how_many-agree m (λ j. is_some (next_of m ranks j) && not (j == i)) (λ j. is_some (except (only i) (next_of m ranks) j)) (λ j. sym (asked-except is_some refl (only i) (next_of m ranks) j)))
 
 -- no more stand at a choice than there are students
 pub standing-most : (m : Market) (ranks : List (Option ℕ)) (away : ℕ → Bool) → WithinLimits m → standing_but m ranks away ≤ MOST_STUDENTS
-unfolding standing_but how_many
+unfolding how_many
 standing-most m ranks away within =
-    omega (arith, within.students, length-mapped (λ (e : ℕ × Student). e.0) m.students, count_by-le-length (λ i. is_some (next_of m ranks i) && not (away i)) (students_of m))
+    omega (arith, within.students, length-mapped (λ (e : ℕ × Student). e.0) m.students, count_by-le-length (λ i. is_some (except away (next_of m ranks) i)) (students_of m))
 
 -- leaving out one who stands nowhere
 pub standing-without : (m : Market) (ranks : List (Option ℕ)) (i : ℕ) → next_of m ranks i ≡ None → standing_but m ranks nobody ≡ standing_but m ranks (only i)
-unfolding standing_but
 standing-without m ranks i none =
-    how_many-agree m (λ j. is_some (next_of m ranks j) && not false) (λ j. is_some (next_of m ranks j) && not (j == i))
-    (λ j. stays (is_some (next_of m ranks j)) ∙ sym (not-there (is_some (next_of m ranks j)) j i (λ same. ap is_some (ap (next_of m ranks) same ∙ none))))
+    how_many-agree m (λ j. is_some (next_of m ranks j)) (λ j. is_some (except (only i) (next_of m ranks) j))
+    (λ j. sym (asked-except is_some refl (only i) (next_of m ranks) j ∙ not-there (is_some (next_of m ranks j)) j i (λ same. ap is_some (ap (next_of m ranks) same ∙ none))))
 
 -- leaving out one student, where the others stay
 pub standing-others : (m : Market) (old new : List (Option ℕ)) (i : ℕ) → ((j : ℕ) → (j ≡ i → ⊥) → next_of m new j ≡ next_of m old j) → standing_but m new (only i) ≡ standing_but m old (only i)
-unfolding standing_but
 standing-others m old new i same =
-    how_many-agree m (λ j. is_some (next_of m new j) && not (j == i)) (λ j. is_some (next_of m old j) && not (j == i))
-    (λ j. elim (cases_eq j i) [
-      | inl at ↦ and_right (is_some (next_of m new j)) (not (j == i)) (ap not (eq-eqb j i at)) ∙ sym (and_right (is_some (next_of m old j)) (not (j == i)) (ap not (eq-eqb j i at)))
-      | inr apart ↦ ap (λ o. is_some o && not (j == i)) (same j apart)
-    ])
+    how_many-agree m (λ j. is_some (except (only i) (next_of m new) j)) (λ j. is_some (except (only i) (next_of m old) j)) (λ j. ap is_some (except-alike (next_of m new) (next_of m old) i same j))
 
 -- the counts at the end of a chain
 pub counted-ended : (m : Market) (r : RoundView) (proposer : ℕ) → next_of m r.ranks proposer ≡ None → CountsProposals m r (only proposer) r nobody
@@ -118,20 +138,18 @@ fits-held m r r' proposer s at done same counted = record {
   within_limits = done.fits.within_limits;
   ranks = omega (arith, ap (λ (l : List (Option ℕ)). length l) same, done.fits.ranks);
   rolls = done.offered.same_length ∙ done.fits.rolls;
-  each = λ t. subst (λ ranks. RollFits m (next_of m ranks) nobody t (roll_of m r'.rolls t)) (sym same) (elim (cases_eq t s) [
-    | inl at_s ↦ subst (λ u. RollFits m next nobody u (roll_of m r'.rolls u)) (sym at_s) (subst (RollFits m next nobody s) (sym (roll-after done)) here)
-    | inr apart ↦ subst (RollFits m next nobody t) (sym (roll-after_other done t apart))
-        (roll-fits_still m next next (only proposer) nobody t (roll_of m r.rolls t)
-        (λ j. not-there (has next t j) j proposer (λ is_hand. has-not next s t j (ap next is_hand ∙ done.stands) apart) ∙ sym (stays (has next t j)))
-        (done.fits.each t))
+  each = λ t. subst (λ ranks. RollFits m (next_of m ranks) t (roll_of m r'.rolls t)) (sym same) (elim (cases_eq t s) [
+    | inl at_s ↦ subst (λ u. RollFits m next u (roll_of m r'.rolls u)) (sym at_s) (subst (RollFits m next s) (sym (roll-after done)) here)
+    | inr apart ↦ subst (RollFits m next t) (sym (roll-after_other done t apart))
+        (roll-fits_still m (except (only proposer) next) next t (roll_of m r.rolls t) (has-left next proposer t (has-not next s t proposer done.stands apart)) (done.fits.each t))
   ]);
 }
   where
     next : Matching
     next = next_of m r.ranks
 
-    here : RollFits m next nobody s (roll_at r'.rolls at)
-    here = fits-counted m next nobody s (roll_at r'.rolls at) (record {
+    here : RollFits m next s (roll_at r'.rolls at)
+    here = fits-counted m next s (roll_at r'.rolls at) (record {
       seats = done.offered.seats ∙ (roll-before done).seats;
       within = done.offered.within;
       keyed = All-permutation (λ k. k ≡ key_of m k.student s) (key_of m proposer s ∷ (roll_at r.rolls at).keys) (roll_at r'.rolls at).keys done.offered.together
@@ -139,10 +157,8 @@ fits-held m r r' proposer s at done same counted = record {
       exact = λ p.
           let now : count_by (λ (k : Key). p k.student) (roll_at r'.rolls at).keys ≡ cond (p proposer) 1 0 + count_by (λ (k : Key). p k.student) (roll_at r.rolls at).keys =
           counts-held p (key_of m proposer s) (roll_at r.rolls at).keys (roll_at r'.rolls at).keys done.offered.together ∙ ap (λ i. cond (p i) 1 0 + count_by (λ (k : Key). p k.student) (roll_at r.rolls at).keys) (key-student m proposer s) in
-          let split = how_many-split_both m done.fits.well_formed p (has next s) proposer (next-among m r.ranks proposer s done.stands) (has-some next s proposer done.stands) in
-          let still : how_many m (λ j. p j && has next s j) ≡ how_many m (λ j. p j && (has next s j && not false)) =
-          how_many-agree m (λ j. p j && has next s j) (λ j. p j && (has next s j && not false)) (λ j. ap (λ b. p j && b) (sym (stays (has next s j)))) in
-          omega (arith, now, split, still, (roll-before_counted done).exact p);
+          let split = split-except m done.fits.well_formed p next s proposer (next-among m r.ranks proposer s done.stands) done.stands in
+          omega (arith, now, split, (roll-before_counted done).exact p);
     })
 
 -- the student in hand has no choice left
@@ -153,9 +169,8 @@ fits-ended m r proposer fits none = record {
   ranks = fits.ranks;
   rolls = fits.rolls;
   proposals = counted-within m r (only proposer) r nobody (counted-ended m r proposer none) fits.proposals;
-  each = λ t. roll-fits_still m (next_of m r.ranks) (next_of m r.ranks) (only proposer) nobody t (roll_of m r.rolls t)
-      (λ j. not-there (has (next_of m r.ranks) t j) j proposer (λ is_hand. has-none (next_of m r.ranks) t j (ap (next_of m r.ranks) is_hand ∙ none)) ∙ sym (stays (has (next_of m r.ranks) t j)))
-      (fits.each t);
+  each = λ t. roll-fits_still m (except (only proposer) (next_of m r.ranks)) (next_of m r.ranks) t (roll_of m r.rolls t)
+      (has-left (next_of m r.ranks) proposer t (has-none (next_of m r.ranks) t proposer none)) (fits.each t);
 }
 
 -- the student who is put out was there or is the one in hand, and is the last of them
@@ -172,13 +187,13 @@ pub put-out : (m : Market) (r : RoundView) (proposer s at : ℕ) (rolls : List R
 put-out m r proposer s at rolls out done = record {
   stands = (elim from [
     | inl is_hand ↦ ap next (ap (λ (k : Key). k.student) (sym is_hand) ∙ key-student m proposer s) ∙ done.stands
-    | inr held ↦ (on-roll m next (only proposer) s old out (roll-before done) held).stands
+    | inr held ↦ (on-old held).0
   ]);
   own = own;
   last = λ j stands apart.
       let among : Contains (key_of m proposer s ∷ old.keys) (key_of m j s) = elim (cases_eq j proposer) [
         | inl is_hand ↦ subst (λ i. Contains (key_of m proposer s ∷ old.keys) (key_of m i s)) (sym is_hand) (contains-head (key_of m proposer s) old.keys)
-        | inr other ↦ contains-tail (key_of m proposer s) old.keys (key_of m j s) (roll-holds m next (only proposer) s old j (roll-before done) (next-among m r.ranks j s stands) stands (ne_eqb j proposer other))
+        | inr other ↦ contains-tail (key_of m proposer s) old.keys (key_of m j s) (roll-holds m (except (only proposer) next) s old j (roll-before done) (next-among m r.ranks j s stands) (ap (λ away. cond away None (next j)) (ne_eqb j proposer other) ∙ stands))
       ] in
       elim (contains-cons out (roll_at rolls at).keys (key_of m j s) (Contains-permutation (key_of m proposer s ∷ old.keys) (out ∷ (roll_at rolls at).keys) (key_of m j s) done.offered.together among)) [
         | inl is_out ↦ absurd (apart (sym (key-student m j s) ∙ ap (λ (k : Key). k.student) (sym is_out)))
@@ -197,10 +212,18 @@ put-out m r proposer s at rolls out done = record {
         (Contains-permutation (out ∷ (roll_at rolls at).keys) (key_of m proposer s ∷ (roll_at r.rolls at).keys) out
         (IsPermutation-sym (key_of m proposer s ∷ (roll_at r.rolls at).keys) (out ∷ (roll_at rolls at).keys) done.offered.together) (contains-head out (roll_at rolls at).keys))
 
+    -- who was on the roll stood there
+    on-old : Contains old.keys out → (next out.student ≡ Some s) × (out ≡ key_of m out.student s)
+    on-old held =
+        let on = on-roll m (except (only proposer) next) s old out (roll-before done) held in
+        (stood (out.student == proposer) on.stands, on.own)
+      where
+        stood : (away : Bool) → cond away None (next out.student) ≡ Some s → next out.student ≡ Some s
+        stood true is = absurd (none-some s is)
+        stood false is = is
+
     own : out ≡ key_of m out.student s
-    own = elim (contains-cons (key_of m proposer s) (roll_at r.rolls at).keys out
-        (Contains-permutation (out ∷ (roll_at rolls at).keys) (key_of m proposer s ∷ (roll_at r.rolls at).keys) out
-        (IsPermutation-sym (key_of m proposer s ∷ (roll_at r.rolls at).keys) (out ∷ (roll_at rolls at).keys) done.offered.together) (contains-head out (roll_at rolls at).keys))) [
-          | inl is_hand ↦ sym is_hand ∙ ap (λ i. key_of m i s) (sym (key-student m proposer s) ∙ ap (λ (k : Key). k.student) is_hand)
-          | inr held ↦ (on-roll m (next_of m r.ranks) (only proposer) s (roll_at r.rolls at) out (roll-before done) held).own
-        ]
+    own = elim from [
+      | inl is_hand ↦ sym is_hand ∙ ap (λ i. key_of m i s) (sym (key-student m proposer s) ∙ ap (λ (k : Key). k.student) is_hand)
+      | inr held ↦ (on-old held).1
+    ]

@@ -1,15 +1,14 @@
 -- One student who comes back to where they stood.
-use Rattle.std.proofs.Common.{◌≡◌, refl, ap, subst, sym, ◌∙◌, ℕ, ◌+◌, ◌<◌, nat_eq, false, not, ◌&&◌, length, Some, None, Option, IfSome, position, slice_get, is_some, arith}
+use Rattle.std.proofs.Common.{◌≡◌, refl, ap, subst, sym, ◌∙◌, ℕ, ◌+◌, ◌<◌, nat_eq, length, Some, None, Option, IfSome, position, slice_get, is_some, arith}
 use Rattle.std.specs.Option.{option_map}
 use Rattle.sc_papers.specs.Key.{key_of}
 use Rattle.sc_papers.specs.Market.{Market, choices_of, schools_of, seats_of, student_at}
-use Rattle.sc_papers.specs.Matching.{Matching, has, held}
+use Rattle.sc_papers.specs.Matching.{Matching, held}
 use Rattle.sc_papers.specs.declared.proposal.Proposal.{Proposal}
-use Rattle.sc_papers.proofs.Students.{how_many-agree}
-use Rattle.sc_engine.specs.RoundView.{RoundView, rank_of, next_of, Fits, nobody, roll_at, RollFits, StandsToo}
+use Rattle.sc_engine.specs.RoundView.{RoundView, rank_of, next_of, Fits, roll_at, RollFits, StandsToo}
 use Rattle.sc_engine.proofs.Tables.{roll-at, next-by}
 use Rattle.sc_engine.proofs.Rolls.{roll-length}
-use Rattle.sc_engine.proofs.Proposals.{Proposed, stays, fits-held, fits-ended, counted-held}
+use Rattle.sc_engine.proofs.Proposals.{Proposed, fits-held, fits-ended, counted-held}
 use Rattle.sc_engine.proofs.Beginning.{Begun, rank-begun, next-others, entered-begun, fits-begun}
 
 -- the student stands at the choice of their rank
@@ -42,13 +41,12 @@ proposal-told m at rank choice told proposal here school place key is = (
 pub roll-open : (m : Market) (r : RoundView) (s at : ℕ) → Fits m r → position (nat_eq s) (schools_of m) ≡ Some at → held m (next_of m r.ranks) s < seats_of m s → length (roll_at r.rolls at).keys < (roll_at r.rolls at).seats
 roll-open m r s at fits school room =
     let next : Matching = next_of m r.ranks in
-    let roll : RollFits m next nobody s (roll_at r.rolls at) = subst (RollFits m next nobody s) (roll-at m r.rolls s at school) (fits.each s) in
+    let roll : RollFits m next s (roll_at r.rolls at) = subst (RollFits m next s) (roll-at m r.rolls s at school) (fits.each s) in
     omega (
       arith,
       room,
       roll.seats,
-      roll-length m next nobody s (roll_at r.rolls at) roll,
-      how_many-agree m (λ j. has next s j && not false) (has next s) (λ j. stays (has next s j)),
+      roll-length m next s (roll_at r.rolls at) roll,
     )
 
 -- a student who is put on the roll of their school, where nobody is put out

@@ -1,5 +1,5 @@
 -- A roll that fits, by how many of its keys pass each test.
-use Rattle.std.proofs.Common.{◌≡◌, inl, inr, refl, ap, sym, subst, ◌∙◌, ℕ, ◌+◌, ◌<◌, ◌≤◌, ◌==◌, Bool, true, false, cond, not, ◌&&◌, List, [], ◌∷◌, length, map, filter, All, Contains, count_by, remove, arith}
+use Rattle.std.proofs.Common.{◌≡◌, inl, inr, refl, ap, sym, subst, ◌∙◌, ℕ, ◌+◌, ◌<◌, ◌≤◌, ◌==◌, Bool, true, false, cond, ◌&&◌, List, [], ◌∷◌, length, map, filter, All, Contains, count_by, remove, arith}
 use Rattle.std.specs.List.Sorted.{IsPermutation}
 use Rattle.std.proofs.lemmas.Bool.{cases_Bool, eqb-true, eq-eqb, and_right, cond-true, cond-false}
 use Rattle.std.proofs.lemmas.List.Elements.{All-head, All-map, All-tail}
@@ -15,11 +15,11 @@ use Rattle.sc_seats.specs.Roll.{RollView}
 use Rattle.sc_engine.specs.RoundView.{RollFits}
 
 -- the same of a roll, by counts
-pub record IsCounted (m : Market) (next : Matching) (away : ℕ → Bool) (s : ℕ) (roll : RollView) : Type 0 where
+pub record IsCounted (m : Market) (a : Matching) (s : ℕ) (roll : RollView) : Type 0 where
   pub seats : roll.seats ≡ seats_of m s
   pub within : length roll.keys ≤ roll.seats
   pub keyed : All (λ key. key ≡ key_of m key.student s) roll.keys
-  pub exact : (p : ℕ → Bool) → count_by (λ (key : Key). p key.student) roll.keys ≡ how_many m (λ j. p j && (has next s j && not (away j)))
+  pub exact : (p : ℕ → Bool) → count_by (λ (key : Key). p key.student) roll.keys ≡ how_many m (λ j. p j && has a s j)
 
 pub key-student : (m : Market) (i s : ℕ) → (key_of m i s).student ≡ i
 unfolding key_of
@@ -55,10 +55,10 @@ counts-filter p q (x ∷ xs) =
           ∙ sym (count-cons_fails (λ j. p j && q j) x xs (and_right (p x) (q x) fails))
     ]
 
-pub counted : (m : Market) (next : Matching) (away : ℕ → Bool) (s : ℕ) (roll : RollView) → RollFits m next away s roll → IsCounted m next away s roll
+pub counted : (m : Market) (a : Matching) (s : ℕ) (roll : RollView) → RollFits m a s roll → IsCounted m a s roll
 unfolding how_many
-counted m next away s roll fits =
-    let here : ℕ → Bool = λ j. has next s j && not (away j) in
+counted m a s roll fits =
+    let here : ℕ → Bool = has a s in
     let theirs : List Key = map (λ j. key_of m j s) (filter here (students_of m)) in
     record {
       seats = fits.seats;
@@ -98,10 +98,10 @@ counts-students p (key ∷ keys) =
     ∙ ap (λ n. cond (p key.student) 1 0 + n) (counts-students p keys)
     ∙ sym (sum_by-cons (λ (key : Key). cond (p key.student) 1 0) key keys)
 
-pub fits-counted : (m : Market) (next : Matching) (away : ℕ → Bool) (s : ℕ) (roll : RollView) → IsCounted m next away s roll → RollFits m next away s roll
+pub fits-counted : (m : Market) (a : Matching) (s : ℕ) (roll : RollView) → IsCounted m a s roll → RollFits m a s roll
 unfolding how_many
-fits-counted m next away s roll counted =
-    let here : ℕ → Bool = λ j. has next s j && not (away j) in
+fits-counted m a s roll counted =
+    let here : ℕ → Bool = has a s in
     let who : List ℕ = map (λ (key : Key). key.student) roll.keys in
     record {
       seats = counted.seats;

@@ -1,7 +1,7 @@
 -- A round before anybody has entered.
-use Rattle.std.proofs.Common.{◌≡◌, inl, inr, refl, ap, sym, subst, ◌∙◌, ℕ, ◌≤◌, nat_eq, false, not, ◌&&◌, List, [], length, get_or, map, Option, Some, None, is_some, position, arith}
+use Rattle.std.proofs.Common.{◌≡◌, inl, inr, refl, ap, sym, subst, ◌∙◌, ℕ, ◌≤◌, nat_eq, false, ◌&&◌, List, [], length, get_or, map, Option, Some, None, is_some, position, arith}
 use Rattle.std.specs.Option.{option_map_or}
-use Rattle.std.proofs.lemmas.Bool.{cases_Bool, and_left, and_right, false≢true, true≢false}
+use Rattle.std.proofs.lemmas.Bool.{cases_Bool, and_right, false≢true, true≢false}
 use Rattle.std.proofs.lemmas.Option.{slice_get-get_or}
 use Rattle.sc_papers.specs.Market.{Market, students_of, schools_of, seats_of, school_of, is_school}
 use Rattle.sc_papers.specs.Matching.{has}
@@ -76,12 +76,11 @@ fits-start m r start = record {
   within_limits = start.within_limits;
   ranks = start.within;
   rolls = start.rolls;
-  each = λ s. subst (RollFits m (next_of m r.ranks) nobody s) (sym (roll-empty m r.rolls start.empty s)) (fits-counted m (next_of m r.ranks) nobody s (record { keys = []; seats = seats_of m s }) (record {
+  each = λ s. subst (RollFits m (next_of m r.ranks) s) (sym (roll-empty m r.rolls start.empty s)) (fits-counted m (next_of m r.ranks) s (record { keys = []; seats = seats_of m s }) (record {
     seats = refl;
     within = omega arith;
     keyed = λ k d low. absurd (omega (arith, low));
-    exact = λ p. sym (how_many-none m (λ j. p j && (has (next_of m r.ranks) s j && not false))
-        (λ j among. and_right (p j) (has (next_of m r.ranks) s j && not false) (and_left (has (next_of m r.ranks) s j) (not false) (has-none (next_of m r.ranks) s j (nowhere j)))));
+    exact = λ p. sym (how_many-none m (λ j. p j && has (next_of m r.ranks) s j) (λ j among. and_right (p j) (has (next_of m r.ranks) s j) (has-none (next_of m r.ranks) s j (nowhere j))));
   }));
   proposals = omega (arith, start.proposals);
 }

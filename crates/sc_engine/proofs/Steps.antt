@@ -1,32 +1,32 @@
 -- The steps of a chain: what they do to the round, and to any log that they continue.
 use Rattle.std.proofs.Common.{◌≡◌, inl, inr, refl, ap, sym, subst, ◌∙◌, ℕ, ◌+◌, ◌-◌, ◌<◌, ◌==◌, nat_eq, Bool, true, false, cond, not, ◌&&◌, List, [], ◌∷◌, ◌++◌, length, set, Option, Some, None, is_some, position, slice_get, append_assoc, arith, length-set}
-use Rattle.std.proofs.lemmas.Bool.{cases_eq, eq-eqb, and_right}
+use Rattle.std.proofs.lemmas.Bool.{cases_eq, and_right}
 use Rattle.std.proofs.lemmas.Option.{slice_get_within}
 use Rattle.std.proofs.lemmas.List.{length_push}
 use Rattle.std.proofs.lemmas.List.Elements.{All-cons, All-tail}
 use Rattle.std.proofs.lemmas.List.Sorted.{All-permutation, length_permutation}
 use Rattle.sc_papers.specs.Market.{Market, students_of, choices_of, seats_of}
 use Rattle.sc_papers.specs.Key.{key_of}
-use Rattle.sc_papers.specs.Matching.{Matching, how_many, has}
+use Rattle.sc_papers.specs.Matching.{Matching, has}
 use Rattle.sc_papers.specs.Log.{next_choice, matching_of, IsSettled}
 use Rattle.sc_papers.specs.Chain.{InChain, PutsOut, held_by_others}
 use Rattle.sc_papers.specs.Restriction.{restricted}
 use Rattle.sc_papers.specs.WellFormed.{WellFormed}
 use Rattle.sc_papers.specs.declared.key.Key.{Key}
 use Rattle.sc_papers.specs.declared.rejection.Rejection.{Rejection}
-use Rattle.sc_papers.proofs.Chain.{chain-puts-out, chain-ends, put-out-valid, how_many-split_both}
-use Rattle.sc_papers.proofs.Rejections.{has-agree, has-true, has-some, next-same}
+use Rattle.sc_papers.proofs.Chain.{chain-puts-out, chain-ends, put-out-valid}
+use Rattle.sc_papers.proofs.Rejections.{has-agree, has-true, next-same}
 use Rattle.sc_papers.proofs.Restriction.{choices-restricted, seats-restricted, ahead-restricted, counts-restricted}
 use Rattle.sc_papers.proofs.Standings.{next-moves}
 use Rattle.sc_papers.proofs.Students.{how_many-agree}
 use Rattle.sc_papers.proofs.Subsets.{well-restricted}
 use Rattle.sc_papers.proofs.Sums.{sum-bump}
 use Rattle.sc_seats.specs.Roll.{RollView}
-use Rattle.sc_engine.specs.RoundView.{RoundView, rank_of, next_of, has_entered, roll_of, roll_at, RollFits, FitsBut, only, CountsProposals, entered_papers, Midway, Continues, choices_left, left_at}
+use Rattle.sc_engine.specs.RoundView.{RoundView, rank_of, next_of, has_entered, roll_of, roll_at, RollFits, FitsBut, except, only, CountsProposals, entered_papers, Midway, Continues, choices_left, left_at}
 use Rattle.sc_engine.proofs.Tables.{rank-written, rank-kept, next-by, next-kept, next-among, next-entered}
 use Rattle.sc_engine.proofs.RollCounts.{fits-counted, key-student}
 use Rattle.sc_engine.proofs.Rolls.{roll-length, roll-fits_still, counts-offered}
-use Rattle.sc_engine.proofs.Proposals.{Proposed, roll-before, roll-before_counted, roll-after, roll-after_other, has-not, not-there, Out, put-out, counted-within, standing-split, standing-others}
+use Rattle.sc_engine.proofs.Proposals.{Proposed, roll-before, roll-before_counted, roll-after, roll-after_other, except-alike, has-except, has-left, has-not, split-except, Out, put-out, counted-within, standing-split, standing-others}
 
 -- the same students have entered, in the same papers
 pub papers-same : (m : Market) (old new : List (Option ℕ)) → ((j : ℕ) → has_entered m new j ≡ has_entered m old j) → entered_papers m new ≡ entered_papers m old
@@ -65,11 +65,8 @@ module _ {m : Market} {r r' : RoundView} {i s at rank : ℕ} (moved : Rejected m
   next-stood = next-by m r.ranks i rank moved.stood ∙ moved.choice
 
 -- whoever stands at a school and is not the one put out, stands there after
-stands-after : {m : Market} {r r' : RoundView} {i s at rank : ℕ} → Rejected m r r' i s at rank → (t j : ℕ) → (has (next_of m r'.ranks) t j && not (j == i)) ≡ (has (next_of m r.ranks) t j && not (j == i))
-stands-after {m} {r} {r'} {i} moved t j = elim (cases_eq j i) [
-  | inl same ↦ and_right (has (next_of m r'.ranks) t j) (not (j == i)) (ap not (eq-eqb j i same)) ∙ sym (and_right (has (next_of m r.ranks) t j) (not (j == i)) (ap not (eq-eqb j i same)))
-  | inr apart ↦ ap (λ b. b && not (j == i)) (has-agree (next_of m r'.ranks) (next_of m r.ranks) t j (next-stays moved j apart))
-]
+stands-after : {m : Market} {r r' : RoundView} {i s at rank : ℕ} → Rejected m r r' i s at rank → (t j : ℕ) → has (except (only i) (next_of m r'.ranks)) t j ≡ has (except (only i) (next_of m r.ranks)) t j
+stands-after {m} {r} {r'} {i} moved t j = has-agree (except (only i) (next_of m r'.ranks)) (except (only i) (next_of m r.ranks)) t j (except-alike (next_of m r'.ranks) (next_of m r.ranks) i (next-stays moved) j)
 
 -- the counts after a student is put out
 pub counted-put_out : (m : Market) (r r' : RoundView) (proposer s i rank_at rank : ℕ) → WellFormed m → next_of m r.ranks proposer ≡ Some s → Rejected m r r' i s rank_at rank → r'.proposals ≡ r.proposals + 1 → CountsProposals m r (only proposer) r' (only i)
@@ -92,12 +89,10 @@ fits-put_out m r r' proposer s at out rank_at rank done moved counted = record {
   ranks = omega (arith, ap (λ (l : List (Option ℕ)). length l) moved.ranks, length-set r.ranks rank_at (Some (rank + 1)), done.fits.ranks);
   rolls = done.offered.same_length ∙ done.fits.rolls;
   each = λ t. elim (cases_eq t s) [
-    | inl at_s ↦ subst (λ u. RollFits m next' (only i) u (roll_of m r'.rolls u)) (sym at_s) (subst (RollFits m next' (only i) s) (sym (roll-after done)) here)
-    | inr apart ↦ subst (RollFits m next' (only i) t) (sym (roll-after_other done t apart))
-        (roll-fits_still m next next' (only proposer) (only i) t (roll_of m r.rolls t)
-        (λ j. not-there (has next t j) j proposer (λ is_hand. has-not next s t j (ap next is_hand ∙ done.stands) apart)
-        ∙ sym (not-there (has next t j) j i (λ is_out. has-not next s t j (ap next is_out ∙ next-stood moved) apart))
-        ∙ sym (stands-after moved t j))
+    | inl at_s ↦ subst (λ u. RollFits m (except (only i) next') u (roll_of m r'.rolls u)) (sym at_s) (subst (RollFits m (except (only i) next') s) (sym (roll-after done)) here)
+    | inr apart ↦ subst (RollFits m (except (only i) next') t) (sym (roll-after_other done t apart))
+        (roll-fits_still m (except (only proposer) next) (except (only i) next') t (roll_of m r.rolls t)
+        (λ j. has-left next proposer t (has-not next s t proposer done.stands apart) j ∙ sym (has-left next i t (has-not next s t i (next-stood moved) apart) j) ∙ sym (stands-after moved t j))
         (done.fits.each t))
   ];
 }
@@ -123,8 +118,8 @@ fits-put_out m r r' proposer s at out rank_at rank done moved counted = record {
     hand-student : (key_of m proposer s).student ≡ proposer
     hand-student = key-student m proposer s
 
-    here : RollFits m next' (only i) s new
-    here = fits-counted m next' (only i) s new (record {
+    here : RollFits m (except (only i) next') s new
+    here = fits-counted m (except (only i) next') s new (record {
       seats = done.offered.seats ∙ (roll-before done).seats;
       within = done.offered.within;
       keyed = All-tail (λ k. k ≡ key_of m k.student s) out new.keys
@@ -133,26 +128,26 @@ fits-put_out m r r' proposer s at out rank_at rank done moved counted = record {
       exact = λ p.
           let now = counts-offered p (key_of m proposer s) out old.keys new.keys done.offered.together in
           let hand_term = ap (λ j. one_if (p j)) hand-student in
-          let by_hand = how_many-split_both m done.fits.well_formed p (has next s) proposer (next-among m r.ranks proposer s done.stands) (has-some next s proposer done.stands) in
-          let by_out = how_many-split_both m done.fits.well_formed p (has next s) i (next-among m r.ranks i s (next-stood moved)) (has-some next s i (next-stood moved)) in
-          let still : how_many m (λ j. p j && (has next' s j && not (j == i))) ≡ how_many m (λ j. p j && (has next s j && not (j == i))) =
-          how_many-agree m (λ j. p j && (has next' s j && not (j == i))) (λ j. p j && (has next s j && not (j == i))) (λ j. ap (λ b. p j && b) (stands-after moved s j)) in
+          let by_hand = split-except m done.fits.well_formed p next s proposer (next-among m r.ranks proposer s done.stands) done.stands in
+          let by_out = split-except m done.fits.well_formed p next s i (next-among m r.ranks i s (next-stood moved)) (next-stood moved) in
+          let still = how_many-agree m (λ j. p j && has (except (only i) next') s j) (λ j. p j && has (except (only i) next) s j) (λ j. ap (λ b. p j && b) (stands-after moved s j)) in
           omega (arith, now, hand_term, by_hand, by_out, still, (roll-before_counted done).exact p);
     })
 
 -- how many others stand at the school, by the roll
-held-on_roll : (m : Market) (earlier : List Rejection) (r : RoundView) (proposer s : ℕ) (roll : RollView) → Midway m earlier r proposer → RollFits m (next_of m r.ranks) (only proposer) s roll → held_by_others (entered_papers m r.ranks) (earlier ++ r.log) proposer s ≡ length roll.keys
+held-on_roll : (m : Market) (earlier : List Rejection) (r : RoundView) (proposer s : ℕ) (roll : RollView) → Midway m earlier r proposer → RollFits m (except (only proposer) (next_of m r.ranks)) s roll → held_by_others (entered_papers m r.ranks) (earlier ++ r.log) proposer s ≡ length roll.keys
 held-on_roll m earlier r proposer s roll midway fits =
     let n : Market = entered_papers m r.ranks in
     let log : List Rejection = earlier ++ r.log in
     let next : Matching = next_of m r.ranks in
     let entered : ℕ → Bool = has_entered m r.ranks in
-    let agree : (j : ℕ) → (entered j && (has (matching_of n log) s j && not (j == proposer))) ≡ (has next s j && not (j == proposer)) = λ j.
+    let agree : (j : ℕ) → (entered j && (has (matching_of n log) s j && not (j == proposer))) ≡ has (except (only proposer) next) s j = λ j.
     ap (λ b. entered j && (b && not (j == proposer))) (has-agree (matching_of n log) next s j (midway.next j))
-    ∙ implied (entered j) (has next s j) (not (j == proposer)) (λ stands. next-entered m r.ranks j s (has-true next s j stands)) in
+    ∙ implied (entered j) (has next s j) (not (j == proposer)) (λ stands. next-entered m r.ranks j s (has-true next s j stands))
+    ∙ sym (has-except (only proposer) next s j) in
     counts-restricted m entered (λ j. has (matching_of n log) s j && not (j == proposer))
-    ∙ how_many-agree m (λ j. entered j && (has (matching_of n log) s j && not (j == proposer))) (λ j. has next s j && not (j == proposer)) agree
-    ∙ sym (roll-length m next (only proposer) s roll fits)
+    ∙ how_many-agree m (λ j. entered j && (has (matching_of n log) s j && not (j == proposer))) (has (except (only proposer) next) s) agree
+    ∙ sym (roll-length m (except (only proposer) next) s roll fits)
   where
     implied : (a b c : Bool) → (b ≡ true → a ≡ true) → (a && (b && c)) ≡ (b && c)
     implied a false c so = and_right a false refl

@@ -1,5 +1,5 @@
 -- Students who come to a round from another one, in which they alone stand.
-use Rattle.std.proofs.Common.{◌≡◌, inl, inr, refl, ap, sym, subst, ◌∙◌, ℕ, ◌+◌, ◌<◌, nat_eq, Bool, true, false, not, ◌&&◌, List, [], ◌∷◌, length, take, get_or, map, set, Option, None, Some, Contains, position, arith, length-set}
+use Rattle.std.proofs.Common.{◌≡◌, inl, inr, refl, ap, sym, subst, ◌∙◌, ℕ, ◌+◌, ◌<◌, nat_eq, Bool, true, false, List, [], ◌∷◌, length, take, get_or, map, set, Option, None, Some, Contains, position, arith, length-set}
 use Rattle.std.specs.Option.{option_map_or}
 use Rattle.std.proofs.lemmas.Bool.{cases_Bool, cases_eq, false≢true}
 use Rattle.std.proofs.lemmas.List.Elements.{Contains-push}
@@ -15,7 +15,7 @@ use Rattle.sc_papers.proofs.Positions.{position-one, position-there}
 use Rattle.sc_papers.proofs.Rejections.{has-agree, has-true}
 use Rattle.sc_seats.specs.Roll.{RollView}
 use Rattle.sc_engine.specs.Leaving.{AreTaken, HasRolls, SomeStands, StandAt, StandsThere, TakesOver}
-use Rattle.sc_engine.specs.RoundView.{Fits, RollFits, RoundView, next_of, no_roll, nobody, rank_of, roll_at, roll_of}
+use Rattle.sc_engine.specs.RoundView.{Fits, RollFits, RoundView, next_of, no_roll, rank_of, roll_at, roll_of}
 use Rattle.sc_engine.proofs.Leaving.{Tells, earlier, earlier-or_latest, empty-roll, latest, only-one, stander-lists, told-only, told-there}
 use Rattle.sc_engine.proofs.Offers.{roll_at-mapped}
 use Rattle.sc_engine.proofs.Proposals.{has-none}
@@ -124,35 +124,35 @@ module _ (m : Market) (test : ℕ → Bool) (positions : List ℕ) (at : StandAt
       }
 
   -- a roll that stays fits, where nobody stands at the school in the other round
-  fits-same : (s : ℕ) (roll : RollView) → RollFits m (next_of m old.ranks) nobody s roll → ((j : ℕ) → next_of m other.ranks j ≡ Some s → ⊥) → RollFits m (next_of m new.ranks) nobody s roll
-  fits-same s roll before nobody_stands = roll-fits_still m (next_of m old.ranks) (next_of m new.ranks) nobody nobody s roll alike before
+  fits-same : (s : ℕ) (roll : RollView) → RollFits m (next_of m old.ranks) s roll → ((j : ℕ) → next_of m other.ranks j ≡ Some s → ⊥) → RollFits m (next_of m new.ranks) s roll
+  fits-same s roll before nobody_stands = roll-fits_still m (next_of m old.ranks) (next_of m new.ranks) s roll alike before
     where
-      alike : (j : ℕ) → (has (next_of m old.ranks) s j && not false) ≡ (has (next_of m new.ranks) s j && not false)
+      alike : (j : ℕ) → has (next_of m old.ranks) s j ≡ has (next_of m new.ranks) s j
       alike j = elim (cases_Bool (test j)) [
         | inl passes ↦ elim (cases_Bool (has (next_of m new.ranks) s j)) [
           | inl holds ↦ absurd (nobody_stands j (sym (next-kept m other.ranks new.ranks j (rank-taken j passes)) ∙ has-true (next_of m new.ranks) s j holds))
-          | inr fails_there ↦ ap (λ b. b && not false) (has-none (next_of m old.ranks) s j (next-old j passes) ∙ sym fails_there)
+          | inr fails_there ↦ has-none (next_of m old.ranks) s j (next-old j passes) ∙ sym fails_there
         ]
-        | inr fails ↦ ap (λ b. b && not false) (has-agree (next_of m old.ranks) (next_of m new.ranks) s j (sym (next-kept m old.ranks new.ranks j (rank-stays j fails))))
+        | inr fails ↦ has-agree (next_of m old.ranks) (next_of m new.ranks) s j (sym (next-kept m old.ranks new.ranks j (rank-stays j fails)))
       ]
 
   -- and one that is taken fits, where somebody who passes stands there
-  fits-taken : (s : ℕ) (roll : RollView) (one : ℕ) → RollFits m (next_of m other.ranks) nobody s roll → test one ≡ true → Contains (choices_of m one) s → RollFits m (next_of m new.ranks) nobody s roll
-  fits-taken s roll one before passes_one listed = roll-fits_still m (next_of m other.ranks) (next_of m new.ranks) nobody nobody s roll alike before
+  fits-taken : (s : ℕ) (roll : RollView) (one : ℕ) → RollFits m (next_of m other.ranks) s roll → test one ≡ true → Contains (choices_of m one) s → RollFits m (next_of m new.ranks) s roll
+  fits-taken s roll one before passes_one listed = roll-fits_still m (next_of m other.ranks) (next_of m new.ranks) s roll alike before
     where
-      alike : (j : ℕ) → (has (next_of m other.ranks) s j && not false) ≡ (has (next_of m new.ranks) s j && not false)
+      alike : (j : ℕ) → has (next_of m other.ranks) s j ≡ has (next_of m new.ranks) s j
       alike j = elim (cases_Bool (test j)) [
-        | inl passes ↦ ap (λ b. b && not false) (has-agree (next_of m other.ranks) (next_of m new.ranks) s j (sym (next-kept m other.ranks new.ranks j (rank-taken j passes))))
+        | inl passes ↦ has-agree (next_of m other.ranks) (next_of m new.ranks) s j (sym (next-kept m other.ranks new.ranks j (rank-taken j passes)))
         | inr fails ↦ elim (cases_Bool (has (next_of m new.ranks) s j)) [
           | inl holds ↦
               absurd (apart.none_shared one j s passes_one fails listed
               (stander-lists m old.ranks j s (sym (next-kept m old.ranks new.ranks j (rank-stays j fails)) ∙ has-true (next_of m new.ranks) s j holds)))
-          | inr fails_there ↦ ap (λ b. b && not false) (has-none (next_of m other.ranks) s j (next-other j fails) ∙ sym fails_there)
+          | inr fails_there ↦ has-none (next_of m other.ranks) s j (next-other j fails) ∙ sym fails_there
         ]
       ]
 
-  at-school : (next : RoundView) → HasRolls m next → (s k : ℕ) → position (nat_eq s) (schools_of m) ≡ Some k → RollFits m (next_of m next.ranks) nobody s (roll_at next.rolls k)
-  at-school next they_fit s k school = subst (RollFits m (next_of m next.ranks) nobody s) (roll-at m next.rolls s k school) (they_fit.each s)
+  at-school : (next : RoundView) → HasRolls m next → (s k : ℕ) → position (nat_eq s) (schools_of m) ≡ Some k → RollFits m (next_of m next.ranks) s (roll_at next.rolls k)
+  at-school next they_fit s k school = subst (RollFits m (next_of m next.ranks) s) (roll-at m next.rolls s k school) (they_fit.each s)
 
   passes-there : (j s : ℕ) → next_of m other.ranks j ≡ Some s → test j ≡ true
   passes-there j s next = elim (cases_Bool (test j)) [ inl passes ↦ passes | inr fails ↦ absurd (none-some s (sym (next-other j fails) ∙ next)) ]
@@ -160,39 +160,39 @@ module _ (m : Market) (test : ℕ → Bool) (positions : List ℕ) (at : StandAt
   -- nobody is on the roll of a school that one who passes lists
   old-empty : (s k one : ℕ) → position (nat_eq s) (schools_of m) ≡ Some k → test one ≡ true → Contains (choices_of m one) s → (roll_at old.rolls k).keys ≡ []
   old-empty s k one school passes listed = none-contained (roll_at old.rolls k).keys (λ key held.
-      let on = on-roll m (next_of m old.ranks) nobody s (roll_at old.rolls k) key (at-school old (record { rolls = fits.rolls; each = fits.each }) s k school) held in
+      let on = on-roll m (next_of m old.ranks) s (roll_at old.rolls k) key (at-school old (record { rolls = fits.rolls; each = fits.each }) s k school) held in
       elim (cases_Bool (test key.student)) [
         | inl also ↦ none-some s (sym (next-old key.student also) ∙ on.stands)
         | inr fails ↦ apart.none_shared one key.student s passes fails listed (stander-lists m old.ranks key.student s on.stands)
       ])
 
-  fits-at : (s k : ℕ) → position (nat_eq s) (schools_of m) ≡ Some k → RollFits m (next_of m new.ranks) nobody s (roll_at new.rolls k)
+  fits-at : (s k : ℕ) → position (nat_eq s) (schools_of m) ≡ Some k → RollFits m (next_of m new.ranks) s (roll_at new.rolls k)
   fits-at s k school = elim (rolls.each k) [
     | inl (same, kept) ↦
-        subst (RollFits m (next_of m new.ranks) nobody s) (sym same)
+        subst (RollFits m (next_of m new.ranks) s) (sym same)
         (fits-same s (roll_at old.rolls k) (at-school old (record { rolls = fits.rolls; each = fits.each }) s k school) (λ j next.
         let passes = passes-there j s next in
         let some = there j s k next school passes in
         let none = old-empty s k j school passes (stander-lists m other.ranks j s next) in
-        let held : Contains (roll_at other.rolls k).keys (key_of m j s) = roll-holds m (next_of m other.ranks) nobody s (roll_at other.rolls k) j (at-school other other_rolls s k school) (next-among m other.ranks j s next) next refl in
+        let held : Contains (roll_at other.rolls k).keys (key_of m j s) = roll-holds m (next_of m other.ranks) s (roll_at other.rolls k) j (at-school other other_rolls s k school) (next-among m other.ranks j s next) next in
         let theirs = rolls.done some.p k some.among some.there none (omega (arith, held.1)) in
         empty-roll (roll_at other.rolls k) (key_of m j s) (ap (λ (roll : RollView). roll.keys) (sym theirs ∙ same) ∙ none) held))
     | inr (theirs, ours, full, some) ↦
         let same : some.there.school ≡ s = position-one (schools_of m) s some.there.school k school some.there.at in
         let next : next_of m other.ranks some.there.student ≡ Some s = some.there.next ∙ ap Some same in
-        subst (RollFits m (next_of m new.ranks) nobody s) (sym theirs)
+        subst (RollFits m (next_of m new.ranks) s) (sym theirs)
         (fits-taken s (roll_at other.rolls k) some.there.student (at-school other other_rolls s k school) (passes-there some.there.student s next) (stander-lists m other.ranks some.there.student s next))
   ]
 
-  fits-new : (s : ℕ) → RollFits m (next_of m new.ranks) nobody s (roll_of m new.rolls s)
+  fits-new : (s : ℕ) → RollFits m (next_of m new.ranks) s (roll_of m new.rolls s)
   unfolding roll_of
   fits-new s = go (position (nat_eq s) (schools_of m)) refl
     where
-      go : (o : Option ℕ) → position (nat_eq s) (schools_of m) ≡ o → RollFits m (next_of m new.ranks) nobody s (option_map_or (roll_at new.rolls) o no_roll)
+      go : (o : Option ℕ) → position (nat_eq s) (schools_of m) ≡ o → RollFits m (next_of m new.ranks) s (option_map_or (roll_at new.rolls) o no_roll)
       go None is =
-          fits-same s no_roll (subst (RollFits m (next_of m old.ranks) nobody s) (ap (λ o. option_map_or (roll_at old.rolls) o no_roll) is) (fits.each s))
+          fits-same s no_roll (subst (RollFits m (next_of m old.ranks) s) (ap (λ o. option_map_or (roll_at old.rolls) o no_roll) is) (fits.each s))
           (λ j next. empty-roll no_roll (key_of m j s) refl
-          (roll-holds m (next_of m other.ranks) nobody s no_roll j (subst (RollFits m (next_of m other.ranks) nobody s) (ap (λ o. option_map_or (roll_at other.rolls) o no_roll) is) (other_rolls.each s)) (next-among m other.ranks j s next) next refl))
+          (roll-holds m (next_of m other.ranks) s no_roll j (subst (RollFits m (next_of m other.ranks) s) (ap (λ o. option_map_or (roll_at other.rolls) o no_roll) is) (other_rolls.each s)) (next-among m other.ranks j s next) next))
       go (Some k) is = fits-at s k is
 
   pub takes-over : TakesOver m test old other new

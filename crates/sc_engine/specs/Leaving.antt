@@ -2,7 +2,7 @@
 use Rattle.std.specs.Prelude.{◌≡◌, ◌↔◌, ◌⊎◌, ◌<◌, ℕ, nat_eq, Bool, true, false, List, [], Option, None, Some, Contains, IsTrue, length, position, remove, slice_get}
 use Rattle.sc_papers.specs.Market.{Market, is_school, schools_of, seats_of, students_of}
 use Rattle.sc_seats.specs.Roll.{RollView}
-use Rattle.sc_engine.specs.RoundView.{Fits, RollFits, RoundView, next_of, nobody, rank_of, roll_at, roll_of}
+use Rattle.sc_engine.specs.RoundView.{Fits, RollFits, RoundView, next_of, rank_of, roll_at, roll_of}
 
 -- the papers have a student at each of these positions of the order of entry
 abbrev pub AreWithin : Market → List ℕ → Type 0
@@ -62,7 +62,7 @@ moved_up r at = record r { ranks = remove r.ranks at }
 -- the rolls of a round fit the papers by where its students stand
 pub record HasRolls (m : Market) (r : RoundView) : Type 0 where
   pub rolls : length r.rolls ≡ length m.schools
-  pub each : (s : ℕ) → RollFits m (next_of m r.ranks) nobody s (roll_of m r.rolls s)
+  pub each : (s : ℕ) → RollFits m (next_of m r.ranks) s (roll_of m r.rolls s)
 
 -- the students who pass stand where they stood in the other round, and all others where they stood in this one
 pub record TakesOver (m : Market) (test : ℕ → Bool) (old other new : RoundView) : Type 0 where

@@ -1,5 +1,5 @@
 -- Where the students and the schools of a round stand, as contracts see it.
-use Rattle.std.specs.Prelude.{◌≡◌, ℕ, ◌+◌, ◌-◌, ◌≤◌, ◌<◌, nat_eq, ◌==◌, Bool, true, false, ◌&&◌, not, List, [], ◌∷◌, ◌++◌, length, Option, None, Some, All, IfSome, IsSome, filter, map, sum_by, is_some, position, slice_get, slice_index_or, take}
+use Rattle.std.specs.Prelude.{◌≡◌, ℕ, ◌+◌, ◌-◌, ◌≤◌, ◌<◌, nat_eq, ◌==◌, Bool, true, false, List, [], ◌∷◌, ◌++◌, length, Option, None, Some, All, IfSome, IsSome, filter, map, sum_by, is_some, position, slice_get, slice_index_or, take, if◌then◌else◌}
 use Rattle.std.specs.List.{list_any}
 use Rattle.std.specs.List.Sorted.{IsPermutation}
 use Rattle.std.specs.Option.{option_map_or, option_and_then, option_to_list}
@@ -7,7 +7,8 @@ use Rattle.sc_papers.specs.Key.{key_of, is_before}
 use Rattle.sc_papers.specs.Log.{next_choice, IsSettled}
 use Rattle.sc_papers.specs.Chain.{InChain, and_one}
 use Rattle.sc_papers.specs.Market.{Market, choices_of, schools_of, seats_of, student_at, students_of}
-use Rattle.sc_papers.specs.Matching.{Matching, has, how_many}
+use Rattle.sc_papers.specs.Matching.{Matching, has}
+use Rattle.sc_papers.specs.Progress.{placed}
 use Rattle.sc_papers.specs.Restriction.{restricted}
 use Rattle.sc_papers.specs.WellFormed.{WellFormed, WithinLimits}
 use Rattle.sc_papers.specs.declared.key.Key.{Key}
@@ -55,25 +56,34 @@ roll_of m rolls s = option_map_or (roll_at rolls) (position (nat_eq s) (schools_
 abbrev pub AreEmpty : Market → List RollView → ℕ → Type 0
 AreEmpty m rolls k = (at s : ℕ) → at < k → slice_get (schools_of m) at ≡ Some s → roll_at rolls at ≡ record { keys = []; seats = seats_of m s }
 
--- a roll fits a school: it has the school's seats, and holds exactly the keys of the students who
--- stand at the school, but for those who are away
-pub record RollFits (m : Market) (next : Matching) (away : ℕ → Bool) (s : ℕ) (roll : RollView) : Type 0 where
+-- a roll fits a school by a matching: it has the school's seats, and holds exactly the keys of the students
+-- who have the school
+pub record RollFits (m : Market) (a : Matching) (s : ℕ) (roll : RollView) : Type 0 where
   pub seats : roll.seats ≡ seats_of m s
   pub within : length roll.keys ≤ roll.seats
-  pub holds : IsPermutation roll.keys (map (λ j. key_of m j s) (filter (λ j. has next s j && not (away j)) (students_of m)))
+  pub holds : IsPermutation roll.keys (map (λ j. key_of m j s) (filter (has a s) (students_of m)))
 
--- how many students stand at a choice, but for those who are away
-unfoldable pub standing_but : Market → List (Option ℕ) → (ℕ → Bool) → ℕ
-standing_but m ranks away = how_many m (λ i. is_some (next_of m ranks i) && not (away i))
-
--- the round fits the papers, but for the students who are away
-pub record FitsBut (m : Market) (r : RoundView) (away : ℕ → Bool) : Type 0 where
+-- the round's rolls hold a matching of the papers, and it counts at most a proposal for each entry of the log
+-- and for each student whom the matching places
+pub record HoldsMatching (m : Market) (r : RoundView) (a : Matching) : Type 0 where
   pub well_formed : WellFormed m
   pub within_limits : WithinLimits m
   pub ranks : length r.ranks ≤ length m.students
   pub rolls : length r.rolls ≡ length m.schools
-  pub each : (s : ℕ) → RollFits m (next_of m r.ranks) away s (roll_of m r.rolls s)
-  pub proposals : r.proposals ≤ length r.log + standing_but m r.ranks away
+  pub each : (s : ℕ) → RollFits m a s (roll_of m r.rolls s)
+  pub proposals : r.proposals ≤ length r.log + placed m a
+
+-- the round fits the papers: everyone who has entered and stands at a choice is on its roll
+abbrev pub Fits : Market → RoundView → Type 0
+Fits m r = HoldsMatching m r (next_of m r.ranks)
+
+-- a matching without the students who are away
+abbrev pub except : (ℕ → Bool) → Matching → Matching
+except away a i = if away i then None else a i
+
+-- the round fits the papers, but for the students who are away: they are on no roll
+abbrev pub FitsBut : Market → RoundView → (ℕ → Bool) → Type 0
+FitsBut m r away = HoldsMatching m r (except away (next_of m r.ranks))
 
 -- nobody is away
 abbrev pub nobody : ℕ → Bool
@@ -83,9 +93,9 @@ nobody = λ j. false
 abbrev pub only : ℕ → ℕ → Bool
 only proposer = λ j. j == proposer
 
--- the round fits the papers: everyone who has entered and stands at a choice is on its roll
-abbrev pub Fits : Market → RoundView → Type 0
-Fits m r = FitsBut m r nobody
+-- how many students stand at a choice, but for those who are away
+abbrev pub standing_but : Market → List (Option ℕ) → (ℕ → Bool) → ℕ
+standing_but m ranks away = placed m (except away (next_of m ranks))
 
 -- the papers of those who have entered
 abbrev pub entered_papers : Market → List (Option ℕ) → Market

@@ -1,5 +1,5 @@
 -- A settling of the students who pass begins: those of the first students stand where they stood.
-use Rattle.std.proofs.Common.{◌≡◌, inl, inr, refl, ap, sym, subst, ◌∙◌, ℕ, ◌+◌, nat_eq, Bool, true, false, not, ◌&&◌, List, [], ◌∷◌, ◌++◌, cond, length, filter, take, drop, All, Contains, is_some, append-nil, arith}
+use Rattle.std.proofs.Common.{◌≡◌, inl, inr, refl, ap, sym, subst, ◌∙◌, ℕ, ◌+◌, nat_eq, Bool, true, false, ◌&&◌, List, [], ◌∷◌, ◌++◌, cond, length, filter, take, drop, All, Contains, is_some, append-nil, arith}
 use Rattle.std.specs.List.{IsDistinct}
 use Rattle.std.proofs.Math.Bool.{and_comm}
 use Rattle.std.proofs.lemmas.Bool.{cases_Bool, eqb-true, and_left}
@@ -21,7 +21,6 @@ use Rattle.sc_checkpoint.specs.Chains.{logs_in, students_in, Chain}
 use Rattle.sc_checkpoint.specs.NextChoices.{next_choices_after, stands, AreNextChoices}
 use Rattle.sc_checkpoint.specs.declared.standing.Standing.{Standing}
 use Rattle.sc_engine.specs.RoundView.{RoundView, entered_papers, has_entered, next_of, nobody, standing_but, Continues, Fits}
-use Rattle.sc_engine.proofs.Proposals.{stays}
 use Rattle.sc_weave.proofs.Counts.{apart-cut, students-restricted}
 use Rattle.sc_repair.specs.Course.{log_of, placed_before, GoesOnInside}
 use Rattle.sc_repair.specs.Locality.{chains_of, is_among}
@@ -78,12 +77,12 @@ stand-inside m test chains k well apart theirs segmented =
 -- so many of them are placed
 standing-inside : (m : Market) (test : ℕ → Bool) (chains : List Chain) (r : RoundView) (k : ℕ) → WellFormed m → AreApart m test → students_in chains ≡ take k (students_of m) → IsSegmented (cut m k) (logs_in chains)
     → ((i : ℕ) → has_entered m r.ranks i ≡ (is_among (take k (students_of m)) i && test i)) → Continues m (log_of test chains) r → r.log ≡ []
-    → (i : ℕ) → (is_some (next_of m r.ranks i) && not false) ≡ (test i && is_some (next_choice (cut m k) (joined (logs_in chains)) i))
+    → (i : ℕ) → is_some (next_of m r.ranks i) ≡ (test i && is_some (next_choice (cut m k) (joined (logs_in chains)) i))
 standing-inside m test chains r k well apart theirs segmented entered continues no_log i =
     let next : next_of m r.ranks i ≡ next_choice (restricted (cut m k) test) (log_of test chains) i =
     sym (continues.next i) ∙ ap (λ l. next_choice (entered_papers m r.ranks) l i) (ap (λ l. log_of test chains ++ l) no_log ∙ append-nil (log_of test chains))
     ∙ ap (λ n. next_choice n (log_of test chains) i) (entered-inside m test (has_entered m r.ranks) k well entered) in
-    stays (is_some (next_of m r.ranks i)) ∙ ap is_some next
+    ap is_some next
     ∙ elim (cases_Bool (test i)) [
       | inl passes ↦
           ap is_some (next-inside (cut m k) test chains i (well-cut m k well) (apart-cut m test k well apart) (theirs ∙ students-first m k) segmented passes)
@@ -100,12 +99,11 @@ pub inside-begins : (m : Market) (test : ℕ → Bool) (old chains : List Chain)
     → Fits m r → ((i : ℕ) → has_entered m r.ranks i ≡ stands (next_choices_after m (log_of test chains) (filter test (take k (students_of m)))) i)
     → Continues m (log_of test chains) r → r.log ≡ [] → r.proposals ≡ 0
     → GoesOnInside m test old k gap r chains k
-unfolding standing_but
 inside-begins m test old chains gap r k apart count first theirs segmented others fits entered continues no_log none =
     let inside : (i : ℕ) → has_entered m r.ranks i ≡ (is_among (take k (students_of m)) i && test i) =
     λ i. entered i ∙ stands-inside m (log_of test chains) test (take k (students_of m)) i in
     let standing : standing_but m r.ranks nobody ≡ placed_before m test old k =
-    how_many-agree m (λ i. is_some (next_of m r.ranks i) && not false) (λ i. test i && is_some (next_choice (cut m k) (joined (take k (logs_in old))) i))
+    how_many-agree m (λ i. is_some (next_of m r.ranks i)) (λ i. test i && is_some (next_choice (cut m k) (joined (take k (logs_in old))) i))
     (λ i. standing-inside m test chains r k fits.well_formed apart theirs segmented inside continues no_log i
     ∙ ap (λ l. test i && is_some (next_choice (cut m k) (joined l) i)) (ap logs_in first ∙ sym (take-map (λ (c : Chain). c.rejections) k old))) in
     record {

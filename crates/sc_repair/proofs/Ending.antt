@@ -1,12 +1,12 @@
 -- All up to an end of the order of entry have had their turn: the segments are those of the papers cut there, and every
 -- place and proposal is told.
-use Rattle.std.proofs.Common.{◌≡◌, inl, inr, refl, ap, sym, subst, ◌∙◌, ℕ, zero, suc, ◌+◌, ◌≤◌, ◌==◌, Bool, true, false, not, ◌&&◌, ◌||◌, List, [], ◌∷◌, ◌++◌, length, take, drop, is_some, append-nil, arith}
+use Rattle.std.proofs.Common.{◌≡◌, inl, inr, refl, ap, sym, subst, ◌∙◌, ℕ, zero, suc, ◌+◌, ◌≤◌, ◌==◌, Bool, true, false, ◌&&◌, ◌||◌, List, [], ◌∷◌, ◌++◌, length, take, drop, is_some, append-nil, arith}
 use Rattle.std.specs.List.{list_any}
 use Rattle.std.proofs.lemmas.Bool.{cases_Bool, cond-true, cond-false, and_left, false≢true}
 use Rattle.std.proofs.lemmas.List.{drop_all, drop-map, length-map, take-map}
 use Rattle.sc_papers.specs.Log.{matching_of, next_choice}
 use Rattle.sc_papers.specs.Market.{Market, students_of}
-use Rattle.sc_papers.specs.Matching.{how_many, Matching, IsStudentOptimal}
+use Rattle.sc_papers.specs.Matching.{Matching, IsStudentOptimal}
 use Rattle.sc_papers.specs.Restriction.{cut, is_among_first, joined, restricted, outside, AreApart, IsSegmented}
 use Rattle.sc_papers.specs.WellFormed.{WellFormed}
 use Rattle.sc_papers.specs.declared.rejection.Rejection.{Rejection}
@@ -17,8 +17,8 @@ use Rattle.sc_papers.proofs.Restriction.{counts-restricted, next-dropped, restri
 use Rattle.sc_papers.proofs.Students.{how_many-agree}
 use Rattle.sc_papers.proofs.Subsets.{well-cut}
 use Rattle.sc_checkpoint.specs.Chains.{logs_in, students_in, Chain}
-use Rattle.sc_engine.specs.RoundView.{RoundView, has_entered, next_of, standing_but}
-use Rattle.sc_engine.proofs.Proposals.{stays}
+use Rattle.sc_papers.specs.Progress.{placed}
+use Rattle.sc_engine.specs.RoundView.{RoundView, has_entered, next_of}
 use Rattle.sc_weave.specs.Weaving.{part_of}
 use Rattle.sc_weave.proofs.Counts.{apart-outside}
 use Rattle.sc_weave.proofs.Part.{part-segmented}
@@ -138,10 +138,10 @@ matching-end m p test old point gap r chains end places well changes optimal seg
 standing-end : (p : Market) (test : ℕ → Bool) (old : List Chain) (point gap : ℕ) (r : RoundView) (chains : List Chain) (end : ℕ) (given : Matching)
     → AreApart (cut p end) test → IsSegmented (cut p end) (logs_in chains) → GoesOnInside p test old point gap r chains end
     → ((i : ℕ) → given i ≡ next_choice (cut p end) (joined (logs_in chains)) i)
-    → (i : ℕ) → (is_some (next_of p r.ranks i) && not false) ≡ (test i && is_some (given i))
+    → (i : ℕ) → is_some (next_of p r.ranks i) ≡ (test i && is_some (given i))
 standing-end p test old point gap r chains end given apart segmented on is i =
     let n = cut p end in
-    stays (is_some (next_of p r.ranks i)) ∙ ap is_some (next-end p test old point gap r chains end on i)
+    ap is_some (next-end p test old point gap r chains end on i)
     ∙ elim (cases_Bool (test i)) [
       | inl passes ↦
           ap is_some (next-inside n test chains i (well-cut p end on.fits.well_formed) apart (theirs-end p test old point gap r chains end on) segmented passes ∙ sym (is i))
@@ -164,11 +164,10 @@ pub proposals-end : (p : Market) (test : ℕ → Bool) (old : List Chain) (point
     → ((i : ℕ) → given i ≡ next_choice (cut p end) (joined (logs_in chains)) i)
     → r.proposals + placed_of (cut p end) test (matching_of (cut (cut p end) point) (joined (take point (logs_in chains))))
     ≡ length (joined (part_of (drop point (students_of (cut p end))) test (drop point (logs_in chains)))) + placed_of (cut p end) test given
-unfolding standing_but
 proposals-end p test old point gap r chains end given apart low segmented on is =
     let well = on.fits.well_formed in
-    let standing : how_many p (λ i. is_some (next_of p r.ranks i) && not false) ≡ placed_of (cut p end) test given =
-    how_many-agree p (λ i. is_some (next_of p r.ranks i) && not false) (λ i. test i && is_some (given i)) (standing-end p test old point gap r chains end given apart segmented on is)
+    let standing : placed p (next_of p r.ranks) ≡ placed_of (cut p end) test given =
+    how_many-agree p (λ i. is_some (next_of p r.ranks i)) (λ i. test i && is_some (given i)) (standing-end p test old point gap r chains end given apart segmented on is)
     ∙ sym (placed-cut p end test given well (λ i some. placed-first p end end (joined (logs_in chains)) i well (omega arith) (ap is_some (sym (is i)) ∙ some))) in
     let before : placed_of (cut p end) test (matching_of (cut (cut p end) point) (joined (take point (logs_in chains)))) ≡ placed_before p test old point =
     ap (λ n. placed_of (cut p end) test (matching_of n (joined (take point (logs_in chains))))) (cut-cut p point end low)

@@ -21,7 +21,6 @@ use Rattle.sc_papers.proofs.Positions.{among-student, student-among}
 use Rattle.sc_papers.proofs.Students.{how_many-agree, lister-among}
 use Rattle.sc_checkpoint.specs.Chains.{logs_in, students_in, Chain}
 use Rattle.sc_engine.specs.RoundView.{RoundView, next_of, nobody, standing_but}
-use Rattle.sc_engine.proofs.Proposals.{stays}
 use Rattle.sc_region.specs.Region.{amended, concerned, next, InRegion}
 use Rattle.sc_weave.specs.Weaving.{part_of}
 use Rattle.sc_repair.specs.Course.{placed_of}
@@ -181,10 +180,7 @@ module _ (m n : Market) (a : Amendment) (i : ℕ) (chains new : List Chain) (bef
       ]
 
   all-placed : standing_but n r.ranks nobody ≡ placed n (assigned given)
-  unfolding standing_but
-  all-placed =
-      how_many-agree n (λ j. is_some (next_of n r.ranks j) && not false) (λ j. is_some (assigned given j))
-      (λ j. stays (is_some (next_of n r.ranks j)) ∙ ap is_some (sym (comes.has.placed j)))
+  all-placed = how_many-agree n (λ j. is_some (next_of n r.ranks j)) (λ j. is_some (assigned given j)) (λ j. ap is_some (sym (comes.has.placed j)))
 
   -- of the segments from the newcomer's on, theirs is the only one
   own-segment : (test : ℕ → Bool) → test i ≡ true → joined (part_of (drop (length m.students) (students_of n)) test (drop (length m.students) (logs_in new))) ≡ chain

@@ -30,7 +30,7 @@ use Rattle.sc_checkpoint.specs.Chains.{logs_in, students_in, Chain}
 use Rattle.sc_seats.specs.Roll.{RollView}
 use Rattle.sc_engine.specs.Leaving.{moved_up, IsReseated, Leave, StandAt, TakesOver}
 use Rattle.sc_engine.specs.Round.{is_spent, view_of}
-use Rattle.sc_engine.specs.RoundView.{Fits, RoundView, entered_papers, has_entered, next_of, rank_of, roll_of, RollFits, nobody}
+use Rattle.sc_engine.specs.RoundView.{Fits, RoundView, entered_papers, has_entered, next_of, rank_of, roll_of, RollFits}
 use Rattle.sc_engine.specs.declared.round.Round.{Round}
 use Rattle.sc_engine.proofs.Changing.{fits-changed, next-changed, rank-same, reseated-rolls, roll-changed, same-roll}
 use Rattle.sc_engine.proofs.Leaving.{stander-lists}
@@ -245,7 +245,7 @@ waits m n a test positions chains l r changed students theirs gone reseated = fo
     -- whoever lists the amended school has left
     empty : (s : ℕ) → amended_school a ≡ Some s → (roll_of m l.rolls s).keys ≡ []
     empty s is = none-contained (roll_of m l.rolls s).keys (λ key held.
-        let on = on-roll m (next_of m l.ranks) (λ j. false) s (roll_of m l.rolls s) key (gone.leave.fits.each s) held in
+        let on = on-roll m (next_of m l.ranks) s (roll_of m l.rolls s) key (gone.leave.fits.each s) held in
         let passes : test key.student ≡ true = (changed.tells key.student).1 (concerned key.student s is (inl (stander-lists m l.ranks key.student s on.stands))) in
         none-some s (sym (next-none m l.ranks key.student (gone.leave.gone key.student passes)) ∙ on.stands))
 
@@ -418,7 +418,7 @@ module _ (m n : Market) (i point : ℕ) (test : ℕ → Bool) (positions : List 
       schools : n.schools ≡ p.schools
       schools = ap (λ (k : Market). k.schools) (sym gone)
 
-      each : (s : ℕ) → RollFits n (next_of n other.ranks) nobody s (roll_of n other.rolls s)
+      each : (s : ℕ) → RollFits n (next_of n other.ranks) s (roll_of n other.rolls s)
       each s =
           let rolls = same-roll p n other.rolls s (ap keys_of schools) in
           roll-changed p n (λ k. k == i) other.ranks other.ranks alike absent same s (roll_of p other.rolls s) (roll_of n other.rolls s) (inside.fits.each s)

@@ -1,5 +1,5 @@
 -- A settling that goes on from a checkpoint: it begins, one more student enters, and all have entered.
-use Rattle.std.proofs.Common.{◌≡◌, refl, ap, sym, subst, ◌∙◌, ℕ, ◌+◌, ◌≤◌, ◌==◌, nat_eq, true, false, not, ◌&&◌, ◌||◌, List, [], ◌∷◌, ◌++◌, length, map, take, Option, None, Some, All, Contains, is_some, slice_get, append_assoc, append-nil, arith}
+use Rattle.std.proofs.Common.{◌≡◌, refl, ap, sym, subst, ◌∙◌, ℕ, ◌+◌, ◌≤◌, ◌==◌, nat_eq, true, ◌||◌, List, [], ◌∷◌, ◌++◌, length, map, take, Option, None, Some, All, Contains, is_some, slice_get, append_assoc, append-nil, arith}
 use Rattle.std.specs.List.{list_any, IsDistinct}
 use Rattle.std.proofs.lemmas.Cmp.{nat_eq_equiv}
 use Rattle.std.proofs.lemmas.Option.{slice_get_within, get_or_from_slice_get}
@@ -7,7 +7,7 @@ use Rattle.std.proofs.lemmas.List.{take_more, take_all, take-append-le, take-map
 use Rattle.std.proofs.lemmas.List.Elements.{All-contains_itself, All-map, All-take, All-weaker}
 use Rattle.sc_papers.specs.Log.{next_choice, IsSettled}
 use Rattle.sc_papers.specs.Market.{Market, choices_of, is_student, students_of}
-use Rattle.sc_papers.specs.Matching.{how_many, Matching}
+use Rattle.sc_papers.specs.Matching.{Matching}
 use Rattle.sc_papers.specs.Progress.{placed}
 use Rattle.sc_papers.specs.Restriction.{cut, joined, restricted, IsSegmented}
 use Rattle.sc_papers.specs.WellFormed.{WellFormed}
@@ -21,7 +21,6 @@ use Rattle.sc_checkpoint.specs.NextChoices.{next_choices_after, stands, AreNextC
 use Rattle.sc_checkpoint.specs.declared.standing.Standing.{Standing}
 use Rattle.sc_engine.specs.RoundView.{RoundView, entered_papers, has_entered, next_of, nobody, standing_but, Continues, Enters, Fits}
 use Rattle.sc_papers.proofs.Positions.{among-student}
-use Rattle.sc_engine.proofs.Proposals.{stays}
 use Rattle.sc_engine.proofs.Settling.{first-more}
 use Rattle.sc_repair.specs.Resumption.{placed_first, GoesOn}
 
@@ -74,7 +73,6 @@ pub goes-on-begins : (m : Market) (r : RoundView) (students : List ℕ) (kept : 
     → ((i : ℕ) → has_entered m r.ranks i ≡ stands (next_choices_after m (joined kept) (take k (students_of m))) i)
     → Continues m (joined kept) r → r.log ≡ [] → r.proposals ≡ 0
     → GoesOn m kept r students kept k
-unfolding standing_but
 goes-on-begins m r students kept k count theirs segmented fits entered continues no_log none =
     let first : (i : ℕ) → has_entered m r.ranks i ≡ list_any (nat_eq i) (take k (students_of m)) =
     λ i. entered i ∙ stands-among m (joined kept) (take k (students_of m)) i ∙ sym (any-turned (take k (students_of m)) i) in
@@ -82,7 +80,7 @@ goes-on-begins m r students kept k count theirs segmented fits entered continues
     let next : (i : ℕ) → next_of m r.ranks i ≡ next_choice (cut m k) (joined kept) i =
     λ i. sym (continues.next i) ∙ ap (λ l. next_choice (entered_papers m r.ranks) l i) nothing ∙ ap (λ n. next_choice n (joined kept) i) (entered-cut m r.ranks k fits.well_formed first) in
     let standing : standing_but m r.ranks nobody ≡ placed_first m k (joined kept) =
-    how_many-agree m (λ i. is_some (next_of m r.ranks i) && not false) (λ i. is_some (next_choice (cut m k) (joined kept) i)) (λ i. stays (is_some (next_of m r.ranks i)) ∙ ap is_some (next i)) in
+    how_many-agree m (λ i. is_some (next_of m r.ranks i)) (λ i. is_some (next_choice (cut m k) (joined kept) i)) (λ i. ap is_some (next i)) in
     record {
       fits = fits;
       entered = first;
@@ -142,10 +140,8 @@ next-all m kept r students segments on i =
 pub proposals-all : (m : Market) (r : RoundView) (students : List ℕ) (segments : List (List Rejection)) (given : Matching)
     → GoesOn m [] r students segments (length m.students) → ((i : ℕ) → given i ≡ next_of m r.ranks i)
     → r.proposals ≡ length (joined segments) + placed m given
-unfolding standing_but
 proposals-all m r students segments given on is =
-    let same : how_many m (λ i. is_some (next_of m r.ranks i) && not false) ≡ placed m given =
-    how_many-agree m (λ i. is_some (next_of m r.ranks i) && not false) (λ i. is_some (given i)) (λ i. stays (is_some (next_of m r.ranks i)) ∙ ap is_some (sym (is i))) in
+    let same = how_many-agree m (λ i. is_some (next_of m r.ranks i)) (λ i. is_some (given i)) (λ i. ap is_some (sym (is i))) in
     let none : placed_first m 0 [] ≡ 0 = how_many-none m (λ i. is_some (next_choice (cut m 0) [] i)) (λ i among. ap is_some (nobody-next m i)) in
     omega (arith, on.counted, same, none, ap (λ (l : List Rejection). length l) on.log)
 
