@@ -12,7 +12,7 @@ use Rattle.sc_papers.specs.WellFormed.{WellFormed, WithinLimits}
 use Rattle.sc_papers.specs.declared.key.Key.{Key}
 use Rattle.sc_papers.proofs.Choices.{contains-at}
 use Rattle.sc_papers.proofs.Students.{how_many-none, lister-among}
-use Rattle.sc_audit.specs.AuditView.{AuditView, stand_of, next_of, keys_at, keeps, KeepsBest, Fits, MovesTo, Follows}
+use Rattle.sc_audit.specs.AuditView.{AuditView, stand_of, next_of, keys_at, keeps, KeepsBest, KeepsBestAtEach, MovesTo, Follows}
 use Rattle.sc_tallies.proofs.Tallying.{take-one}
 use Rattle.sc_audit.proofs.Tables.{stand-away}
 use Rattle.sc_papers.proofs.Positions.{among-student, place-position, position-at, position-one, student-position}
@@ -56,8 +56,8 @@ keeps-nobody m l nowhere s =
       ahead = λ i j at waits at_j held. absurd (absent i at);
     }
 
-pub fits-empty : (m : Market) (l : AuditView) → WellFormed m → WithinLimits m → length l.stands ≡ length m.students → length l.kept ≡ length m.schools → l.seats ≡ map (seats_of m) (schools_of m) → ((i : ℕ) → next_of m l.stands i ≡ None) → All (λ keys. keys ≡ []) l.kept → Fits m l
-fits-empty m l well within stands schools seats nowhere nothing = record {
+pub best-empty : (m : Market) (l : AuditView) → WellFormed m → WithinLimits m → length l.stands ≡ length m.students → length l.kept ≡ length m.schools → l.seats ≡ map (seats_of m) (schools_of m) → ((i : ℕ) → next_of m l.stands i ≡ None) → All (λ keys. keys ≡ []) l.kept → KeepsBestAtEach m l
+best-empty m l well within stands schools seats nowhere nothing = record {
   well_formed = well;
   within_limits = within;
   stands = stands;
@@ -69,25 +69,25 @@ fits-empty m l well within stands schools seats nowhere nothing = record {
 
 -- the first k students have come to their first choices
 pub record Opened (m : Market) (l : AuditView) (k : ℕ) : Type 0 where
-  pub fits : Fits m l
+  pub keeps_best : KeepsBestAtEach m l
   pub came : (i at : ℕ) → position (nat_eq i) (students_of m) ≡ Some at → at < k → next_of m l.stands i ≡ slice_get (choices_of m i) 0
   pub later : (i at : ℕ) → position (nat_eq i) (students_of m) ≡ Some at → k ≤ at → next_of m l.stands i ≡ None
 
-pub opened-none : (m : Market) (l : AuditView) → Fits m l → ((i : ℕ) → next_of m l.stands i ≡ None) → Opened m l 0
-opened-none m l fits nobody = record {
-  fits = fits;
+pub opened-none : (m : Market) (l : AuditView) → KeepsBestAtEach m l → ((i : ℕ) → next_of m l.stands i ≡ None) → Opened m l 0
+opened-none m l keeps_best nobody = record {
+  keeps_best = keeps_best;
   came = λ i at found low. absurd (omega (arith, low));
   later = λ i at found past. nobody i;
 }
 
 pub opened-nowhere : (m : Market) (l : AuditView) (k i : ℕ) → Opened m l k → slice_get (students_of m) k ≡ Some i → next_of m l.stands i ≡ None
-opened-nowhere m l k i opened here = opened.later i k (place-position m opened.fits.well_formed k i here) (omega arith)
+opened-nowhere m l k i opened here = opened.later i k (place-position m opened.keeps_best.well_formed k i here) (omega arith)
 
 pub opened-more : (m : Market) (l new : AuditView) (k i : ℕ) → Opened m l k → slice_get (students_of m) k ≡ Some i → MovesTo m l i 0 new → Opened m new (k + 1)
 opened-more m l new k i opened here moves =
-    let own : position (nat_eq i) (students_of m) ≡ Some k = place-position m opened.fits.well_formed k i here in
+    let own : position (nat_eq i) (students_of m) ≡ Some k = place-position m opened.keeps_best.well_formed k i here in
     record {
-      fits = moves.fits;
+      keeps_best = moves.keeps_best;
       came = λ j at found low. elim (cases_eq j i) [
         | inl same ↦ ap (next_of m new.stands) same ∙ moves.own ∙ ap (λ n. slice_get (choices_of m n) 0) (sym same)
         | inr apart ↦
@@ -110,7 +110,7 @@ first-open m i = go (choices_of m i)
 
 pub opened-all : (m : Market) (l : AuditView) (k : ℕ) → length m.students ≤ k → Opened m l k → Follows m [] l
 opened-all m l k all opened = record {
-  fits = opened.fits;
+  keeps_best = opened.keeps_best;
   next = λ i. first-open m i ∙ go i (position (nat_eq i) (students_of m)) refl (slice_get (choices_of m i) 0) refl;
 }
   where

@@ -12,7 +12,7 @@ use Rattle.sc_papers.specs.Matching.{Matching, has}
 use Rattle.sc_papers.specs.declared.key.Key.{Key}
 use Rattle.sc_papers.proofs.Priority.{before-irrefl}
 use Rattle.sc_papers.proofs.Rejections.{has-true, has-some}
-use Rattle.sc_audit.specs.AuditView.{AuditView, stand_of, next_of, keys_at, is_past, past_at, waiting_at, waiting_rank, KeepsBest, Fits}
+use Rattle.sc_audit.specs.AuditView.{AuditView, stand_of, next_of, keys_at, is_past, past_at, waiting_at, waiting_rank, KeepsBest, KeepsBestAtEach}
 use Rattle.sc_audit.specs.declared.waiting.Waiting.{Waiting}
 use Rattle.sc_audit.proofs.Keeping.{keys-hold, keys-own}
 use Rattle.sc_audit.proofs.Tables.{all-from, keys-read, read-mapped, stander-among}
@@ -33,17 +33,17 @@ past-aside m next kept s keys best i at waits =
     let ahead : is_before (key_of m key.student s) (key_of m i s) ≡ true = best.ahead i key.student at waits (has-true next s key.student parts.0) parts.1 in
     subst (λ k. is_before k (key_of m i s) ≡ true) (sym own.2) ahead))
 
-module _ (m : Market) (l : AuditView) (fits : Fits m l) (i s : ℕ) (next : next_of m l.stands i ≡ Some s) where
-  pub kept-past : Contains (students_of m) i → fits.is_kept i ≡ true → is_past m l.kept i s ≡ false
+module _ (m : Market) (l : AuditView) (keeps_best : KeepsBestAtEach m l) (i s : ℕ) (next : next_of m l.stands i ≡ Some s) where
+  pub kept-past : Contains (students_of m) i → keeps_best.is_kept i ≡ true → is_past m l.kept i s ≡ false
   unfolding is_past
-  kept-past among held = past-kept m (next_of m l.stands) fits.is_kept s (keys_at m l.kept s) (fits.each s) i among next held
+  kept-past among held = past-kept m (next_of m l.stands) keeps_best.is_kept s (keys_at m l.kept s) (keeps_best.each s) i among next held
 
-  pub aside-past : fits.is_kept i ≡ false → is_past m l.kept i s ≡ true
+  pub aside-past : keeps_best.is_kept i ≡ false → is_past m l.kept i s ≡ true
   unfolding is_past
-  aside-past waits = past-aside m (next_of m l.stands) fits.is_kept s (keys_at m l.kept s) (fits.each s) i next waits
+  aside-past waits = past-aside m (next_of m l.stands) keeps_best.is_kept s (keys_at m l.kept s) (keeps_best.each s) i next waits
 
-  pub past-waits : Contains (students_of m) i → is_past m l.kept i s ≡ true → fits.is_kept i ≡ false
-  past-waits among past = elim (cases_Bool (fits.is_kept i)) [
+  pub past-waits : Contains (students_of m) i → is_past m l.kept i s ≡ true → keeps_best.is_kept i ≡ false
+  past-waits among past = elim (cases_Bool (keeps_best.is_kept i)) [
     | inl held ↦ absurd (false≢true (sym (kept-past among held) ∙ past))
     | inr waits ↦ waits
   ]
@@ -74,8 +74,8 @@ module _ {m : Market} {l : AuditView} {i s rank : ℕ} (waits : Waits m l i s ra
   pub waits-among : Contains (students_of m) i
   waits-among = stander-among m l.stands i rank waits.is
 
-  pub waits-aside : (fits : Fits m l) → fits.is_kept i ≡ false
-  waits-aside fits = past-waits m l fits i s waits-next waits-among waits.past
+  pub waits-aside : (keeps_best : KeepsBestAtEach m l) → keeps_best.is_kept i ≡ false
+  waits-aside keeps_best = past-waits m l keeps_best i s waits-next waits-among waits.past
 
 -- what is found at a rank
 pub past-made : (m : Market) (kept : List (List Key)) (i rank s : ℕ) → slice_get (choices_of m i) rank ≡ Some s → past_at m kept i rank ≡ cond (is_past m kept i s) (Some (record { rank = rank; school = s })) None

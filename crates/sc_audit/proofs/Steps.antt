@@ -8,7 +8,7 @@ use Rattle.sc_papers.specs.Key.{key_of}
 use Rattle.sc_papers.specs.Market.{Market, schools_of, choices_of, seats_of, students_of, is_student}
 use Rattle.sc_papers.specs.declared.key.Key.{Key}
 use Rattle.sc_audit.specs.Offers.{Offers}
-use Rattle.sc_audit.specs.AuditView.{AuditView, stand_of, next_of, keys_at, KeepsBest, Fits, MovesTo}
+use Rattle.sc_audit.specs.AuditView.{AuditView, stand_of, next_of, keys_at, KeepsBest, KeepsBestAtEach, MovesTo}
 use Rattle.sc_audit.proofs.Tables.{read-mapped, stander-among, keys-read, keys-put}
 use Rattle.sc_papers.proofs.Positions.{position-at, student-among}
 use Rattle.sc_audit.proofs.Keeping.{is_out, Moved, keeps-more, keeps-others}
@@ -20,7 +20,7 @@ stander-next m l j s next = let there : Stands m l j s = stands-from m l j s nex
 
 -- a student comes to a school
 pub record Placing (m : Market) (old : AuditView) (i rank s at : ℕ) (keys : List Key) (out : Option Key) (new : AuditView) : Type 0 where
-  pub fits : Fits m old
+  pub keeps_best : KeepsBestAtEach m old
   pub known : is_student m i ≡ true
   pub nowhere : next_of m old.stands i ≡ None
   pub choice : slice_get (choices_of m i) rank ≡ Some s
@@ -40,46 +40,46 @@ module _ {m : Market} {old : AuditView} {i rank s at : ℕ} {keys : List Key} {o
 
   -- who is kept then: all who were but the one put out, and the one who came unless it is that one
   kept_then : ℕ → Bool
-  kept_then j = cond (nat_eq j i) (not (is_out out i)) (p.fits.is_kept j && not (is_out out j))
+  kept_then j = cond (nat_eq j i) (not (is_out out i)) (p.keeps_best.is_kept j && not (is_out out j))
 
-  came : Moved m (next_of m old.stands) (next_of m new.stands) p.fits.is_kept kept_then s i out (get_or old.kept at []) keys
+  came : Moved m (next_of m old.stands) (next_of m new.stands) p.keeps_best.is_kept kept_then s i out (get_or old.kept at []) keys
   unfolding kept_then
   came = record {
-    well_formed = p.fits.well_formed;
+    well_formed = p.keeps_best.well_formed;
     among = student-among m i p.known;
-    best = subst (KeepsBest m (next_of m old.stands) p.fits.is_kept s) (keys-read m old.kept s at p.found) (p.fits.each s);
+    best = subst (KeepsBest m (next_of m old.stands) p.keeps_best.is_kept s) (keys-read m old.kept s at p.found) (p.keeps_best.each s);
     standers = λ j stands. stander-next m old j s stands;
     nowhere = p.nowhere;
     offered = p.offered;
     here = own-next;
     others = other-next;
-    own_kept = cond-true (nat_eq i i) (not (is_out out i)) (p.fits.is_kept i && not (is_out out i)) (eq-eqb i i refl);
-    others_kept = λ j apart. cond-false (nat_eq j i) (not (is_out out i)) (p.fits.is_kept j && not (is_out out j)) (ne_eqb j i apart);
+    own_kept = cond-true (nat_eq i i) (not (is_out out i)) (p.keeps_best.is_kept i && not (is_out out i)) (eq-eqb i i refl);
+    others_kept = λ j apart. cond-false (nat_eq j i) (not (is_out out i)) (p.keeps_best.is_kept j && not (is_out out j)) (ne_eqb j i apart);
   }
 
   each-school : (t : ℕ) → KeepsBest m (next_of m new.stands) kept_then t (keys_at m new.kept t)
   each-school t =
-      let put : keys_at m new.kept t ≡ cond (nat_eq t s) keys (keys_at m old.kept t) = ap (λ kept. keys_at m kept t) p.kept ∙ keys-put m old.kept keys s at p.fits.schools p.found t in
+      let put : keys_at m new.kept t ≡ cond (nat_eq t s) keys (keys_at m old.kept t) = ap (λ kept. keys_at m kept t) p.kept ∙ keys-put m old.kept keys s at p.keeps_best.schools p.found t in
       elim (cases_eq t s) [
         | inl same ↦
             let now : keys_at m new.kept t ≡ keys = put ∙ cond-true (nat_eq t s) keys (keys_at m old.kept t) (eq-eqb t s same) in
             subst (KeepsBest m (next_of m new.stands) kept_then t) (sym now)
             (subst (λ u. KeepsBest m (next_of m new.stands) kept_then u keys) (sym same)
-            (keeps-more m (next_of m old.stands) (next_of m new.stands) p.fits.is_kept kept_then s i (get_or old.kept at []) keys out came))
+            (keeps-more m (next_of m old.stands) (next_of m new.stands) p.keeps_best.is_kept kept_then s i (get_or old.kept at []) keys out came))
         | inr apart ↦
             let now : keys_at m new.kept t ≡ keys_at m old.kept t = put ∙ cond-false (nat_eq t s) keys (keys_at m old.kept t) (ne_eqb t s apart) in
             subst (KeepsBest m (next_of m new.stands) kept_then t) (sym now)
-            (keeps-others m (next_of m old.stands) (next_of m new.stands) p.fits.is_kept kept_then s i (get_or old.kept at []) keys out came t (keys_at m old.kept t) apart (p.fits.each t))
+            (keeps-others m (next_of m old.stands) (next_of m new.stands) p.keeps_best.is_kept kept_then s i (get_or old.kept at []) keys out came t (keys_at m old.kept t) apart (p.keeps_best.each t))
       ]
 
   pub placing-moves : MovesTo m old i rank new
   placing-moves = record {
-    fits = record {
-      well_formed = p.fits.well_formed;
-      within_limits = p.fits.within_limits;
+    keeps_best = record {
+      well_formed = p.keeps_best.well_formed;
+      within_limits = p.keeps_best.within_limits;
       stands = p.long;
-      schools = ap length p.kept ∙ length-set old.kept at keys ∙ p.fits.schools;
-      seats = p.seats ∙ p.fits.seats;
+      schools = ap length p.kept ∙ length-set old.kept at keys ∙ p.keeps_best.schools;
+      seats = p.seats ∙ p.keeps_best.seats;
       is_kept = kept_then;
       each = each-school;
     };
@@ -88,8 +88,8 @@ module _ {m : Market} {old : AuditView} {i rank s at : ℕ} {keys : List Key} {o
   }
 
 -- a school's position is one of the state's
-pub school-low : (m : Market) (l : AuditView) (s at : ℕ) → Fits m l → position (nat_eq s) (schools_of m) ≡ Some at → at < length l.kept
-school-low m l s at fits found = omega (arith, (position-at (schools_of m) s at found).0, length-keys_of m.schools, fits.schools)
+pub school-low : (m : Market) (l : AuditView) (s at : ℕ) → KeepsBestAtEach m l → position (nat_eq s) (schools_of m) ≡ Some at → at < length l.kept
+school-low m l s at keeps_best found = omega (arith, (position-at (schools_of m) s at found).0, length-keys_of m.schools, keeps_best.schools)
 
 -- an offer at the school, as the papers see it
 pub offer-seen : {X : Type 0} (f : X → List Key) (m : Market) (xs : List X) (i s at : ℕ) (now : X) (seats : ℕ) (key : Key) (keys : List Key) (out : Option Key) → at < length (map f xs) → now ≡ get_or xs at now → seats ≡ seats_of m s → key ≡ key_of m i s → Offers (f now) seats key keys out → Offers (get_or (map f xs) at []) (seats_of m s) (key_of m i s) keys out

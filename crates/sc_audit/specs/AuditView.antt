@@ -68,8 +68,8 @@ pub record KeepsBest (m : Market) (next : Matching) (kept : ℕ → Bool) (s : �
   pub full : (i : ℕ) → next i ≡ Some s → kept i ≡ false → seats_of m s ≤ length keys
   pub ahead : (i j : ℕ) → next i ≡ Some s → kept i ≡ false → next j ≡ Some s → kept j ≡ true → is_ahead m s j i ≡ true
 
--- the state fits the papers: of those who stand at a school it keeps the best
-pub record Fits (m : Market) (l : AuditView) : Type 0 where
+-- at each school the state keeps the best of those who stand there
+pub record KeepsBestAtEach (m : Market) (l : AuditView) : Type 0 where
   pub well_formed : WellFormed m
   pub within_limits : WithinLimits m
   pub stands : length l.stands ≡ length m.students
@@ -78,20 +78,20 @@ pub record Fits (m : Market) (l : AuditView) : Type 0 where
   pub is_kept : ℕ → Bool
   pub each : (s : ℕ) → KeepsBest m (next_of m l.stands) is_kept s (keys_at m l.kept s)
 
--- the state fits the papers, and a student stands in them at the position
-pub record FitsAt (m : Market) (l : AuditView) (at : ℕ) : Type 0 where
-  pub fits : Fits m l
+-- the same, and a student stands in the papers at the position
+pub record KeepsBestAndHas (m : Market) (l : AuditView) (at : ℕ) : Type 0 where
+  pub keeps_best : KeepsBestAtEach m l
   pub within : at < length m.students
 
 -- a student moves to the choice of a rank, and the others stay where they were
 pub record MovesTo (m : Market) (old : AuditView) (i rank : ℕ) (new : AuditView) : Type 0 where
-  pub fits : Fits m new
+  pub keeps_best : KeepsBestAtEach m new
   pub own : next_of m new.stands i ≡ slice_get (choices_of m i) rank
   pub others : (j : ℕ) → (j ≡ i → ⊥) → next_of m new.stands j ≡ next_of m old.stands j
 
 -- the state follows a log: each student stands at the next choice
 pub record Follows (m : Market) (log : List Rejection) (l : AuditView) : Type 0 where
-  pub fits : Fits m l
+  pub keeps_best : KeepsBestAtEach m l
   pub next : (i : ℕ) → next_choice m log i ≡ next_of m l.stands i
 
 -- what is found of one more entry: it is valid and the state follows it, or it is not

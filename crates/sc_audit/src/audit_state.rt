@@ -74,13 +74,13 @@ fn school_of(waiting: Option<Waiting>) -> Option<SchoolNo>
 
 impl AuditState {
     ghost use Rattle.sc_audit.specs.AuditState.{view_of};
-    ghost use Rattle.sc_audit.specs.AuditView.{next_of, waiting_rank, waiting_at, Fits, FitsAt, MovesTo, Follows, Finds};
+    ghost use Rattle.sc_audit.specs.AuditView.{next_of, waiting_rank, waiting_at, KeepsBestAtEach, KeepsBestAndHas, MovesTo, Follows, Finds};
     ghost use Rattle.std.specs.Option.{option_map};
     ghost use Rattle.std.specs.Prelude.{◌≡◌, ℕ, ◌<◌, List, [], length, nat_eq, position, Some, None, IfOk, OnOk, IfSome, IfNone};
 
     /// The student at the position moves to the choice of a rank, if there is one of it.
     fn move_to(&mut self, papers: &FlatPapers, student: usize, rank: u8) -> Result<(), AllocError>
-        requires here { FitsAt papers.now (view_of self.old) student }
+        requires here { KeepsBestAndHas papers.now (view_of self.old) student }
         requires nowhere { next_of papers.now self.old.stands.items (student_at papers.now student) ≡ None }
         ensures { OnOk result (MovesTo papers.now (view_of self.old) (student_at papers.now student)
             rank (view_of self.new)) }
@@ -109,7 +109,7 @@ impl AuditState {
 
     /// All students, who stand nowhere, move to their first choices.
     fn start_all(&mut self, papers: &FlatPapers) -> Result<(), AllocError>
-        requires fits { Fits papers.now (view_of self.old) }
+        requires keeps_best { KeepsBestAtEach papers.now (view_of self.old) }
         requires nowhere { (i : ℕ) → next_of papers.now self.old.stands.items i ≡ None }
         ensures { OnOk result (Follows papers.now [] (view_of self.new)) }
     {
@@ -123,7 +123,7 @@ impl AuditState {
     /// and moves to the next choice. The cost is an offer, and a look-up of the student by number where the guess
     /// at where they stand is wrong.
     pub(crate) fn take(&mut self, papers: &FlatPapers, entry: Rejection) -> Result<bool, AllocError>
-        requires fits { Fits papers.now (view_of self.old) }
+        requires keeps_best { KeepsBestAtEach papers.now (view_of self.old) }
         ensures { IfOk result (λ valid. (log : List Rejected) → IsValidLog papers.now log
             → Follows papers.now log (view_of self.old) → Finds papers.now log entry valid (view_of self.new)) }
     {
@@ -138,7 +138,7 @@ impl AuditState {
     /// The student's position, and the rank in their choices at which they stand at the entry's school
     /// without being kept there.
     fn waiting_rank(&self, papers: &FlatPapers, entry: Rejection) -> Option<(usize, u8)>
-        requires { Fits papers.now (view_of self.now) }
+        requires { KeepsBestAtEach papers.now (view_of self.now) }
         ensures position { IfSome result (λ found. position (nat_eq entry.student) (students_of papers.now)
             ≡ Some found.0) }
         ensures rank { option_map (λ found. found.1) result ≡ waiting_rank
@@ -156,7 +156,7 @@ impl AuditState {
 
     /// The least number of a school at which a student stands without being kept there.
     pub(crate) fn least_over(&self, papers: &FlatPapers) -> Option<SchoolNo>
-        requires { Fits papers.now (view_of self.now) }
+        requires { KeepsBestAtEach papers.now (view_of self.now) }
         ensures over { IfSome result (IsFirstOver papers.now (next_of papers.now self.now.stands.items)) }
         ensures within { IfNone result (WithinSeats papers.now (next_of papers.now self.now.stands.items)) }
     {
@@ -169,7 +169,7 @@ impl AuditState {
 
     /// The school at which the student at the position stands, if they stand anywhere.
     fn school_at(&self, papers: &FlatPapers, student: usize) -> Option<SchoolNo>
-        requires { FitsAt papers.now (view_of self.now) student }
+        requires { KeepsBestAndHas papers.now (view_of self.now) student }
         ensures { result ≡ next_of papers.now self.now.stands.items (student_at papers.now student) }
     {
         let rank = self.stands[student]?;
@@ -183,7 +183,7 @@ impl AuditState {
         alloc: Global,
         papers: &FlatPapers,
     ) -> Result<Vec<Option<SchoolNo>>, AllocError>
-        requires { Fits papers.now (view_of self.now) }
+        requires { KeepsBestAtEach papers.now (view_of self.now) }
         ensures { IfOk result (λ places. ArePlaces papers.now (next_of papers.now self.now.stands.items) places.items) }
     {
         let mut places = Vec::with_capacity(alloc, papers.students_len())?;
@@ -195,7 +195,7 @@ impl AuditState {
 
     /// Where the student at the position stands without being kept there: all keys that are kept are ahead.
     fn waiting_at(&self, papers: &FlatPapers, student: usize) -> Option<Waiting>
-        requires { FitsAt papers.now (view_of self.now) student }
+        requires { KeepsBestAndHas papers.now (view_of self.now) student }
         ensures { result ≡ waiting_at papers.now (view_of self.now) (student_at papers.now student) }
     {
         let rank = self.stands[student]?;

@@ -8,7 +8,7 @@ pub loop-position-init : goal.loop-position-init
 loop-position-init c = read-none c.args.papers.now c.args.log.now (view_of c.args.state.now) c.requires
 
 pub take-requires : goal.take-requires
-take-requires c = record { fits = c.loop-position.invariant.follows.fits }
+take-requires c = record { keeps_best = c.loop-position.invariant.follows.keeps_best }
 
 pub returns-then-not-branch-clause-verdict : goal.returns-then-not-branch-clause-verdict
 returns-then-not-branch-clause-verdict c =
@@ -23,7 +23,7 @@ loop-position-preserved c =
     (c.in_ok-take.ensures (take c.loop-position.position c.args.log.now) c.loop-position.invariant.valid c.loop-position.invariant.follows))
 
 pub least_over-requires : goal.least_over-requires
-least_over-requires c = c.loop-position.invariant.follows.fits
+least_over-requires c = c.loop-position.invariant.follows.keeps_best
 
 pub returns-in-Some-clause-verdict : goal.returns-in-Some-clause-verdict
 returns-in-Some-clause-verdict c =

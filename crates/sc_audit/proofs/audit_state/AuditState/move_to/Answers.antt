@@ -18,17 +18,17 @@ returns c =
     let new = c.offer.new.self in
     let (out, offered) = c.in_ok-offer.ensures.offered in
     placing-moves (record {
-      fits = c.requires.here.fits;
+      keeps_best = c.requires.here.keeps_best;
       known = hand-student m c.args.student c.requires.here.within;
       nowhere = c.requires.nowhere;
       choice = ap (slice_get (choices_of m (student_at m c.args.student))) (sym c.from.ensures) ∙ sym c.in-Some.ensures.school;
       found = c.in-Some.ensures.position;
       offered = offer-seen (λ (b : BestView). b.keys) m schools (student_at m c.args.student) s at best best.seats c.in-Some.proposal.key new.keys out
-          (school-low m (view_of c.args.self.now) s at c.requires.here.fits c.in-Some.ensures.position) c.index_mut.ensures.value
-          (seats-there (λ (b : BestView). b.seats) m schools s at best c.requires.here.fits.seats c.in-Some.ensures.position c.index_mut.ensures.value)
+          (school-low m (view_of c.args.self.now) s at c.requires.here.keeps_best c.in-Some.ensures.position) c.index_mut.ensures.value
+          (seats-there (λ (b : BestView). b.seats) m schools s at best c.requires.here.keeps_best.seats c.in-Some.ensures.position c.index_mut.ensures.value)
           c.in-Some.ensures.key offered;
       kept = map-set (λ (b : BestView). b.keys) schools at new;
       seats = map-set_same (λ (b : BestView). b.seats) schools at new best c.index_mut.ensures.value c.offer.ensures.seats;
-      long = length-set c.args.self.now.stands.items c.args.student (Some c.args.rank) ∙ c.requires.here.fits.stands;
-      stands = stand-put m c.args.self.now.stands.items (Some c.args.rank) (student_at m c.args.student) c.args.student c.requires.here.fits.stands (hand-position m c.requires.here.fits.well_formed c.args.student c.requires.here.within);
+      long = length-set c.args.self.now.stands.items c.args.student (Some c.args.rank) ∙ c.requires.here.keeps_best.stands;
+      stands = stand-put m c.args.self.now.stands.items (Some c.args.rank) (student_at m c.args.student) c.args.student c.requires.here.keeps_best.stands (hand-position m c.requires.here.keeps_best.well_formed c.args.student c.requires.here.within);
     })

@@ -11,7 +11,7 @@ returns-in_err-rank c =
     let m = c.args.papers.now in
     let stands = c.args.self.now.stands.items in
     let i = student_at m c.args.student in
-    let here : stand_of m stands i ≡ c.index.result.now = sym (stand-at m stands i c.args.student c.index.result.now c.requires.fits.stands (hand-position m c.requires.fits.well_formed c.args.student c.requires.within) c.index.ensures) in
+    let here : stand_of m stands i ≡ c.index.result.now = sym (stand-at m stands i c.args.student c.index.result.now c.requires.keeps_best.stands (hand-position m c.requires.keeps_best.well_formed c.args.student c.requires.within) c.index.ensures) in
     c.from_residual.ensures ∙ sym (ap (option_and_then (slice_get (choices_of m i))) (here ∙ c.in_err-rank.was))
 
 pub returns-in_err-proposal : goal.returns-in_err-proposal
@@ -19,7 +19,7 @@ returns-in_err-proposal c =
     let m = c.args.papers.now in
     let stands = c.args.self.now.stands.items in
     let i = student_at m c.args.student in
-    let here : stand_of m stands i ≡ c.index.result.now = sym (stand-at m stands i c.args.student c.index.result.now c.requires.fits.stands (hand-position m c.requires.fits.well_formed c.args.student c.requires.within) c.index.ensures) in
+    let here : stand_of m stands i ≡ c.index.result.now = sym (stand-at m stands i c.args.student c.index.result.now c.requires.keeps_best.stands (hand-position m c.requires.keeps_best.well_formed c.args.student c.requires.within) c.index.ensures) in
     let none : slice_get (choices_of m i) c.in_ok-rank.rank ≡ None = ap (slice_get (choices_of m i)) (sym c.from.ensures) ∙ sym c.in_err-proposal.ensures.school in
     c.from_residual-in_err-proposal.ensures ∙ sym (ap (option_and_then (slice_get (choices_of m i))) (here ∙ c.in_ok-rank.was) ∙ none)
 
@@ -28,6 +28,6 @@ returns c =
     let m = c.args.papers.now in
     let stands = c.args.self.now.stands.items in
     let i = student_at m c.args.student in
-    let here : stand_of m stands i ≡ c.index.result.now = sym (stand-at m stands i c.args.student c.index.result.now c.requires.fits.stands (hand-position m c.requires.fits.well_formed c.args.student c.requires.within) c.index.ensures) in
+    let here : stand_of m stands i ≡ c.index.result.now = sym (stand-at m stands i c.args.student c.index.result.now c.requires.keeps_best.stands (hand-position m c.requires.keeps_best.well_formed c.args.student c.requires.within) c.index.ensures) in
     let choice : slice_get (choices_of m i) c.in_ok-rank.rank ≡ Some c.in_ok-proposal.proposal.school = ap (slice_get (choices_of m i)) (sym c.from.ensures) ∙ sym c.in_ok-proposal.ensures.school in
     sym (ap (option_and_then (slice_get (choices_of m i))) (here ∙ c.in_ok-rank.was) ∙ choice)

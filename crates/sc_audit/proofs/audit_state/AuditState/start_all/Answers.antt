@@ -6,11 +6,11 @@ use Rattle.sc_papers.proofs.Hands.{hand-there}
 use Rattle.sc_audit.proofs.audit_state.AuditState.start_all.Goals as goal
 
 pub loop-position-init : goal.loop-position-init
-loop-position-init c = opened-none c.args.papers.now (view_of c.args.self.now) c.requires.fits c.requires.nowhere
+loop-position-init c = opened-none c.args.papers.now (view_of c.args.self.now) c.requires.keeps_best c.requires.nowhere
 
 pub move_to-requires-clause-here : goal.move_to-requires-clause-here
 move_to-requires-clause-here c = record {
-  fits = c.loop-position.invariant.fits;
+  keeps_best = c.loop-position.invariant.keeps_best;
   within = omega (arith, c.loop-position-test.true, c.students_len-position-end.ensures.count);
 }
 

@@ -8,20 +8,20 @@ use Rattle.sc_audit.specs.AuditState.{view_of}
 use Rattle.sc_audit.specs.AuditView.{AuditView, MovesTo, next_of}
 use Rattle.sc_audit.proofs.Pasts.{Waits, waits-at}
 use Rattle.sc_audit.proofs.Tables.{stand-put}
-use Rattle.sc_audit.proofs.Takings.{left-fits, left-next, left-nowhere, taken-valid, taken-follows, not-taken}
+use Rattle.sc_audit.proofs.Takings.{left-best, left-next, left-nowhere, taken-valid, taken-follows, not-taken}
 use Rattle.sc_audit.proofs.audit_state.AuditState.take.Goals as goal
 
 pub returns-in_default : goal.returns-in_default
 returns-in_default c = λ log valid follows. not-taken c.args.papers.now log (view_of c.args.self.now) c.args.entry (sym c.in_default.ensures.rank) follows
 
 pub index_mut-requires : goal.index_mut-requires
-index_mut-requires c = omega (arith, position-low c.args.papers.now c.args.entry.student c.in-Some.student c.in-Some.ensures.position, c.requires.fits.stands)
+index_mut-requires c = omega (arith, position-low c.args.papers.now c.args.entry.student c.in-Some.student c.in-Some.ensures.position, c.requires.keeps_best.stands)
 
 pub overflow_add-rank : goal.overflow_add-rank
 overflow_add-rank c =
     let m = c.args.papers.now in
     let waits : Waits m (view_of c.args.self.now) c.args.entry.student c.args.entry.school c.in-Some.rank = waits-at m (view_of c.args.self.now) c.args.entry.student c.args.entry.school c.in-Some.rank (sym c.in-Some.ensures.rank) in
-    omega (arith, slice_get_within (choices_of m c.args.entry.student) c.in-Some.rank c.args.entry.school waits.at, choices-short m c.requires.fits.within_limits c.args.entry.student)
+    omega (arith, slice_get_within (choices_of m c.args.entry.student) c.in-Some.rank c.args.entry.school waits.at, choices-short m c.requires.keeps_best.within_limits c.args.entry.student)
 
 pub move_to-requires-clause-here : goal.move_to-requires-clause-here
 move_to-requires-clause-here c =
@@ -29,9 +29,9 @@ move_to-requires-clause-here c =
     let old = view_of c.args.self.now in
     let stands = c.args.self.now.stands.items in
     record {
-      fits = left-fits (waits-at m old c.args.entry.student c.args.entry.school c.in-Some.rank (sym c.in-Some.ensures.rank))
-          (record { stands = set stands c.in-Some.student None; kept = old.kept; seats = old.seats }) c.requires.fits refl refl (length-set stands c.in-Some.student None)
-          (stand-put m stands None c.args.entry.student c.in-Some.student c.requires.fits.stands c.in-Some.ensures.position);
+      keeps_best = left-best (waits-at m old c.args.entry.student c.args.entry.school c.in-Some.rank (sym c.in-Some.ensures.rank))
+          (record { stands = set stands c.in-Some.student None; kept = old.kept; seats = old.seats }) c.requires.keeps_best refl refl (length-set stands c.in-Some.student None)
+          (stand-put m stands None c.args.entry.student c.in-Some.student c.requires.keeps_best.stands c.in-Some.ensures.position);
       within = position-low m c.args.entry.student c.in-Some.student c.in-Some.ensures.position;
     }
 
@@ -42,8 +42,8 @@ move_to-requires-clause-nowhere c =
     let stands = c.args.self.now.stands.items in
     ap (next_of m (set stands c.in-Some.student None)) (student-there m c.args.entry.student c.in-Some.student c.in-Some.ensures.position)
     ∙ left-nowhere (waits-at m old c.args.entry.student c.args.entry.school c.in-Some.rank (sym c.in-Some.ensures.rank))
-    (record { stands = set stands c.in-Some.student None; kept = old.kept; seats = old.seats }) c.requires.fits refl refl (length-set stands c.in-Some.student None)
-    (stand-put m stands None c.args.entry.student c.in-Some.student c.requires.fits.stands c.in-Some.ensures.position)
+    (record { stands = set stands c.in-Some.student None; kept = old.kept; seats = old.seats }) c.requires.keeps_best refl refl (length-set stands c.in-Some.student None)
+    (stand-put m stands None c.args.entry.student c.in-Some.student c.requires.keeps_best.stands c.in-Some.ensures.position)
 
 pub returns : goal.returns
 returns c = λ log valid follows.
@@ -54,6 +54,6 @@ returns c = λ log valid follows.
     let mid : AuditView = record { stands = set stands c.in-Some.student None; kept = old.kept; seats = old.seats } in (
       taken-valid m log old c.args.entry c.in-Some.rank follows waits,
       taken-follows m log old mid (view_of c.move_to.new.self) c.args.entry c.in-Some.rank valid follows waits
-          (left-next waits mid c.requires.fits refl refl (length-set stands c.in-Some.student None) (stand-put m stands None c.args.entry.student c.in-Some.student c.requires.fits.stands c.in-Some.ensures.position))
+          (left-next waits mid c.requires.keeps_best refl refl (length-set stands c.in-Some.student None) (stand-put m stands None c.args.entry.student c.in-Some.student c.requires.keeps_best.stands c.in-Some.ensures.position))
           (subst (λ i. MovesTo m mid i (c.in-Some.rank + 1) (view_of c.move_to.new.self)) (student-there m c.args.entry.student c.in-Some.student c.in-Some.ensures.position) c.in_ok-move_to.ensures),
     )
