@@ -287,7 +287,7 @@ pub kept-along : (t u : TurnsOfEntry) (m n : Market) (stamps others : Stamps) �
 kept-along t u m n stamps others turns papers marks kept =
     subst (λ (x : TurnsOfEntry). AreInTurn x n others) (sym turns) (subst (λ (x : Market). AreInTurn t x others) (sym papers) (subst (λ (x : Stamps). AreInTurn t m x) (sym marks) kept))
 
-module _ (t : TurnsOfEntry) (m : Market) (stamps : Stamps) (kept : AreInTurn t m stamps) (a : Amendment) (place : Option ℕ) (u : TurnsOfEntry) (n : Market) (others : Stamps)
+module _ {t : TurnsOfEntry} {m : Market} {stamps : Stamps} (kept : AreInTurn t m stamps) (a : Amendment) {place : Option ℕ} {u : TurnsOfEntry} {n : Market} {others : Stamps}
     (at : place ≡ position_of_leaver (marking_of m a)) (turns : u ≡ last_turns place t) (papers : n ≡ last_papers place m) (marks : others ≡ last_stamps place stamps) where
   place-turns : u ≡ last_turns (position_of_leaver (marking_of m a)) t
   place-turns = turns ∙ ap (λ p. last_turns p t) at
@@ -311,7 +311,7 @@ module _ (t : TurnsOfEntry) (m : Market) (stamps : Stamps) (kept : AreInTurn t m
   ready-accepted = ap (λ (p : StampedPapers). p.stamps.accepted) ready-same
 
   -- and once the amendment is made
-  module _ (v : TurnsOfEntry) (after_it : Market) (with_it : Stamps) (allowed : verdict n a ≡ None) (made : after_it ≡ after n a) (marked : with_it ≡ stamps_after n a others)
+  module _ {v : TurnsOfEntry} {after_it : Market} {with_it : Stamps} (allowed : verdict n a ≡ None) (made : after_it ≡ after n a) (marked : with_it ≡ stamps_after n a others)
       (turned : v ≡ finished_turns (marking_of m a) (begun_turns (marking_of m a) u)) where
     the-verdict : verdict (last_papers (position_of_leaver (marking_of m a)) m) a ≡ None
     the-verdict = ap (λ (p : Market). verdict p a) (sym place-papers) ∙ allowed

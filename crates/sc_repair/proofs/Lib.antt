@@ -5,6 +5,7 @@ pub mod Kept
 pub mod LiesApart
 pub mod Chains
 pub mod Course
+pub mod Outcomes
 pub mod Parts
 pub mod Beginning
 pub mod GivenPlaces

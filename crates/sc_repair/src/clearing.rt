@@ -3,6 +3,7 @@ ghost use Rattle.std.specs.Prelude.{◌≡◌};
 use crate::open_refused::OpenRefused;
 use crate::opening::settle_all;
 use crate::settlement::Settlement;
+use crate::stamping::ended;
 use sc_papers::{
     Amendment, Assignment, MOST_STUDENTS, Papers, Refusal, Rejection, SchoolNo, Stamp, Stamped,
     StudentNo,
@@ -280,15 +281,7 @@ impl Clearing {
     {
         let marking = marking_of(self.papers(), &amendment);
         self.stamps.begin(marking)?;
-        match self.settlement.amend(amendment) {
-            Ok(()) => {
-                self.stamps.finish(marking);
-                Ok(())
-            }
-            Err(refused) => {
-                self.stamps.take_back(marking);
-                Err(refused)
-            }
-        }
+        let made = self.settlement.amend(amendment);
+        ended(&mut self.stamps, marking, made)
     }
 }

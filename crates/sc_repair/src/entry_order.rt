@@ -7,6 +7,7 @@ ghost use Rattle.sc_papers.specs.declared.stamp.TheConstants.Stamp.{GREATEST};
 ghost use Rattle.sc_stamps.specs.Stamps.{stamps_after, with_swapped_stamps};
 ghost use Rattle.sc_repair.specs.Turns.{last_papers, last_stamps, last_turns, papers_in_turn, position_of_leaver, stamps_in_turn, swapped, AreInTurn};
 
+use crate::stamping::ended;
 use crate::turns::Turns;
 use sc_papers::{Amendment, Papers};
 use sc_stamps::{Marking, Stamps, marking_of};
@@ -27,16 +28,8 @@ pub(crate) fn make(
 {
     let marking = marking_of(papers, &amendment);
     stamps.begin(marking)?;
-    match papers.apply_allowed(amendment) {
-        Ok(()) => {
-            stamps.finish(marking);
-            Ok(())
-        }
-        Err(refused) => {
-            stamps.take_back(marking);
-            Err(refused)
-        }
-    }
+    let made = papers.apply_allowed(amendment);
+    ended(stamps, marking, made)
 }
 
 /// Changes the students at two positions for one another, with their stamps and their turns. It takes no memory. In

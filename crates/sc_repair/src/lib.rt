@@ -19,6 +19,7 @@ mod renewal;
 mod resettling;
 mod rewind;
 mod settlement;
+mod stamping;
 mod turns;
 mod unsettled;
 

@@ -99,23 +99,27 @@ impl Turns {
         Ok(())
     }
 
-    /// Takes back what `begin` made ready. It takes no memory.
-    pub(crate) fn take_back(&mut self, marking: Marking)
-        ensures { (before : TurnsOfEntry) → self.old ≡ begun_turns marking before → self.new ≡ before }
-    {
-        if let Marking::Newcomer = marking {
-            let _ = self.positions.pop();
-            let _ = self.turns.pop();
-        }
-    }
-
-    /// Lets whoever stands last go, where a student leaves by the amendment that was made ready. It takes no memory.
-    pub(crate) fn finish(&mut self, marking: Marking)
+    /// Ends what `begin` made ready, and answers what making the amendment did: whoever stands last goes where a
+    /// student leaves by it, and a newcomer's turn is taken back where it was refused. It takes no memory.
+    pub(crate) fn ended(
+        &mut self,
+        marking: Marking,
+        made: Result<(), AllocError>,
+    ) -> Result<(), AllocError>
         requires { AreTurns self.old }
-        ensures { self.new ≡ finished_turns marking self.old }
+        ensures made { result ≡ made }
+        ensures finished { OnOk result (self.new ≡ finished_turns marking self.old) }
+        ensures as_before { OnErr result
+            ((before : TurnsOfEntry) → self.old ≡ begun_turns marking before → self.new ≡ before) }
     {
-        if let Marking::StudentLeaves(_) = marking {
-            self.leave();
+        match (&made, marking) {
+            (Ok(()), Marking::StudentLeaves(_)) => self.leave(),
+            (Err(_), Marking::Newcomer) => {
+                let _ = self.positions.pop();
+                let _ = self.turns.pop();
+            }
+            _ => {}
         }
+        made
     }
 }

@@ -171,16 +171,8 @@ impl Unsettled {
             position_of_leaver(marking),
         );
         self.turns.begin(marking)?;
-        match make(&mut self.papers, &mut self.stamps, amendment) {
-            Ok(()) => {
-                self.turns.finish(marking);
-                Ok(())
-            }
-            Err(refused) => {
-                self.turns.take_back(marking);
-                Err(refused)
-            }
-        }
+        let made = make(&mut self.papers, &mut self.stamps, amendment);
+        self.turns.ended(marking, made)
     }
 
     /// Settles the papers as they stand: a clearing of them, with their stamps. The standing assignment is their
