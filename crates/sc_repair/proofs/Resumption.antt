@@ -152,7 +152,7 @@ stand-segments m k kept next_choices well count segmented is =
     subst (AreNextChoices m (joined kept)) (ap (λ l. next_choices_after m (joined l) (take k (students_of m))) (sym (take_all k kept (omega (arith, count)))) ∙ sym is)
     (stand-after m k (joined kept) well (segments-settled (cut m k) kept segmented))
 
--- a student enters, and its chain is put at the end
+-- a student enters, and their chain is put at the end
 pub goes-on-next : (m : Market) (kept : List (List Rejection)) (r r' : RoundView) (chains new : List Chain) (k i : ℕ)
     → slice_get (students_of m) k ≡ Some i → GoesOn m kept r (students_in chains) (logs_in chains) k → Enters m r r' i
     → (chain : List Rejection) × (r'.log ≡ r.log ++ chain) × (new ≡ with_chain chains i chain)

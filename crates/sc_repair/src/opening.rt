@@ -22,7 +22,7 @@ use sc_papers::{FlatPapers, StudentNo};
 use sc_seats::Roll;
 use std::alloc::{AllocError, Global};
 
-/// Enters a student, who often stands at the guessed position, into a round, and puts the rejections of its chain at the end of the segments.
+/// Enters a student, who often stands at the guessed position, into a round, and puts the rejections of their chain at the end of the segments.
 pub(crate) fn enter_next<R: Roll>(
     round: &mut Round<R>,
     papers: &FlatPapers,
