@@ -45,52 +45,45 @@ module _ (m n : Market) (a : Amendment) (point end : ℕ) (well : WellFormed m) 
       }
 
 -- a student who may withdraw went last, and all others are settled
-module _ (m p : Market) (a : Amendment) (i point last : ℕ) (well : WellFormed m) (allowed : verdict m a ≡ None) (is : a ≡ Withdraw i)
-    (at : point ≡ rewind_point m a) (end : last ≡ length m.students - 1) where
-  own : verdict m (Withdraw i) ≡ None
-  own = subst (λ b. verdict m b ≡ None) is allowed
-
-  place : point ≡ position_of m i
-  place = at ∙ ap (rewind_point m) is
-
+module _ (m p : Market) (i point last : ℕ) (well : WellFormed m) (allowed : verdict m (Withdraw i) ≡ None) (at : point ≡ rewind_point m (Withdraw i)) (end : last ≡ length m.students - 1) where
   pub leaver-from : point < length m.students
-  leaver-from = omega (arith, place, last-within m i well own)
+  leaver-from = omega (arith, at, last-within m i well allowed)
 
   pub leaver-to : last < length m.students
-  leaver-to = omega (arith, end, last-within m i well own)
+  leaver-to = omega (arith, end, last-within m i well allowed)
 
   module _ (moved : p ≡ with_moved_student m point last) where
     went : p ≡ with_moved_student m (position_of m i) (length m.students - 1)
-    went = moved ∙ (λ t. with_moved_student m (place t) (end t))
+    went = moved ∙ (λ t. with_moved_student m (at t) (end t))
 
     pub leaver-within : point < length p.students
     leaver-within = omega (arith, leaver-from, ap (λ (k : Market). length k.students) moved, length-moved m.students point last)
 
-    pub leaver-others : cut p last ≡ after m a
-    leaver-others = (λ t. cut (went t) (end t)) ∙ last-others m i well own ∙ ap (after m) (sym is)
+    pub leaver-others : cut p last ≡ after m (Withdraw i)
+    leaver-others = (λ t. cut (went t) (end t)) ∙ last-others m i well allowed
 
-    pub leaver-gone : without_student p i ≡ after m a
-    leaver-gone = ap (λ k. without_student k i) went ∙ last-withdrawn m i well own ∙ ap (after m) (sym is)
+    pub leaver-gone : without_student p i ≡ after m (Withdraw i)
+    leaver-gone = ap (λ k. without_student k i) went ∙ last-withdrawn m i well allowed
 
     pub leaver-back : with_moved_student p last point ≡ m
-    leaver-back = (λ t. with_moved_student (went t) (end t) (place t)) ∙ last-back m i well own
+    leaver-back = (λ t. with_moved_student (went t) (end t) (at t)) ∙ last-back m i well allowed
 
-    pub leaver-changed : (places : List (ℕ × ℕ)) (chains : List Chain) (test : ℕ → Bool) → IsStandingOf m places chains → TellsRegion m a test → HaveChanged p places chains test point last
+    pub leaver-changed : (places : List (ℕ × ℕ)) (chains : List Chain) (test : ℕ → Bool) → IsStandingOf m places chains → TellsRegion m (Withdraw i) test → HaveChanged p places chains test point last
     leaver-changed places chains test stood tells =
         let count : length chains ≡ length m.students =
         omega (arith, length-map chains (λ (c : Chain). c.student), ap (λ (xs : List ℕ). length xs) stood.theirs, length-students m) in
         let more : length p.students ≡ length m.students = ap (λ (k : Market). length k.students) moved ∙ length-moved m.students point last in
         let low : last ≤ length (students_of p) = omega (arith, leaver-to, more, length-students p) in
-        let others : length (students_of (after m a)) ≡ last = ap (λ k. length (students_of k)) (sym leaver-others) ∙ length-students_cut p last low in
-        let gap : length (students_of m) - length (students_of (after m a)) ≡ length chains - last = omega (arith, count, others, length-students m) in
+        let others : length (students_of (after m (Withdraw i))) ≡ last = ap (λ k. length (students_of k)) (sym leaver-others) ∙ length-students_cut p last low in
+        let gap : length (students_of m) - length (students_of (after m (Withdraw i))) ≡ length chains - last = omega (arith, count, others, length-students m) in
         record {
           before = m;
           stood = stood;
           changes = subst (λ n. ChangesInside m n test point (length chains - last)) (sym leaver-others)
-              (subst (λ k. ChangesInside m (after m a) test k (length chains - last)) (sym at)
-              (subst (ChangesInside m (after m a) test (rewind_point m a)) gap (changes-inside m a test well allowed tells)));
+              (subst (λ k. ChangesInside m (after m (Withdraw i)) test k (length chains - last)) (sym at)
+              (subst (ChangesInside m (after m (Withdraw i)) test (rewind_point m (Withdraw i))) gap (changes-inside m (Withdraw i) test well allowed tells)));
           nobody_new = omega (arith, count, leaver-to);
           within = omega (arith, more, leaver-to);
           well_formed = subst WellFormed (sym moved) (WellFormed-moved m point last well);
-          apart = subst (λ n. AreApart n test) (sym moved) (apart-moved m point last test well (region-apart m a test tells));
+          apart = subst (λ n. AreApart n test) (sym moved) (apart-moved m point last test well (region-apart m (Withdraw i) test tells));
         }

@@ -28,7 +28,7 @@ use Rattle.sc_papers.proofs.Hands.{hand-position, has-position}
 use Rattle.sc_papers.proofs.Positions.{among-student, any-among, place-position, position-among, position-there}
 use Rattle.sc_checkpoint.specs.Chains.{logs_in, students_in, Chain}
 use Rattle.sc_seats.specs.Roll.{RollView}
-use Rattle.sc_engine.specs.Leaving.{moved_up, IsReseated, Leave, StandAt, TakesOver}
+use Rattle.sc_engine.specs.Leaving.{moved_up, AreWithin, IsReseated, Leave, StandAt, TakesOver}
 use Rattle.sc_engine.specs.Round.{is_spent, view_of}
 use Rattle.sc_engine.specs.RoundView.{Fits, RoundView, entered_papers, has_entered, next_of, rank_of, roll_of, RollFits}
 use Rattle.sc_engine.specs.declared.round.Round.{Round}
@@ -64,21 +64,25 @@ pub if-some : {X : Type 0} (P Q : X → Type 0) (o : Option X) → ((x : X) → 
 if-some P Q None wider holds = tt
 if-some P Q (Some x) wider holds = wider x holds
 
+-- the positions of marks are within the papers
+pub marked-within : (m : Market) (marks : List Bool) (positions : List ℕ) → length marks ≡ length m.students → ((p : ℕ) → (Contains positions p ↔ IsTrue (slice_index_or marks p false))) → AreWithin m positions
+marked-within m marks positions count marked p among = omega (arith, count, low marks p ((marked p).0 among))
+  where
+    low : (marks : List Bool) (p : ℕ) → IsTrue (slice_index_or marks p false) → p < length marks
+    low [] p marked = absurd (false≢true marked)
+    low (b ∷ bs) zero marked = omega arith
+    low (b ∷ bs) (suc p) marked = omega (arith, low bs p marked)
+
 -- the students of a region stand at its positions
 pub stand-at : (m : Market) (a : Amendment) (test : ℕ → Bool) (marks : List Bool) (positions : List ℕ) → length marks ≡ length m.students → TellsRegion m a test
     → ((p i : ℕ) → slice_get (students_of m) p ≡ Some i → (IsTrue (slice_index_or marks p false) ↔ InRegion m a i)) → ((p : ℕ) → (Contains positions p ↔ IsTrue (slice_index_or marks p false))) → StandAt m test positions
 stand-at m a test marks positions count tells region marked = record {
-  within = λ p among. omega (arith, count, marked-low marks p ((marked p).0 among));
+  within = marked-within m marks positions count marked;
   exact = λ p i here. (
     λ among. (tells i).1 ((region p i here).0 ((marked p).0 among)),
     λ passes. (marked p).1 ((region p i here).1 ((tells i).0 passes)),
   );
 }
-  where
-    marked-low : (marks : List Bool) (p : ℕ) → IsTrue (slice_index_or marks p false) → p < length marks
-    marked-low [] p marked = absurd (false≢true marked)
-    marked-low (b ∷ bs) zero marked = omega arith
-    marked-low (b ∷ bs) (suc p) marked = omega (arith, marked-low bs p marked)
 
 -- and so they do in other papers with the same students
 pub stand-still : (m n : Market) (test : ℕ → Bool) (positions : List ℕ) → students_of n ≡ students_of m → StandAt m test positions → StandAt n test positions
@@ -438,9 +442,9 @@ pub record Withdrawn (m p n : Market) (i point last : ℕ) (test : ℕ → Bool)
 pub withdrawn : (m p n : Market) (i point last : ℕ) (test : ℕ → Bool) → WellFormed m → verdict m (Withdraw i) ≡ None → point ≡ rewind_point m (Withdraw i) → last ≡ length m.students - 1 → p ≡ with_moved_student m point last
     → n ≡ after m (Withdraw i) → TellsRegion m (Withdraw i) test → Withdrawn m p n i point last test
 withdrawn m p n i point last test well allowed at end moved accepted tells =
-    let low : point < length m.students = leaver-from m p (Withdraw i) i point last well allowed refl at end in
+    let low : point < length m.students = leaver-from m p i point last well allowed at end in
     let more : length p.students ≡ length m.students = ap (λ (k : Market). length k.students) moved ∙ length-moved m.students point last in
-    let cut_is : cut p last ≡ n = leaver-others m p (Withdraw i) i point last well allowed refl at end moved ∙ sym accepted in
+    let cut_is : cut p last ≡ n = leaver-others m p i point last well allowed at end moved ∙ sym accepted in
     let short : last ≤ length (students_of p) = omega (arith, low, end, more, length-students p) in
     let count : length n.students ≡ last = sym (length-students n) ∙ ap (λ k. length (students_of k)) (sym cut_is) ∙ length-students_cut p last short in
     let gap : length (students_of m) - length (students_of (after m (Withdraw i))) ≡ 1 = omega (arith, low, end, count, length-students m, length-students n, ap (λ (k : Market). length (students_of k)) accepted) in
@@ -448,7 +452,7 @@ withdrawn m p n i point last test well allowed at end moved accepted tells =
       inside = subst (λ k. ChangesInside m k test point 1) (sym accepted) (subst (λ k. ChangesInside m (after m (Withdraw i)) test k 1) (sym at) (subst (ChangesInside m (after m (Withdraw i)) test (rewind_point m (Withdraw i))) gap (changes-inside m (Withdraw i) test well allowed tells)));
       fewer = omega (arith, count, low, end);
       low = low;
-      gone = leaver-gone m p (Withdraw i) i point last well allowed refl at end moved ∙ sym accepted;
+      gone = leaver-gone m p i point last well allowed at end moved ∙ sym accepted;
       cut_is = cut_is;
       count = count;
       well_moved = subst WellFormed (sym moved) (WellFormed-moved m point last well);

@@ -25,7 +25,7 @@ use Rattle.sc_repair.proofs.Admitted.{keys, same-standing, seats, unamended}
 use Rattle.sc_repair.proofs.Changed.{in-place-changed, whole-cut-of}
 use Rattle.sc_repair.proofs.InStep.{students-stay}
 use Rattle.sc_repair.proofs.LiesApart.{region-apart}
-use Rattle.sc_repair.proofs.Rejoining.{amended-in, change, gone-some, if-some, region-tells, joins-inside, rejoined, rejoined-some, stand-at, stand-still, waits, waits-some}
+use Rattle.sc_repair.proofs.Rejoining.{amended-in, change, gone-some, if-some, joins-inside, marked-within, region-tells, rejoined, rejoined-some, stand-at, stand-still, waits, waits-some}
 use Rattle.sc_repair.proofs.Resumption.{length-students}
 use Rattle.sc_repair.proofs.Regional.{marks-count, settled-anew}
 use Rattle.sc_repair.proofs.settlement.Settlement.change.Goals as goal
@@ -49,14 +49,8 @@ resettle-settled-requires c =
 
 pub let_leave-requires-clause-within : goal.let_leave-requires-clause-within
 let_leave-requires-clause-within c =
-    let m = c.self.inside.papers in
-    let chains = c.self.inside.segments in
-    let marks = c.in_ok-region.region in
-    let test = is_among (marked_in marks chains) in
-    let allowed = ap (λ (s : Standing). verdict s.papers c.args.amendment) c.self.view_is ∙ c.requires.allowed in
-    let tells = region-tells m c.args.amendment marks chains c.self.invariant.certified.well_formed allowed c.requires.no_entry (subst (λ p. MarkRegion p c.args.amendment c.in_ok-region.region) c.deref.ensures c.in_ok-region.ensures.region) c.self.invariant.theirs in
     subst (λ p. AreWithin p c.positions-positions.result.now) (sym c.deref-3.ensures)
-    (stand-at m c.args.amendment test marks c.positions-positions.result.now (subst (λ p. MarkRegion p c.args.amendment c.in_ok-region.region) c.deref.ensures c.in_ok-region.ensures.region).one_each tells (subst (λ p. MarkRegion p c.args.amendment c.in_ok-region.region) c.deref.ensures c.in_ok-region.ensures.region).region c.positions-positions.ensures.marked).within
+    (marked-within c.self.inside.papers c.in_ok-region.region c.positions-positions.result.now (subst (λ p. MarkRegion p c.args.amendment c.in_ok-region.region) c.deref.ensures c.in_ok-region.ensures.region).one_each c.positions-positions.ensures.marked)
 
 pub reseat-requires : goal.reseat-requires
 reseat-requires c =
