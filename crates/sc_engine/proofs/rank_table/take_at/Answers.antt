@@ -14,6 +14,3 @@ loop-at-preserved c =
 
 pub returns-clause-taken : goal.returns-clause-taken
 returns-clause-taken c at among = c.loop-at.invariant.taken at (subst (λ ps. Contains ps at) (sym (take_all c.loop-at.at-index c.args.positions.now c.loop-at-test.false)) among)
-
-pub returns-clause-stay : goal.returns-clause-stay
-returns-clause-stay c at out = c.loop-at.invariant.stay at (λ among. out (subst (λ ps. Contains ps at) (take_all c.loop-at.at-index c.args.positions.now c.loop-at-test.false) among))

@@ -12,9 +12,6 @@ loop-position-init g c = (
   c.requires.ready,
 )
 
-pub enter_one-requires-clause-fits : goal.enter_one-requires-clause-fits
-enter_one-requires-clause-fits g c = λ ready. c.loop-position.invariant.0.fits
-
 pub enter_one-requires-clause-student : goal.enter_one-requires-clause-student
 enter_one-requires-clause-student g c = λ ready. among-student c.args.papers.now c.in-Some.student (contains-at (students_of c.args.papers.now) c.loop-position.position c.in-Some.student (sym c.in-Some.ensures))
 

@@ -9,13 +9,10 @@ use Rattle.sc_engine.specs.Rolls.{rolls_of}
 use Rattle.sc_engine.proofs.Offers.{seen_by}
 use Rattle.sc_engine.proofs.Papers.{stander-short}
 use Rattle.sc_engine.proofs.Proposals.{standing-most}
-use Rattle.sc_engine.proofs.Moves.{none-passed, proposes-at, proposed-refused, passed-more, roll-new}
+use Rattle.sc_engine.proofs.Moves.{proposes-at, proposed-refused, passed-more, roll-new}
 use Rattle.sc_engine.proofs.Tables.{length-mapped, rank-at}
 use Rattle.sc_engine.proofs.round.Round.next_open.Given as given
 use Rattle.sc_engine.proofs.round.Round.next_open.Goals as goal
-
-pub passed-init : goal.passed-init
-passed-init g c = none-passed c.args.papers.now (view_of g.R.Roll.keys g.R.Roll.seats c.args.self.now) (student_at c.args.papers.now c.args.proposer) c.requires.fits
 
 pub is_refused-requires-clause-within : goal.is_refused-requires-clause-within
 is_refused-requires-clause-within g c =

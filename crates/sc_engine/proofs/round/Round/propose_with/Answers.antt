@@ -1,8 +1,6 @@
 use Rattle.std.proofs.Common.{◌≡◌, ℕ, List, sym, ap, ◌∙◌, subst, ◌+◌, [], ◌∷◌, ◌++◌, get_or, set, Some, None, Option, arith}
-use Rattle.std.specs.Option.{option_map}
 use Rattle.std.proofs.lemmas.Option.{same_Some}
 use Rattle.sc_papers.specs.Market.{student_at}
-use Rattle.sc_papers.specs.declared.proposal.Proposal.{Proposal}
 use Rattle.sc_engine.specs.Proposals.{IsProposal}
 use Rattle.sc_engine.specs.RoundView.{next_of, only, Proposes}
 use Rattle.sc_engine.specs.Round.{view_of}
@@ -10,17 +8,10 @@ use Rattle.sc_engine.specs.Rolls.{rolls_of}
 use Rattle.sc_papers.proofs.Hands.{student-there}
 use Rattle.sc_engine.proofs.Papers.{stander-student, stander-short}
 use Rattle.sc_engine.proofs.Proposals.{Proposed, put-out, standing-most}
-use Rattle.sc_engine.proofs.Moves.{proposed-told, roll-new, ends-none, ends-held, goes-on}
+use Rattle.sc_engine.proofs.Moves.{proposed-told, roll-new, ends-held, goes-on}
 use Rattle.sc_engine.proofs.Tables.{rank-at}
 use Rattle.sc_engine.proofs.round.Round.propose_with.Goals as goal
 use Rattle.sc_engine.proofs.round.Round.propose_with.Goals.{After-key-student}
-
-pub returns-in_default-clause-proposes : goal.returns-in_default-clause-proposes
-returns-in_default-clause-proposes g c =
-    let papers = c.args.papers.now in
-    let proposer : ℕ = student_at papers c.args.proposer in
-    ends-none papers (view_of g.R.Roll.keys g.R.Roll.seats c.args.self.now) proposer c.requires.fits
-    (sym c.requires.next.school ∙ ap (option_map (λ (p : Proposal). p.school)) c.in_default.is)
 
 pub offer-requires-clause-new : goal.offer-requires-clause-new
 offer-requires-clause-new g c =

@@ -1,6 +1,4 @@
-use Rattle.std.proofs.Common.{◌∙◌, sym, subst}
-use Rattle.std.proofs.lemmas.List.{take_all}
-use Rattle.sc_engine.specs.Leaving.{AreEmptied}
+use Rattle.std.proofs.Common.{◌∙◌, sym}
 use Rattle.sc_engine.specs.Rolls.{rolls_of}
 use Rattle.sc_engine.proofs.Leaving.{emptied-more, one-within}
 use Rattle.sc_engine.proofs.Offers.{seen_by}
@@ -19,8 +17,3 @@ loop-at-preserved g c = (
   emptied-more c.args.papers.now c.args.ranks.now c.args.positions.now c.loop-at.at-index (rolls_of g.R.Roll.keys g.R.Roll.seats c.args.rolls.now.items) (rolls_of g.R.Roll.keys g.R.Roll.seats c.loop-at.rolls.items)
       (rolls_of g.R.Roll.keys g.R.Roll.seats c.empty_roll_of.new.rolls.items) c.loop-at-test.true c.loop-at.invariant.1 c.empty_roll_of.ensures,
 )
-
-pub returns : goal.returns
-returns g c =
-    subst (λ positions. AreEmptied c.args.papers.now c.args.ranks.now positions (rolls_of g.R.Roll.keys g.R.Roll.seats c.args.rolls.now.items) (rolls_of g.R.Roll.keys g.R.Roll.seats c.loop-at.rolls.items))
-    (take_all c.loop-at.at-index c.args.positions.now c.loop-at-test.false) c.loop-at.invariant.1

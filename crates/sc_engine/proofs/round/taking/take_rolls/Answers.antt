@@ -1,6 +1,4 @@
-use Rattle.std.proofs.Common.{◌∙◌, sym, subst}
-use Rattle.std.proofs.lemmas.List.{take_all}
-use Rattle.sc_engine.specs.Leaving.{AreTaken}
+use Rattle.std.proofs.Common.{◌∙◌, sym}
 use Rattle.sc_engine.specs.Rolls.{rolls_of}
 use Rattle.sc_engine.proofs.Leaving.{one-within}
 use Rattle.sc_engine.proofs.Offers.{seen_by}
@@ -29,9 +27,3 @@ loop-at-preserved g c =
           (rolls_of g.R.Roll.keys g.R.Roll.seats c.loop-at.rolls.items) (rolls_of g.R.Roll.keys g.R.Roll.seats c.loop-at.others.items) (rolls_of g.R.Roll.keys g.R.Roll.seats c.take_roll.new.rolls.items)
           (rolls_of g.R.Roll.keys g.R.Roll.seats c.take_roll.new.others.items) c.loop-at-test.true c.loop-at.invariant.2 c.take_roll.ensures,
     )
-
-pub returns : goal.returns
-returns g c =
-    subst
-    (λ positions. AreTaken c.args.papers.now c.args.ranks.now positions (rolls_of g.R.Roll.keys g.R.Roll.seats c.args.rolls.now.items) (rolls_of g.R.Roll.keys g.R.Roll.seats c.args.others.now.items) (rolls_of g.R.Roll.keys g.R.Roll.seats c.loop-at.rolls.items) (rolls_of g.R.Roll.keys g.R.Roll.seats c.loop-at.others.items))
-    (take_all c.loop-at.at-index c.args.positions.now c.loop-at-test.false) c.loop-at.invariant.2
