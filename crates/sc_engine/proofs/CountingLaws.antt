@@ -11,7 +11,7 @@ use Rattle.sc_papers.proofs.Progress.{log-bounded}
 use Rattle.sc_papers.proofs.Restriction.{counts-restricted}
 use Rattle.sc_papers.proofs.Students.{how_many-agree, how_many-none}
 use Rattle.sc_engine.specs.Counting.{CountsExactly}
-use Rattle.sc_engine.specs.RoundView.{RoundView, Continues, Enters, Fits, entered_papers, has_entered, next_of, nobody, rank_of, standing_but}
+use Rattle.sc_engine.specs.RoundView.{RoundView, Continues, Fits, entered_papers, has_entered, next_of, nobody, rank_of, standing_but}
 use Rattle.sc_papers.proofs.Subsets.{well-restricted}
 use Rattle.sc_engine.proofs.Beginning.{is_some-none}
 use Rattle.sc_engine.proofs.Tables.{next-none}
@@ -36,9 +36,6 @@ proposals-bounded m r earlier fits continues =
     let n : Market = entered_papers m r.ranks in
     let bounded = log-bounded n (well-restricted m (has_entered m r.ranks) fits.well_formed) (earlier ++ r.log) continues.settled.valid in
     omega (arith, fits.proposals, bounded, standing-placed m r earlier continues, length-append earlier r.log)
-
-pub exact-entered : (m : Market) (old new : RoundView) (i : ℕ) → CountsExactly m old → Enters m old new i → CountsExactly m new
-exact-entered m old new i before enters = omega (arith, before, enters.counted)
 
 pub exact-none : (m : Market) (r : RoundView) → ((i : ℕ) → has_entered m r.ranks i ≡ false) → r.log ≡ [] → r.proposals ≡ 0 → CountsExactly m r
 exact-none m r nowhere no_log none =

@@ -1,5 +1,5 @@
 -- The moves of a chain, as the code makes them.
-use Rattle.std.proofs.Common.{◌≡◌, refl, ap, sym, subst, ◌∙◌, ℕ, ◌+◌, ◌<◌, nat_eq, Bool, cond, List, [], ◌∷◌, ◌++◌, length, get_or, set, Option, Some, None, Contains, position, is_some, append_assoc, append-nil, arith}
+use Rattle.std.proofs.Common.{◌≡◌, ap, sym, subst, ◌∙◌, ℕ, ◌+◌, ◌<◌, nat_eq, Bool, cond, List, [], ◌∷◌, ◌++◌, length, get_or, set, Option, Some, None, Contains, position, is_some, append_assoc, append-nil, arith}
 use Rattle.std.proofs.lemmas.Option.{none-some, same_Some}
 use Rattle.sc_papers.specs.Market.{Market, student_at, students_of, schools_of}
 use Rattle.sc_papers.specs.Key.{key_of}
@@ -15,8 +15,8 @@ use Rattle.std.proofs.lemmas.Bool.{eq-eqb}
 use Rattle.sc_engine.proofs.Rolls.{on-roll}
 use Rattle.sc_engine.proofs.RollCounts.{key-student}
 use Rattle.sc_engine.proofs.Tables.{rank-at, rank-low, roll-at, stands-at, StandsAt, position-of, PositionOf}
-use Rattle.sc_engine.proofs.Proposals.{Proposed, put-out, Out, fits-held, fits-ended, counted-ended, counted-held}
-use Rattle.sc_engine.proofs.Steps.{Rejected, entry_of, entered-stays, fits-put_out, counted-put_out, midway-put_out, continues-held, continues-ended, left-put_out}
+use Rattle.sc_engine.proofs.Proposals.{Proposed, put-out, Out, fits-held, counted-held}
+use Rattle.sc_engine.proofs.Steps.{Rejected, entry_of, entered-stays, fits-put_out, counted-put_out, midway-put_out, continues-held, left-put_out}
 
 pub proposed-from : (m : Market) (r : RoundView) (proposer s at : ℕ) (key : Key) (rolls : List RollView) (out : Option Key) → FitsBut m r (only proposer) → next_of m r.ranks proposer ≡ Some s → position (nat_eq s) (schools_of m) ≡ Some at → key ≡ key_of m proposer s → OffersAt r.rolls rolls at key out → Proposed m r proposer s at rolls out
 proposed-from m r proposer s at key rolls out fits stands school is offered = record {
@@ -33,16 +33,6 @@ proposed-told m r proposer s at key rolls told out fits stands school is offered
 
 pub extends-same : (old new : List Rejection) → new ≡ old → Extends old new
 extends-same old new same = ([], same ∙ sym (append-nil old))
-
--- the student in hand has no choice left
-pub ends-none : (m : Market) (r : RoundView) (proposer : ℕ) → FitsBut m r (only proposer) → next_of m r.ranks proposer ≡ None → ChainEnds m r r proposer
-ends-none m r proposer fits none = record {
-  fits = fits-ended m r proposer fits none;
-  entered = λ i. refl;
-  continues = continues-ended m r proposer fits none;
-  counted = counted-ended m r proposer none;
-  extends = extends-same r.log r.log refl;
-}
 
 -- the roll had room
 pub ends-held : (m : Market) (r r' : RoundView) (proposer s at : ℕ) → Proposed m r proposer s at r'.rolls None → r'.ranks ≡ r.ranks → r'.log ≡ r.log → r'.proposals ≡ r.proposals + 1 → ChainEnds m r r' proposer
@@ -113,24 +103,6 @@ ends-after m old mid new proposer first second = record {
   continues = λ earlier midway. second.continues earlier (first.continues earlier midway);
   extends = extends-more old.log mid.log new.log first.extends second.extends;
   counted = counted-more m old mid new (only proposer) (only proposer) nobody first.counted second.counted;
-}
-
--- a proposal after those that were refused at once
-pub proposes-after : (m : Market) (old mid new : RoundView) (proposer : ℕ) (out : Option ℕ) → PassedOver m old mid proposer → Proposes m mid new proposer out → Proposes m old new proposer out
-proposes-after m old mid new proposer None passed ends = ends-after m old mid new proposer passed.goes_on ends
-proposes-after m old mid new proposer (Some out) passed goes = (goes-on_after m old mid new proposer out passed.goes_on goes.0, omega (arith, passed.left, goes.1))
-
--- nobody has refused yet
-pub none-passed : (m : Market) (r : RoundView) (proposer : ℕ) → FitsBut m r (only proposer) → PassedOver m r r proposer
-none-passed m r proposer fits = record {
-  goes_on = record {
-    fits = fits;
-    entered = λ i. refl;
-    continues = λ earlier midway. midway;
-    extends = extends-same r.log r.log refl;
-    counted = refl;
-  };
-  left = omega arith;
 }
 
 -- what the papers say of whoever stands at a place is said of the student there

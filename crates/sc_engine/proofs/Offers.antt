@@ -1,11 +1,10 @@
 -- An offer to the roll at a position, from what the roll itself says.
-use Rattle.std.proofs.Common.{◌≡◌, refl, Some, ap, sym, subst, ◌∙◌, ℕ, ◌<◌, ◌≤◌, true, List, ◌∷◌, ◌++◌, length, get_or, set, map, Option, All, IfSome, IsSome, arith, length-set, get_or-set_other, get_or-set_same}
+use Rattle.std.proofs.Common.{◌≡◌, ap, sym, subst, ◌∙◌, ℕ, ◌<◌, ◌≤◌, true, List, ◌∷◌, ◌++◌, length, get_or, set, map, Option, All, IfSome, IsSome, arith, length-set, get_or-set_other, get_or-set_same}
 use Rattle.std.specs.List.Sorted.{IsPermutation}
 use Rattle.std.specs.Option.{option_to_list}
 use Rattle.sc_papers.specs.Key.{is_before}
 use Rattle.sc_papers.specs.declared.key.Key.{Key}
-use Rattle.std.proofs.lemmas.List.Sorted.{IsPermutation-refl}
-use Rattle.sc_seats.specs.Roll.{RollView, Refuses}
+use Rattle.sc_seats.specs.Roll.{RollView}
 use Rattle.sc_engine.specs.RoundView.{OffersAt, roll_at, no_roll}
 use Rattle.sc_engine.proofs.Tables.{get_or-mapped, length-mapped, map-set}
 
@@ -39,18 +38,4 @@ OffersAt-from see rolls at old new key out low is offers =
       within = subst (λ (r : RollView). length r.keys ≤ r.seats) (sym after) offers.within;
       others = λ other apart. ap (λ rs. roll_at rs other) same ∙ get_or-set_other (map see rolls) at other (see new) no_roll apart;
       same_length = ap length same ∙ length-set (map see rolls) at (see new);
-    }
-
--- an offer that is refused leaves all rolls as they are
-pub OffersAt-refused : {R : Type 0} (see : R → RollView) (rolls : List R) (at : ℕ) (roll : R) (key : Key) → at < length rolls → roll ≡ get_or rolls at roll → Refuses (see roll).keys (see roll).seats key → OffersAt (map see rolls) (map see rolls) at key (Some key)
-OffersAt-refused see rolls at roll key low is refused =
-    let here : roll_at (map see rolls) at ≡ see roll = roll_at-mapped see rolls at roll low is in
-    record {
-      together = IsPermutation-refl (key ∷ (roll_at (map see rolls) at).keys);
-      last = subst (λ (r : RollView). All (λ held. is_before held key ≡ true) r.keys) (sym here) refused.behind;
-      full = λ some. subst (λ (r : RollView). length r.keys ≡ r.seats) (sym here) refused.full;
-      seats = refl;
-      within = subst (λ (r : RollView). length r.keys ≤ r.seats) (sym here) (omega (arith, refused.full));
-      others = λ other apart. refl;
-      same_length = refl;
     }

@@ -1,5 +1,5 @@
 -- All students enter, in whatever order.
-use Rattle.std.proofs.Common.{◌≡◌, inl, inr, refl, ap, sym, subst, ◌∙◌, ℕ, zero, suc, ◌+◌, ◌<◌, ◌≤◌, ◌==◌, nat_eq, Bool, true, false, cond, ◌||◌, List, [], ◌∷◌, ◌++◌, length, get_or, take, filter, map, Option, Some, None, Contains, is_some, slice_get, add-one, arith}
+use Rattle.std.proofs.Common.{◌≡◌, inl, inr, refl, ap, sym, subst, ◌∙◌, ℕ, zero, suc, ◌+◌, ◌<◌, ◌≤◌, ◌==◌, nat_eq, Bool, true, false, cond, ◌||◌, List, [], ◌∷◌, ◌++◌, length, get_or, take, filter, map, Option, Some, None, Contains, slice_get, add-one, arith}
 use Rattle.std.specs.List.{list_any, IsDistinct}
 use Rattle.std.specs.List.Sorted.{IsPermutation}
 use Rattle.std.specs.Map.{keys_of}
@@ -14,14 +14,12 @@ use Rattle.sc_papers.specs.Assignment.{assigned}
 use Rattle.sc_papers.specs.Market.{Market, students_of}
 use Rattle.sc_papers.specs.Log.{next_choice, IsSettled}
 use Rattle.sc_papers.specs.Matching.{Matching}
-use Rattle.sc_papers.specs.Progress.{placed}
 use Rattle.sc_papers.specs.Restriction.{restricted}
 use Rattle.sc_papers.specs.WellFormed.{WellFormed}
 use Rattle.sc_papers.specs.declared.records.Student.{Student}
 use Rattle.sc_papers.proofs.Counting.{contains-head, contains-tail}
 use Rattle.sc_papers.proofs.Optimality.{settled-optimal}
 use Rattle.sc_papers.proofs.Rejections.{any-push}
-use Rattle.sc_papers.proofs.Students.{how_many-agree}
 use Rattle.sc_engine.specs.RoundView.{RoundView, next_of, has_entered, Fits, entered_papers, Continues, Enters, HaveEntered, SettlesFirst, SettlesThese}
 use Rattle.sc_engine.specs.SettledPlaces.{AreSettledPlaces}
 use Rattle.sc_engine.proofs.Tables.{next-among, length-mapped}
@@ -138,10 +136,6 @@ settled-places m r made all is = record {
   optimal = settled-optimal m all.fits.well_formed (all.earlier ++ r.log) (settled-all m r all);
   places = is ∙ ap (λ (next : Matching). map next (students_of m)) (next-all m r all);
 }
-
-pub placed-all : (m : Market) (r : RoundView) (given : Matching) → SettlesThese m r (students_of m) → ((i : ℕ) → given i ≡ next_of m r.ranks i) → r.proposals ≡ length r.log + placed m given
-placed-all m r given all is =
-    omega (arith, all.counted, how_many-agree m (λ i. is_some (next_of m r.ranks i)) (λ i. is_some (given i)) (λ i. ap is_some (sym (is i))))
 
 -- what the first students have
 abbrev pub GivesFirst : Market → List (Option ℕ) → List (ℕ × ℕ) → ℕ → Type 0
