@@ -1,12 +1,9 @@
-use Rattle.std.proofs.Common.{◌+◌, ap, ◌∙◌, arith, rules}
+use Rattle.std.proofs.Common.{◌+◌, ap, ◌∙◌, arith}
 use Rattle.sc_stamps.specs.Verdict.{StampedPapers}
 use Rattle.sc_repair.specs.Turns.{stamped_in_turn}
-use Rattle.sc_repair.proofs.InOrder.{ordering-at, ordering-begun, ordering-done, ordering-next, ordering-passed, ordering-within}
+use Rattle.sc_repair.proofs.InOrder.{ordering-at, ordering-done, ordering-next, ordering-passed, ordering-within}
 use Rattle.sc_repair.proofs.entry_order.put_in_order.Goals as goal
 use Rattle.sc_repair.proofs.entry_order.put_in_order.Goals.{in-Some, in_default}
-
-pub loop-turn-init : goal.loop-turn-init
-loop-turn-init c = ordering-begun c.args.turns.now c.args.papers.now c.args.stamps.now c.len-turn-end.result c.requires c.len-turn-end.ensures
 
 pub swap_students-requires-clause-a : goal.swap_students-requires-clause-a
 swap_students-requires-clause-a c =
@@ -15,9 +12,6 @@ swap_students-requires-clause-a c =
 
 pub swap_students-requires-clause-b : goal.swap_students-requires-clause-b
 swap_students-requires-clause-b c = (ordering-within _ c.loop-turn.turn c.loop-turn.place _ c.in-Some.position c.loop-turn.turns c.loop-turn.papers c.loop-turn.stamps c.loop-turn.invariant c.in-Some.ensures).1
-
-pub overflow_add-place : goal.overflow_add-place
-overflow_add-place c = let few = c.loop-turn.invariant.few in let low = c.loop-turn-test.true in search rules
 
 pub loop-turn-preserved : goal.loop-turn-preserved
 loop-turn-preserved c =

@@ -1,4 +1,4 @@
-use Rattle.std.proofs.Common.{List, [], refl, subst, sym, ◌∙◌, arith}
+use Rattle.std.proofs.Common.{List, [], refl, subst, sym, ◌∙◌}
 use Rattle.sc_papers.specs.Market.{students_of}
 use Rattle.sc_papers.proofs.Choices.{contains-at}
 use Rattle.sc_papers.proofs.Positions.{among-student}
@@ -7,7 +7,7 @@ use Rattle.sc_engine.specs.Round.{view_of}
 use Rattle.sc_engine.proofs.Settling.{first-apart}
 use Rattle.sc_repair.specs.Resumption.{GoesOn}
 use Rattle.sc_repair.proofs.Kept.{none-segmented}
-use Rattle.sc_repair.proofs.Resumption.{goes-on-begins, goes-on-next, goes-on-past}
+use Rattle.sc_repair.proofs.Resumption.{goes-on-begins, goes-on-next}
 use Rattle.sc_repair.proofs.opening.enter_all.Goals as goal
 
 pub loop-position-init : goal.loop-position-init
@@ -32,6 +32,3 @@ loop-position-preserved g c = (
   goes-on-next c.args.papers.now _ _ _ c.loop-position.segments _ c.loop-position.position c.in-Some.student (sym c.in-Some.ensures) c.loop-position.invariant.0 c.in_ok-enter_next.ensures.entered.enters c.in_ok-enter_next.ensures.chain,
   c.in_ok-enter_next.ensures.entered.ready,
 )
-
-pub returns-clause-on : goal.returns-clause-on
-returns-clause-on g c = goes-on-past c.args.papers.now _ _ _ _ c.loop-position.position (omega arith) c.loop-position.invariant.0

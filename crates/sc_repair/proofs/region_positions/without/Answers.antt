@@ -1,12 +1,9 @@
-use Rattle.std.proofs.Common.{◌≡◌, ◌∙◌, ap, sym, subst, ◌+◌, [], get_or, take, IfSome}
+use Rattle.std.proofs.Common.{◌≡◌, ◌∙◌, ap, sym, subst, ◌+◌, get_or, take, IfSome}
 use Rattle.std.proofs.lemmas.List.{take_all}
 use Rattle.sc_repair.specs.Rejoining.{before_leaving}
-use Rattle.sc_repair.proofs.MovingUp.{AreMovedUp, moved-gone, moved-none, moved-one}
+use Rattle.sc_repair.proofs.MovingUp.{AreMovedUp, moved-gone, moved-one}
 use Rattle.sc_repair.proofs.region_positions.without.Goals as goal
 use Rattle.sc_repair.proofs.region_positions.without.Goals.{in-Some+in_ok-push, in_default}
-
-pub loop-at-init : goal.loop-at-init
-loop-at-init c = subst (AreMovedUp c.args.gone []) (sym c.in_ok-moved.ensures.items) (moved-none c.args.gone)
 
 pub loop-at-preserved : goal.loop-at-preserved
 loop-at-preserved c =

@@ -1,10 +1,7 @@
-use Rattle.std.proofs.Common.{◌≡◌, ◌-◌, refl, sym, subst, ◌∙◌, List, length, arith}
+use Rattle.std.proofs.Common.{◌≡◌, ◌-◌, refl, sym, subst, List, length}
 use Rattle.sc_checkpoint.specs.Chains.{Chain}
 use Rattle.sc_checkpoint.specs.Spans.{chains_in}
-use Rattle.std.proofs.lemmas.Bool.{cond-true}
-use Rattle.sc_papers.specs.Assignment.{assigned}
 use Rattle.sc_engine.specs.Round.{view_of}
-use Rattle.sc_engine.specs.RoundView.{next_of}
 use Rattle.sc_repair.specs.Course.{GoesOnInside}
 use Rattle.sc_repair.specs.Locality.{is_among, marked_in}
 use Rattle.sc_repair.specs.Renewed.{renewed_from}
@@ -29,11 +26,6 @@ settle_region-requires-clause-given g c = record {
   segmented = changed-segmented c.args.part.papers.now c.args.places.now c.args.segments.now (is_among (marked_in c.args.part.region.now c.args.segments.now)) c.args.part.point c.args.part.end (length c.args.segments.now - c.args.part.end) c.requires.changed refl;
 }
 
-pub place_inside-requires-clause-within : goal.place_inside-requires-clause-within
-place_inside-requires-clause-within g c =
-    let low = changed-low c.args.part.papers.now c.args.places.now c.args.segments.now (is_among (marked_in c.args.part.region.now c.args.segments.now)) c.args.part.point c.args.part.end (length c.args.segments.now - c.args.part.end) c.requires.changed refl in
-    omega (arith, low, c.len.ensures, c.requires.changed.nobody_new)
-
 pub returns-clause-resettled : goal.returns-clause-resettled
 returns-clause-resettled g c =
     let old = c.args.segments.now in
@@ -52,12 +44,3 @@ returns-clause-stands g c = λ all.
     stands-everybody c.args.part.papers.now (is_among (marked_in c.args.part.region.now old)) old c.args.part.point (length old - c.args.part.end) (view_of g.R.Roll.keys g.R.Roll.seats c.in_ok-round.round) c.place_inside.new.chains c.args.part.end
     (subst (λ (cs : List Chain). GoesOnInside c.args.part.papers.now (is_among (marked_in c.args.part.region.now old)) old c.args.part.point (length old - c.args.part.end) (view_of g.R.Roll.keys g.R.Roll.seats c.in_ok-round.round) cs c.args.part.end) (sym chains_are) c.in_ok-round.ensures.on)
     all
-
-pub returns-clause-inside : goal.returns-clause-inside
-returns-clause-inside g c =
-    let test = is_among (marked_in c.args.part.region.now c.args.segments.now) in
-    record {
-      fits = c.in_ok-round.ensures.on.fits;
-      entered = c.in_ok-round.ensures.on.entered;
-      placed = λ i passes. c.in_ok-place_inside.ensures.given i ∙ cond-true (test i) (next_of c.args.part.papers.now c.in_ok-round.round.ranks i) (assigned c.args.places.now i) passes;
-    }

@@ -1,9 +1,8 @@
 use Rattle.std.proofs.Common.{◌≡◌, ◌<◌, ◌+◌, ◌-◌, ap, sym, subst, ◌∙◌, ℕ, List, get_or, length, slice_get, arith}
-use Rattle.std.proofs.lemmas.List.{length-map}
 use Rattle.sc_papers.specs.Market.{students_of}
 use Rattle.sc_papers.proofs.Choices.{contains-at}
 use Rattle.sc_papers.proofs.Positions.{among-student}
-use Rattle.sc_checkpoint.specs.Spans.{chain_in, chains_in, AreWithin}
+use Rattle.sc_checkpoint.specs.Spans.{chains_in, AreWithin}
 use Rattle.sc_checkpoint.specs.declared.span.Span.{Span}
 use Rattle.sc_checkpoint.proofs.Spanned.{none-within}
 use Rattle.sc_engine.specs.Round.{view_of}
@@ -87,11 +86,3 @@ returns-clause-on g c =
     c.positions_from-turns.ensures ∙ ap (λ n. marked_from marks (c.args.part.point + (n - c.args.part.end))) c.len.ensures in
     turns-end m (is_among (marked_in marks old)) old marks c.args.part.point (length old - c.args.part.end) c.args.part.end are c.loop-position.position-index (chains_in (view_of g.R.Roll.keys g.R.Roll.seats c.loop-position.round).log c.loop-position.renewed) _ c.loop-position.invariant.0
     (omega (arith, ap (λ (ps : List ℕ). length ps) turns_are, c.loop-position-test.false, c.loop-position.auto.position-index-end))
-
-pub returns-clause-one_each : goal.returns-clause-one_each
-returns-clause-one_each g c =
-    let old = c.args.old.now in
-    let marks = c.args.part.region.now in
-    let turns_are : c.positions_from-turns.result.now ≡ marked_from marks (c.args.part.point + (length old - c.args.part.end)) =
-    c.positions_from-turns.ensures ∙ ap (λ n. marked_from marks (c.args.part.point + (n - c.args.part.end))) c.len.ensures in
-    omega (arith, length-map c.loop-position.renewed (chain_in (view_of g.R.Roll.keys g.R.Roll.seats c.loop-position.round).log), c.loop-position.invariant.0.count, ap (λ (ps : List ℕ). length ps) turns_are, c.loop-position-test.false, c.loop-position.auto.position-index-end)

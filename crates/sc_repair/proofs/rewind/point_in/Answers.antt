@@ -11,7 +11,6 @@ use Rattle.sc_region.specs.Region.{amended_school, concerned, InRegion}
 use Rattle.sc_stamps.specs.Record.{record_of}
 use Rattle.sc_stamps.specs.declared.record.Record.TheVariants.{OfSchool}
 use Rattle.sc_repair.specs.Rewinding.{lists}
-use Rattle.sc_repair.proofs.Rewinding.{point-school}
 use Rattle.sc_repair.proofs.rewind.point_in.Goals as goal
 
 -- a school that a test finds among the choices is one of them
@@ -43,6 +42,3 @@ first_marked-requires-clause-marked c p low listed =
     let count : length (students_of m) ≡ length m.students = length-map m.students (λ e. e.0) in
     (c.requires.region p (get_or (students_of m) p 0) (slice_get-get_or (students_of m) p 0 (omega (arith, low, count)))).1
     (in-region m c.args.amendment.now c.in-OfSchool.school p (amended c.args.amendment.now c.in-OfSchool.school (sym c.record_of.ensures ∙ c.in-OfSchool.is)) low listed)
-
-pub returns-in-OfSchool : goal.returns-in-OfSchool
-returns-in-OfSchool c = c.first_marked.ensures ∙ point-school c.args.papers.now c.args.amendment.now c.in-OfSchool.school (sym c.record_of.ensures ∙ c.in-OfSchool.is)

@@ -125,10 +125,6 @@ round_of_everybody-requires-clause-kept c =
     (λ r other r'. rejoined m n test chains c.resettle-settled.new.segments c.self.inside.places c.resettle-settled.new.places r other r' c.self.invariant.theirs (c.in-Ok-settled.ensures.resettled.theirs ∙ ap students_of cut_all) changed.same_outside
     certified.settled certified.matching c.self.invariant.certified.matching c.in-Ok-settled.ensures.resettled.others)))
 
-pub round_of_everybody-requires-clause-ready : goal.round_of_everybody-requires-clause-ready
-round_of_everybody-requires-clause-ready c none =
-    subst (λ o. IfSome o (λ other. is_spent other ≡ false)) (sym (c.rejoin.ensures.spare_stays (sym c.take.ensures.value ∙ none))) c.in-Ok-settled.ensures.ready
-
 pub round_of_everybody-requires-clause-stands : goal.round_of_everybody-requires-clause-stands
 round_of_everybody-requires-clause-stands c none =
     let new = c.resettle-settled.new.segments in
