@@ -35,7 +35,7 @@ use Rattle.sc_papers.proofs.Representation.{IsSound-shown, Shows, market_of-show
 use Rattle.sc_papers.proofs.TakingBack.{known-student, remove-last}
 
 -- what a move makes of an item that is there
-moved-there : {X : Type 0} (xs : List X) (from to : ℕ) (x : X) → slice_get xs from ≡ Some x → move_index xs from to ≡ insert (remove xs from) to x
+pub moved-there : {X : Type 0} (xs : List X) (from to : ℕ) (x : X) → slice_get xs from ≡ Some x → move_index xs from to ≡ insert (remove xs from) to x
 moved-there xs from to x there = ap (λ o. option_map_or (λ y. insert (remove xs from) to y) o xs) there
 
 -- the same items, in another order
@@ -184,7 +184,7 @@ inserted-removed (y ∷ ys) zero x low = refl
 inserted-removed (y ∷ ys) (suc at) x low = ap (λ rest. y ∷ rest) (inserted-removed ys at x (omega (arith, low)))
 
 -- what is taken out comes back where it stood
-removed-inserted : {X : Type 0} (xs : List X) (at : ℕ) (x : X) → slice_get xs at ≡ Some x → insert (remove xs at) at x ≡ xs
+pub removed-inserted : {X : Type 0} (xs : List X) (at : ℕ) (x : X) → slice_get xs at ≡ Some x → insert (remove xs at) at x ≡ xs
 removed-inserted [] at x there = cc
 removed-inserted (y ∷ xs) zero x there = let same : Some y ≡ Some x = there in let is : y ≡ x = cc in rw is refl
 removed-inserted (y ∷ xs) (suc at) x there = ap (λ rest. y ∷ rest) (removed-inserted xs at x there)

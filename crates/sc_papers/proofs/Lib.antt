@@ -44,3 +44,4 @@ pub mod TakingBack
 pub mod Inverses
 pub mod Weaving
 pub mod EntryOrder
+pub mod NumberTable

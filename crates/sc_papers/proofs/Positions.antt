@@ -47,7 +47,7 @@ position-one xs i j at first second =
     eqb-true j (get_or xs at i) there.1 ∙ sym (eqb-true i (get_or xs at i) here.1)
 
 -- a list with a member that passes has a first one
-prefix-below : (p : ℕ → Bool) (xs : List ℕ) → list_any p xs ≡ true → position_or_len p xs < length xs
+pub prefix-below : (p : ℕ → Bool) (xs : List ℕ) → list_any p xs ≡ true → position_or_len p xs < length xs
 prefix-below p [] none = absurd (false≢true none)
 prefix-below p (x ∷ xs) some = elim (cases_Bool (p x)) [
   | inl passes ↦ subst (λ n. n < suc (length xs)) (sym (cond-false (not (p x)) (1 + position_or_len p xs) 0 (ap not passes))) (omega arith)
@@ -55,7 +55,7 @@ prefix-below p (x ∷ xs) some = elim (cases_Bool (p x)) [
       (omega (arith, prefix-below p xs (sym (ap (λ b. b || list_any p xs) fails) ∙ some)))
 ]
 
-position-found : (xs : List ℕ) (i : ℕ) → list_any (nat_eq i) xs ≡ true → position (nat_eq i) xs ≡ Some (position_or_len (nat_eq i) xs)
+pub position-found : (xs : List ℕ) (i : ℕ) → list_any (nat_eq i) xs ≡ true → position (nat_eq i) xs ≡ Some (position_or_len (nat_eq i) xs)
 position-found xs i some = cond-true (nat_lt (position_or_len (nat_eq i) xs) (length xs)) (Some (position_or_len (nat_eq i) xs)) None (lt-ltb (position_or_len (nat_eq i) xs) (length xs) (prefix-below (nat_eq i) xs some))
 
 -- students and schools of the papers have positions
@@ -80,7 +80,7 @@ school-place_position m well k s here =
     found ∙ ap Some (one-place (schools_of m) at k s well.schools_differ (position-there (schools_of m) s at found) here)
 
 -- in a list without the number, no place passes
-position-none : (xs : List ℕ) (s : ℕ) → list_any (nat_eq s) xs ≡ false → position_or_len (nat_eq s) xs ≡ length xs
+pub position-none : (xs : List ℕ) (s : ℕ) → list_any (nat_eq s) xs ≡ false → position_or_len (nat_eq s) xs ≡ length xs
 position-none [] s none = refl
 position-none (x ∷ xs) s none = elim (cases_Bool (nat_eq s x)) [
   | inl same ↦ absurd (false≢true (sym none ∙ or_left (nat_eq s x) (list_any (nat_eq s) xs) same))

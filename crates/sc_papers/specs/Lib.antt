@@ -23,4 +23,5 @@ pub mod EntryOrder
 pub mod Interleaving
 pub mod NumberHash
 pub mod LastKey
+pub mod NumberTable
 pub mod Numbers

@@ -7,7 +7,7 @@ use Rattle.sc_papers.specs.declared.flat_papers.numbers.Kept.TheVariants.{Listed
 -- the numbers, in order of entry
 abbrev pub numbers_of : Kept → List ℕ
 numbers_of (Listed numbers) = numbers.items
-numbers_of (Tabled table) = table.keys
+numbers_of (Tabled table) = table
 
 -- each number is less than all later ones
 abbrev pub Rise : List ℕ → Type 0

@@ -6,6 +6,7 @@ ghost use Rattle.indexmap.specs.IndexMap.{spare};
 mod amending;
 mod entering;
 mod keys;
+mod number_table;
 pub(crate) mod numbers;
 pub(crate) mod order;
 

@@ -1,13 +1,12 @@
 //! The students' numbers, and where each of them stands in the order of entry.
 
-ghost use Rattle.std.specs.Prelude.{◌≡◌, ◌++◌, ◌∷◌, [], false, nat_eq, position, IfOk};
+ghost use Rattle.std.specs.Prelude.{◌≡◌, ◌++◌, ◌∷◌, [], nat_eq, position};
 ghost use Rattle.std.specs.Bool.{OnTrue};
-ghost use Rattle.std.specs.List.{IsDistinct, list_any};
 ghost use Rattle.sc_papers.specs.Numbers.{Rise};
 
+use crate::flat_papers::number_table::NumberTable;
 use crate::flat_papers::order::{move_item, swap_items};
 use crate::seeded_hash::SeededHash;
-use indexmap::IndexSet;
 use sc_lottery::StudentNumber;
 use std::alloc::{AllocError, Global};
 use std::marker::Model;
@@ -36,8 +35,7 @@ pub(crate) enum Finding {
 #[derive(Drop)]
 enum Kept {
     Listed(Vec<StudentNumber>),
-    // In any order, each found by its hash.
-    Tabled(IndexSet<StudentNumber, SeededHash>),
+    Tabled(NumberTable),
 }
 
 impl Model for Numbers {
@@ -73,35 +71,6 @@ fn position_in_rising(numbers: &[StudentNumber], number: StudentNumber) -> Optio
     numbers.binary_search(&number).ok()
 }
 
-/// A table of different numbers, with the room that their list has.
-fn table_of(
-    numbers: &Vec<StudentNumber>,
-    hash: SeededHash,
-) -> Result<IndexSet<StudentNumber, SeededHash>, AllocError>
-    requires { IsDistinct nat_eq numbers.now.items }
-    ensures { IfOk result (λ table. table.keys ≡ numbers.now.items) }
-{
-    let room = numbers.capacity();
-    let mut table = IndexSet::with_capacity_and_hasher(*numbers.allocator(), room, hash)?;
-    table.extend(numbers.iter())?;
-    Ok(table)
-}
-
-/// A table of different numbers and of another one after them.
-fn table_with(
-    numbers: &Vec<StudentNumber>,
-    number: StudentNumber,
-    hash: SeededHash,
-) -> Result<IndexSet<StudentNumber, SeededHash>, AllocError>
-    requires distinct { IsDistinct nat_eq numbers.now.items }
-    requires new { list_any (nat_eq number) numbers.now.items ≡ false }
-    ensures { IfOk result (λ table. table.keys ≡ numbers.now.items ++ number ∷ []) }
-{
-    let mut table = table_of(numbers, hash)?;
-    let _ = table.insert(number)?;
-    Ok(table)
-}
-
 impl Numbers {
     ghost use Rattle.std.specs.Prelude.{◌≡◌, ◌<◌, ◌++◌, ◌∷◌, [], false, length, nat_eq, position, remove, swap, IfOk};
     ghost use Rattle.std.specs.List.{list_any};
@@ -114,7 +83,7 @@ impl Numbers {
     {
         let (kept, rising) = match finding {
             Finding::ByOrder => (Kept::Listed(Vec::new(alloc)), true),
-            Finding::ByTable => (Kept::Tabled(IndexSet::with_hasher(alloc, hash)), false),
+            Finding::ByTable => (Kept::Tabled(NumberTable::new(alloc, hash)), false),
         };
         Numbers { kept, rising, hash }
     }
@@ -125,7 +94,7 @@ impl Numbers {
     {
         let kept = match &self.kept {
             Kept::Listed(numbers) => Kept::Listed(numbers.clone()?),
-            Kept::Tabled(table) => Kept::Tabled(table.clone()?),
+            Kept::Tabled(table) => Kept::Tabled(table.copy()?),
         };
         Ok(Numbers {
             kept,
@@ -140,7 +109,7 @@ impl Numbers {
         ensures { result ≡ position (nat_eq number) self.now }
     {
         match &self.kept {
-            Kept::Tabled(table) => table.get_index_of(&number),
+            Kept::Tabled(table) => table.position(number),
             Kept::Listed(numbers) => {
                 if self.rising {
                     position_in_rising(numbers.as_slice(), number)
@@ -168,12 +137,11 @@ impl Numbers {
         ensures { ChangesTo self.old self.new (self.old ++ number ∷ []) result }
     {
         match &mut self.kept {
-            Kept::Tabled(table) => {
-                let _ = table.insert(number)?;
-            }
+            Kept::Tabled(table) => table.push(number)?,
             Kept::Listed(numbers) => {
                 if self.rising && !is_past(numbers.as_slice(), number) {
-                    let table = table_with(numbers, number, self.hash)?;
+                    let mut table = NumberTable::from_list(numbers, self.hash)?;
+                    table.push(number)?;
                     self.kept = Kept::Tabled(table);
                     self.rising = false;
                 } else {
@@ -192,7 +160,7 @@ impl Numbers {
             return Ok(());
         }
         if let Kept::Listed(numbers) = &self.kept {
-            let table = table_of(numbers, self.hash)?;
+            let table = NumberTable::from_list(numbers, self.hash)?;
             self.kept = Kept::Tabled(table);
             self.rising = false;
         }
@@ -221,7 +189,7 @@ impl Numbers {
         self.rising = false;
         match &mut self.kept {
             Kept::Listed(numbers) => swap_items(numbers, a, b),
-            Kept::Tabled(table) => table.swap_indices(a, b),
+            Kept::Tabled(table) => table.swap(a, b),
         }
     }
 
@@ -234,9 +202,7 @@ impl Numbers {
             Kept::Listed(numbers) => {
                 let _ = numbers.remove(position);
             }
-            Kept::Tabled(table) => {
-                let _ = table.shift_remove_index(position);
-            }
+            Kept::Tabled(table) => table.remove(position),
         }
     }
 }
