@@ -39,7 +39,7 @@ pub moved-there : {X : Type 0} (xs : List X) (from to : ℕ) (x : X) → slice_g
 moved-there xs from to x there = ap (λ o. option_map_or (λ y. insert (remove xs from) to y) o xs) there
 
 -- the same items, in another order
-moved-items : {X : Type 0} (xs : List X) (from to : ℕ) → IsPermutation xs (move_index xs from to)
+pub moved-items : {X : Type 0} (xs : List X) (from to : ℕ) → IsPermutation xs (move_index xs from to)
 moved-items {X = X} xs from to = go (slice_get xs from) refl
   where
     go : (found : Option X) → slice_get xs from ≡ found → IsPermutation xs (move_index xs from to)

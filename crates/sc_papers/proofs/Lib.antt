@@ -45,3 +45,4 @@ pub mod Inverses
 pub mod Weaving
 pub mod EntryOrder
 pub mod NumberTable
+pub mod RecordSlots

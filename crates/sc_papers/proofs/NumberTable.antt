@@ -31,7 +31,7 @@ place-holds : (xs : List ℕ) (i : ℕ) → list_any (nat_eq i) xs ≡ true → 
 place-holds xs i known = sym (eqb-true i (get_or xs (place xs i) 0) (passes_at_first (nat_eq i) xs 0 (prefix-below (nat_eq i) xs known)))
 
 -- the one place at which it stands
-place-is : (xs : List ℕ) (i k : ℕ) → IsDistinct nat_eq xs → k < length xs → get_or xs k 0 ≡ i → place xs i ≡ k
+pub place-is : (xs : List ℕ) (i k : ℕ) → IsDistinct nat_eq xs → k < length xs → get_or xs k 0 ≡ i → place xs i ≡ k
 place-is xs i k differ low holds =
     position_or_len_is (nat_eq i) xs k 0 (omega arith)
     (λ j before. let apart = apart_from_distinct nat_eq xs j k 0 differ before low in grind (arith, nat_tests))

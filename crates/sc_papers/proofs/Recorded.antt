@@ -1,12 +1,12 @@
 -- The records that stand beside flat papers, and what is made of these.
-use Rattle.std.proofs.Common.{◌≡◌, refl, ap, sym, ◌∙◌, ℕ, ◌+◌, ◌<◌, nat_eq, List, [], ◌∷◌, ◌++◌, length, get_or, map, take, Option, Some, None, false, true, is_some, position, slice_get, arith}
-use Rattle.std.specs.Prelude.{nat_lt, slice_set}
+use Rattle.std.proofs.Common.{◌≡◌, refl, ap, sym, ◌∙◌, ℕ, ◌+◌, ◌<◌, nat_eq, List, [], ◌∷◌, ◌++◌, length, get_or, map, take, Option, Some, None, false, is_some, position, slice_get, arith}
+use Rattle.std.specs.Prelude.{slice_set}
 use Rattle.std.specs.Option.{option_and_then, option_map, option_map_or}
-use Rattle.std.proofs.lemmas.Bool.{false≢true, ltb-true}
+use Rattle.std.proofs.lemmas.Bool.{false≢true}
 use Rattle.std.proofs.lemmas.Cmp.{nat_eq_equiv}
 use Rattle.std.proofs.lemmas.List.{length-map, map-append, take_more}
 use Rattle.std.proofs.lemmas.Map.Entries.{lookup_from_place}
-use Rattle.std.proofs.lemmas.Option.{get_or_from_slice_get, none-some, slice_get-get_or, slice_get-map, slice_get_read}
+use Rattle.std.proofs.lemmas.Option.{get_or_from_slice_get, none-some, slice_get-get_or, slice_get-map}
 use Rattle.sc_papers.specs.Market.{Market, choices_of, continuing_of, siblings_of, student_at, student_of, students_of, zone_of}
 use Rattle.sc_papers.specs.Records.{AreRecords}
 use Rattle.sc_papers.specs.Placed.{schools_at}
@@ -51,9 +51,6 @@ no-student m i others none allowed =
 -- so a record is read
 pub record-low : (m : Market) (records : List Student) (i at : ℕ) → AreRecords m records → position (nat_eq i) (students_of m) ≡ Some at → at < length records
 record-low m records i at are found = omega (arith, position-low m i at found, ap length are, length-map m.students (λ e. e.1))
-
-pub record-indexed : (records : List Student) (at : ℕ) (student : Student) → true ≡ nat_lt at (length records) → student ≡ get_or records at student → Some student ≡ slice_get records at
-record-indexed records at student within is = sym (slice_get_read records (length records) at student refl (ltb-true at (length records) (sym within)) is)
 
 pub record-read : (m : Market) (records : List Student) (i at : ℕ) (student : Student) → AreRecords m records → position (nat_eq i) (students_of m) ≡ Some at
     → student ≡ get_or records at student → student_of m i ≡ Some student

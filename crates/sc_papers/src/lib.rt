@@ -21,6 +21,7 @@ mod papers;
 mod placed_choices;
 mod position_list;
 mod proposal;
+mod record_slots;
 mod recording;
 mod records;
 mod rejection;

@@ -6,6 +6,7 @@ ghost use Rattle.sc_papers.specs.Change.{ChangesTo};
 ghost use Rattle.sc_papers.specs.Entry.{MayEnterAt};
 ghost use Rattle.sc_papers.specs.Market.{choices_of, continuing_of, seats_of, schools_of, siblings_of, student_at, student_of, students_of, zone_of};
 ghost use Rattle.sc_papers.specs.Placed.{schools_at};
+ghost use Rattle.sc_papers.specs.Records.{in_order, AreRecords, AreSlots};
 ghost use Rattle.sc_papers.specs.Verdict.{first_of, objections_to_add, objections_to_close, objections_to_correct, objections_to_enter, objections_to_rerank, school_verdict, with_choices, with_circumstances, with_school, with_seats, with_student, without_student, IsRefusal, IsSchoolRefusal};
 ghost use Rattle.sc_papers.specs.EntryOrder.{with_moved_student, with_swapped_students};
 
@@ -16,6 +17,7 @@ use crate::flat_papers::numbers::Finding;
 use crate::flat_papers::order::{move_item, swap_items};
 use crate::limits::{LONGEST_LIST, MOST_STUDENTS};
 use crate::position_list::PositionList;
+use crate::record_slots::{first_slots, redirect};
 use crate::recording::{records_of, replace_circumstances};
 use crate::records::Student;
 use crate::school_list::SchoolList;
@@ -36,7 +38,9 @@ use std::ops::Deref;
 #[derive(Drop)]
 pub struct Papers {
     flat: FlatPapers,
-    // In order of entry.
+    // Where each student's record lies, in order of entry.
+    slots: Vec<u32>,
+    // In any order, so that one that goes moves one other at most.
     records: Vec<Student>,
 }
 
@@ -45,11 +49,13 @@ impl Model for Papers {
 
     ghost Value = { Market };
 
-    ghost use Rattle.sc_papers.specs.Records.{AreRecords};
+    ghost use Rattle.std.specs.Prelude.{length};
+    ghost use Rattle.sc_papers.specs.Records.{in_order, AreRecords, AreSlots};
 
     ghost view = { λ p. p.flat };
 
-    ghost invariant = { λ p. AreRecords p.flat p.records.items };
+    ghost invariant = { λ p. AreSlots p.slots.items (length p.records.items)
+        × AreRecords p.flat (in_order p.slots.items p.records.items) };
 }
 
 impl Deref for Papers {
@@ -63,10 +69,25 @@ impl Deref for Papers {
     }
 }
 
-fn copy_records(records: &Vec<Student>) -> Result<Vec<Student>, AllocError>
-    ensures { IfOk result (λ copy. copy.items ≡ records.now.items) }
+/// The same slots, and the same records.
+fn copy_records(
+    slots: &Vec<u32>,
+    records: &Vec<Student>,
+) -> Result<(Vec<u32>, Vec<Student>), AllocError>
+    ensures slots { IfOk result (λ copy. copy.0.items ≡ slots.now.items) }
+    ensures records { IfOk result (λ copy. copy.1.items ≡ records.now.items) }
 {
-    records.clone()
+    let slots = slots.clone()?;
+    Ok((slots, records.clone()?))
+}
+
+/// Records of all students, and the slots in which they lie.
+fn recorded(papers: &FlatPapers) -> Result<(Vec<u32>, Vec<Student>), AllocError>
+    ensures slots { IfOk result (λ made. AreSlots made.0.items (length made.1.items)) }
+    ensures records { IfOk result (λ made. AreRecords papers.now (in_order made.0.items made.1.items)) }
+{
+    let slots = first_slots(papers.allocator(), papers.students_len())?;
+    Ok((slots, records_of(papers)?))
 }
 
 impl Papers {
@@ -78,6 +99,7 @@ impl Papers {
     {
         Papers {
             flat: FlatPapers::finding(Finding::ByTable, alloc, seed),
+            slots: Vec::new(alloc),
             records: Vec::new(alloc),
         }
     }
@@ -89,8 +111,12 @@ impl Papers {
         ensures { IfOk result (λ papers. papers ≡ flat) }
     {
         let flat = flat.with_table()?;
-        match records_of(&flat) {
-            Ok(records) => Ok(Papers { flat, records }),
+        match recorded(&flat) {
+            Ok((slots, records)) => Ok(Papers {
+                flat,
+                slots,
+                records,
+            }),
             Err(refused) => {
                 drop(flat);
                 Err(refused)
@@ -105,8 +131,12 @@ impl Papers {
     {
         // The records come last, so that no error has to let them go.
         let flat = self.flat.copy()?;
-        match copy_records(&self.records) {
-            Ok(records) => Ok(Papers { flat, records }),
+        match copy_records(&self.slots, &self.records) {
+            Ok((slots, records)) => Ok(Papers {
+                flat,
+                slots,
+                records,
+            }),
             Err(refused) => {
                 drop(flat);
                 Err(refused)
@@ -120,7 +150,8 @@ impl Papers {
         ensures { option_copied result ≡ student_of self.now student }
     {
         let position = self.flat.student_position(student)?;
-        Some(&self.records[position])
+        let slot = self.slots[position];
+        Some(&self.records[slot as usize])
     }
 
     /// What the papers hold of the student at a position of the order of entry, from 0, or `None` past
@@ -131,8 +162,8 @@ impl Papers {
     {
         // This call tells that the papers are well-formed: no number stands twice.
         prove!(self.flat.students_len() <= MOST_STUDENTS);
-        let record = self.records.get(position)?;
-        Some(record)
+        let slot = self.slots.get(position)?;
+        Some(&self.records[*slot as usize])
     }
 
     /// The choices, best first, of the student at a position of the order of entry, from 0. In constant
@@ -208,8 +239,13 @@ impl Papers {
         requires choices { schools_at (schools_of self.old) choices.now ≡ student.choices }
         ensures { ChangesTo self.old self.new (with_student self.old number student) result }
     {
+        // This call tells that the papers are within their limits, so a slot has 32 bits.
+        prove!(self.flat.students_len() <= MOST_STUDENTS);
         self.records.reserve(1)?;
+        self.slots.reserve(1)?;
+        let slot = self.records.len() as u32;
         self.flat.put_last(number, &student, choices)?;
+        self.slots.push_reserved(slot);
         self.records.push_reserved(student);
         Ok(())
     }
@@ -225,7 +261,8 @@ impl Papers {
         let Some(position) = self.flat.student_position(number) else {
             unreachable!()
         };
-        let record = &mut self.records[position];
+        let slot = self.slots[position];
+        let record = &mut self.records[slot as usize];
         let before = mem::replace(&mut record.choices, choices);
         self.flat.put_student(number, position, record);
         before
@@ -249,7 +286,8 @@ impl Papers {
         let Some(position) = self.flat.student_position(number) else {
             unreachable!()
         };
-        let record = &mut self.records[position];
+        let slot = self.slots[position];
+        let record = &mut self.records[slot as usize];
         let before = replace_circumstances(record, zone, siblings, continuing);
         self.flat.put_student(number, position, record);
         before
@@ -279,7 +317,7 @@ impl Papers {
         ensures { self.new ≡ with_moved_student self.old from to }
     {
         self.flat.move_student(from, to);
-        move_item(&mut self.records, from, to);
+        move_item(&mut self.slots, from, to);
     }
 
     /// Changes the students at two positions of the order of entry for one another, each from 0; all others stay where
@@ -289,18 +327,25 @@ impl Papers {
         requires b { b < length self.old.students }
         ensures { self.new ≡ with_swapped_students self.old a b }
     {
+        let slot_a = self.slots[a];
+        let slot_b = self.slots[b];
         self.flat.swap_students(a, b);
-        swap_items(&mut self.records, a, b);
+        // The records change places and the slots stay, so that the last student's record stays the last.
+        swap_items(&mut self.records, slot_a as usize, slot_b as usize);
     }
 
     /// Removes a student, and the student's draw; the number of nobody changes nothing. The others keep their
     /// order and their draws. It takes no memory and cannot fail. The cost is that of the shift behind the
-    /// student, and so none for the last one.
+    /// student, and of a pass over the slots of the records where the student's is not the last one.
     pub fn withdraw(&mut self, student: StudentNumber)
         ensures { self.new ≡ without_student self.old student }
     {
+        // This call tells that the papers are within their limits, so a slot has 32 bits.
+        prove!(self.flat.students_len() <= MOST_STUDENTS);
         if let Some(position) = self.flat.withdraw(student) {
-            let _ = self.records.remove(position);
+            let free = self.slots.remove(position);
+            let _ = self.records.swap_remove(free as usize);
+            redirect(&mut self.slots, self.records.len() as u32, free);
         }
     }
 }
