@@ -53,15 +53,6 @@ impl ChosenPositions {
         prove!(self.list.as_slice().len() <= LONGEST_LIST);
         &self.list
     }
-
-    /// The same choices once more.
-    pub fn copy(&self) -> Self
-        ensures { result ≡ self.now }
-    {
-        ChosenPositions {
-            list: self.list.copy(),
-        }
-    }
 }
 
 /// The choices of a student as a list names them, each school placed by the papers and tested in one pass.

@@ -104,17 +104,6 @@ impl NumberTable {
         Ok(table)
     }
 
-    /// An equal table, or the error of a refused growth.
-    pub(crate) fn copy(&self) -> Result<Self, AllocError>
-        ensures { IfOk result (λ copy. copy ≡ self.now) }
-    {
-        Ok(NumberTable {
-            order: self.order.clone()?,
-            slots: self.slots.clone()?,
-            positions: self.positions.clone()?,
-        })
-    }
-
     /// Where a number stands. In constant time.
     pub(crate) fn position(&self, number: StudentNumber) -> Option<usize>
         ensures { result ≡ position (nat_eq number) self.now }
@@ -125,7 +114,7 @@ impl NumberTable {
 
     /// Makes room for so many more. The numbers stay, also where the growth is refused.
     pub(crate) fn reserve(&mut self, count: usize) -> Result<(), AllocError>
-        ensures { self.new ≡ self.old }
+        ensures same { self.new ≡ self.old }
     {
         self.order.reserve(count)?;
         self.slots.reserve(count)?;
@@ -200,5 +189,17 @@ impl NumberTable {
         let last = self.order.len() - 1;
         self.move_index(position, last);
         let _ = self.pop();
+    }
+}
+
+impl Clone for NumberTable {
+    ghost is_clone = { λ x y. y ≡ x };
+
+    fn clone(&self) -> Result<Self, AllocError> {
+        Ok(NumberTable {
+            order: self.order.clone()?,
+            slots: self.slots.clone()?,
+            positions: self.positions.clone()?,
+        })
     }
 }

@@ -94,7 +94,7 @@ impl Numbers {
     {
         let kept = match &self.kept {
             Kept::Listed(numbers) => Kept::Listed(numbers.clone()?),
-            Kept::Tabled(table) => Kept::Tabled(table.copy()?),
+            Kept::Tabled(table) => Kept::Tabled(table.clone()?),
         };
         Ok(Numbers {
             kept,
