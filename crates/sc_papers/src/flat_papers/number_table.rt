@@ -114,7 +114,7 @@ impl NumberTable {
 
     /// Makes room for so many more. The numbers stay, also where the growth is refused.
     pub(crate) fn reserve(&mut self, count: usize) -> Result<(), AllocError>
-        ensures same { self.new ≡ self.old }
+        ensures { ChangesTo self.old self.new self.old result }
     {
         self.order.reserve(count)?;
         self.slots.reserve(count)?;
