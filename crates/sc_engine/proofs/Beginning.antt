@@ -46,8 +46,8 @@ module _ {m : Market} {r r' : RoundView} {i at rank : ℕ} (begun : Begun m r r'
   pub next-others : (j : ℕ) → (j ≡ i → ⊥) → next_of m r'.ranks j ≡ next_of m r.ranks j
   next-others j apart = tables.next-kept m r.ranks r'.ranks j (rank-others j apart)
 
-  pub next-absent : next_of m r.ranks i ≡ None
-  next-absent = next-none m r.ranks i (is_some-none (rank_of m r.ranks i) begun.absent)
+  pub next_absent : next_of m r.ranks i ≡ None
+  next_absent = next-none m r.ranks i (is_some-none (rank_of m r.ranks i) begun.absent)
 
 or-same : (a b : Bool) → b ≡ false → a ≡ (a || b)
 or-same true b off = refl
@@ -67,13 +67,13 @@ counted-begun {m} {r} {r'} {i} begun =
       arith,
       begun.proposals,
       ap (λ (l : List Rejection). length l) begun.log,
-      standing-without m r.ranks i (next-absent begun),
+      standing-without m r.ranks i (next_absent begun),
       standing-others m r.ranks r'.ranks i (next-others begun),
     )
 
 stand-alike : {m : Market} {r r' : RoundView} {i at rank : ℕ} → Begun m r r' i at rank → (t j : ℕ) → has (next_of m r.ranks) t j ≡ has (except (only i) (next_of m r'.ranks)) t j
 stand-alike {m} {r} {r'} {i} begun t j =
-    sym (has-left (next_of m r.ranks) i t (has-none (next_of m r.ranks) t i (next-absent begun)) j)
+    sym (has-left (next_of m r.ranks) i t (has-none (next_of m r.ranks) t i (next_absent begun)) j)
     ∙ sym (has-agree (except (only i) (next_of m r'.ranks)) (except (only i) (next_of m r.ranks)) t j (except-alike (next_of m r'.ranks) (next_of m r.ranks) i (next-others begun) j))
 
 -- the rolls still fit, with the student away

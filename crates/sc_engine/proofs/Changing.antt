@@ -26,7 +26,7 @@ use Rattle.sc_engine.specs.RoundView.{Fits, RollFits, RoundView, next_of, no_rol
 use Rattle.sc_engine.proofs.Leaving.{stander-lists}
 use Rattle.sc_engine.proofs.Proposals.{has-none}
 use Rattle.sc_engine.proofs.RollCounts.{counted, fits-counted}
-use Rattle.sc_engine.proofs.Renewing.{roll-set_other, roll-set_same}
+use Rattle.sc_engine.proofs.Renewing.{roll_set_other, roll_set_same}
 use Rattle.sc_engine.proofs.Rolls.{on-roll}
 use Rattle.sc_engine.proofs.Starting.{no-seats, roll-unknown}
 use Rattle.sc_engine.proofs.Tables.{length-mapped, next-by, next-none, roll-at, roll-kept}
@@ -148,13 +148,13 @@ reseated-rolls m n amended old new reseated schools fits empty seats s = go amen
     ]
 
 -- a roll that was written at a school's position
-pub reseated-at : {R : Type 0} (see : R → RollView) (m : Market) (old new : RoundView) (rolls : List R) (s at : ℕ) (roll : R) → position (nat_eq s) (schools_of m) ≡ Some at → at < length rolls → (see roll).keys ≡ [] → (see roll).seats ≡ seats_of m s
+pub reseated_at : {R : Type 0} (see : R → RollView) (m : Market) (old new : RoundView) (rolls : List R) (s at : ℕ) (roll : R) → position (nat_eq s) (schools_of m) ≡ Some at → at < length rolls → (see roll).keys ≡ [] → (see roll).seats ≡ seats_of m s
     → old.rolls ≡ map see rolls → new ≡ record old { rolls = map see (set rolls at roll) } → IsReseated m (Some s) old new
-reseated-at see m old new rolls s at roll found low none seats was is = subst (IsReseated m (Some s) old) (sym is) (record {
+reseated_at see m old new rolls s at roll found low none seats was is = subst (IsReseated m (Some s) old) (sym is) (record {
   own = λ t same known. subst (λ u. roll_of m (map see (set rolls at roll)) u ≡ record { keys = []; seats = seats_of m u }) (one-school s t same)
-      (roll-at m (map see (set rolls at roll)) s at found ∙ roll-set_same see rolls at roll low ∙ (λ t. let seen : RollView = record { keys = none t; seats = seats t } in seen));
+      (roll-at m (map see (set rolls at roll)) s at found ∙ roll_set_same see rolls at roll low ∙ (λ t. let seen : RollView = record { keys = none t; seats = seats t } in seen));
   others = λ t apart.
-      roll-kept m (map see rolls) (map see (set rolls at roll)) s at found (λ other far. roll-set_other see rolls at roll other far) t (λ same. apart (ap Some (sym same)))
+      roll-kept m (map see rolls) (map see (set rolls at roll)) s at found (λ other far. roll_set_other see rolls at roll other far) t (λ same. apart (ap Some (sym same)))
       ∙ ap (λ rs. roll_of m rs t) (sym was);
   same_length = length-mapped see (set rolls at roll) ∙ length-set rolls at roll ∙ sym (length-mapped see rolls) ∙ ap length (sym was);
   ranks = refl;
@@ -162,8 +162,8 @@ reseated-at see m old new rolls s at roll found low none seats was is = subst (I
   proposals = refl;
 })
 
-pub reseated-nowhere : (m : Market) (s : ℕ) (round : RoundView) → position (nat_eq s) (schools_of m) ≡ None → IsReseated m (Some s) round round
-reseated-nowhere m s round none = record {
+pub reseated_nowhere : (m : Market) (s : ℕ) (round : RoundView) → position (nat_eq s) (schools_of m) ≡ None → IsReseated m (Some s) round round
+reseated_nowhere m s round none = record {
   own = λ t same known. absurd (school-has_position m t known (sym none ∙ ap (λ u. position (nat_eq u) (schools_of m)) (one-school s t same)));
   others = λ t apart. refl;
   same_length = refl;

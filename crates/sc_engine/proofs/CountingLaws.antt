@@ -31,14 +31,14 @@ standing-placed m r earlier continues =
     ∙ how_many-agree m (λ i. has_entered m r.ranks i && is_some (next_of m r.ranks i)) (λ i. is_some (next_of m r.ranks i))
     (λ i. stands-entered (λ rank. slice_get (choices_of m i) rank) (rank_of m r.ranks i))
 
-pub proposals-bounded : (m : Market) (r : RoundView) (earlier : List Rejection) → Fits m r → Continues m earlier r → r.proposals ≤ all_choices (entered_papers m r.ranks)
-proposals-bounded m r earlier fits continues =
+pub proposals_bounded : (m : Market) (r : RoundView) (earlier : List Rejection) → Fits m r → Continues m earlier r → r.proposals ≤ all_choices (entered_papers m r.ranks)
+proposals_bounded m r earlier fits continues =
     let n : Market = entered_papers m r.ranks in
     let bounded = log-bounded n (well-restricted m (has_entered m r.ranks) fits.well_formed) (earlier ++ r.log) continues.settled.valid in
     omega (arith, fits.proposals, bounded, standing-placed m r earlier continues, length-append earlier r.log)
 
-pub exact-none : (m : Market) (r : RoundView) → ((i : ℕ) → has_entered m r.ranks i ≡ false) → r.log ≡ [] → r.proposals ≡ 0 → CountsExactly m r
-exact-none m r nowhere no_log none =
+pub exact_none : (m : Market) (r : RoundView) → ((i : ℕ) → has_entered m r.ranks i ≡ false) → r.log ≡ [] → r.proposals ≡ 0 → CountsExactly m r
+exact_none m r nowhere no_log none =
     let choice : how_many m (λ i. is_some (next_of m r.ranks i)) ≡ 0 =
     how_many-none m (λ i. is_some (next_of m r.ranks i)) (λ i among. ap is_some (next-none m r.ranks i (is_some-none (rank_of m r.ranks i) (nowhere i)))) in
     omega (arith, choice, none, ap (λ (l : List Rejection). length l) no_log)

@@ -24,8 +24,8 @@ continues-without_log m r earlier continues =
       next = λ i. ap (λ (log : List Rejection). next_choice (entered_papers m r.ranks) log i) whole ∙ continues.next i;
     }
 
-pub entered-without_log : (m : Market) (r : RoundView) (xs : List ℕ) → HaveEntered m r xs → HaveEntered m (without_log r) xs
-entered-without_log m r xs these = record {
+pub entered_without_log : (m : Market) (r : RoundView) (xs : List ℕ) → HaveEntered m r xs → HaveEntered m (without_log r) xs
+entered_without_log m r xs these = record {
   fits = fits-without_log m r these.fits;
   entered = these.entered;
   earlier = these.earlier ++ r.log;

@@ -206,8 +206,8 @@ unfolding restricted roll_of
 each-part m test r part s = part.each s
 
 -- what is so of the papers cut at k is so of them all
-pub fits-grown : (m : Market) (k : ℕ) (r : RoundView) → WellFormed m → WithinLimits m → Fits (cut m k) r → Fits m r
-fits-grown m k r well within fits =
+pub fits_grown : (m : Market) (k : ℕ) (r : RoundView) → WellFormed m → WithinLimits m → Fits (cut m k) r → Fits m r
+fits_grown m k r well within fits =
     let test : ℕ → Bool = is_among_first m k in
     let part : Fits (restricted m test) r = subst (λ n. Fits n r) (cut-restricted m k well) fits in
     let same = rank-restricted m k well r.ranks fits.ranks in
@@ -221,18 +221,18 @@ fits-grown m k r well within fits =
       proposals = omega (arith, part.proposals, standing-part m test r.ranks same entered);
     }
 
-pub entered-grown : (m : Market) (k : ℕ) (r : RoundView) → WellFormed m → Fits (cut m k) r → (i : ℕ) → has_entered m r.ranks i ≡ has_entered (cut m k) r.ranks i
-entered-grown m k r well fits i = sym (ap is_some (rank-cut m k well r.ranks fits.ranks i))
+pub entered_grown : (m : Market) (k : ℕ) (r : RoundView) → WellFormed m → Fits (cut m k) r → (i : ℕ) → has_entered m r.ranks i ≡ has_entered (cut m k) r.ranks i
+entered_grown m k r well fits i = sym (ap is_some (rank-cut m k well r.ranks fits.ranks i))
 
-pub next-grown : (m : Market) (k : ℕ) (r : RoundView) → WellFormed m → Fits (cut m k) r → (i : ℕ) → next_of m r.ranks i ≡ next_of (cut m k) r.ranks i
-next-grown m k r well fits i =
+pub next_grown : (m : Market) (k : ℕ) (r : RoundView) → WellFormed m → Fits (cut m k) r → (i : ℕ) → next_of m r.ranks i ≡ next_of (cut m k) r.ranks i
+next_grown m k r well fits i =
     sym (ap (λ n. next_of n r.ranks i) (cut-restricted m k well) ∙ next-part m (is_among_first m k) r.ranks (rank-restricted m k well r.ranks fits.ranks) (entered-first m k well r.ranks fits.ranks) i)
 
-pub continues-grown : (m : Market) (k : ℕ) (r : RoundView) (earlier : List Rejection) → WellFormed m → Fits (cut m k) r → Continues (cut m k) earlier r → Continues m earlier r
-continues-grown m k r earlier well fits continues =
+pub continues_grown : (m : Market) (k : ℕ) (r : RoundView) (earlier : List Rejection) → WellFormed m → Fits (cut m k) r → Continues (cut m k) earlier r → Continues m earlier r
+continues_grown m k r earlier well fits continues =
     let papers : entered_papers (cut m k) r.ranks ≡ entered_papers m r.ranks =
     ap (λ n. entered_papers n r.ranks) (cut-restricted m k well) ∙ papers-part m (is_among_first m k) r.ranks (rank-restricted m k well r.ranks fits.ranks) (entered-first m k well r.ranks fits.ranks) in
     record {
       settled = subst (λ n. IsSettled n (earlier ++ r.log)) papers continues.settled;
-      next = λ i. ap (λ n. next_choice n (earlier ++ r.log) i) (sym papers) ∙ continues.next i ∙ sym (next-grown m k r well fits i);
+      next = λ i. ap (λ n. next_choice n (earlier ++ r.log) i) (sym papers) ∙ continues.next i ∙ sym (next_grown m k r well fits i);
     }

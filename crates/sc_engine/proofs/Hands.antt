@@ -6,11 +6,11 @@ use Rattle.sc_engine.specs.RoundView.{next_of, rank_of}
 use Rattle.sc_engine.proofs.Tables.{next-none, rank-at}
 
 -- none for one who has not entered
-pub next-absent : (m : Market) (ranks : List (Option ℕ)) (i at : ℕ) → position (nat_eq i) (students_of m) ≡ Some at → get_or ranks at None ≡ None → next_of m ranks i ≡ None
+pub next_absent : (m : Market) (ranks : List (Option ℕ)) (i at : ℕ) → position (nat_eq i) (students_of m) ≡ Some at → get_or ranks at None ≡ None → next_of m ranks i ≡ None
 unfolding next_of
-next-absent m ranks i at found absent = ap (option_and_then (λ k. slice_get (choices_of m i) k)) (rank-at m ranks i at found ∙ absent)
+next_absent m ranks i at found absent = ap (option_and_then (λ k. slice_get (choices_of m i) k)) (rank-at m ranks i at found ∙ absent)
 
 -- nor for one who is not in the papers
-pub next-nowhere : (m : Market) (ranks : List (Option ℕ)) (i : ℕ) → None ≡ position (nat_eq i) (students_of m) → next_of m ranks i ≡ None
+pub next_nowhere : (m : Market) (ranks : List (Option ℕ)) (i : ℕ) → None ≡ position (nat_eq i) (students_of m) → next_of m ranks i ≡ None
 unfolding rank_of
-next-nowhere m ranks i none = next-none m ranks i (ap (λ o. option_map_or (λ at. get_or ranks at None) o None) (sym none))
+next_nowhere m ranks i none = next-none m ranks i (ap (λ o. option_map_or (λ at. get_or ranks at None) o None) (sym none))

@@ -23,7 +23,7 @@ use Rattle.sc_engine.specs.Proposals.{IsProposal}
 use Rattle.sc_engine.specs.RoundView.{Fits, RollFits, RoundView, next_of, no_roll, rank_of, roll_at, roll_of}
 use Rattle.sc_engine.proofs.Offers.{roll_at-mapped}
 use Rattle.sc_engine.proofs.Proposals.{has-none}
-use Rattle.sc_engine.proofs.Renewing.{roll-set_other, roll-set_same}
+use Rattle.sc_engine.proofs.Renewing.{roll_set_other, roll_set_same}
 use Rattle.sc_engine.proofs.RollCounts.{fits-counted}
 use Rattle.sc_engine.proofs.Rolls.{roll-fits_still, roll-holds}
 use Rattle.sc_engine.proofs.Tables.{length-mapped, next-among, next-kept, next-none, position-of, rank-alike, roll-at, stands-at}
@@ -43,14 +43,14 @@ pub only-one : (p q : ℕ) → Contains (p ∷ []) q → p ≡ q
 only-one p q among = elim (Contains-push_cases [] p q among) [ inl (k, low, at) ↦ absurd (omega (arith, low)) | inr same ↦ same ]
 
 -- one of the positions alone
-pub one-within : (m : Market) (positions : List ℕ) (n : ℕ) → n < length positions → AreWithin m positions → AreWithin m (get_or positions n 0 ∷ [])
-one-within m positions n low within p among =
+pub one_within : (m : Market) (positions : List ℕ) (n : ℕ) → n < length positions → AreWithin m positions → AreWithin m (get_or positions n 0 ∷ [])
+one_within m positions n low within p among =
     subst (λ q. q < length m.students) (only-one (get_or positions n 0) p among) (within (get_or positions n 0) (Contains-get_or positions n 0 low))
 
 -- one more position
-pub emptied-more : (m : Market) (ranks : List (Option ℕ)) (positions : List ℕ) (n : ℕ) (old now new : List RollView) → n < length positions
+pub emptied_more : (m : Market) (ranks : List (Option ℕ)) (positions : List ℕ) (n : ℕ) (old now new : List RollView) → n < length positions
     → AreEmptied m ranks (take n positions) old now → AreEmptied m ranks (get_or positions n 0 ∷ []) now new → AreEmptied m ranks (take (n + 1) positions) old new
-emptied-more m ranks positions n old now new low before one = record {
+emptied_more m ranks positions n old now new low before one = record {
   each = λ k. elim (one.each k) [
     | inl same ↦ elim (before.each k) [
       | inl stays ↦ inl (same ∙ stays)
@@ -123,7 +123,7 @@ emptied-one see m ranks at told proposal rolls old new well low tells is within 
       ap (roll_at (map see (set rolls proposal.position new))) here ∙ empty ∙ (λ t. let seen : RollView = record { keys = []; seats = same k here t } in seen),
       record { p = at; among = Contains-push [] at; there = subst (StandsThere m ranks at) (sym here) (told-there m ranks at told proposal well low tells is) },
     )
-    | inr apart ↦ inl (roll-set_other see rolls proposal.position new k apart)
+    | inr apart ↦ inl (roll_set_other see rolls proposal.position new k apart)
   ];
   done = λ p k among there.
       let here : k ≡ proposal.position = told-only m ranks at k told proposal tells is (subst (λ q. StandsThere m ranks q k) (sym (only-one at p among)) there) in
@@ -132,7 +132,7 @@ emptied-one see m ranks at told proposal rolls old new well low tells is within 
 }
   where
     written : roll_at (map see (set rolls proposal.position new)) proposal.position ≡ see new
-    written = roll-set_same see rolls proposal.position new within
+    written = roll_set_same see rolls proposal.position new within
 
     empty : roll_at (map see (set rolls proposal.position new)) proposal.position ≡ record { keys = []; seats = (see old).seats }
     empty = written ∙ (λ t. let seen : RollView = record { keys = none t; seats = seats t } in seen)

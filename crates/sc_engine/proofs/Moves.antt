@@ -10,7 +10,7 @@ use Rattle.sc_papers.specs.declared.rejection.Rejection.{Rejection}
 use Rattle.sc_seats.specs.Roll.{RollView}
 use Rattle.sc_papers.specs.declared.proposal.Proposal.{Proposal}
 use Rattle.sc_engine.specs.Proposals.{IsProposal}
-use Rattle.sc_engine.specs.RoundView.{RoundView, rank_of, next_of, choices_left, FitsBut, except, only, OffersAt, RollFits, roll_at, ChainEnds, ChainGoesOn, CountsProposals, nobody, Extends, PassedOver, Proposes}
+use Rattle.sc_engine.specs.RoundView.{RoundView, rank_of, next_of, choices_left, FitsBut, except, only, OffersAt, RollFits, roll_at, ChainEnds, ChainGoesOn, CountsProposals, Extends, PassedOver, Proposes}
 use Rattle.std.proofs.lemmas.Bool.{eq-eqb}
 use Rattle.sc_engine.proofs.Rolls.{on-roll}
 use Rattle.sc_engine.proofs.RollCounts.{key-student}
@@ -94,15 +94,6 @@ goes-on_after m old mid new proposer out first second = record {
   continues = λ earlier midway. second.continues earlier (first.continues earlier midway);
   extends = extends-more old.log mid.log new.log first.extends second.extends;
   counted = counted-more m old mid new (only proposer) (only proposer) (only out) first.counted second.counted;
-}
-
-ends-after : (m : Market) (old mid new : RoundView) (proposer : ℕ) → ChainGoesOn m old mid proposer proposer → ChainEnds m mid new proposer → ChainEnds m old new proposer
-ends-after m old mid new proposer first second = record {
-  fits = second.fits;
-  entered = λ i. second.entered i ∙ first.entered i;
-  continues = λ earlier midway. second.continues earlier (first.continues earlier midway);
-  extends = extends-more old.log mid.log new.log first.extends second.extends;
-  counted = counted-more m old mid new (only proposer) (only proposer) nobody first.counted second.counted;
 }
 
 -- what the papers say of whoever stands at a place is said of the student there

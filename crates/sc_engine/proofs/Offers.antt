@@ -24,8 +24,8 @@ seen_by keys seats roll = record { keys = keys roll; seats = seats roll }
 pub roll_at-mapped : {R : Type 0} (see : R → RollView) (rolls : List R) (at : ℕ) (roll : R) → at < length rolls → roll ≡ get_or rolls at roll → roll_at (map see rolls) at ≡ see roll
 roll_at-mapped see rolls at roll low is = get_or-mapped see rolls at roll no_roll low ∙ ap see (sym is)
 
-pub OffersAt-from : {R : Type 0} (see : R → RollView) (rolls : List R) (at : ℕ) (old new : R) (key : Key) (out : Option Key) → at < length rolls → old ≡ get_or rolls at old → Offers (see old) (see new) key out → OffersAt (map see rolls) (map see (set rolls at new)) at key out
-OffersAt-from see rolls at old new key out low is offers =
+pub OffersAt_from : {R : Type 0} (see : R → RollView) (rolls : List R) (at : ℕ) (old new : R) (key : Key) (out : Option Key) → at < length rolls → old ≡ get_or rolls at old → Offers (see old) (see new) key out → OffersAt (map see rolls) (map see (set rolls at new)) at key out
+OffersAt_from see rolls at old new key out low is offers =
     let before : roll_at (map see rolls) at ≡ see old = roll_at-mapped see rolls at old low is in
     let low_seen : at < length (map see rolls) = omega (arith, low, length-mapped see rolls) in
     let same : map see (set rolls at new) ≡ set (map see rolls) at (see new) = map-set see rolls at new in

@@ -7,18 +7,18 @@ use Rattle.sc_papers.specs.declared.proposal.Proposal.{Proposal}
 use Rattle.sc_engine.specs.Proposals.{IsProposal}
 
 -- no proposal to no choice
-pub proposes-nothing : (m : Market) (i : ℕ) (choice : Option ℕ) (proposal : Option Proposal) → proposal ≡ None → choice ≡ None → IsProposal m i choice proposal
-proposes-nothing m i choice proposal none nowhere = record {
+pub proposes_nothing : (m : Market) (i : ℕ) (choice : Option ℕ) (proposal : Option Proposal) → proposal ≡ None → choice ≡ None → IsProposal m i choice proposal
+proposes_nothing m i choice proposal none nowhere = record {
   school = ap (option_map (λ (p : Proposal). p.school)) none ∙ sym nowhere;
   position = subst (λ (o : Option Proposal). IfSome o (λ p. position (nat_eq p.school) (schools_of m) ≡ Some p.position)) (sym none) tt;
   key = subst (λ (o : Option Proposal). IfSome o (λ p. p.key ≡ key_of m i p.school)) (sym none) tt;
 }
 
 -- what is said of the student at a position, said of the student who stands there
-pub proposes-there : (m : Market) (i at rank : ℕ) (proposal : Option Proposal) → student_at m at ≡ i
+pub proposes_there : (m : Market) (i at rank : ℕ) (proposal : Option Proposal) → student_at m at ≡ i
     → option_map (λ p. p.school) proposal ≡ slice_get (choices_of m (student_at m at)) rank
     → IfSome proposal (λ p. position (nat_eq p.school) (schools_of m) ≡ Some p.position)
     → IfSome proposal (λ p. p.key ≡ key_of m (student_at m at) p.school)
     → IsProposal m i (slice_get (choices_of m i) rank) proposal
-proposes-there m i at rank proposal there school place key =
+proposes_there m i at rank proposal there school place key =
     subst (λ (j : ℕ). IsProposal m j (slice_get (choices_of m j) rank) proposal) there (record { school = school; position = place; key = key })

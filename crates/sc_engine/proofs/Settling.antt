@@ -24,7 +24,7 @@ use Rattle.sc_engine.specs.RoundView.{RoundView, next_of, has_entered, Fits, ent
 use Rattle.sc_engine.specs.SettledPlaces.{AreSettledPlaces}
 use Rattle.sc_engine.proofs.Tables.{next-among, length-mapped}
 use Rattle.sc_papers.proofs.Positions.{any-among}
-use Rattle.sc_engine.proofs.CountingLaws.{exact-none}
+use Rattle.sc_engine.proofs.CountingLaws.{exact_none}
 
 -- whether a number is among the first k
 abbrev pub among_first : List ℕ → ℕ → ℕ → Bool
@@ -105,7 +105,7 @@ settles-none m r fits nowhere continues no_log none = record {
   fits = fits;
   entered = nowhere;
   settled = continues;
-  counted = exact-none m r nowhere no_log none;
+  counted = exact_none m r nowhere no_log none;
 }
 
 -- papers restricted to students among whom all are, are the papers
@@ -129,8 +129,8 @@ settled-all m r all = subst (λ n. IsSettled n (all.earlier ++ r.log)) (papers-a
 pub next-all : (m : Market) (r : RoundView) (all : HaveEntered m r (students_of m)) → next_of m r.ranks ≡ next_choice m (all.earlier ++ r.log)
 next-all m r all = λ t i. (sym (all.continues.next i) ∙ ap (λ n. next_choice n (all.earlier ++ r.log) i) (papers-all m r all)) t
 
-pub settled-places : (m : Market) (r : RoundView) (made : List (Option ℕ)) → HaveEntered m r (students_of m) → made ≡ map (next_of m r.ranks) (students_of m) → AreSettledPlaces m made
-settled-places m r made all is = record {
+pub settled_places : (m : Market) (r : RoundView) (made : List (Option ℕ)) → HaveEntered m r (students_of m) → made ≡ map (next_of m r.ranks) (students_of m) → AreSettledPlaces m made
+settled_places m r made all is = record {
   log = all.earlier ++ r.log;
   settled = settled-all m r all;
   optimal = settled-optimal m all.fits.well_formed (all.earlier ++ r.log) (settled-all m r all);
@@ -141,8 +141,8 @@ settled-places m r made all is = record {
 abbrev pub GivesFirst : Market → List (Option ℕ) → List (ℕ × ℕ) → ℕ → Type 0
 GivesFirst m ranks pairs k = (j : ℕ) → assigned pairs j ≡ cond (among_first (students_of m) k j) (next_of m ranks j) None
 
-pub gives-more : (m : Market) (ranks : List (Option ℕ)) (old new : List (ℕ × ℕ)) (k i : ℕ) → slice_get (students_of m) k ≡ Some i → GivesFirst m ranks old k → ((j : ℕ) → assigned new j ≡ cond (nat_eq j i) (next_of m ranks i) (assigned old j)) → GivesFirst m ranks new (k + 1)
-gives-more m ranks old new k i here before given j =
+pub gives_more : (m : Market) (ranks : List (Option ℕ)) (old new : List (ℕ × ℕ)) (k i : ℕ) → slice_get (students_of m) k ≡ Some i → GivesFirst m ranks old k → ((j : ℕ) → assigned new j ≡ cond (nat_eq j i) (next_of m ranks i) (assigned old j)) → GivesFirst m ranks new (k + 1)
+gives_more m ranks old new k i here before given j =
     given j ∙ elim (cases_Bool (nat_eq j i)) [
       | inl same ↦
           cond-true (nat_eq j i) (next_of m ranks i) (assigned old j) same ∙ ap (next_of m ranks) (sym (eqb-true j i same))
@@ -156,12 +156,12 @@ gives-more m ranks old new k i here before given j =
     without true b off = refl
     without false b off = off
 
-pub gives-none : (m : Market) (ranks : List (Option ℕ)) (pairs : List (ℕ × ℕ)) (k i : ℕ) → WellFormed m → slice_get (students_of m) k ≡ Some i → GivesFirst m ranks pairs k → assigned pairs i ≡ None
-gives-none m ranks pairs k i well here gives =
+pub gives_none : (m : Market) (ranks : List (Option ℕ)) (pairs : List (ℕ × ℕ)) (k i : ℕ) → WellFormed m → slice_get (students_of m) k ≡ Some i → GivesFirst m ranks pairs k → assigned pairs i ≡ None
+gives_none m ranks pairs k i well here gives =
     gives i ∙ cond-false (among_first (students_of m) k i) (next_of m ranks i) None (first-apart (students_of m) k i well.students_differ here)
 
-pub gives-all : (m : Market) (ranks : List (Option ℕ)) (pairs : List (ℕ × ℕ)) → GivesFirst m ranks pairs (length m.students) → (i : ℕ) → assigned pairs i ≡ next_of m ranks i
-gives-all m ranks pairs gives i = gives i ∙ go (next_of m ranks i) refl
+pub gives_all : (m : Market) (ranks : List (Option ℕ)) (pairs : List (ℕ × ℕ)) → GivesFirst m ranks pairs (length m.students) → (i : ℕ) → assigned pairs i ≡ next_of m ranks i
+gives_all m ranks pairs gives i = gives i ∙ go (next_of m ranks i) refl
   where
     go : (o : Option ℕ) → next_of m ranks i ≡ o → cond (among_first (students_of m) (length m.students) i) (next_of m ranks i) None ≡ next_of m ranks i
     go None is = both (among_first (students_of m) (length m.students) i) (next_of m ranks i) is

@@ -70,8 +70,8 @@ roll-empty m rolls empty s = elim (cases_Bool (is_school m s)) [
 ]
 
 -- the round fits
-pub fits-start : (m : Market) (r : RoundView) → IsStart m r → Fits m r
-fits-start m r start = record {
+pub fits_start : (m : Market) (r : RoundView) → IsStart m r → Fits m r
+fits_start m r start = record {
   well_formed = start.well_formed;
   within_limits = start.within_limits;
   ranks = start.within;
@@ -89,8 +89,8 @@ fits-start m r start = record {
     nowhere j = next-none m r.ranks j (no-rank m r.ranks start.nobody j)
 
 -- and the empty log is settled for nobody
-pub continues-start : (m : Market) (r : RoundView) → IsStart m r → Continues m [] r
-continues-start m r start =
+pub continues_start : (m : Market) (r : RoundView) → IsStart m r → Continues m [] r
+continues_start m r start =
     let absent : (j : ℕ) → has_entered m r.ranks j ≡ false = λ j. ap is_some (no-rank m r.ranks start.nobody j) in
     let none : (j : ℕ) → next_choice (entered_papers m r.ranks) [] j ≡ None = λ j. next-dropped (restricted-restricts m (has_entered m r.ranks)) [] j (absent j) in
     let settled : IsSettled (entered_papers m r.ranks) [] = record {

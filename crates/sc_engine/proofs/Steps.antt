@@ -216,16 +216,6 @@ continues-held m r r' proposer s at done same_ranks same_log earlier midway =
       next = λ j. ap (λ ranks. next_choice (entered_papers m ranks) (earlier ++ r'.log) j) same_ranks ∙ ap (λ l. next_choice n (earlier ++ l) j) same_log ∙ midway.next j ∙ ap (λ ranks. next_of m ranks j) (sym same_ranks);
     }
 
--- a chain that ends where the student in hand has no choice left
-pub continues-ended : (m : Market) (r : RoundView) (proposer : ℕ) → FitsBut m r (only proposer) → next_of m r.ranks proposer ≡ None → (earlier : List Rejection) → Midway m earlier r proposer → Continues m earlier r
-continues-ended m r proposer fits none earlier midway =
-    let n : Market = entered_papers m r.ranks in
-    let well : WellFormed n = well-restricted m (has_entered m r.ranks) fits.well_formed in
-    record {
-      settled = chain-ends n well (earlier ++ r.log) proposer midway.chain (inl (midway.next proposer ∙ none));
-      next = midway.next;
-    }
-
 -- the student put out has one choice less left
 pub left-put_out : (m : Market) (r r' : RoundView) (i s at rank : ℕ) → WellFormed m → Rejected m r r' i s at rank → choices_left m r.ranks ≡ 1 + choices_left m r'.ranks
 unfolding choices_left

@@ -19,14 +19,14 @@ use Rattle.sc_engine.specs.RoundView.{Fits, RollFits, RoundView, next_of, no_rol
 use Rattle.sc_engine.proofs.Leaving.{Tells, earlier, earlier-or_latest, empty-roll, latest, only-one, stander-lists, told-only, told-there}
 use Rattle.sc_engine.proofs.Offers.{roll_at-mapped}
 use Rattle.sc_engine.proofs.Proposals.{has-none}
-use Rattle.sc_engine.proofs.Renewing.{roll-set_other, roll-set_same}
+use Rattle.sc_engine.proofs.Renewing.{roll_set_other, roll_set_same}
 use Rattle.sc_engine.proofs.Rolls.{on-roll, roll-fits_still, roll-holds}
 use Rattle.sc_engine.proofs.Tables.{length-mapped, next-among, next-kept, next-none, position-of, rank-alike, roll-at, stands-at}
 
 -- one more position
-pub taken-more : (m : Market) (ranks : List (Option ℕ)) (positions : List ℕ) (n : ℕ) (old other now between new left : List RollView) → n < length positions
+pub taken_more : (m : Market) (ranks : List (Option ℕ)) (positions : List ℕ) (n : ℕ) (old other now between new left : List RollView) → n < length positions
     → AreTaken m ranks (take n positions) old other now between → AreTaken m ranks (get_or positions n 0 ∷ []) now between new left → AreTaken m ranks (take (n + 1) positions) old other new left
-taken-more m ranks positions n old other now between new left low before one = record {
+taken_more m ranks positions n old other now between new left low before one = record {
   each = λ k. elim (one.each k) [
     | inl (same, kept) ↦ elim (before.each k) [
       | inl (stays, there) ↦ inl (same ∙ stays, kept ∙ there)
@@ -73,18 +73,18 @@ pub taken-one : {R : Type 0} (see : R → RollView) (m : Market) (ranks : List (
 taken-one see m ranks at told proposal rolls others mine theirs well low tells is within within_others was was_theirs full = record {
   each = λ k. elim (cases_eq k proposal.position) [
     | inl here ↦ inr (
-      ap (roll_at (map see (set rolls proposal.position theirs))) here ∙ roll-set_same see rolls proposal.position theirs within ∙ sym (roll_at-mapped see others proposal.position theirs within_others was_theirs)
+      ap (roll_at (map see (set rolls proposal.position theirs))) here ∙ roll_set_same see rolls proposal.position theirs within ∙ sym (roll_at-mapped see others proposal.position theirs within_others was_theirs)
           ∙ ap (roll_at (map see others)) (sym here),
-      ap (roll_at (map see (set others proposal.position mine))) here ∙ roll-set_same see others proposal.position mine within_others ∙ sym (roll_at-mapped see rolls proposal.position mine within was)
+      ap (roll_at (map see (set others proposal.position mine))) here ∙ roll_set_same see others proposal.position mine within_others ∙ sym (roll_at-mapped see rolls proposal.position mine within was)
           ∙ ap (roll_at (map see rolls)) (sym here),
       subst (λ (roll : RollView). 0 < length roll.keys) (sym (ap (roll_at (map see others)) here ∙ roll_at-mapped see others proposal.position theirs within_others was_theirs)) full,
       record { p = at; among = Contains-push [] at; there = subst (StandsThere m ranks at) (sym here) (told-there m ranks at told proposal well low tells is) },
     )
-    | inr apart ↦ inl (roll-set_other see rolls proposal.position theirs k apart, roll-set_other see others proposal.position mine k apart)
+    | inr apart ↦ inl (roll_set_other see rolls proposal.position theirs k apart, roll_set_other see others proposal.position mine k apart)
   ];
   done = λ p k among there none some.
       let here : k ≡ proposal.position = told-only m ranks at k told proposal tells is (subst (λ q. StandsThere m ranks q k) (sym (only-one at p among)) there) in
-      ap (roll_at (map see (set rolls proposal.position theirs))) here ∙ roll-set_same see rolls proposal.position theirs within ∙ sym (roll_at-mapped see others proposal.position theirs within_others was_theirs)
+      ap (roll_at (map see (set rolls proposal.position theirs))) here ∙ roll_set_same see rolls proposal.position theirs within ∙ sym (roll_at-mapped see others proposal.position theirs within_others was_theirs)
       ∙ ap (roll_at (map see others)) (sym here);
   same_length = length-mapped see (set rolls proposal.position theirs) ∙ length-set rolls proposal.position theirs ∙ sym (length-mapped see rolls);
   same_length_left = length-mapped see (set others proposal.position mine) ∙ length-set others proposal.position mine ∙ sym (length-mapped see others);
@@ -195,8 +195,8 @@ module _ (m : Market) (test : ℕ → Bool) (positions : List ℕ) (at : StandAt
           (roll-holds m (next_of m other.ranks) s no_roll j (subst (RollFits m (next_of m other.ranks) s) (ap (λ o. option_map_or (roll_at other.rolls) o no_roll) is) (other_rolls.each s)) (next-among m other.ranks j s next) next))
       go (Some k) is = fits-at s k is
 
-  pub takes-over : TakesOver m test old other new
-  takes-over = record {
+  pub takes_over : TakesOver m test old other new
+  takes_over = record {
     fits = record {
       well_formed = fits.well_formed;
       within_limits = fits.within_limits;

@@ -11,6 +11,7 @@ ghost use Rattle.sc_engine.specs.RoundView.{RoundView, Continues, Enters, Fits, 
 /// After `Round::start` a round has made exactly as many proposals as its log has entries and as it has
 /// students who stand at a choice: so it is where nobody has entered, and so it stays with each student
 /// who enters.
+#[tactic(auto, using(crate::proofs::CountingLaws::exact_none))]
 pub fn proposals_after_start_are_counted_exactly()
     ensures start { (m : Market) (r : RoundView) → ((i : ℕ) → has_entered m r.ranks i ≡ false) → r.log ≡ []
         → r.proposals ≡ 0 → CountsExactly m r }
@@ -20,6 +21,7 @@ pub fn proposals_after_start_are_counted_exactly()
 
 /// A round has made at most as many proposals as the students whom it holds have choices, all together,
 /// where all its calls had the same papers: whichever log it goes on from, it makes none twice.
+#[tactic(auto, using(crate::proofs::CountingLaws::proposals_bounded))]
 pub fn proposals_are_at_most_the_choices()
     ensures { (m : Market) (r : RoundView) (earlier : List Rejection) → Fits m r → Continues m earlier r
         → r.proposals ≤ all_choices (entered_papers m r.ranks) }
@@ -27,6 +29,12 @@ pub fn proposals_are_at_most_the_choices()
 
 /// A round that fits papers fits them with more students at the end, who have not entered: its students
 /// are the same and stand at the same choices, and it goes on from the same logs.
+#[tactic(auto, using(
+    crate::proofs::Growing::fits_grown,
+    crate::proofs::Growing::entered_grown,
+    crate::proofs::Growing::next_grown,
+    crate::proofs::Growing::continues_grown
+))]
 pub fn round_fits_papers_that_grew()
     ensures fits { (m : Market) (k : ℕ) (r : RoundView) → WellFormed m → WithinLimits m → Fits (cut m k) r → Fits m r }
     ensures entered { (m : Market) (k : ℕ) (r : RoundView) → WellFormed m → Fits (cut m k) r → (i : ℕ)

@@ -63,8 +63,6 @@ fn clear_one(ranks: &mut Vec<Option<u8>>, at: usize)
 /// Makes nobody stand at these positions.
 fn clear_at(ranks: &mut Vec<Option<u8>>, positions: &[usize])
     ensures gone { (at : ℕ) → Contains positions.now at → slice_index_or ranks.new.items at None ≡ None }
-    ensures others { (at rank : ℕ) → slice_index_or ranks.new.items at None ≡ Some rank
-        → slice_index_or ranks.old.items at None ≡ Some rank }
     ensures stay { (at : ℕ) → ¬ Contains positions.now at
         → slice_index_or ranks.new.items at None ≡ slice_index_or ranks.old.items at None }
     ensures same_length { length ranks.new.items ≡ length ranks.old.items }
@@ -99,6 +97,7 @@ fn take_at(ranks: &mut Vec<Option<u8>>, other: &[Option<u8>], positions: &[usize
 }
 
 /// Makes nobody stand at any position, where it is known whether these are all at which somebody stands.
+#[tactic(auto, using(crate::proofs::Clearing::nowhere_left))]
 fn clear_noted(ranks: &mut Vec<Option<u8>>, noted: &[usize], is_noting: bool)
     requires { AreNoted is_noting noted.now ranks.old.items }
     ensures { StandNowhere ranks.new.items }

@@ -52,6 +52,7 @@ pub fn settle(alloc: Global, papers: &FlatPapers) -> Result<Settled, AllocError>
 /// papers' order of entry. The students enter by their priority class at their first choice, and within a class by the
 /// first byte of their draw, so that fewer of them are put out again. The cost is a sort of numbers more; no log is kept,
 /// and no student is put into a table.
+#[tactic(auto, using(crate::proofs::Settling::settled_places))]
 pub fn settle_by_first_keys(
     alloc: Global,
     papers: &FlatPapers,

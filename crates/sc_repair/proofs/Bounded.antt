@@ -75,9 +75,9 @@ module _ (new : Standing) (test : ℕ → Bool) (certified : IsCertified new) (a
         log-bounded (restricted new.papers test) (well-restricted new.papers test certified.well_formed) (entries_of test (log_of new)) settled-own.valid,
       )
 
-pub proposals-bounded : (m : Market) (a : Amendment) (new : Standing) (test : ℕ → Bool) → new.papers ≡ after m a → IsCertified new → CountsRegion m a new → TellsRegion m a test
+pub proposals_bounded : (m : Market) (a : Amendment) (new : Standing) (test : ℕ → Bool) → new.papers ≡ after m a → IsCertified new → CountsRegion m a new → TellsRegion m a test
     → new.proposals ≤ all_choices (restricted new.papers test)
-proposals-bounded m a new test papers certified counts tells =
+proposals_bounded m a new test papers certified counts tells =
     let apart : AreApart new.papers test = subst (λ n. AreApart n test) (sym papers) (region-apart_after m a test tells) in
     omega (
       arith,

@@ -20,7 +20,7 @@ use Rattle.sc_checkpoint.specs.Chains.{logs_in, students_in, Chain}
 use Rattle.sc_checkpoint.specs.NextChoices.{next_choices_after, stands, AreNextChoices}
 use Rattle.sc_checkpoint.specs.declared.standing.Standing.{Standing}
 use Rattle.sc_engine.specs.RoundView.{RoundView, entered_papers, has_entered, next_of, rank_of, without_log, Continues, Fits}
-use Rattle.sc_engine.proofs.Growing.{continues-grown, entered-grown, fits-grown}
+use Rattle.sc_engine.proofs.Growing.{continues_grown, entered_grown, fits_grown}
 use Rattle.sc_engine.proofs.Settling.{first-apart}
 use Rattle.sc_engine.proofs.Tables.{next-none}
 use Rattle.sc_region.specs.Region.{amended_school, amended_student}
@@ -113,9 +113,9 @@ stands-grown m n i student chains r grown well may stands =
     let fits : Fits (cut n (length m.students)) r = subst (λ p. Fits p r) part stands.fits in
     let within : WithinLimits n = subst WithinLimits (sym grown) (WithinLimits-with_student m i student stands.fits.within_limits may) in
     record {
-      fits = fits-grown n (length m.students) r well within fits;
-      entered = λ j. entered-grown n (length m.students) r well fits j ∙ ap (λ p. has_entered p r.ranks j) (sym part) ∙ stands.entered j;
-      continues = continues-grown n (length m.students) r (joined (logs_in chains)) well fits (subst (λ p. Continues p (joined (logs_in chains)) r) part stands.continues);
+      fits = fits_grown n (length m.students) r well within fits;
+      entered = λ j. entered_grown n (length m.students) r well fits j ∙ ap (λ p. has_entered p r.ranks j) (sym part) ∙ stands.entered j;
+      continues = continues_grown n (length m.students) r (joined (logs_in chains)) well fits (subst (λ p. Continues p (joined (logs_in chains)) r) part stands.continues);
       no_log = stands.no_log;
       no_proposals = stands.no_proposals;
     }

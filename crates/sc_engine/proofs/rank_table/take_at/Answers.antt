@@ -1,7 +1,7 @@
-use Rattle.std.proofs.Common.{Contains, subst, sym, arith}
+use Rattle.std.proofs.Common.{Contains, None, subst, sym, ◌∙◌, get_or-set_same, get_or-set_other, length-set, arith}
 use Rattle.std.proofs.lemmas.List.{take_all}
 use Rattle.std.proofs.lemmas.List.Elements.{Contains-get_or}
-use Rattle.sc_engine.proofs.Clearing.{taken-more}
+use Rattle.sc_engine.proofs.Clearing.{taken_more}
 use Rattle.sc_engine.proofs.rank_table.take_at.Goals as goal
 
 pub index_mut-requires : goal.index_mut-requires
@@ -9,8 +9,11 @@ index_mut-requires c = omega (arith, c.loop-at.invariant.same_length, c.requires
 
 pub loop-at-preserved : goal.loop-at-preserved
 loop-at-preserved c =
-    taken-more c.args.positions.now c.loop-at.at-index c.loop-at-test.true c.args.other.now c.args.ranks.now.items c.loop-at.ranks.items c.rank_or_none.result
-    (omega (arith, c.loop-at.invariant.same_length, c.requires _ (Contains-get_or c.args.positions.now c.loop-at.at-index 0 c.loop-at-test.true))) c.rank_or_none.ensures c.loop-at.invariant
+    let ranks = c.loop-at.ranks.items in
+    let rank = c.rank_or_none.result in
+    taken_more c.args.positions.now c.loop-at.at-index c.loop-at-test.true _ c.args.ranks.now.items ranks _
+    (get_or-set_same ranks _ rank None (omega (arith, c.loop-at.invariant.same_length, c.requires _ (Contains-get_or c.args.positions.now c.loop-at.at-index 0 c.loop-at-test.true))) ∙ c.rank_or_none.ensures)
+    (λ k apart. get_or-set_other ranks _ k rank None apart) (length-set ranks _ rank) c.loop-at.invariant
 
 pub returns-clause-taken : goal.returns-clause-taken
 returns-clause-taken c at among = c.loop-at.invariant.taken at (subst (λ ps. Contains ps at) (sym (take_all c.loop-at.at-index c.args.positions.now c.loop-at-test.false)) among)

@@ -1,19 +1,19 @@
 use Rattle.std.proofs.Common.{◌∙◌, sym}
 use Rattle.sc_engine.specs.Rolls.{rolls_of}
-use Rattle.sc_engine.proofs.Leaving.{emptied-more, one-within}
+use Rattle.sc_engine.proofs.Leaving.{emptied_more, one_within}
 use Rattle.sc_engine.proofs.Offers.{seen_by}
 use Rattle.sc_engine.proofs.Tables.{length-mapped}
 use Rattle.sc_engine.proofs.round.leaving.empty_rolls_of.Goals as goal
 
 pub empty_roll_of-requires : goal.empty_roll_of-requires
 empty_roll_of-requires g c = record {
-  within = one-within c.args.papers.now c.args.positions.now c.loop-at.at-index c.loop-at-test.true c.requires.within;
+  within = one_within c.args.papers.now c.args.positions.now c.loop-at.at-index c.loop-at-test.true c.requires.within;
   each = c.loop-at.invariant.0;
 }
 
 pub loop-at-preserved : goal.loop-at-preserved
 loop-at-preserved g c = (
   sym (length-mapped (seen_by g.R.Roll.keys g.R.Roll.seats) c.empty_roll_of.new.rolls.items) ∙ c.empty_roll_of.ensures.same_length ∙ length-mapped (seen_by g.R.Roll.keys g.R.Roll.seats) c.loop-at.rolls.items ∙ c.loop-at.invariant.0,
-  emptied-more c.args.papers.now c.args.ranks.now c.args.positions.now c.loop-at.at-index (rolls_of g.R.Roll.keys g.R.Roll.seats c.args.rolls.now.items) (rolls_of g.R.Roll.keys g.R.Roll.seats c.loop-at.rolls.items)
+  emptied_more c.args.papers.now c.args.ranks.now c.args.positions.now c.loop-at.at-index (rolls_of g.R.Roll.keys g.R.Roll.seats c.args.rolls.now.items) (rolls_of g.R.Roll.keys g.R.Roll.seats c.loop-at.rolls.items)
       (rolls_of g.R.Roll.keys g.R.Roll.seats c.empty_roll_of.new.rolls.items) c.loop-at-test.true c.loop-at.invariant.1 c.empty_roll_of.ensures,
 )

@@ -1,12 +1,12 @@
-use Rattle.std.proofs.Common.{◌≡◌, cond, nat_eq, sym, ap, subst, ◌∙◌, length, arith}
+use Rattle.std.proofs.Common.{cond, nat_eq, sym, ap, ◌∙◌}
 use Rattle.sc_papers.specs.Assignment.{assigned}
 use Rattle.sc_papers.proofs.Positions.{place-position}
-use Rattle.sc_engine.proofs.Settling.{GivesFirst, gives-more, gives-none, gives-all}
+use Rattle.sc_engine.proofs.Settling.{gives_more, gives_none}
 use Rattle.sc_engine.proofs.round.ranks.assignment_of.Goals as goal
 
 pub loop-position-preserved : goal.loop-position-preserved
 loop-position-preserved c =
-    gives-more c.args.papers.now c.args.ranks.now c.loop-position.assignment c.give.new.self c.loop-position.position c.in-Some.student (sym c.in-Some.ensures) c.loop-position.invariant
+    gives_more c.args.papers.now c.args.ranks.now c.loop-position.assignment c.give.new.self c.loop-position.position c.in-Some.student (sym c.in-Some.ensures) c.loop-position.invariant
     (λ j.
     c.in_ok-give.ensures.given j
     ∙ ap (λ o. cond (nat_eq j c.in-Some.student) o (assigned c.loop-position.assignment j))
@@ -14,9 +14,4 @@ loop-position-preserved c =
 
 pub give-requires : goal.give-requires
 give-requires c =
-    gives-none c.args.papers.now c.args.ranks.now c.loop-position.assignment c.loop-position.position c.in-Some.student c.students_len-position-end.ensures.well_formed (sym c.in-Some.ensures) c.loop-position.invariant
-
-pub returns : goal.returns
-returns c =
-    let at_end : c.loop-position.position ≡ length c.args.papers.now.students = omega arith in
-    gives-all c.args.papers.now c.args.ranks.now c.loop-position.assignment (subst (GivesFirst c.args.papers.now c.args.ranks.now c.loop-position.assignment) at_end c.loop-position.invariant)
+    gives_none c.args.papers.now c.args.ranks.now c.loop-position.assignment c.loop-position.position c.in-Some.student c.students_len-position-end.ensures.well_formed (sym c.in-Some.ensures) c.loop-position.invariant

@@ -2,13 +2,8 @@ use Rattle.std.proofs.Common.{sym, ◌∙◌, ap}
 use Rattle.std.specs.Prelude.{slice_get}
 use Rattle.sc_papers.specs.Market.{choices_of}
 use Rattle.sc_papers.proofs.Hands.{student-there}
-use Rattle.sc_engine.proofs.Hands.{next-absent}
 use Rattle.sc_engine.proofs.Tables.{next-by, rank-at}
 use Rattle.sc_engine.proofs.round.ranks.choice_at.Goals as goal
-
-pub returns-in_err-rank : goal.returns-in_err-rank
-returns-in_err-rank c i found =
-    c.from_residual.ensures ∙ sym (next-absent c.args.papers.now c.args.ranks.now i c.args.at found (sym c.rank_at.ensures.rank ∙ c.in_err-rank.was))
 
 pub returns : goal.returns
 returns c i found =

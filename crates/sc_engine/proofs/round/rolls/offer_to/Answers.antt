@@ -1,9 +1,9 @@
-use Rattle.sc_engine.proofs.Offers.{OffersAt-from, seen_by}
+use Rattle.sc_engine.proofs.Offers.{OffersAt_from, seen_by}
 use Rattle.sc_engine.proofs.round.rolls.offer_to.Goals as goal
 
 pub returns : goal.returns
 returns g c =
-    OffersAt-from (seen_by g.R.Roll.keys g.R.Roll.seats) c.args.rolls.now.items c.args.at c.index_mut-roll.result.now c.offer_held.new.self c.args.key c.in_ok-out.out c.requires.within c.index_mut-roll.ensures.value
+    OffersAt_from (seen_by g.R.Roll.keys g.R.Roll.seats) c.args.rolls.now.items c.args.at c.index_mut-roll.result.now c.offer_held.new.self c.args.key c.in_ok-out.out c.requires.within c.index_mut-roll.ensures.value
     (record {
       together = c.in_ok-out.ensures.together;
       last = c.in_ok-out.ensures.last;
