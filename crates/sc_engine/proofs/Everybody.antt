@@ -5,13 +5,14 @@ use Rattle.std.specs.Option.{option_map}
 use Rattle.std.proofs.lemmas.Cmp.{nat_eq_equiv}
 use Rattle.std.proofs.lemmas.List.Elements.{All-get_or}
 use Rattle.std.proofs.lemmas.List.Sorted.{All-permutation, IsPermutation-map}
+use Rattle.std.proofs.Math.Seq.{take-length}
 use Rattle.std.proofs.lemmas.Map.Keys.{IsDistinct-IsPermutation}
 use Rattle.std.proofs.lemmas.Option.{slice_get-map, slice_get-get_or}
 use Rattle.sc_papers.specs.Market.{Market, student_at, students_of}
 use Rattle.sc_engine.specs.Applicants.{numbers_of, AreEverybody, IsWithin}
 use Rattle.sc_engine.specs.RoundView.{RoundView, Enters, HaveEntered, IsYetToEnter}
 use Rattle.sc_engine.specs.declared.applicants.Applicant.{Applicant}
-use Rattle.sc_engine.proofs.Settling.{entered-next, entered-permuted, first-apart, take-all}
+use Rattle.sc_engine.proofs.Settling.{entered-next, entered-permuted, first-apart}
 use Rattle.sc_engine.proofs.Tables.{length-mapped}
 
 -- the student at a position of the list
@@ -50,4 +51,4 @@ everybody_moved m applicants moved result numbers within moves same = subst (Are
 pub everybody_entered : (m : Market) (r : RoundView) (applicants : List Applicant) (k : ℕ) → k ≡ length applicants → AreEverybody m applicants → HaveEntered m r (take k (numbers_of m applicants)) → HaveEntered m r (students_of m)
 everybody_entered m r applicants k all everybody entered =
     entered-permuted m r (students_of m) (numbers_of m applicants) everybody.numbers
-    (subst (HaveEntered m r) (ap (λ n. take n (numbers_of m applicants)) (all ∙ sym (length-mapped (λ (e : Applicant). student_at m e.position) applicants)) ∙ take-all (numbers_of m applicants)) entered)
+    (subst (HaveEntered m r) (ap (λ n. take n (numbers_of m applicants)) (all ∙ sym (length-mapped (λ (e : Applicant). student_at m e.position) applicants)) ∙ take-length (numbers_of m applicants)) entered)

@@ -1,16 +1,15 @@
 -- The moves of a chain, as the code makes them.
-use Rattle.std.proofs.Common.{◌≡◌, ap, sym, subst, ◌∙◌, ℕ, ◌+◌, ◌<◌, nat_eq, Bool, cond, List, [], ◌∷◌, ◌++◌, length, get_or, set, Option, Some, None, Contains, position, is_some, append_assoc, append-nil, arith}
+use Rattle.std.proofs.Common.{◌≡◌, refl, ap, sym, subst, ◌∙◌, ℕ, ◌+◌, ◌<◌, nat_eq, cond, List, [], ◌∷◌, ◌++◌, length, get_or, set, Option, Some, None, Contains, position, is_some, append_assoc, append-nil, arith}
 use Rattle.std.proofs.lemmas.Option.{none-some, same_Some}
 use Rattle.sc_papers.specs.Market.{Market, student_at, students_of, schools_of}
 use Rattle.sc_papers.specs.Key.{key_of}
 use Rattle.sc_papers.specs.WellFormed.{WellFormed}
 use Rattle.sc_papers.proofs.Hands.{hand-position}
 use Rattle.sc_papers.specs.declared.key.Key.{Key}
-use Rattle.sc_papers.specs.declared.rejection.Rejection.{Rejection}
 use Rattle.sc_seats.specs.Roll.{RollView}
 use Rattle.sc_papers.specs.declared.proposal.Proposal.{Proposal}
 use Rattle.sc_engine.specs.Proposals.{IsProposal}
-use Rattle.sc_engine.specs.RoundView.{RoundView, rank_of, next_of, choices_left, FitsBut, except, only, OffersAt, RollFits, roll_at, ChainEnds, ChainGoesOn, CountsProposals, Extends, PassedOver, Proposes}
+use Rattle.sc_engine.specs.RoundView.{RoundView, rank_of, next_of, choices_left, FitsBut, except, only, OffersAt, RollFits, roll_at, ChainEnds, ChainGoesOn, PassedOver, Proposes}
 use Rattle.std.proofs.lemmas.Bool.{eq-eqb}
 use Rattle.sc_engine.proofs.Rolls.{on-roll}
 use Rattle.sc_engine.proofs.RollCounts.{key-student}
@@ -18,21 +17,10 @@ use Rattle.sc_engine.proofs.Tables.{rank-at, rank-low, roll-at, stands-at, Stand
 use Rattle.sc_engine.proofs.Proposals.{Proposed, put-out, Out, fits-held, counted-held}
 use Rattle.sc_engine.proofs.Steps.{Rejected, entry_of, entered-stays, fits-put_out, counted-put_out, midway-put_out, continues-held, left-put_out}
 
-pub proposed-from : (m : Market) (r : RoundView) (proposer s at : ℕ) (key : Key) (rolls : List RollView) (out : Option Key) → FitsBut m r (only proposer) → next_of m r.ranks proposer ≡ Some s → position (nat_eq s) (schools_of m) ≡ Some at → key ≡ key_of m proposer s → OffersAt r.rolls rolls at key out → Proposed m r proposer s at rolls out
-proposed-from m r proposer s at key rolls out fits stands school is offered = record {
-  fits = fits;
-  stands = stands;
-  school = school;
-  offered = subst (λ k. OffersAt r.rolls rolls at k out) is offered;
-}
-
--- the same of what the roll answered
+-- what the roll answered to the offer of a proposal
 pub proposed-told : (m : Market) (r : RoundView) (proposer s at : ℕ) (key : Key) (rolls : List RollView) (told out : Option Key) → FitsBut m r (only proposer) → next_of m r.ranks proposer ≡ Some s → position (nat_eq s) (schools_of m) ≡ Some at → key ≡ key_of m proposer s → OffersAt r.rolls rolls at key told → told ≡ out → Proposed m r proposer s at rolls out
 proposed-told m r proposer s at key rolls told out fits stands school is offered answer =
-    proposed-from m r proposer s at key rolls out fits stands school is (subst (OffersAt r.rolls rolls at key) answer offered)
-
-pub extends-same : (old new : List Rejection) → new ≡ old → Extends old new
-extends-same old new same = ([], same ∙ sym (append-nil old))
+    record { fits = fits; stands = stands; school = school; offered = subst (λ k. OffersAt r.rolls rolls at k out) is (subst (OffersAt r.rolls rolls at key) answer offered) }
 
 -- the roll had room
 pub ends-held : (m : Market) (r r' : RoundView) (proposer s at : ℕ) → Proposed m r proposer s at r'.rolls None → r'.ranks ≡ r.ranks → r'.log ≡ r.log → r'.proposals ≡ r.proposals + 1 → ChainEnds m r r' proposer
@@ -41,7 +29,7 @@ ends-held m r r' proposer s at done same_ranks same_log one_more = record {
   fits = fits-held m r r' proposer s at done same_ranks (counted-held m r r' proposer s done.fits.well_formed done.stands same_ranks same_log one_more);
   entered = λ i. ap (λ ranks. is_some (rank_of m ranks i)) same_ranks;
   continues = continues-held m r r' proposer s at done same_ranks same_log;
-  extends = extends-same r.log r'.log same_log;
+  extends = ([], same_log ∙ sym (append-nil r.log));
 }
 
 -- a student is put out and moves on
@@ -81,19 +69,13 @@ roll-new m r proposer s at key fits school is held =
     none-some s (sym (ap (λ away. cond away None (next_of m r.ranks key.student)) (eq-eqb key.student proposer (ap (λ (k : Key). k.student) is ∙ key-student m proposer s))) ∙ on.stands)
 
 -- one after the other
-extends-more : (old mid new : List Rejection) → Extends old mid → Extends mid new → Extends old new
-extends-more old mid new first second = (first.0 ++ second.0, second.1 ∙ ap (λ l. l ++ second.0) first.1 ∙ append_assoc old first.0 second.0)
-
-counted-more : (m : Market) (old mid new : RoundView) (before between after : ℕ → Bool) → CountsProposals m old before mid between → CountsProposals m mid between new after → CountsProposals m old before new after
-counted-more m old mid new before between after first second = omega (arith, first, second)
-
 goes-on_after : (m : Market) (old mid new : RoundView) (proposer out : ℕ) → ChainGoesOn m old mid proposer proposer → ChainGoesOn m mid new proposer out → ChainGoesOn m old new proposer out
 goes-on_after m old mid new proposer out first second = record {
   fits = second.fits;
   entered = λ i. second.entered i ∙ first.entered i;
   continues = λ earlier midway. second.continues earlier (first.continues earlier midway);
-  extends = extends-more old.log mid.log new.log first.extends second.extends;
-  counted = counted-more m old mid new (only proposer) (only proposer) (only out) first.counted second.counted;
+  extends = (first.extends.0 ++ second.extends.0, second.extends.1 ∙ ap (λ l. l ++ second.extends.0) first.extends.1 ∙ append_assoc old.log first.extends.0 second.extends.0);
+  counted = omega (arith, first.counted, second.counted);
 }
 
 -- what the papers say of whoever stands at a place is said of the student there
@@ -106,7 +88,7 @@ proposes-at m ranks place told well low says r made same is =
 
 -- a proposal whose school refuses it at once
 pub proposed-refused : (m : Market) (r : RoundView) (proposer : ℕ) (made : Proposal) → FitsBut m r (only proposer) → IsProposal m proposer (next_of m r.ranks proposer) (Some made) → OffersAt r.rolls r.rolls made.position made.key (Some made.key) → Proposed m r proposer made.school made.position r.rolls (Some made.key)
-proposed-refused m r proposer made fits is offered = proposed-from m r proposer made.school made.position made.key r.rolls (Some made.key) fits (sym is.school) is.position is.key offered
+proposed-refused m r proposer made fits is offered = proposed-told m r proposer made.school made.position made.key r.rolls (Some made.key) (Some made.key) fits (sym is.school) is.position is.key offered refl
 
 -- one more has refused, and the student moves on
 pub passed-more : (m : Market) (first r r' : RoundView) (proposer place : ℕ) (made : Proposal) → PassedOver m first r proposer → Proposed m r proposer made.school made.position r.rolls (Some made.key) → made.key ≡ key_of m proposer made.school

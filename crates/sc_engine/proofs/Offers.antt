@@ -2,11 +2,12 @@
 use Rattle.std.proofs.Common.{◌≡◌, ap, sym, subst, ◌∙◌, ℕ, ◌<◌, ◌≤◌, true, List, ◌∷◌, ◌++◌, length, get_or, set, map, Option, All, IfSome, IsSome, arith, length-set, get_or-set_other, get_or-set_same}
 use Rattle.std.specs.List.Sorted.{IsPermutation}
 use Rattle.std.specs.Option.{option_to_list}
+use Rattle.std.proofs.lemmas.List.{map-set}
 use Rattle.sc_papers.specs.Key.{is_before}
 use Rattle.sc_papers.specs.declared.key.Key.{Key}
 use Rattle.sc_seats.specs.Roll.{RollView}
 use Rattle.sc_engine.specs.RoundView.{OffersAt, roll_at, no_roll}
-use Rattle.sc_engine.proofs.Tables.{get_or-mapped, length-mapped, map-set}
+use Rattle.sc_engine.proofs.Tables.{get_or-mapped, length-mapped}
 
 -- what one roll's offer says
 pub record Offers (old new : RollView) (key : Key) (out : Option Key) : Type 0 where

@@ -1,10 +1,11 @@
 -- Rolls that are emptied one after the other.
 use Rattle.std.proofs.Common.{◌≡◌, inl, inr, ap, sym, ◌∙◌, ℕ, ◌+◌, ◌<◌, [], length, get_or, set, map, Some, List, slice_get, arith, get_or-set_other, get_or-set_same}
 use Rattle.std.proofs.lemmas.Bool.{cases_lt}
+use Rattle.std.proofs.lemmas.List.{map-set}
 use Rattle.sc_papers.specs.Market.{Market, schools_of, seats_of}
 use Rattle.sc_seats.specs.Roll.{RollView}
 use Rattle.sc_engine.specs.RoundView.{AreEmpty, roll_at, no_roll}
-use Rattle.sc_engine.proofs.Tables.{length-mapped, map-set}
+use Rattle.sc_engine.proofs.Tables.{length-mapped}
 
 -- a roll that is written
 pub roll_set_same : {R : Type 0} (see : R → RollView) (rolls : List R) (at : ℕ) (roll : R) → at < length rolls → roll_at (map see (set rolls at roll)) at ≡ see roll

@@ -1,14 +1,14 @@
 -- All students enter, in whatever order.
-use Rattle.std.proofs.Common.{◌≡◌, inl, inr, refl, ap, sym, subst, ◌∙◌, ℕ, zero, suc, ◌+◌, ◌<◌, ◌≤◌, ◌==◌, nat_eq, Bool, true, false, cond, ◌||◌, List, [], ◌∷◌, ◌++◌, length, get_or, take, filter, map, Option, Some, None, Contains, slice_get, add-one, arith}
+use Rattle.std.proofs.Common.{◌≡◌, inl, inr, refl, ap, sym, subst, ◌∙◌, ℕ, ◌+◌, ◌<◌, ◌==◌, nat_eq, Bool, true, false, cond, ◌||◌, List, [], ◌∷◌, ◌++◌, length, get_or, take, filter, map, Option, Some, None, Contains, slice_get, add-one, arith}
 use Rattle.std.specs.List.{list_any, IsDistinct}
 use Rattle.std.specs.List.Sorted.{IsPermutation}
 use Rattle.std.specs.Map.{keys_of}
 use Rattle.std.proofs.lemmas.Bool.{cases_Bool, eqb-true, eq-eqb, false≢true, cond-true, cond-false, or_right, false_from_ne_true}
 use Rattle.std.proofs.lemmas.Option.{slice_get_within, get_or_from_slice_get}
 use Rattle.std.proofs.lemmas.List.Folds.{list_any_none}
-use Rattle.std.proofs.lemmas.List.{get_or-take, get_or_default}
+use Rattle.std.proofs.lemmas.List.{get_or-take, get_or_default, length-take}
 use Rattle.std.proofs.lemmas.List.Sorted.{list_any-IsPermutation}
-use Rattle.std.proofs.Math.Seq.{take-suc}
+use Rattle.std.proofs.Math.Seq.{take-length, take-suc}
 use Rattle.std.proofs.lemmas.Map.Keys.{apart_from_distinct}
 use Rattle.sc_papers.specs.Assignment.{assigned}
 use Rattle.sc_papers.specs.Market.{Market, students_of}
@@ -30,15 +30,6 @@ use Rattle.sc_engine.proofs.CountingLaws.{exact_none}
 abbrev pub among_first : List ℕ → ℕ → ℕ → Bool
 among_first xs k j = list_any (nat_eq j) (take k xs)
 
-length-take-le : (k : ℕ) (xs : List ℕ) → length (take k xs) ≤ k
-length-take-le zero xs = omega arith
-length-take-le (suc k) [] = omega arith
-length-take-le (suc k) (x ∷ xs) = omega (arith, length-take-le k xs)
-
-pub take-all : (xs : List ℕ) → take (length xs) xs ≡ xs
-take-all [] = refl
-take-all (x ∷ xs) = ap (λ ys. x ∷ ys) (take-all xs)
-
 -- one more
 pub take-next : {X : Type 0} (xs : List X) (k : ℕ) (i : X) → slice_get xs k ≡ Some i → take (k + 1) xs ≡ take k xs ++ i ∷ []
 take-next xs k i here =
@@ -53,7 +44,7 @@ first-more xs k i here j = ap (list_any (nat_eq j)) (take-next xs k i here) ∙ 
 pub first-apart : (xs : List ℕ) (k i : ℕ) → IsDistinct nat_eq xs → slice_get xs k ≡ Some i → among_first xs k i ≡ false
 first-apart xs k i distinct here =
     list_any_none (nat_eq i) (take k xs) (λ j d low.
-    let below : j < k = omega (arith, low, length-take-le k xs) in
+    let below : j < k = omega (arith, low, length-take k xs) in
     let apart = apart_from_distinct nat_eq xs j k i distinct below (slice_get_within xs k i here) in
     false_from_ne_true (nat_eq i (get_or (take k xs) j d)) (λ same.
     let is : i ≡ get_or xs j d = eqb-true i (get_or (take k xs) j d) same ∙ get_or-take k xs j d below in
@@ -61,7 +52,7 @@ first-apart xs k i distinct here =
 
 -- all are among all
 pub first-all : (xs : List ℕ) (j : ℕ) → Contains xs j → among_first xs (length xs) j ≡ true
-first-all xs j among = ap (list_any (nat_eq j)) (take-all xs) ∙ any-among xs j among
+first-all xs j among = ap (list_any (nat_eq j)) (take-length xs) ∙ any-among xs j among
 
 -- one more student of a list has entered
 pub entered-next : (m : Market) (old new : RoundView) (xs : List ℕ) (k i : ℕ) → slice_get xs k ≡ Some i → HaveEntered m old (take k xs) → Enters m old new i → HaveEntered m new (take (k + 1) xs)

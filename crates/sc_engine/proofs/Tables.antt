@@ -17,11 +17,6 @@ pub length-mapped : {X Y : Type 0} (f : X → Y) (xs : List X) → length (map f
 length-mapped f [] = refl
 length-mapped f (x ∷ xs) = ap suc (length-mapped f xs)
 
-pub map-set : {X Y : Type 0} (f : X → Y) (xs : List X) (k : ℕ) (v : X) → map f (set xs k v) ≡ set (map f xs) k (f v)
-map-set f [] k v = refl
-map-set f (x ∷ xs) zero v = refl
-map-set f (x ∷ xs) (suc k) v = ap (λ ys. f x ∷ ys) (map-set f xs k v)
-
 -- the rank of the student whose rank is written
 pub rank-written : (m : Market) (ranks : List (Option ℕ)) (i at : ℕ) (rank : Option ℕ) → position (nat_eq i) (students_of m) ≡ Some at → at < length ranks → rank_of m (set ranks at rank) i ≡ rank
 unfolding rank_of
