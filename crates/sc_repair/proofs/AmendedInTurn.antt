@@ -26,7 +26,7 @@ use Rattle.sc_stamps.specs.declared.marking.Marking.TheVariants.{Newcomer, Stude
 use Rattle.sc_repair.specs.Turns.{AreInTurn, AreTurns, TurnsOfEntry, begun_turns, entered, finished_turns, first_turns, in_turn, last_papers, last_stamps, last_turns, position_of_leaver, left, papers_in_turn, stamped_in_turn, swapped}
 use Rattle.sc_repair.proofs.EntryTurns.{AreTurns-first, AreTurns-entered, AreTurns-left, AreTurns-swapped, exchanged-first, turn-alone, turns-avoid}
 use Rattle.sc_repair.proofs.InTurn.{Avoids, earlier, earlier-same, in_turn-entered, in_turn-set, in_turn-swapped, swapped-there}
-use Rattle.sc_repair.proofs.StampedInTurn.{each, entry-at, known-in_turn, nobody-in_turn, own-turn, place-in_turn, position-at, remove-in_turn, remove-plain, set_value-in_turn, unknown-at, verdict-in_turn}
+use Rattle.sc_repair.proofs.StampedInTurn.{each, entry-at, known-in_turn, nobody-in_turn, own-turn, place-in_turn, position-at, remove-in_turn, remove-plain, set_value-in_turn, unknown-at, verdict_in_turn}
 
 abbrev student_with : ℕ → List ℕ → List ℕ → Option ℕ → Student
 student_with zone siblings choices continuing = record { zone = zone; siblings = siblings; choices = choices; continuing = continuing }
@@ -247,7 +247,7 @@ module _ (t : TurnsOfEntry) (m : Market) (stamps : Stamps) (kept : AreInTurn t m
     pub verdict-ready : verdict (papers_in_turn t.positions m) a ≡ verdict (last_papers (position_of_leaver (marking_of m a)) m) a
     verdict-ready =
         ap (λ (p : StampedPapers). verdict p.papers a) (sym same-ready)
-        ∙ verdict-in_turn (last_turns (position_of_leaver (marking_of m a)) t) (last_papers (position_of_leaver (marking_of m a)) m) (last_stamps (position_of_leaver (marking_of m a)) stamps) kept-ready a
+        ∙ verdict_in_turn (last_turns (position_of_leaver (marking_of m a)) t) (last_papers (position_of_leaver (marking_of m a)) m) (last_stamps (position_of_leaver (marking_of m a)) stamps) kept-ready a
 
     pub accepted-ready : (last_stamps (position_of_leaver (marking_of m a)) stamps).accepted ≡ stamps.accepted
     accepted-ready = ap (λ (p : StampedPapers). p.stamps.accepted) same-ready

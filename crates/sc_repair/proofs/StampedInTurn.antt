@@ -124,19 +124,19 @@ module _ (t : TurnsOfEntry) (m : Market) (stamps : Stamps) (kept : AreInTurn t m
   known-in_turn i = lookup-in_turn t.positions m.students each kept.well_formed.students_differ i
 
   -- what can be said against an amendment is the same
-  pub verdict-in_turn : (a : Amendment) → verdict (papers_in_turn t.positions m) a ≡ verdict m a
+  pub verdict_in_turn : (a : Amendment) → verdict (papers_in_turn t.positions m) a ≡ verdict m a
   unfolding seats_of
-  verdict-in_turn (Enter i zone siblings choices continuing) =
+  verdict_in_turn (Enter i zone siblings choices continuing) =
       let known = ap is_some (known-in_turn i) in
       let count = length-in_turn t.positions m.students each kept.well_formed.students_differ in
       (λ u. first_of (refuse_if (known u) StudentExists ∷ no_choices choices ∷ too_long choices ∷ too_long siblings ∷ unknown_in m choices ∷ unknown_in m siblings ∷ unknown_school m continuing
       ∷ twice_in choices ∷ twice_in siblings ∷ refuse_if (nat_le MOST_STUDENTS (count u)) RosterFull ∷ []))
-  verdict-in_turn (Withdraw i) = let known = ap is_some (known-in_turn i) in (λ u. first_of (refuse_if (not (known u)) UnknownStudent ∷ []))
-  verdict-in_turn (Rerank i choices) =
+  verdict_in_turn (Withdraw i) = let known = ap is_some (known-in_turn i) in (λ u. first_of (refuse_if (not (known u)) UnknownStudent ∷ []))
+  verdict_in_turn (Rerank i choices) =
       let known = ap is_some (known-in_turn i) in (λ u. first_of (refuse_if (not (known u)) UnknownStudent ∷ no_choices choices ∷ objections_to_list m choices))
-  verdict-in_turn (Add s count) = refl
-  verdict-in_turn (Close s count) = refl
-  verdict-in_turn (Correct i zone siblings continuing) =
+  verdict_in_turn (Add s count) = refl
+  verdict_in_turn (Close s count) = refl
+  verdict_in_turn (Correct i zone siblings continuing) =
       let known = ap is_some (known-in_turn i) in
       (λ u. first_of (refuse_if (not (known u)) UnknownStudent ∷ too_long siblings ∷ unknown_in m siblings ∷ unknown_school m continuing ∷ twice_in siblings ∷ []))
 
@@ -174,9 +174,9 @@ module _ (t : TurnsOfEntry) (m : Market) (stamps : Stamps) (kept : AreInTurn t m
           (turn-there t.positions stamps.students p turn (slice_index_or stamps.students p 0) (turn-alone t p turn kept.turns own).here there)
           ∙ sym (ap (stamp_at stamps.students) here)
 
-  pub stamped_verdict-in_turn : (stamped : Stamped) → stamped_verdict (stamped_in_turn t.positions m stamps) stamped ≡ stamped_verdict (record { papers = m; stamps = stamps }) stamped
-  stamped_verdict-in_turn stamped =
-      (λ u. first_of (verdict-in_turn stamped.amendment u ∷ stamp_verdict (stamp-in_turn (record_of stamped.amendment) u) stamped.stamp stamps.accepted ∷ []))
+  pub stamped_verdict_in_turn : (stamped : Stamped) → stamped_verdict (stamped_in_turn t.positions m stamps) stamped ≡ stamped_verdict (record { papers = m; stamps = stamps }) stamped
+  stamped_verdict_in_turn stamped =
+      (λ u. first_of (verdict_in_turn stamped.amendment u ∷ stamp_verdict (stamp-in_turn (record_of stamped.amendment) u) stamped.stamp stamps.accepted ∷ []))
 
   -- in order of turn, the stamps are in step too
   pub step-in_turn : IsInStep (papers_in_turn t.positions m) (stamps_in_turn t.positions stamps)

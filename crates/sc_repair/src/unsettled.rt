@@ -106,6 +106,7 @@ impl Unsettled {
     /// The first refusal that applies to a stamped amendment, but for want of memory: that of the papers first,
     /// as `Papers::check` answers it, then `Stale` with the record's stamp where the amendment carries another
     /// one, then `Spent` where 999,999,999 amendments were accepted. It takes no memory.
+    #[tactic(auto, using(crate::proofs::StampedInTurn::stamped_verdict_in_turn))]
     pub fn check(&self, stamped: &Stamped) -> Result<(), Refusal>
         ensures { result ≡ unless_refused (stamped_verdict self.now stamped.now) }
     {
@@ -149,6 +150,7 @@ impl Unsettled {
     }
 
     /// The first refusal of the papers. It takes no memory.
+    #[tactic(auto, using(crate::proofs::StampedInTurn::verdict_in_turn))]
     fn check_rules(&self, amendment: &Amendment) -> Result<(), Refusal>
         ensures { result ≡ unless_refused (verdict self.now.papers amendment.now) }
     {
