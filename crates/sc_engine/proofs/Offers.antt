@@ -2,12 +2,12 @@
 use Rattle.std.proofs.Common.{◌≡◌, ap, sym, subst, ◌∙◌, ℕ, ◌<◌, ◌≤◌, true, List, ◌∷◌, ◌++◌, length, get_or, set, map, Option, All, IfSome, IsSome, arith, length-set, get_or-set_other, get_or-set_same}
 use Rattle.std.specs.List.Sorted.{IsPermutation}
 use Rattle.std.specs.Option.{option_to_list}
-use Rattle.std.proofs.lemmas.List.{map-set}
+use Rattle.std.proofs.lemmas.List.{get_or-map, map-set}
 use Rattle.sc_papers.specs.Key.{is_before}
 use Rattle.sc_papers.specs.declared.key.Key.{Key}
 use Rattle.sc_seats.specs.Roll.{RollView}
 use Rattle.sc_engine.specs.RoundView.{OffersAt, roll_at, no_roll}
-use Rattle.sc_engine.proofs.Tables.{get_or-mapped, length-mapped}
+use Rattle.sc_engine.proofs.Tables.{length-mapped}
 
 -- what one roll's offer says
 pub record Offers (old new : RollView) (key : Key) (out : Option Key) : Type 0 where
@@ -23,7 +23,7 @@ seen_by keys seats roll = record { keys = keys roll; seats = seats roll }
 
 -- the roll that is seen at a position
 pub roll_at-mapped : {R : Type 0} (see : R → RollView) (rolls : List R) (at : ℕ) (roll : R) → at < length rolls → roll ≡ get_or rolls at roll → roll_at (map see rolls) at ≡ see roll
-roll_at-mapped see rolls at roll low is = get_or-mapped see rolls at roll no_roll low ∙ ap see (sym is)
+roll_at-mapped see rolls at roll low is = get_or-map see rolls at roll no_roll low ∙ ap see (sym is)
 
 pub OffersAt_from : {R : Type 0} (see : R → RollView) (rolls : List R) (at : ℕ) (old new : R) (key : Key) (out : Option Key) → at < length rolls → old ≡ get_or rolls at old → Offers (see old) (see new) key out → OffersAt (map see rolls) (map see (set rolls at new)) at key out
 OffersAt_from see rolls at old new key out low is offers =

@@ -7,12 +7,6 @@ use Rattle.sc_papers.proofs.Positions.{position-among, position-at, position-one
 use Rattle.sc_seats.specs.Roll.{RollView}
 use Rattle.sc_engine.specs.RoundView.{rank_of, next_of, roll_of, roll_at, no_roll, has_entered}
 
--- what a mapped list has at an index
-pub get_or-mapped : {X Y : Type 0} (f : X → Y) (xs : List X) (k : ℕ) (x : X) (d : Y) → k < length xs → get_or (map f xs) k d ≡ f (get_or xs k x)
-get_or-mapped f [] k x d low = absurd (omega (arith, low))
-get_or-mapped f (y ∷ ys) zero x d low = refl
-get_or-mapped f (y ∷ ys) (suc k) x d low = get_or-mapped f ys k x d (omega (arith, low))
-
 pub length-mapped : {X Y : Type 0} (f : X → Y) (xs : List X) → length (map f xs) ≡ length xs
 length-mapped f [] = refl
 length-mapped f (x ∷ xs) = ap suc (length-mapped f xs)
