@@ -1,6 +1,6 @@
 -- A student who enters begins a chain.
 use Rattle.std.proofs.Common.{◌≡◌, inl, inr, refl, ap, sym, subst, ◌∙◌, ℕ, ◌<◌, ◌==◌, ◌≤◌, nat_eq, Bool, true, false, not, ◌||◌, List, [], ◌∷◌, ◌++◌, length, get_or, set, Option, Some, None, is_some, find, position, slice_get, arith, length-set, get_or-set_same, get_or-set_other}
-use Rattle.std.proofs.lemmas.Bool.{cases_Bool, cases_eq, eq-eqb, ne_eqb, false≢true, true≢false, and_left, or_right}
+use Rattle.std.proofs.lemmas.Bool.{cases_Bool, cases_eq, eq-eqb, ne_eqb, false≢true, and_left, or_right}
 use Rattle.sc_papers.specs.Market.{Market, students_of, choices_of}
 use Rattle.sc_papers.specs.Matching.{has}
 use Rattle.sc_papers.specs.Log.{next_choice, is_rejected, IsSettled}
@@ -8,6 +8,7 @@ use Rattle.sc_papers.specs.Chain.{InChain, and_one}
 use Rattle.sc_papers.specs.Restriction.{restricted}
 use Rattle.sc_papers.specs.declared.rejection.Rejection.{Rejection}
 use Rattle.sc_papers.specs.declared.records.Student.{Student}
+use Rattle.sc_papers.proofs.Entering.{is_some-false}
 use Rattle.sc_papers.proofs.Chain.{chain-begins}
 use Rattle.sc_papers.proofs.Positions.{position-at}
 use Rattle.sc_papers.proofs.Rejections.{is_of, rejected-push, find-agree, has-agree}
@@ -32,10 +33,6 @@ pub record Begun (m : Market) (r r' : RoundView) (i at rank : ℕ) : Type 0 wher
   pub log : r'.log ≡ r.log
   pub proposals : r'.proposals ≡ r.proposals
 
-pub is_some-none : {A : Type 0} (o : Option A) → is_some o ≡ false → o ≡ None
-is_some-none None e = refl
-is_some-none (Some x) e = absurd (true≢false e)
-
 module _ {m : Market} {r r' : RoundView} {i at rank : ℕ} (begun : Begun m r r' i at rank) where
   pub rank-begun : rank_of m r'.ranks i ≡ Some rank
   rank-begun = rank-at m r'.ranks i at begun.student ∙ begun.own
@@ -47,7 +44,7 @@ module _ {m : Market} {r r' : RoundView} {i at rank : ℕ} (begun : Begun m r r'
   next-others j apart = tables.next-kept m r.ranks r'.ranks j (rank-others j apart)
 
   pub next_absent : next_of m r.ranks i ≡ None
-  next_absent = next-none m r.ranks i (is_some-none (rank_of m r.ranks i) begun.absent)
+  next_absent = next-none m r.ranks i (is_some-false (rank_of m r.ranks i) begun.absent)
 
 or-same : (a b : Bool) → b ≡ false → a ≡ (a || b)
 or-same true b off = refl

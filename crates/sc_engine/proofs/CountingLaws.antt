@@ -7,13 +7,13 @@ use Rattle.sc_papers.specs.Market.{Market, choices_of}
 use Rattle.sc_papers.specs.Matching.{how_many}
 use Rattle.sc_papers.specs.Progress.{all_choices, placed}
 use Rattle.sc_papers.specs.declared.rejection.Rejection.{Rejection}
+use Rattle.sc_papers.proofs.Entering.{is_some-false}
 use Rattle.sc_papers.proofs.Progress.{log-bounded}
 use Rattle.sc_papers.proofs.Restriction.{counts-restricted}
 use Rattle.sc_papers.proofs.Students.{how_many-agree, how_many-none}
 use Rattle.sc_engine.specs.Counting.{CountsExactly}
 use Rattle.sc_engine.specs.RoundView.{RoundView, Continues, Fits, entered_papers, has_entered, next_of, nobody, rank_of, standing_but}
 use Rattle.sc_papers.proofs.Subsets.{well-restricted}
-use Rattle.sc_engine.proofs.Beginning.{is_some-none}
 use Rattle.sc_engine.proofs.Tables.{next-none}
 
 -- who stands at a choice has entered
@@ -40,5 +40,5 @@ proposals_bounded m r earlier fits continues =
 pub exact_none : (m : Market) (r : RoundView) → ((i : ℕ) → has_entered m r.ranks i ≡ false) → r.log ≡ [] → r.proposals ≡ 0 → CountsExactly m r
 exact_none m r nowhere no_log none =
     let choice : how_many m (λ i. is_some (next_of m r.ranks i)) ≡ 0 =
-    how_many-none m (λ i. is_some (next_of m r.ranks i)) (λ i among. ap is_some (next-none m r.ranks i (is_some-none (rank_of m r.ranks i) (nowhere i)))) in
+    how_many-none m (λ i. is_some (next_of m r.ranks i)) (λ i among. ap is_some (next-none m r.ranks i (is_some-false (rank_of m r.ranks i) (nowhere i)))) in
     omega (arith, choice, none, ap (λ (l : List Rejection). length l) no_log)

@@ -12,6 +12,7 @@ use Rattle.sc_papers.specs.Market.{Market, choices_of, seats_of}
 use Rattle.sc_papers.specs.Matching.{Matching, has, held, how_many}
 use Rattle.sc_papers.specs.Restriction.{restricted}
 use Rattle.sc_papers.specs.declared.rejection.Rejection.{Rejection}
+use Rattle.sc_papers.proofs.Entering.{is_some-false}
 use Rattle.sc_papers.proofs.Rejections.{has-true, has-some}
 use Rattle.sc_papers.proofs.Restriction.{restricted-restricts, next-kept, next-dropped, counts-restricted, seats-restricted}
 use Rattle.sc_papers.proofs.Students.{how_many-lt}
@@ -20,7 +21,6 @@ use Rattle.sc_checkpoint.specs.NextChoices.{stands, AreNextChoices}
 use Rattle.sc_checkpoint.specs.declared.standing.Standing.{Standing}
 use Rattle.sc_engine.specs.RoundView.{RoundView, Fits, has_entered, rank_of, next_of, StandsToo, Continues, entered_papers}
 use Rattle.sc_engine.proofs.Tables.{next-entered, next-none}
-use Rattle.sc_engine.proofs.Beginning.{is_some-none}
 use Rattle.sc_engine.proofs.Proposals.{has-none}
 use Rattle.sc_engine.proofs.Settling.{among_first, first-apart, first-more}
 
@@ -131,7 +131,7 @@ module _ {m : Market} {earlier : List Rejection} {next_choices : List Standing} 
         let entered : stands (take k next_choices) j ≡ true = sym (put.entered j) ∙ next-entered m r.ranks j s stood in
         passes j (wider j entered) (sym (next-put j entered) ∙ stood))
         i (next-among m earlier i s own)
-        (has-none next s i (next-none m r.ranks i (is_some-none (rank_of m r.ranks i) (absent-put choice here))))
+        (has-none next s i (next-none m r.ranks i (is_some-false (rank_of m r.ranks i) (absent-put choice here))))
         (passes i here_too own) in
         omega (arith, fewer, after.settled.within_seats s, counts-restricted m test (has (matching_of n earlier) s), seats-restricted m test s)
 
@@ -172,6 +172,6 @@ continues-put m earlier next_choices r spent k all put after =
       settled = subst (λ p. IsSettled p (earlier ++ r.log)) (sym same_papers) (subst (IsSettled n) (sym same_log) after.settled);
       next = λ i. ap (λ p. next_choice p (earlier ++ r.log) i) same_papers ∙ ap (λ log. next_choice n log i) same_log ∙ elim (cases_Bool (test i)) [
         | inl there ↦ next-kept (restricted-restricts m test) earlier i there ∙ sym (next-put after put i (ap (λ xs. stands xs i) whole ∙ there))
-        | inr gone ↦ next-dropped (restricted-restricts m test) earlier i gone ∙ sym (next-none m r.ranks i (is_some-none (rank_of m r.ranks i) (entered i ∙ gone)))
+        | inr gone ↦ next-dropped (restricted-restricts m test) earlier i gone ∙ sym (next-none m r.ranks i (is_some-false (rank_of m r.ranks i) (entered i ∙ gone)))
       ];
     }

@@ -7,7 +7,8 @@ use Rattle.sc_papers.specs.declared.proposal.Proposal.{Proposal}
 use Rattle.sc_engine.specs.RoundView.{next_of, StandsToo}
 use Rattle.sc_engine.specs.Round.{view_of}
 use Rattle.sc_engine.specs.Rolls.{rolls_of}
-use Rattle.sc_engine.proofs.Beginning.{Begun, moved, begins, fits-begun, is_some-none}
+use Rattle.sc_engine.proofs.Beginning.{Begun, moved, begins, fits-begun}
+use Rattle.sc_papers.proofs.Entering.{is_some-false}
 use Rattle.sc_papers.proofs.Hands.{student-there}
 use Rattle.sc_engine.proofs.Moves.{roll-new, proposed-told}
 use Rattle.sc_engine.proofs.Putting.{next-begun, proposal-told, put-nowhere, roll-open, put-on_roll}
@@ -84,5 +85,5 @@ returns-clause-stands g c =
     (put-on_roll begun (record (moved old room at rank) { rolls = rolls }) c.args.choice.next c.in-Some.proposal.school c.in-Some.proposal.position here is
     (proposed-told papers (moved old room at rank) student c.in-Some.proposal.school c.in-Some.proposal.position c.of-offered.result rolls c.in_ok-out.out None
     (fits-begun begun) (next-begun begun c.args.choice.next here ∙ is) place key c.in_ok-out.ensures
-    (is_some-none c.in_ok-out.out (sym c.is_some.ensures ∙ c.if-is_some.false)))
+    (is_some-false c.in_ok-out.out (sym c.is_some.ensures ∙ c.if-is_some.false)))
     refl refl refl)
