@@ -8,12 +8,11 @@ use Rattle.std.proofs.lemmas.Map.Made.{is_some-lookup}
 use Rattle.std.proofs.lemmas.List.Edits.{get_or-remove_above, get_or-remove_below, length-remove}
 use Rattle.std.specs.Map.{keys_of}
 use Rattle.std.proofs.lemmas.List.{append-nil, length-map, take-map}
-use Rattle.std.proofs.lemmas.Option.{none-some, same_Some, slice_get_within}
+use Rattle.std.proofs.lemmas.Option.{get_or_from_slice_get, none-some, same_Some, slice_get_within}
 use Rattle.sc_papers.specs.Assignment.{assigned}
 use Rattle.sc_papers.specs.Log.{next_choice, IsSettled}
 use Rattle.sc_papers.specs.Market.{Market, is_student, schools_of, school_of, seats_of, student_at, student_of, students_of}
 use Rattle.sc_papers.specs.Restriction.{joined, AlikeOutside, AreApart}
-use Rattle.sc_papers.specs.Restriction.{cut}
 use Rattle.sc_papers.specs.Verdict.{after, changed_student, verdict, with_seats, without_student}
 use Rattle.sc_papers.specs.WellFormed.{WellFormed, WithinLimits}
 use Rattle.sc_papers.specs.declared.amendment.Amendment.{Amendment}
@@ -46,12 +45,7 @@ use Rattle.sc_stamps.specs.Record.{record_of}
 use Rattle.sc_repair.specs.Locality.{is_among, marked_in, ChangesInside, TellsRegion}
 use Rattle.sc_repair.specs.Newcomer.{newcomer, StandsAfter}
 use Rattle.sc_repair.specs.Rejoining.{before_leaving, school_in, HasJoined, HasLeft, HasMovedUp, HasSeats, Joins, StandBehind, StandsInside}
-use Rattle.sc_papers.specs.EntryOrder.{with_moved_student}
-use Rattle.sc_papers.proofs.Cutting.{length-students_cut}
-use Rattle.sc_papers.proofs.EntryOrder.{length-moved, WellFormed-moved}
-use Rattle.sc_repair.specs.Rewinding.{rewind_point}
-use Rattle.sc_repair.proofs.Changed.{leaver-from, leaver-gone, leaver-others}
-use Rattle.sc_repair.proofs.InStep.{changes-inside}
+use Rattle.sc_repair.proofs.Changed.{Withdrawn}
 use Rattle.sc_repair.proofs.LiesApart.{alike-entries, others-removed, region-alike, region-apart_after}
 use Rattle.sc_repair.proofs.Regional.{marks-tell, student-outside}
 use Rattle.sc_repair.proofs.Beginning.{students-first}
@@ -189,15 +183,10 @@ room-stood m chains before well theirs stood p low =
     let i : ℕ = student_at m p in
     let found = hand-position m well p low in
     let here = position-there (students_of m) i p found in
-    let among : Contains (students_of m) i = (p, slice_get_within (students_of m) p i here, get_or-there (students_of m) p i here) in
+    let among : Contains (students_of m) i = (p, slice_get_within (students_of m) p i here, get_or_from_slice_get (students_of m) p i i here) in
     let entered : has_entered m before.ranks i ≡ true = stood.entered i ∙ ap (λ (is : List ℕ). is_among is i) theirs ∙ any-among (students_of m) i among in
     go i p found (rank_of m before.ranks i) refl entered
   where
-    get_or-there : (xs : List ℕ) (p i : ℕ) → slice_get xs p ≡ Some i → slice_index_or xs p i ≡ i
-    get_or-there [] p i here = absurd (none-some i here)
-    get_or-there (x ∷ xs) zero i here = same_Some x i here
-    get_or-there (x ∷ xs) (suc p) i here = get_or-there xs p i here
-
     go : (i p : ℕ) → position (nat_eq i) (students_of m) ≡ Some p → (o : Option ℕ) → rank_of m before.ranks i ≡ o → is_some (rank_of m before.ranks i) ≡ true → p < length before.ranks
     go i p found None is entered = absurd (false≢true (sym (ap is_some is) ∙ entered))
     go i p found (Some rank) is entered =
@@ -339,7 +328,7 @@ rank-moved m n test l r well alike gone find i = go (position (nat_eq i) (studen
         found.2 ∙ ap (λ o. option_map_or (λ at. slice_index_or l at None) o None) (sym (place-position m well found.0 i found.1))
 
 -- papers that a student left: whoever stood behind moved up
-module _ (m n : Market) (i point : ℕ) (test : ℕ → Bool) (positions : List ℕ) (changed : Change m n (Withdraw i) test positions) (inside : ChangesInside m n test point 1) (fewer : length n.students + 1 ≡ length m.students) (low : point < length m.students) where
+module _ (m n : Market) (i point : ℕ) (test : ℕ → Bool) (positions : List ℕ) (changed : Change m n (Withdraw i) test positions) (p : Market) (last : ℕ) (left : Withdrawn m p n i point last test) where
   -- where a student of the new papers stood
   stood-before : (q j : ℕ) → slice_get (students_of n) q ≡ Some j → slice_get (students_of m) (before_leaving point q) ≡ Some j
   stood-before q j here = elim (cases_Bool (nat_lt q point)) [
@@ -347,11 +336,11 @@ module _ (m n : Market) (i point : ℕ) (test : ℕ → Bool) (positions : List 
         let less : q < point = ltb-true q point below in
         ap (slice_get (students_of m)) (cond-true (nat_lt q point) q (q + 1) below)
         ∙ sym (slice-first point (students_of m) q less)
-        ∙ ap (λ (is : List ℕ). slice_get is q) (take-map (λ (e : ℕ × Student). e.0) point m.students ∙ ap keys_of (sym inside.before.students) ∙ sym (take-map (λ (e : ℕ × Student). e.0) point n.students))
+        ∙ ap (λ (is : List ℕ). slice_get is q) (take-map (λ (e : ℕ × Student). e.0) point m.students ∙ ap keys_of (sym left.inside.before.students) ∙ sym (take-map (λ (e : ℕ × Student). e.0) point n.students))
         ∙ slice-first point (students_of n) q less ∙ here
-    | inr behind ↦ ap (slice_get (students_of m)) (cond-false (nat_lt q point) q (q + 1) behind) ∙ elim (inside.in_step.each q j (ltb-false q point behind) here) [
+    | inr behind ↦ ap (slice_get (students_of m)) (cond-false (nat_lt q point) q (q + 1) behind) ∙ elim (left.inside.in_step.each q j (ltb-false q point behind) here) [
       | inl there ↦ there
-      | inr (none, passes) ↦ absurd (omega (arith, places-end (students_of m) (q + 1) none, slice_get_within (students_of n) q j here, length-students m, length-students n, fewer))
+      | inr (none, passes) ↦ absurd (omega (arith, places-end (students_of m) (q + 1) none, slice_get_within (students_of n) q j here, length-students m, length-students n, left.fewer))
     ]
   ]
 
@@ -362,14 +351,14 @@ module _ (m n : Market) (i point : ℕ) (test : ℕ → Bool) (positions : List 
   }
     where
       below : (p : ℕ) → (nat_lt p point ≡ true) ⊎ (nat_lt p point ≡ false) → before_leaving point p < length m.students → p < length n.students
-      below p (inl less) within = omega (arith, ltb-true p point less, low, fewer)
-      below p (inr behind) within = omega (arith, subst (λ k. k < length m.students) (cond-false (nat_lt p point) p (p + 1) behind) within, fewer)
+      below p (inl less) within = omega (arith, ltb-true p point less, left.low, left.fewer)
+      below p (inr behind) within = omega (arith, subst (λ k. k < length m.students) (cond-false (nat_lt p point) p (p + 1) behind) within, left.fewer)
 
   pub follows-withdrawn : (chains : List Chain) (l r : RoundView) → HasGone m test chains l → students_in chains ≡ students_of m → r ≡ moved_up l point → Follows m n l r
   follows-withdrawn chains l r gone theirs is = subst (Follows m n l) (sym is) (record {
     same = rank-moved m n test l.ranks (remove l.ranks point) changed.well_before changed.alike gone.leave.gone (λ q j here. (before_leaving point q, stood-before q j here, shifted q (cases_Bool (nat_lt q point))));
-    short = omega (arith, gone.leave.fits.ranks, length-remove l.ranks point long, fewer);
-    room = λ p below. omega (arith, length-remove l.ranks point long, gone.leave.same_length, room-stood m chains gone.before changed.well_before theirs gone.stood (p + 1) (omega (arith, below, fewer)));
+    short = omega (arith, gone.leave.fits.ranks, length-remove l.ranks point long, left.fewer);
+    room = λ p below. omega (arith, length-remove l.ranks point long, gone.leave.same_length, room-stood m chains gone.before changed.well_before theirs gone.stood (p + 1) (omega (arith, below, left.fewer)));
     long = refl;
     rolls = λ s.
         let same = same-roll m n l.rolls s changed.schools in
@@ -379,33 +368,33 @@ module _ (m n : Market) (i point : ℕ) (test : ℕ → Bool) (positions : List 
   })
     where
       long : point < length l.ranks
-      long = omega (arith, gone.leave.same_length, room-stood m chains gone.before changed.well_before theirs gone.stood point low)
+      long = omega (arith, gone.leave.same_length, room-stood m chains gone.before changed.well_before theirs gone.stood point left.low)
 
       shifted : (q : ℕ) → (nat_lt q point ≡ true) ⊎ (nat_lt q point ≡ false) → slice_index_or (remove l.ranks point) q None ≡ slice_index_or l.ranks (before_leaving point q) None
       shifted q (inl less) = get_or-remove_below l.ranks point None q (ltb-true q point less) long ∙ ap (λ k. slice_index_or l.ranks k None) (sym (cond-true (nat_lt q point) q (q + 1) less))
       shifted q (inr behind) = get_or-remove_above l.ranks point None q (ltb-false q point behind) long ∙ ap (λ k. slice_index_or l.ranks k None) (sym (cond-false (nat_lt q point) q (q + 1) behind))
 
   -- who was settled in papers that still had the student, who stood last there and did not enter
-  pub joins-withdrawn : (p : Market) (last : ℕ) (given : List (ℕ × ℕ)) (other : RoundView) → WellFormed p → without_student p i ≡ n → cut p last ≡ n → length n.students ≡ last → StandsInside p test given last other → Joins n test given other
+  pub joins-withdrawn : (given : List (ℕ × ℕ)) (other : RoundView) → StandsInside p test given last other → Joins n test given other
   unfolding seats_of
-  joins-withdrawn p last given other well gone cut_is count inside = record {
-    rolls = record { rolls = omega (arith, inside.fits.rolls, ap (λ (k : Market). length k.schools) (sym gone)); each = each };
+  joins-withdrawn given other inside = record {
+    rolls = record { rolls = omega (arith, inside.fits.rolls, ap (λ (k : Market). length k.schools) (sym left.gone)); each = each };
     alone = λ j fails. same j ∙ no-rank-where (rank_of p other.ranks j) (inside.entered j ∙ ap (λ b. is_among (take last (students_of p)) j && b) fails ∙ and_false (is_among (take last (students_of p)) j));
     entered = λ j passes. ap is_some (same j) ∙ inside.entered j ∙ ap (λ b. is_among (take last (students_of p)) j && b) passes ∙ and_true (is_among (take last (students_of p)) j) ∙ ap (λ (is : List ℕ). is_among is j) students;
     placed = λ j passes. inside.placed j passes ∙ sym (next-changed p n (λ k. k == i) other.ranks other.ranks alike absent same j);
   }
     where
       students : take last (students_of p) ≡ students_of n
-      students = students-first p last ∙ ap students_of cut_is
+      students = students-first p last ∙ ap students_of left.others
 
       alike : AlikeOutside (λ k. k == i) p n
-      alike = subst (AlikeOutside (λ k. k == i) p) gone (alike-entries p (without_student p i) (λ k. k == i) refl refl (others-removed (λ k. k == i) i p.students (eq-eqb i i refl)))
+      alike = subst (AlikeOutside (λ k. k == i) p) left.gone (alike-entries p (without_student p i) (λ k. k == i) refl refl (others-removed (λ k. k == i) i p.students (eq-eqb i i refl)))
 
       not-there : is_among (students_of n) i ≡ false
       not-there =
           sym (is_some-lookup (nat_eq i) n.students)
-          ∙ ap (λ (k : Market). is_student k i) (sym gone)
-          ∙ ap is_some (lookup-remove_entry nat_eq_equiv (nat_eq i) (nat_eq_equiv.congr i) i p.students well.students_differ ∙ cond-true (nat_eq i i) None (student_of p i) (eq-eqb i i refl))
+          ∙ ap (λ (k : Market). is_student k i) (sym left.gone)
+          ∙ ap is_some (lookup-remove_entry nat_eq_equiv (nat_eq i) (nat_eq_equiv.congr i) i p.students left.well_moved.students_differ ∙ cond-true (nat_eq i i) None (student_of p i) (eq-eqb i i refl))
 
       absent : (j : ℕ) → (j == i) ≡ true → rank_of p other.ranks j ≡ None
       absent j same_one =
@@ -413,50 +402,21 @@ module _ (m n : Market) (i point : ℕ) (test : ℕ → Bool) (positions : List 
           (inside.entered j ∙ ap (λ b. b && test j) (ap (λ k. is_among (take last (students_of p)) k) (eqb-true j i same_one) ∙ ap (λ (is : List ℕ). is_among is i) students ∙ not-there))
 
       same : (j : ℕ) → rank_of n other.ranks j ≡ rank_of p other.ranks j
-      same = rank-moved p n (λ k. k == i) other.ranks other.ranks well alike absent (λ q j here. (
+      same = rank-moved p n (λ k. k == i) other.ranks other.ranks left.well_moved alike absent (λ q j here. (
         q,
-        sym (slice-first last (students_of p) q (omega (arith, slice_get_within (students_of n) q j here, length-students n, count))) ∙ ap (λ (is : List ℕ). slice_get is q) students ∙ here,
+        sym (slice-first last (students_of p) q (omega (arith, slice_get_within (students_of n) q j here, length-students n, left.count))) ∙ ap (λ (is : List ℕ). slice_get is q) students ∙ here,
         refl,
       ))
 
       schools : n.schools ≡ p.schools
-      schools = ap (λ (k : Market). k.schools) (sym gone)
+      schools = ap (λ (k : Market). k.schools) (sym left.gone)
 
       each : (s : ℕ) → RollFits n (next_of n other.ranks) s (roll_of n other.rolls s)
       each s =
           let rolls = same-roll p n other.rolls s (ap keys_of schools) in
           roll-changed p n (λ k. k == i) other.ranks other.ranks alike absent same s (roll_of p other.rolls s) (roll_of n other.rolls s) (inside.fits.each s)
           (ap (λ (roll : RollView). roll.keys) rolls)
-          (ap (λ (roll : RollView). roll.seats) rolls ∙ (inside.fits.each s).seats ∙ ap (λ (k : Market). seats_of k s) gone)
-
--- what holds of papers that a student left by going last and then away
-pub record Withdrawn (m p n : Market) (i point last : ℕ) (test : ℕ → Bool) : Type 0 where
-  pub inside : ChangesInside m n test point 1
-  pub fewer : length n.students + 1 ≡ length m.students
-  pub low : point < length m.students
-  pub gone : without_student p i ≡ n
-  pub cut_is : cut p last ≡ n
-  pub count : length n.students ≡ last
-  pub well_moved : WellFormed p
-
-pub withdrawn : (m p n : Market) (i point last : ℕ) (test : ℕ → Bool) → WellFormed m → verdict m (Withdraw i) ≡ None → point ≡ rewind_point m (Withdraw i) → last ≡ length m.students - 1 → p ≡ with_moved_student m point last
-    → n ≡ after m (Withdraw i) → TellsRegion m (Withdraw i) test → Withdrawn m p n i point last test
-withdrawn m p n i point last test well allowed at end moved accepted tells =
-    let low : point < length m.students = leaver-from m p i point last well allowed at end in
-    let more : length p.students ≡ length m.students = ap (λ (k : Market). length k.students) moved ∙ length-moved m.students point last in
-    let cut_is : cut p last ≡ n = leaver-others m p i point last well allowed at end moved ∙ sym accepted in
-    let short : last ≤ length (students_of p) = omega (arith, low, end, more, length-students p) in
-    let count : length n.students ≡ last = sym (length-students n) ∙ ap (λ k. length (students_of k)) (sym cut_is) ∙ length-students_cut p last short in
-    let gap : length (students_of m) - length (students_of (after m (Withdraw i))) ≡ 1 = omega (arith, low, end, count, length-students m, length-students n, ap (λ (k : Market). length (students_of k)) accepted) in
-    record {
-      inside = subst (λ k. ChangesInside m k test point 1) (sym accepted) (subst (λ k. ChangesInside m (after m (Withdraw i)) test k 1) (sym at) (subst (ChangesInside m (after m (Withdraw i)) test (rewind_point m (Withdraw i))) gap (changes-inside m (Withdraw i) test well allowed tells)));
-      fewer = omega (arith, count, low, end);
-      low = low;
-      gone = leaver-gone m p i point last well allowed at end moved ∙ sym accepted;
-      cut_is = cut_is;
-      count = count;
-      well_moved = subst WellFormed (sym moved) (WellFormed-moved m point last well);
-    }
+          (ap (λ (roll : RollView). roll.seats) rolls ∙ (inside.fits.each s).seats ∙ ap (λ (k : Market). seats_of k s) left.gone)
 
 -- the same of rounds that there may be
 module _ {R : Type 0} (keys : R → List Key) (seats : R → ℕ) where
@@ -489,10 +449,13 @@ module _ {R : Type 0} (keys : R → List Key) (seats : R → ℕ) where
         (joins.taken waited.1.gone inside.alone waited.1.no_proposals),
   )
 
-  pub waits-moved : (m n : Market) (test : ℕ → Bool) (chains : List Chain) (at : ℕ) (left moved : Option (Round R)) → IfSome moved (λ new. IsSomeAnd left (λ before. HasMovedUp keys seats at before new))
-      → IfSome left (λ before. (is_spent before ≡ false) × HasGone m test chains (view_of keys seats before))
-      → ((l r : RoundView) → HasGone m test chains l → r ≡ moved_up l at → Waits m n test chains r) → IfSome moved (λ new. (is_spent new ≡ false) × Waits m n test chains (view_of keys seats new))
-  waits-moved m n test chains at left None moved gone law = tt
-  waits-moved m n test chains at None (Some new) moved gone law = absurd moved
-  waits-moved m n test chains at (Some before) (Some new) moved gone law =
-      (moved.spent ∙ gone.0, law (view_of keys seats before) (view_of keys seats new) gone.1 moved.moved)
+  pub waits-moved : (m p n : Market) (i point last : ℕ) (test : ℕ → Bool) (positions : List ℕ) (chains : List Chain) (left moved : Option (Round R)) → Change m n (Withdraw i) test positions → Withdrawn m p n i point last test → students_in chains ≡ students_of m
+      → IfSome moved (λ new. IsSomeAnd left (λ before. HasMovedUp keys seats point before new))
+      → IfSome left (λ before. (is_spent before ≡ false) × HasGone m test chains (view_of keys seats before)) → IfSome moved (λ new. (is_spent new ≡ false) × Waits m n test chains (view_of keys seats new))
+  waits-moved m p n i point last test positions chains left None changed went theirs moved gone = tt
+  waits-moved m p n i point last test positions chains None (Some new) changed went theirs moved gone = absurd moved
+  waits-moved m p n i point last test positions chains (Some before) (Some new) changed went theirs moved gone = (
+    moved.spent ∙ gone.0,
+    follows-waits m n (Withdraw i) test positions chains (view_of keys seats before) (view_of keys seats new) changed gone.1
+        (follows-withdrawn m n i point test positions changed p last went chains (view_of keys seats before) (view_of keys seats new) gone.1 theirs moved.moved),
+  )

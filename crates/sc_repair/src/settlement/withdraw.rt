@@ -26,12 +26,8 @@ impl Settlement {
         let amendment = Amendment::Withdraw { student };
         let region = region_of(self.alloc, &mut self.districts, &self.papers, &amendment)?;
         let point = point_in(&self.papers, &region, &amendment);
-        let_leave(
-            &mut self.round,
-            &mut self.spare,
-            &self.papers,
-            region.positions(),
-        );
+        let positions = region.positions();
+        let_leave(&mut self.round, &mut self.spare, &self.papers, positions);
         let last = self.papers.students_len() - 1;
         self.papers.move_student(point, last);
         // All but the last student are settled.
@@ -60,7 +56,7 @@ impl Settlement {
                     &mut self.round,
                     &mut self.spare,
                     &self.papers,
-                    region.positions(),
+                    positions,
                     point,
                 );
                 Ok(())
