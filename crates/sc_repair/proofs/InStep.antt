@@ -25,7 +25,7 @@ use Rattle.sc_repair.specs.Locality.{ChangesInside, KeepsStep, TellsRegion}
 use Rattle.sc_repair.specs.Newcomer.{newcomer}
 use Rattle.sc_repair.proofs.LiesApart.{region-alike, region-apart, region-apart_after}
 use Rattle.sc_repair.proofs.Resumption.{length-students}
-use Rattle.sc_repair.proofs.Rewinding.{alike-after, rewind-within, rewind-within_after}
+use Rattle.sc_repair.proofs.Rewinding.{alike-after, rewind_within, rewind-within_after}
 use Rattle.sc_repair.specs.Rewinding.{rewind_point}
 
 -- where the students are the same
@@ -167,7 +167,7 @@ changes-inside m a test well allowed tells = record {
   apart = region-apart_after m a test tells;
   outside = region-alike m a test tells;
   before = alike-after m a;
-  within_old = rewind-within m a;
+  within_old = rewind_within m a;
   within_new = rewind-within_after m a;
   in_step = keeps-step m a test tells;
 }

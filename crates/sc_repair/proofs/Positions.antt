@@ -14,8 +14,8 @@ pub position-within : {X : Type 0} (test : ℕ → Bool) (es : List (ℕ × X)) 
 position-within test es = omega (arith, prefix_len-le-length (λ i. not (test i)) (keys_of es), length-map es (λ e. e.0))
 
 -- a search answers the first place, where there is one
-pub position-or_length : {X : Type 0} (test : ℕ → Bool) (es : List (ℕ × X)) → unwrap_or (position test (keys_of es)) (length es) ≡ position_or_len test (keys_of es)
-position-or_length test es =
+pub position_or_length : {X : Type 0} (test : ℕ → Bool) (es : List (ℕ × X)) → unwrap_or (position test (keys_of es)) (length es) ≡ position_or_len test (keys_of es)
+position_or_length test es =
     elim (cases_Bool (nat_lt (position_or_len test (keys_of es)) (length (keys_of es)))) [
       | inl within ↦ rw within refl
       | inr past ↦

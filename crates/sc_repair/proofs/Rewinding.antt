@@ -141,13 +141,13 @@ alike-after m (Close s count) = alike-seated m s (seats_of m s - count)
 alike-after m (Correct i zone siblings continuing) = alike-changed m i (λ student. record student { zone = zone; siblings = siblings; continuing = continuing })
 
 -- the rewind point is within the papers
-pub rewind-within : (m : Market) (a : Amendment) → rewind_point m a ≤ length m.students
-rewind-within m (Enter i zone siblings choices continuing) = omega arith
-rewind-within m (Withdraw i) = position-within (nat_eq i) m.students
-rewind-within m (Rerank i choices) = position-within (nat_eq i) m.students
-rewind-within m (Add s count) = position-within (lists m s) m.students
-rewind-within m (Close s count) = position-within (lists m s) m.students
-rewind-within m (Correct i zone siblings continuing) = position-within (nat_eq i) m.students
+pub rewind_within : (m : Market) (a : Amendment) → rewind_point m a ≤ length m.students
+rewind_within m (Enter i zone siblings choices continuing) = omega arith
+rewind_within m (Withdraw i) = position-within (nat_eq i) m.students
+rewind_within m (Rerank i choices) = position-within (nat_eq i) m.students
+rewind_within m (Add s count) = position-within (lists m s) m.students
+rewind_within m (Close s count) = position-within (lists m s) m.students
+rewind_within m (Correct i zone siblings continuing) = position-within (nat_eq i) m.students
 
 -- a change of a student or a school leaves as many students
 length-changed : (m : Market) (i : ℕ) (change : Student → Student) → length (changed_student m i change).students ≡ length m.students
@@ -178,8 +178,8 @@ rewind-within_after m (Correct i zone siblings continuing) =
     omega (arith, position-within (nat_eq i) m.students, length-changed m i (λ student. record student { zone = zone; siblings = siblings; continuing = continuing }))
 
 -- the segments before the rewind point still stand after the amendment
-pub segments-after : (m : Market) (a : Amendment) (segments : List (List Rejection)) → IsSegmented m segments → IsSegmented (cut (after m a) (rewind_point m a)) (take (rewind_point m a) segments)
-segments-after m a = segments-rewound m (after m a) (rewind_point m a) (alike-after m a) (rewind-within m a) (rewind-within_after m a)
+pub segments_after : (m : Market) (a : Amendment) (segments : List (List Rejection)) → IsSegmented m segments → IsSegmented (cut (after m a) (rewind_point m a)) (take (rewind_point m a) segments)
+segments_after m a = segments-rewound m (after m a) (rewind_point m a) (alike-after m a) (rewind_within m a) (rewind-within_after m a)
 
 abbrev number_in : Record → ℕ
 number_in (OfStudent i) = i

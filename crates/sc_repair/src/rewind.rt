@@ -44,6 +44,7 @@ fn first_marked(papers: &FlatPapers, school: SchoolNo, region: &RegionPositions)
 }
 
 /// The position of the student, or the number of students for one who is not in the papers.
+#[tactic(auto, using(crate::proofs::Positions::position_or_length))]
 fn position_of(papers: &FlatPapers, student: StudentNo) -> usize
     ensures { result ≡ position_of papers.now student }
 {
@@ -76,6 +77,7 @@ fn first_changed(papers: &FlatPapers, amendment: &Amendment) -> usize
 /// It takes no memory. Beside the cost of `FlatPapers::check` it takes constant time, and for an `Add` or
 /// a `Close` one pass over the choices of the students up to that position, with a look-up of the school for
 /// each of them.
+#[tactic(auto, using(crate::proofs::Rewinding::rewind_within, crate::proofs::Rewinding::segments_after))]
 pub fn rewind_point(papers: &FlatPapers, amendment: &Amendment) -> Result<usize, Refusal>
     ensures point { IfOk result (λ k. k ≡ rewind_point papers.now amendment.now) }
     ensures within { IfOk result (λ k. k ≤ length papers.now.students) }
