@@ -1,13 +1,12 @@
 -- The counts of an assignment, pair by pair.
-use Rattle.std.proofs.Common.{◌≡◌, ℕ, ◌+◌, ◌-◌, ◌<◌, ◌≤◌, ◌==◌, cond, false, List, [], ◌∷◌, ◌++◌, Option, None, Some, slice_get, length, get_or, take, set, refl, ◌∙◌, ap, sym, arith, inl, inr}
+use Rattle.std.proofs.Common.{◌≡◌, ℕ, ◌+◌, ◌-◌, ◌<◌, ◌≤◌, ◌==◌, cond, false, List, [], ◌∷◌, ◌++◌, None, Some, slice_get, length, get_or, take, set, refl, ◌∙◌, ap, sym, arith, inl, inr}
 use Rattle.std.proofs.lemmas.Bool.{cases_Bool, cond-false, cond-true, eq-eqb, eqb-false, eqb-true}
 use Rattle.std.proofs.lemmas.List.{get_or-set_other, get_or-set_same, length-set}
-use Rattle.std.proofs.lemmas.List.Sums.{count_by-le-length, sum_by_more, sum_by_push}
-use Rattle.std.specs.Prelude.{unwrap_or}
-use Rattle.std.proofs.lemmas.Option.{slice_get-get_or, slice_get_within}
+use Rattle.std.proofs.lemmas.List.Sums.{count_by-le-length, sum_by_push}
 use Rattle.sc_papers.specs.Assignment.{assigned, holders, holding}
 use Rattle.sc_papers.specs.Matching.{Matching}
 use Rattle.sc_papers.proofs.Holders.{holders-some}
+use Rattle.sc_engine.proofs.Settling.{take-next}
 use Rattle.sc_papers.specs.declared.school_no.TheConstants.SchoolNo.{GREATEST}
 use Rattle.sc_repair.specs.Places.{AreCountsBy}
 
@@ -78,23 +77,19 @@ module _ (old new : List (ℕ × ℕ)) (i from : ℕ) (had : assigned old i ≡ 
   holders-left none s =
       omega (arith, counted s, holding-some (assigned old) i from s had, holding-none (assigned new) i s none, less-one (holders old) from (holders-some old i from had) s)
 
+-- a pair at the end
+pub holders-push : (pairs : List (ℕ × ℕ)) (i t s : ℕ) → holders (pairs ++ (i, t) ∷ []) s ≡ holders pairs s + one_of t s
+holders-push pairs i t s = sum_by_push (λ pair. one_of pair.1 s) pairs (i, t)
+
 -- the pairs up to the next position
-pub holders-more : (pairs : List (ℕ × ℕ)) (k s : ℕ) (d : ℕ × ℕ) → k < length pairs → holders (take (k + 1) pairs) s ≡ holders (take k pairs) s + one_of (get_or pairs k d).1 s
-holders-more pairs k s d low = sum_by_more (λ pair. one_of pair.1 s) pairs k d low
+pub holders-more : (pairs : List (ℕ × ℕ)) (k s : ℕ) (pair : ℕ × ℕ) → slice_get pairs k ≡ Some pair → holders (take (k + 1) pairs) s ≡ holders (take k pairs) s + one_of pair.1 s
+holders-more pairs k s pair at = ap (λ (ps : List (ℕ × ℕ)). holders ps s) (take-next pairs k pair at) ∙ holders-push (take k pairs) pair.0 pair.1 s
 
 -- the pairs up to a position, but for the last of them
 pub holders-last : (pairs : List (ℕ × ℕ)) (k : ℕ) (pair : ℕ × ℕ) (s : ℕ) → 0 < k → slice_get pairs (k - 1) ≡ Some pair → holders (take (k - 1) pairs) s + one_of pair.1 s ≡ holders (take k pairs) s
 holders-last pairs k pair s some at =
-    let low = slice_get_within pairs (k - 1) pair at in
-    let is : get_or pairs (k - 1) pair ≡ pair = ap (λ (o : Option (ℕ × ℕ)). unwrap_or o pair) (sym (slice_get-get_or pairs (k - 1) pair low) ∙ at) in
     let next : (k - 1) + 1 ≡ k = omega (arith, some) in
-    ap (λ (p : ℕ × ℕ). holders (take (k - 1) pairs) s + one_of p.1 s) (sym is)
-    ∙ sym (holders-more pairs (k - 1) s pair low)
-    ∙ ap (λ (n : ℕ). holders (take n pairs) s) next
-
--- a pair at the end
-pub holders-push : (pairs : List (ℕ × ℕ)) (i t s : ℕ) → holders (pairs ++ (i, t) ∷ []) s ≡ holders pairs s + one_of t s
-holders-push pairs i t s = sum_by_push (λ pair. one_of pair.1 s) pairs (i, t)
+    sym (holders-more pairs (k - 1) s pair at) ∙ ap (λ (n : ℕ). holders (take n pairs) s) next
 
 -- no more pairs have a school than there are
 pub holders-le : (pairs : List (ℕ × ℕ)) (s : ℕ) → holders pairs s ≤ length pairs

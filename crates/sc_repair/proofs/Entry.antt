@@ -27,6 +27,7 @@ use Rattle.sc_region.specs.Region.{amended_school, amended_student}
 use Rattle.sc_repair.specs.Newcomer.{newcomer, HasEntered, IsNextToEnter, StandsAfter}
 use Rattle.sc_repair.specs.Resumption.{GoesOn}
 use Rattle.sc_repair.specs.Rewinding.{rewind_point}
+use Rattle.sc_repair.proofs.InTurn.{seam-there}
 use Rattle.sc_repair.proofs.Resumption.{any-turned, entered-cut, goes-on-begins, goes-on-next, length-students, stand-segments, stands-among}
 
 -- an amendment by which a student enters
@@ -121,10 +122,6 @@ stands-grown m n i student chains r grown well may stands =
     }
 
 -- and it is that student's turn
-last-here : (xs : List ℕ) (i : ℕ) → slice_get (xs ++ i ∷ []) (length xs) ≡ Some i
-last-here [] i = refl
-last-here (x ∷ xs) i = last-here xs i
-
 pub next-to-enter : (m n : Market) (i : ℕ) (student : Student) (chains : List Chain) (places : List (ℕ × ℕ)) → n ≡ with_student m i student → WellFormed n → students_in chains ≡ students_of m → IsSegmented m (logs_in chains)
     → ((j : ℕ) → assigned places j ≡ next_choice m (joined (logs_in chains)) j) → IsNextToEnter n chains places i
 next-to-enter m n i student chains places grown well theirs segmented placed =
@@ -139,7 +136,7 @@ next-to-enter m n i student chains places grown well theirs segmented placed =
           ∙ take_all (length chains) (students_of m) (omega (arith, count)));
       segmented = subst (λ p. IsSegmented p (logs_in chains)) part segmented;
       placed = λ j. placed j ∙ ap (λ p. next_choice p (joined (logs_in chains)) j) part;
-      next = ap (slice_get (students_of n)) count ∙ ap (λ xs. slice_get xs (length (students_of m))) more ∙ last-here (students_of m) i;
+      next = ap (slice_get (students_of n)) count ∙ ap (λ xs. slice_get xs (length (students_of m))) more ∙ seam-there (students_of m) i [];
     }
 
 -- a round that has forgotten a chain, as it was with it

@@ -8,7 +8,8 @@ use Rattle.std.proofs.lemmas.Option.{none-some, same_Some, slice_get-map, slice_
 use Rattle.indexmap.proofs.IndexTableLemmas.Indexes.{swap_self}
 use Rattle.indexmap.proofs.ReorderLemmas.{exchange-twice}
 use Rattle.sc_repair.specs.Turns.{AreTurns, TurnsOfEntry, entered, exchanged, first_turns, left, swapped, unless_at}
-use Rattle.sc_repair.proofs.InTurn.{Alone, Avoids, Each, exchanged-other, last-there, other-there, set-there, swapped-there, take-there}
+use Rattle.sc_repair.proofs.InTurn.{Alone, Avoids, Each, exchanged-other, other-there, seam-there, set-there, swapped-there, take-there}
+use Rattle.sc_repair.proofs.Renewing.{get-append-low, get-take}
 
 -- each position has its turn, and nobody stands past the last one
 pub turn-alone : (t : TurnsOfEntry) (p turn : ℕ) → AreTurns t → slice_get t.turns p ≡ Some turn → Alone t.positions p turn
@@ -36,9 +37,7 @@ put-cases (z ∷ xs) y x zero here = inl here
 put-cases (z ∷ xs) y x (suc i) here = elim (put-cases xs y x i here) [ inl old ↦ inl old | inr (at, is) ↦ inr (ap suc at, is) ]
 
 put-old : {X : Type 0} (xs : List X) (y x : X) (i : ℕ) → slice_get xs i ≡ Some x → slice_get (xs ++ y ∷ []) i ≡ Some x
-put-old [] y x i here = absurd (none-some x here)
-put-old (z ∷ xs) y x zero here = here
-put-old (z ∷ xs) y x (suc i) here = put-old xs y x i here
+put-old xs y x i here = get-append-low xs (y ∷ []) i (slice_get_within xs i x here) ∙ here
 
 pub AreTurns-entered : (t : TurnsOfEntry) → AreTurns t → AreTurns (entered t)
 AreTurns-entered t are turn p = (there, back)
@@ -46,13 +45,13 @@ AreTurns-entered t are turn p = (there, back)
     there : slice_get (entered t).positions turn ≡ Some (Some p) → slice_get (entered t).turns p ≡ Some turn
     there here = elim (put-cases t.positions (Some (length t.turns)) (Some p) turn here) [
       | inl old ↦ put-old t.turns (length t.positions) turn p ((are turn p).0 old)
-      | inr (at, is) ↦ ap (slice_get (entered t).turns) (sym (same_Some (length t.turns) p is)) ∙ last-there t.turns (length t.positions) ∙ ap Some (sym at)
+      | inr (at, is) ↦ ap (slice_get (entered t).turns) (sym (same_Some (length t.turns) p is)) ∙ seam-there t.turns (length t.positions) [] ∙ ap Some (sym at)
     ]
 
     back : slice_get (entered t).turns p ≡ Some turn → slice_get (entered t).positions turn ≡ Some (Some p)
     back own = elim (put-cases t.turns (length t.positions) turn p own) [
       | inl old ↦ put-old t.positions (Some (length t.turns)) (Some p) turn ((are turn p).1 old)
-      | inr (at, is) ↦ ap (slice_get (entered t).positions) (sym is) ∙ last-there t.positions (Some (length t.turns)) ∙ ap (λ k. Some (Some k)) (sym at)
+      | inr (at, is) ↦ ap (slice_get (entered t).positions) (sym is) ∙ seam-there t.positions (Some (length t.turns)) [] ∙ ap (λ k. Some (Some k)) (sym at)
     ]
 
 pub AreTurns-first : (count : ℕ) → AreTurns (first_turns count)
@@ -99,12 +98,6 @@ unless-other gone p apart = elim (cases_Bool (p == gone)) [
   | inr other ↦ (λ t. cond (other t) None (Some p))
 ]
 
-put-in-front : {X : Type 0} (n k : ℕ) (xs : List X) (x : X) → k < n → slice_get xs k ≡ Some x → slice_get (take n xs) k ≡ Some x
-put-in-front zero k xs x low here = absurd (omega (arith, low))
-put-in-front (suc n) k [] x low here = absurd (none-some x here)
-put-in-front (suc n) zero (y ∷ xs) x low here = here
-put-in-front (suc n) (suc k) (y ∷ xs) x low here = put-in-front n k xs x (omega (arith, low)) here
-
 pub AreTurns-left : (t : TurnsOfEntry) → AreTurns t → AreTurns (left t)
 AreTurns-left t are turn p = (there, back)
   where
@@ -113,7 +106,7 @@ AreTurns-left t are turn p = (there, back)
         let (q, old, is) = mapped-there (unless_at (length t.turns - 1)) t.positions turn p here in
         let (same, apart) = unless-some (length t.turns - 1) q p is in
         let own : slice_get t.turns p ≡ Some turn = (are turn p).0 (old ∙ ap (λ k. Some (Some k)) same) in
-        put-in-front (length t.turns - 1) p t.turns turn (omega (arith, slice_get_within t.turns p turn own, same, apart)) own
+        get-take (length t.turns - 1) t.turns p (omega (arith, slice_get_within t.turns p turn own, same, apart)) ∙ own
 
     back : slice_get (left t).turns p ≡ Some turn → slice_get (left t).positions turn ≡ Some (Some p)
     back own =
@@ -207,7 +200,7 @@ swap-made t turns a b first second are own other is =
 pub last-own : (xs ys : List ℕ) (turn : ℕ) → xs ≡ ys ++ turn ∷ [] → slice_get xs (length xs - 1) ≡ Some turn
 last-own xs ys turn is =
     let short : length xs - 1 ≡ length ys = omega (arith, ap (λ (l : List ℕ). length l) is, length-append ys (turn ∷ [])) in
-    (λ u. slice_get (is u) (short u)) ∙ last-there ys turn
+    (λ u. slice_get (is u) (short u)) ∙ seam-there ys turn []
 
 pub left-made : (t : TurnsOfEntry) (turns : List ℕ) (turn : ℕ) → AreTurns t → slice_get t.turns (length t.turns - 1) ≡ Some turn → turns ≡ take (length t.turns - 1) t.turns
     → record { positions = slice_set t.positions turn None; turns = turns } ≡ left t

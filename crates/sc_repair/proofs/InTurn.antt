@@ -66,9 +66,9 @@ more-there [] x (suc p) apart = refl
 more-there (y ∷ xs) x zero apart = refl
 more-there (y ∷ xs) x (suc p) apart = more-there xs x p (λ same. apart (omega (arith, same)))
 
-pub last-there : {X : Type 0} (xs : List X) (x : X) → slice_get (xs ++ x ∷ []) (length xs) ≡ Some x
-last-there [] x = refl
-last-there (y ∷ xs) x = last-there xs x
+pub seam-there : {X : Type 0} (xs : List X) (y : X) (ys : List X) → slice_get (xs ++ y ∷ ys) (length xs) ≡ Some y
+seam-there [] y ys = refl
+seam-there (x ∷ xs) y ys = seam-there xs y ys
 
 pub in_turn-more : {X : Type 0} (places : List (Option ℕ)) (xs : List X) (x : X) → Avoids places (length xs) → in_turn places (xs ++ x ∷ []) ≡ in_turn places xs
 in_turn-more places xs x avoids = alike places xs (xs ++ x ∷ []) (λ turn p here. more-there xs x p (λ same. avoids turn (here ∙ ap (λ q. Some (Some q)) same)))
@@ -77,7 +77,7 @@ in_turn-more places xs x avoids = alike places xs (xs ++ x ∷ []) (λ turn p he
 pub in_turn-entered : {X : Type 0} (places : List (Option ℕ)) (xs : List X) (x : X) → Avoids places (length xs) → in_turn (places ++ Some (length xs) ∷ []) (xs ++ x ∷ []) ≡ in_turn places xs ++ x ∷ []
 in_turn-entered places xs x avoids =
     filter_map-append (λ place. at (xs ++ x ∷ []) place) places (Some (length xs) ∷ [])
-    ∙ (λ t. in_turn-more places xs x avoids t ++ cons_option (last-there xs x t) [])
+    ∙ (λ t. in_turn-more places xs x avoids t ++ cons_option (seam-there xs x [] t) [])
 
 -- the items before and after the one of a turn
 pub in_turn-split : {X : Type 0} (places : List (Option ℕ)) (xs : List X) (turn p : ℕ) (x : X) → slice_get places turn ≡ Some (Some p) → slice_get xs p ≡ Some x
@@ -117,7 +117,7 @@ take-there (suc n) k [] x here = absurd (none-some x here)
 take-there (suc n) zero (y ∷ xs) x here = (omega arith, here)
 take-there (suc n) (suc k) (y ∷ xs) x here = let rest = take-there n k xs x here in (omega (arith, rest.0), rest.1)
 
-drop-there : {X : Type 0} (n k : ℕ) (xs : List X) → slice_get (drop n xs) k ≡ slice_get xs (n + k)
+pub drop-there : {X : Type 0} (n k : ℕ) (xs : List X) → slice_get (drop n xs) k ≡ slice_get xs (n + k)
 drop-there zero k xs = ap (slice_get xs) (omega arith)
 drop-there (suc n) k [] = refl
 drop-there (suc n) k (y ∷ xs) = let next : suc (n + k) ≡ suc n + k = omega arith in drop-there n k xs ∙ ap (slice_get (y ∷ xs)) next
@@ -185,7 +185,7 @@ split-missing {X = X} (Some q ∷ places) xs (suc turn) p here there = go (slice
 with-last : {X : Type 0} (places : List (Option ℕ)) (xs : List X) (x : X) (turn : ℕ) → Alone places (length xs) turn
     → in_turn places (xs ++ x ∷ []) ≡ in_turn (take turn places) xs ++ x ∷ in_turn (drop (suc turn) places) xs
 with-last places xs x turn one =
-    in_turn-split places (xs ++ x ∷ []) turn (length xs) x one.here (last-there xs x)
+    in_turn-split places (xs ++ x ∷ []) turn (length xs) x one.here (seam-there xs x [])
     ∙ (λ t. in_turn-more (take turn places) xs x (avoids-before places (length xs) turn one) t ++ x ∷ in_turn-more (drop (suc turn) places) xs x (avoids-after places (length xs) turn one) t)
 
 without-last : {X : Type 0} (places : List (Option ℕ)) (xs : List X) (turn : ℕ) → Alone places (length xs) turn
@@ -203,10 +203,6 @@ in_turn-left places xs x turn one =
 pub last-apart : {X : Type 0} (x : X) (xs : List X) → (ys : List X) × (y : X) × (x ∷ xs ≡ ys ++ y ∷ []) × (length ys ≡ length xs)
 last-apart x [] = ([], x, refl, refl)
 last-apart x (z ∷ zs) = let (ys, y, is, same) = last-apart z zs in (x ∷ ys, y, ap (λ l. x ∷ l) is, ap suc same)
-
-seam-there : {X : Type 0} (xs : List X) (y : X) (ys : List X) → slice_get (xs ++ y ∷ ys) (length xs) ≡ Some y
-seam-there [] y ys = refl
-seam-there (x ∷ xs) y ys = seam-there xs y ys
 
 -- where each position has a turn, the items in turn are all of them
 abbrev pub Each : List (Option ℕ) → ℕ → Type 0

@@ -1,7 +1,8 @@
 -- The round in which everybody stands: the students of a region leave it, the papers change, and they come back.
-use Rattle.std.proofs.Common.{◌≡◌, ◌↔◌, inl, inr, refl, ap, sym, subst, ◌∙◌, ℕ, ◌<◌, ◌≤◌, nat_eq, nat_lt, ◌==◌, ◌+◌, ◌-◌, ◌⊎◌, zero, suc, Bool, true, false, ◌&&◌, List, [], ◌∷◌, ◌++◌, length, take, Option, None, Some, Contains, IfSome, IsTrue, is_some, position, slice_get, slice_index_or, remove, arith}
+use Rattle.std.proofs.Common.{◌≡◌, ◌↔◌, inl, inr, refl, ap, sym, subst, ◌∙◌, ℕ, ◌<◌, ◌≤◌, nat_eq, nat_lt, ◌==◌, ◌+◌, ◌⊎◌, zero, suc, Bool, true, false, ◌&&◌, List, [], ◌∷◌, ◌++◌, length, take, Option, None, Some, Contains, IfSome, IsTrue, is_some, position, slice_get, slice_index_or, remove, arith}
 use Rattle.std.specs.Option.{IsSomeAnd, option_map_or}
 use Rattle.std.proofs.lemmas.Bool.{cases_Bool, cond-false, cond-true, eq-eqb, eqb-true, false≢true, ltb-false, ltb-true}
+use Rattle.std.proofs.Math.Bool.{and-false, and-true}
 use Rattle.std.proofs.lemmas.Cmp.{nat_eq_equiv}
 use Rattle.std.proofs.lemmas.Map.{lookup-remove_entry}
 use Rattle.std.proofs.lemmas.Map.Made.{is_some-lookup}
@@ -23,6 +24,7 @@ use Rattle.sc_papers.specs.declared.records.Student.{Student}
 use Rattle.sc_papers.specs.declared.rejection.Rejection.{Rejection}
 use Rattle.sc_papers.proofs.Changing.{put_school, put_student}
 use Rattle.sc_papers.proofs.Choices.{places-end}
+use Rattle.sc_papers.proofs.Entering.{is_some-false}
 use Rattle.sc_papers.proofs.Hands.{hand-position, has-position}
 use Rattle.sc_papers.proofs.Positions.{among-student, any-among, place-position, position-among, position-there}
 use Rattle.sc_checkpoint.specs.Chains.{logs_in, students_in, Chain}
@@ -42,14 +44,14 @@ use Rattle.sc_region.specs.Region.{amended_school, concerned, InRegion}
 use Rattle.sc_region.specs.Telling.{MarkRegion}
 use Rattle.sc_region.proofs.Following.{schools-stay}
 use Rattle.sc_stamps.specs.Record.{record_of}
-use Rattle.sc_repair.specs.Locality.{is_among, marked_in, ChangesInside, TellsRegion}
+use Rattle.sc_repair.specs.Locality.{is_among, marked_in, TellsRegion}
 use Rattle.sc_repair.specs.Newcomer.{newcomer, StandsAfter}
 use Rattle.sc_repair.specs.Rejoining.{before_leaving, school_in, HasJoined, HasLeft, HasMovedUp, HasSeats, Joins, StandBehind, StandsInside}
 use Rattle.sc_repair.proofs.Changed.{Withdrawn}
 use Rattle.sc_repair.proofs.LiesApart.{alike-entries, others-removed, region-alike, region-apart_after}
 use Rattle.sc_repair.proofs.Regional.{marks-tell, student-outside}
 use Rattle.sc_repair.proofs.Beginning.{students-first}
-use Rattle.sc_repair.proofs.Resettled.{slice-first}
+use Rattle.sc_repair.proofs.Renewing.{get-take}
 use Rattle.sc_repair.proofs.Resumption.{length-students}
 use Rattle.sc_repair.proofs.Rewinding.{field-kept}
 
@@ -242,24 +244,12 @@ waits m n a test positions chains l r changed students theirs gone reseated = fo
         let passes : test key.student ≡ true = (changed.tells key.student).1 (concerned key.student s is (inl (stander-lists m l.ranks key.student s on.stands))) in
         none-some s (sym (next-none m l.ranks key.student (gone.leave.gone key.student passes)) ∙ on.stands))
 
-and_true : (b : Bool) → (b && true) ≡ b
-and_true true = refl
-and_true false = refl
-
-and_false : (b : Bool) → (b && false) ≡ false
-and_false true = refl
-and_false false = refl
-
-no-rank-where : (o : Option ℕ) → is_some o ≡ false → o ≡ None
-no-rank-where None none = refl
-no-rank-where (Some rank) none = absurd (false≢true (sym none))
-
 -- who stands inside joins
 pub joins-inside : (m : Market) (test : ℕ → Bool) (given : List (ℕ × ℕ)) (end : ℕ) (other : RoundView) → take end (students_of m) ≡ students_of m → StandsInside m test given end other → Joins m test given other
 joins-inside m test given end other whole inside = record {
   rolls = record { rolls = inside.fits.rolls; each = inside.fits.each };
-  alone = λ i fails. no-rank-where (rank_of m other.ranks i) (inside.entered i ∙ ap (λ b. is_among (take end (students_of m)) i && b) fails ∙ and_false (is_among (take end (students_of m)) i));
-  entered = λ i passes. inside.entered i ∙ ap (λ b. is_among (take end (students_of m)) i && b) passes ∙ and_true (is_among (take end (students_of m)) i) ∙ ap (λ (is : List ℕ). is_among is i) whole;
+  alone = λ i fails. is_some-false (rank_of m other.ranks i) (inside.entered i ∙ ap (λ b. is_among (take end (students_of m)) i && b) fails ∙ and-false (is_among (take end (students_of m)) i));
+  entered = λ i passes. inside.entered i ∙ ap (λ b. is_among (take end (students_of m)) i && b) passes ∙ and-true (is_among (take end (students_of m)) i) ∙ ap (λ (is : List ℕ). is_among is i) whole;
   placed = inside.placed;
 }
 
@@ -335,9 +325,9 @@ module _ (m n : Market) (i point : ℕ) (test : ℕ → Bool) (positions : List 
     | inl below ↦
         let less : q < point = ltb-true q point below in
         ap (slice_get (students_of m)) (cond-true (nat_lt q point) q (q + 1) below)
-        ∙ sym (slice-first point (students_of m) q less)
+        ∙ sym (get-take point (students_of m) q less)
         ∙ ap (λ (is : List ℕ). slice_get is q) (take-map (λ (e : ℕ × Student). e.0) point m.students ∙ ap keys_of (sym left.inside.before.students) ∙ sym (take-map (λ (e : ℕ × Student). e.0) point n.students))
-        ∙ slice-first point (students_of n) q less ∙ here
+        ∙ get-take point (students_of n) q less ∙ here
     | inr behind ↦ ap (slice_get (students_of m)) (cond-false (nat_lt q point) q (q + 1) behind) ∙ elim (left.inside.in_step.each q j (ltb-false q point behind) here) [
       | inl there ↦ there
       | inr (none, passes) ↦ absurd (omega (arith, places-end (students_of m) (q + 1) none, slice_get_within (students_of n) q j here, length-students m, length-students n, left.fewer))
@@ -379,8 +369,8 @@ module _ (m n : Market) (i point : ℕ) (test : ℕ → Bool) (positions : List 
   unfolding seats_of
   joins-withdrawn given other inside = record {
     rolls = record { rolls = omega (arith, inside.fits.rolls, ap (λ (k : Market). length k.schools) (sym left.gone)); each = each };
-    alone = λ j fails. same j ∙ no-rank-where (rank_of p other.ranks j) (inside.entered j ∙ ap (λ b. is_among (take last (students_of p)) j && b) fails ∙ and_false (is_among (take last (students_of p)) j));
-    entered = λ j passes. ap is_some (same j) ∙ inside.entered j ∙ ap (λ b. is_among (take last (students_of p)) j && b) passes ∙ and_true (is_among (take last (students_of p)) j) ∙ ap (λ (is : List ℕ). is_among is j) students;
+    alone = λ j fails. same j ∙ is_some-false (rank_of p other.ranks j) (inside.entered j ∙ ap (λ b. is_among (take last (students_of p)) j && b) fails ∙ and-false (is_among (take last (students_of p)) j));
+    entered = λ j passes. ap is_some (same j) ∙ inside.entered j ∙ ap (λ b. is_among (take last (students_of p)) j && b) passes ∙ and-true (is_among (take last (students_of p)) j) ∙ ap (λ (is : List ℕ). is_among is j) students;
     placed = λ j passes. inside.placed j passes ∙ sym (next-changed p n (λ k. k == i) other.ranks other.ranks alike absent same j);
   }
     where
@@ -398,13 +388,13 @@ module _ (m n : Market) (i point : ℕ) (test : ℕ → Bool) (positions : List 
 
       absent : (j : ℕ) → (j == i) ≡ true → rank_of p other.ranks j ≡ None
       absent j same_one =
-          no-rank-where (rank_of p other.ranks j)
+          is_some-false (rank_of p other.ranks j)
           (inside.entered j ∙ ap (λ b. b && test j) (ap (λ k. is_among (take last (students_of p)) k) (eqb-true j i same_one) ∙ ap (λ (is : List ℕ). is_among is i) students ∙ not-there))
 
       same : (j : ℕ) → rank_of n other.ranks j ≡ rank_of p other.ranks j
       same = rank-moved p n (λ k. k == i) other.ranks other.ranks left.well_moved alike absent (λ q j here. (
         q,
-        sym (slice-first last (students_of p) q (omega (arith, slice_get_within (students_of n) q j here, length-students n, left.count))) ∙ ap (λ (is : List ℕ). slice_get is q) students ∙ here,
+        sym (get-take last (students_of p) q (omega (arith, slice_get_within (students_of n) q j here, length-students n, left.count))) ∙ ap (λ (is : List ℕ). slice_get is q) students ∙ here,
         refl,
       ))
 

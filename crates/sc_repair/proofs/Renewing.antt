@@ -3,17 +3,19 @@ use Rattle.std.proofs.Common.{◌≡◌, inl, inr, refl, ap, sym, subst, ◌∙�
 use Rattle.std.specs.Option.{option_map}
 use Rattle.std.proofs.lemmas.Bool.{cases_lt, cases_Bool}
 use Rattle.std.proofs.lemmas.List.{get_or-take, get_or_default, length-append, length-drop, length-map, length-take, length-take-le, take-append-le, take_all, take_more}
-use Rattle.std.proofs.lemmas.Option.{get_or_from_slice_get, none-some, same_Some, slice_get-map, slice_get_within}
+use Rattle.std.proofs.lemmas.Option.{none-some, same_Some, slice_get-map, slice_get_past, slice_get_within}
 use Rattle.sc_papers.specs.Market.{Market, students_of}
 use Rattle.sc_papers.specs.declared.rejection.Rejection.{Rejection}
 use Rattle.sc_checkpoint.specs.Chains.{logs_in, replaced, students_in, with_chain, Chain}
 use Rattle.sc_checkpoint.proofs.Replacing.{get-set-other, get-set-same, replaced-length, replaced-other, replaced-push}
 use Rattle.sc_checkpoint.proofs.Rising.{rising-less}
+use Rattle.sc_engine.proofs.Settling.{take-next}
 use Rattle.sc_engine.specs.RoundView.{RoundView, has_entered, Enters}
 use Rattle.sc_repair.specs.Course.{GoesOnInside}
 use Rattle.sc_repair.specs.Renewed.{marked_from, renewed_from, without}
 use Rattle.sc_repair.proofs.Chains.{drop-next}
 use Rattle.sc_repair.proofs.Course.{inside-absent, inside-more, outside-more}
+use Rattle.sc_repair.proofs.InTurn.{drop-there}
 use Rattle.sc_repair.proofs.Positioned.{mark-low, within-from, within-rising, within-there}
 
 -- lists in which the same stands everywhere are the same
@@ -31,19 +33,7 @@ get-take (suc k) [] p low = refl
 get-take (suc k) (x ∷ xs) zero low = refl
 get-take (suc k) (x ∷ xs) (suc p) low = get-take k xs p (omega (arith, low))
 
-get-past : {X : Type 0} (k : ℕ) (xs : List X) (p : ℕ) → k ≤ p → slice_get (take k xs) p ≡ None
-get-past zero xs p past = refl
-get-past (suc k) [] p past = refl
-get-past (suc k) (x ∷ xs) zero past = absurd (omega (arith, past))
-get-past (suc k) (x ∷ xs) (suc p) past = get-past k xs p (omega (arith, past))
-
-get-drop : {X : Type 0} (n : ℕ) (xs : List X) (p at : ℕ) → n + p ≡ at → slice_get (drop n xs) p ≡ slice_get xs at
-get-drop zero xs p at is = ap (slice_get xs) (omega (arith, is))
-get-drop (suc n) [] p at is = refl
-get-drop (suc n) (x ∷ xs) p zero is = absurd (omega (arith, is))
-get-drop (suc n) (x ∷ xs) p (suc at) is = get-drop n xs p at (omega (arith, is))
-
-get-append-low : {X : Type 0} (xs ys : List X) (p : ℕ) → p < length xs → slice_get (xs ++ ys) p ≡ slice_get xs p
+pub get-append-low : {X : Type 0} (xs ys : List X) (p : ℕ) → p < length xs → slice_get (xs ++ ys) p ≡ slice_get xs p
 get-append-low [] ys p low = absurd (omega (arith, low))
 get-append-low (x ∷ xs) ys zero low = refl
 get-append-low (x ∷ xs) ys (suc p) low = get-append-low xs ys p (omega (arith, low))
@@ -53,9 +43,6 @@ get-append-high [] ys p at is = ap (slice_get ys) (omega (arith, is))
 get-append-high (x ∷ xs) ys p zero is = absurd (omega (arith, is))
 get-append-high (x ∷ xs) ys p (suc at) is = get-append-high xs ys p at (omega (arith, is))
 
-take-push : {X : Type 0} (k : ℕ) (xs : List X) (x : X) → slice_get xs k ≡ Some x → take (k + 1) xs ≡ take k xs ++ x ∷ []
-take-push k xs x here = take_more xs k x (slice_get_within xs k x here) ∙ ap (λ y. take k xs ++ y ∷ []) (get_or_from_slice_get xs k x x here)
-
 -- what stands where some are gone
 without-low : (point gap : ℕ) (chains : List Chain) (p : ℕ) → point ≤ length chains → p < point → slice_get (without point gap chains) p ≡ slice_get chains p
 without-low point gap chains p fits low =
@@ -64,7 +51,7 @@ without-low point gap chains p fits low =
 without-high : (point gap : ℕ) (chains : List Chain) (p : ℕ) → point ≤ length chains → point ≤ p → slice_get (without point gap chains) p ≡ slice_get chains (p + gap)
 without-high point gap chains p fits from =
     get-append-high (take point chains) (drop (point + gap) chains) (p - point) p (omega (arith, from, length-take-le point chains fits))
-    ∙ get-drop (point + gap) chains (p - point) (p + gap) (omega (arith, from))
+    ∙ drop-there (point + gap) (p - point) chains ∙ ap (slice_get chains) (omega (arith, from))
 
 pub length-without : (point gap : ℕ) (chains : List Chain) → point ≤ length chains → length (without point gap chains) ≡ point + (length chains - (point + gap))
 length-without point gap chains fits =
@@ -95,7 +82,8 @@ first-same point gap k chains chain fits from =
                 ∙ sym (without-high point gap chains p fits past)
           ]
           ∙ sym (get-take k (without point gap chains) p low)
-      | inr past ↦ get-past k (without point gap (set chains (k + gap) chain)) p past ∙ sym (get-past k (without point gap chains) p past)
+      | inr past ↦ slice_get_past (take k (without point gap (set chains (k + gap) chain))) p (omega (arith, past, length-take k (without point gap (set chains (k + gap) chain))))
+          ∙ sym (slice_get_past (take k (without point gap chains)) p (omega (arith, past, length-take k (without point gap chains))))
     ])
   where
     length-set-chain : length (set chains (k + gap) chain) ≡ length chains
@@ -116,7 +104,7 @@ module _ (m : Market) (test : ℕ → Bool) (old : List Chain) (point gap : ℕ)
       let its : slice_get (logs_in old) (k + gap) ≡ Some chain.rejections =
       slice_get-map (λ (c : Chain). c.rejections) old (k + gap) ∙ ap (option_map (λ (c : Chain). c.rejections)) at in
       let more : first_of positions renewed (k + 1) ≡ with_chain (first_of positions renewed k) i chain.rejections =
-      take-push k (without point gap (replaced old positions renewed)) (record { student = i; rejections = chain.rejections })
+      take-next (without point gap (replaced old positions renewed)) k (record { student = i; rejections = chain.rejections })
       (without-high point gap (replaced old positions renewed) k fits_still from ∙ replaced-other old positions renewed (k + gap) apart ∙ at ∙ ap Some is) in
       subst (λ cs. GoesOnInside m test old point gap r cs (k + 1)) (sym more)
       (outside-more m test old point gap r (first_of positions renewed k) chain.rejections k i here fails (inl there) its on)
@@ -134,7 +122,7 @@ module _ (m : Market) (test : ℕ → Bool) (old : List Chain) (point gap : ℕ)
       let fits_still : point ≤ length chains = omega (arith, fits, replaced-length old positions renewed) in
       let fits_set : point ≤ length (set chains (k + gap) own) = omega (arith, fits_still, length-set chains (k + gap) own) in
       let last : take (k + 1) (without point gap (set chains (k + gap) own)) ≡ take k (without point gap chains) ++ own ∷ [] =
-      take-push k (without point gap (set chains (k + gap) own)) own (without-high point gap (set chains (k + gap) own) k fits_set from ∙ get-set-same chains (k + gap) own low)
+      take-next (without point gap (set chains (k + gap) own)) k own (without-high point gap (set chains (k + gap) own) k fits_set from ∙ get-set-same chains (k + gap) own low)
       ∙ ap (λ cs. cs ++ own ∷ []) (first-same point gap k chains own fits_still from) in
       subst (λ cs. GoesOnInside m test old point gap r' cs (k + 1)) (sym (ap (λ cs. take (k + 1) (without point gap cs)) pushed ∙ last))
       (inside-more m test old point gap r r' (take k (without point gap chains)) chain k i here passes (inl there) on enters more)

@@ -1,5 +1,5 @@
 -- A clearing whose papers change inside a region: what its settling needs, and what it comes to.
-use Rattle.std.proofs.Common.{◌≡◌, ◌⊎◌, inl, inr, refl, ap, sym, subst, ◌∙◌, ℕ, zero, suc, ◌+◌, ◌-◌, ◌≤◌, ◌<◌, nat_eq, Bool, true, false, List, [], ◌∷◌, ◌++◌, length, take, drop, Option, Some, None, slice_get, arith}
+use Rattle.std.proofs.Common.{◌≡◌, ◌⊎◌, inl, inr, refl, ap, sym, subst, ◌∙◌, ℕ, zero, suc, ◌+◌, ◌-◌, ◌≤◌, ◌<◌, nat_eq, Bool, true, false, List, ◌++◌, length, take, drop, Option, Some, None, slice_get, arith}
 use Rattle.std.specs.List.{IsDistinct}
 use Rattle.std.proofs.lemmas.List.{length-map, take-append-drop, take-map, take-take}
 use Rattle.std.proofs.lemmas.List.Elements.{filter-append}
@@ -23,18 +23,13 @@ use Rattle.sc_repair.proofs.Chains.{drop-past}
 use Rattle.sc_repair.proofs.Course.{others-past}
 use Rattle.sc_repair.proofs.Ending.{cut-most, matching-end, proposals-end, segments-end, theirs-end}
 use Rattle.sc_repair.proofs.Kept.{certified-of, count-kept, logs-kept, theirs-kept}
+use Rattle.sc_repair.proofs.Renewing.{get-take}
 use Rattle.sc_repair.proofs.Resumption.{length-students}
 use Rattle.sc_repair.proofs.Rewinding.{segments-rewound}
 
 -- a student before the end of papers that are cut there
-pub slice-first : (k : ℕ) (xs : List ℕ) (at : ℕ) → at < k → slice_get (take k xs) at ≡ slice_get xs at
-slice-first zero xs at low = absurd (omega (arith, low))
-slice-first (suc k) [] at low = refl
-slice-first (suc k) (x ∷ xs) zero low = refl
-slice-first (suc k) (x ∷ xs) (suc at) low = slice-first k xs at (omega (arith, low))
-
 pub student-first : (p : Market) (end position i : ℕ) → position < end → slice_get (students_of p) position ≡ Some i → slice_get (students_of (cut p end)) position ≡ Some i
-student-first p end position i low here = ap (λ xs. slice_get xs position) (sym (students-first p end)) ∙ slice-first end (students_of p) position low ∙ here
+student-first p end position i low here = ap (λ xs. slice_get xs position) (sym (students-first p end)) ∙ get-take end (students_of p) position low ∙ here
 
 -- the old chains are in step
 pub chains-step : (m n : Market) (test : ℕ → Bool) (old : List Chain) (point gap k : ℕ) → ChangesInside m n test point gap → students_in old ≡ students_of m → k ≡ point

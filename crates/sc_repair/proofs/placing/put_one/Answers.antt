@@ -1,24 +1,21 @@
-use Rattle.std.proofs.Common.{◌≡◌, refl, ap, sym, ◌∙◌, ◌∷◌, [], ℕ, Option, Some, None, is_some, nat_eq, false}
-use Rattle.std.proofs.lemmas.Bool.{cond-true, true≢false}
+use Rattle.std.proofs.Common.{◌≡◌, ap, sym, ◌∙◌, ◌∷◌, [], ℕ, Option, Some, None, nat_eq}
+use Rattle.std.proofs.lemmas.Bool.{cond-true}
 use Rattle.std.proofs.lemmas.Cmp.{nat_eq_equiv}
 use Rattle.sc_papers.specs.Assignment.{assigned}
 use Rattle.sc_papers.proofs.Assigning.{assigned-with_place, with_place-new}
+use Rattle.sc_papers.proofs.Entering.{is_some-false}
 use Rattle.sc_engine.specs.RoundView.{next_of}
 use Rattle.sc_repair.proofs.GivenPlaces.{given-one}
 use Rattle.sc_repair.proofs.placing.put_one.Goals as goal
 
-is-none : (o : Option ℕ) → is_some o ≡ false → o ≡ None
-is-none None none = refl
-is-none (Some s) none = absurd (true≢false none)
-
 pub returns-clause-grown : goal.returns-clause-grown
 returns-clause-grown g c =
-    let unplaced : assigned c.args.places.now c.args.student ≡ None = sym c.get_near-had.ensures ∙ is-none c.get_near-had.result (sym c.is_some.ensures ∙ c.if-is_some.false) in
+    let unplaced : assigned c.args.places.now c.args.student ≡ None = sym c.get_near-had.ensures ∙ is_some-false c.get_near-had.result (sym c.is_some.ensures ∙ c.if-is_some.false) in
     ((c.args.student, c.in-Some.school) ∷ [], c.in_ok-put.ensures.put ∙ with_place-new c.args.places.now c.args.student c.in-Some.school unplaced)
 
 pub returns-clause-given : goal.returns-clause-given
 returns-clause-given g c =
-    let unplaced : assigned c.args.places.now c.args.student ≡ None = sym c.get_near-had.ensures ∙ is-none c.get_near-had.result (sym c.is_some.ensures ∙ c.if-is_some.false) in
+    let unplaced : assigned c.args.places.now c.args.student ≡ None = sym c.get_near-had.ensures ∙ is_some-false c.get_near-had.result (sym c.is_some.ensures ∙ c.if-is_some.false) in
     given-one (next_of c.args.papers.now c.args.round.now.ranks) (assigned c.args.places.now) (assigned c.put.new.self) c.args.student c.in-Some.school
     unplaced (sym (c.in-Some.ensures c.requires.ready))
     (λ j. ap (λ pairs. assigned pairs j) c.in_ok-put.ensures.put ∙ assigned-with_place c.args.places.now c.args.student c.in-Some.school j)
