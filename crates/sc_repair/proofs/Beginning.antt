@@ -1,10 +1,10 @@
 -- A settling of the students who pass begins: those of the first students stand where they stood.
-use Rattle.std.proofs.Common.{◌≡◌, inl, inr, refl, ap, sym, subst, ◌∙◌, ℕ, ◌+◌, nat_eq, Bool, true, false, ◌&&◌, List, [], ◌∷◌, ◌++◌, cond, length, filter, take, drop, All, Contains, is_some, append-nil, arith}
+use Rattle.std.proofs.Common.{◌≡◌, inl, inr, refl, ap, sym, subst, ◌∙◌, ℕ, ◌+◌, nat_eq, Bool, true, ◌&&◌, List, [], ◌++◌, length, filter, take, drop, Contains, is_some, append-nil, arith}
 use Rattle.std.specs.List.{IsDistinct}
 use Rattle.std.proofs.Math.Bool.{and_comm}
 use Rattle.std.proofs.lemmas.Bool.{cases_Bool, eqb-true, and_left}
 use Rattle.std.proofs.lemmas.List.{drop_all, take-map, take-take}
-use Rattle.std.proofs.lemmas.List.Elements.{All-cons, All-contains_itself, All-nil, All-filter, All-map, All-take, All-weaker}
+use Rattle.std.proofs.lemmas.List.Elements.{All-contains_itself, All-filter, All-map, All-take, All-weaker, filter_passes}
 use Rattle.std.proofs.lemmas.Map.Views.{any-filter_same}
 use Rattle.sc_papers.specs.Log.{next_choice, IsSettled}
 use Rattle.sc_papers.specs.Market.{Market, is_student, students_of}
@@ -41,14 +41,6 @@ stands-inside m log test students i =
     ∙ any-filter_same (nat_eq i) test (test i) (λ j same. ap test (sym (eqb-true i j same))) students
     ∙ and_comm (test i) (is_among students i)
 
-each-passes : (test : ℕ → Bool) (xs : List ℕ) → All (λ i. test i ≡ true) (filter test xs)
-each-passes test [] = All-nil (λ i. test i ≡ true)
-each-passes test (x ∷ xs) = go (test x) refl (each-passes test xs)
-  where
-    go : (b : Bool) → test x ≡ b → All (λ i. test i ≡ true) (filter test xs) → All (λ i. test i ≡ true) (cond b (x ∷ filter test xs) (filter test xs))
-    go true passes rest = All-cons (λ i. test i ≡ true) x (filter test xs) passes rest
-    go false fails rest = rest
-
 pub stand-inside : (m : Market) (test : ℕ → Bool) (chains : List Chain) (k : ℕ) → WellFormed m → AreApart m test → students_in chains ≡ take k (students_of m) → IsSegmented (cut m k) (logs_in chains)
     → AreNextChoices m (log_of test chains) (next_choices_after m (log_of test chains) (filter test (take k (students_of m))))
 stand-inside m test chains k well apart theirs segmented =
@@ -62,7 +54,7 @@ stand-inside m test chains k well apart theirs segmented =
           (All-take (λ i. is_student m i ≡ true) k (students_of m) (All-weaker (Contains (students_of m)) (λ i. is_student m i ≡ true) (among-student m) (students_of m) (All-contains_itself (students_of m)))));
       different = subst (IsDistinct nat_eq) (sym (students-next m (log_of test chains) students)) differ;
       next = All-map (λ (s : Standing). s.next ≡ next_choice m (log_of test chains) s.student) stand students
-          (All-weaker (λ i. test i ≡ true) (λ i. next_choice m (log_of test chains) i ≡ next_choice m (log_of test chains) i) (λ i passes. refl) students (each-passes test (take k (students_of m))));
+          (All-weaker (λ i. test i ≡ true) (λ i. next_choice m (log_of test chains) i ≡ next_choice m (log_of test chains) i) (λ i passes. refl) students (filter_passes test (take k (students_of m))));
       settled = subst (λ n. IsSettled n (log_of test chains))
           (sym (entered-inside m test (stands (next_choices_after m (log_of test chains) students)) k well (λ i. stands-inside m (log_of test chains) test (take k (students_of m)) i)))
           (segments-settled (restricted (cut m k) test) (logs_in (chains_of test chains)) part);

@@ -33,15 +33,12 @@ pub log-push_out : (test : ℕ → Bool) (chains : List Chain) (chain : Chain) �
 log-push_out test chains chain fails = ap (λ cs. joined (logs_in cs)) (chains-push_out test chains chain fails)
 
 -- the log falls into that of the first chains and that of the rest
-joined-append : (first rest : List (List Rejection)) → joined (first ++ rest) ≡ joined first ++ joined rest
-joined-append first rest = flat_map-append (λ s. s) first rest
-
 pub log-parts : (test : ℕ → Bool) (k : ℕ) (chains : List Chain) → log_of test chains ≡ log_of test (take k chains) ++ log_of test (drop k chains)
 log-parts test k chains =
     ap (log_of test) (sym (take-append-drop k chains))
     ∙ ap (λ cs. joined (logs_in cs)) (filter-append (λ (c : Chain). test c.student) (take k chains) (drop k chains))
     ∙ ap joined (map-append (λ (c : Chain). c.rejections) (chains_of test (take k chains)) (chains_of test (drop k chains)))
-    ∙ joined-append (logs_in (chains_of test (take k chains))) (logs_in (chains_of test (drop k chains)))
+    ∙ flat_map-append (λ s. s) (logs_in (chains_of test (take k chains))) (logs_in (chains_of test (drop k chains)))
 
 -- the segments of those who pass are the logs of their chains
 pub part-chains : (test : ℕ → Bool) (chains : List Chain) → part_of (students_in chains) test (logs_in chains) ≡ logs_in (chains_of test chains)

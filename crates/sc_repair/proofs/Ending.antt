@@ -3,7 +3,7 @@
 use Rattle.std.proofs.Common.{◌≡◌, inl, inr, refl, ap, sym, subst, ◌∙◌, ℕ, zero, suc, ◌+◌, ◌≤◌, ◌==◌, Bool, true, false, ◌&&◌, ◌||◌, List, [], ◌∷◌, ◌++◌, length, take, drop, is_some, append-nil, arith}
 use Rattle.std.specs.List.{list_any}
 use Rattle.std.proofs.lemmas.Bool.{cases_Bool, cond-true, cond-false, and_left, false≢true}
-use Rattle.std.proofs.lemmas.List.{drop_all, drop-map, length-map, take-map}
+use Rattle.std.proofs.lemmas.List.{drop_all, drop-map, length-map, length-take, take-map}
 use Rattle.sc_papers.specs.Log.{matching_of, next_choice}
 use Rattle.sc_papers.specs.Market.{Market, students_of}
 use Rattle.sc_papers.specs.Matching.{Matching, IsStudentOptimal}
@@ -33,13 +33,8 @@ use Rattle.sc_repair.proofs.Course.{entered-inside}
 use Rattle.sc_repair.proofs.Parts.{next-inside}
 
 -- the students of papers cut at an end
-first-most : (k : ℕ) (xs : List ℕ) → length (take k xs) ≤ k
-first-most zero xs = omega arith
-first-most (suc k) [] = omega arith
-first-most (suc k) (x ∷ xs) = omega (arith, first-most k xs)
-
 pub cut-most : (m : Market) (k : ℕ) → length (students_of (cut m k)) ≤ k
-cut-most m k = omega (arith, first-most k (students_of m), ap (λ (xs : List ℕ). length xs) (students-first m k))
+cut-most m k = omega (arith, length-take k (students_of m), ap (λ (xs : List ℕ). length xs) (students-first m k))
 
 -- who is among the first few is among the first
 any-first : (test : ℕ → Bool) (j k : ℕ) (xs : List ℕ) → j ≤ k → list_any test (take j xs) ≡ true → list_any test (take k xs) ≡ true

@@ -1,5 +1,6 @@
 -- Students who are given other places, one after the other.
 use Rattle.std.proofs.Common.{◌≡◌, refl, ap, sym, subst, ◌∙◌, ℕ, nat_eq, Bool, true, false, not, ◌&&◌, ◌||◌, cond, List, [], ◌∷◌, ◌++◌, Option, Some, None, is_some}
+use Rattle.std.proofs.Math.Bool.{or-false}
 use Rattle.std.proofs.lemmas.Bool.{eqb-true, false≢true, true≢false}
 use Rattle.std.proofs.lemmas.List.Folds.{list_any-append}
 use Rattle.sc_papers.specs.Matching.{Matching}
@@ -9,10 +10,6 @@ use Rattle.sc_repair.specs.Placing.{with_moved, with_new, AreMovers}
 -- one more student
 among-one : (students : List ℕ) (i j : ℕ) → is_among (students ++ i ∷ []) j ≡ (is_among students j || nat_eq j i)
 among-one students i j = list_any-append (nat_eq j) students (i ∷ []) ∙ ap (λ b. is_among students j || b) (or-false (nat_eq j i))
-  where
-    or-false : (b : Bool) → (b || false) ≡ b
-    or-false true = refl
-    or-false false = refl
 
 new-cases : (among own : Bool) (had next : Option ℕ)
     → cond (own && not (is_some (cond (among && not (is_some had)) next had))) next (cond (among && not (is_some had)) next had) ≡ cond ((among || own) && not (is_some had)) next had

@@ -1,7 +1,8 @@
 -- The pairs of an assignment and the students of the papers count alike.
-use Rattle.std.proofs.Common.{◌≡◌, ℕ, ◌+◌, ◌==◌, nat_eq, Bool, true, false, cond, not, ◌&&◌, List, [], ◌∷◌, None, Some, Contains, refl, ◌∙◌, ap, sym, arith, inl, inr}
+use Rattle.std.proofs.Common.{◌≡◌, ℕ, ◌+◌, ◌==◌, nat_eq, Bool, true, cond, not, ◌&&◌, List, [], ◌∷◌, None, Some, Contains, refl, ◌∙◌, ap, sym, arith, inl, inr}
 use Rattle.std.specs.List.{IsDistinct}
 use Rattle.std.specs.Map.{keys_of}
+use Rattle.std.proofs.Math.Bool.{and-false, and-true}
 use Rattle.std.proofs.lemmas.Bool.{cases_Bool, eqb-true}
 use Rattle.std.proofs.lemmas.Cmp.{nat_eq_equiv}
 use Rattle.std.proofs.lemmas.List.Sums.{sum_by-cons}
@@ -16,17 +17,9 @@ use Rattle.sc_papers.proofs.Chain.{how_many-split_both}
 use Rattle.sc_papers.proofs.Students.{how_many-agree, how_many-none}
 use Rattle.sc_repair.proofs.Counts.{one_of}
 
-and-true : (b : Bool) → b ≡ (b && true)
-and-true true = refl
-and-true false = refl
-
-and-false : (b : Bool) → false ≡ (b && false)
-and-false true = refl
-and-false false = refl
-
 -- those who pass, by one student and the others
 split-at : (m : Market) → WellFormed m → (p : ℕ → Bool) (y : ℕ) → Contains (students_of m) y → how_many m p ≡ cond (p y) 1 0 + how_many m (λ j. p j && not (j == y))
-split-at m well p y among = how_many-agree m p (λ j. p j && true) (λ j. and-true (p j)) ∙ how_many-split_both m well p (λ j. true) y among refl
+split-at m well p y among = how_many-agree m p (λ j. p j && true) (λ j. sym (and-true (p j))) ∙ how_many-split_both m well p (λ j. true) y among refl
 
 -- with one more pair, of a student who has none in the others, the counts differ by that pair
 held-more : (m : Market) → WellFormed m → (e : ℕ × ℕ) (es : List (ℕ × ℕ)) (s : ℕ) → Contains (students_of m) e.0 → assigned es e.0 ≡ None
@@ -40,7 +33,7 @@ held-more m well e es s among none =
   where
     others : (j : ℕ) → (has (assigned (e ∷ es)) s j && not (j == e.0)) ≡ (has (assigned es) s j && not (j == e.0))
     others j = elim (cases_Bool (j == e.0)) [
-      | inl is ↦ rw is (sym (and-false _) ∙ and-false _)
+      | inl is ↦ rw is (and-false _ ∙ sym (and-false _))
       | inr other ↦ rw other refl
     ]
 

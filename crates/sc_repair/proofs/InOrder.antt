@@ -4,10 +4,10 @@ use Rattle.std.specs.Prelude.{filter_map}
 use Rattle.std.specs.List.{cons_option, range_with_len}
 use Rattle.std.specs.Option.{option_map}
 use Rattle.std.proofs.lemmas.List.{append-nil, length-append, length-map, map-append, take-map, take_all}
-use Rattle.std.proofs.lemmas.List.FromFn.{length-range_with_len}
+use Rattle.std.proofs.lemmas.List.FromFn.{get_or-range_with_len, length-range_with_len}
 use native.Mathlib.Decide.{dec_lt}
 use Rattle.std.proofs.lemmas.List.Elements.{filter_map-append}
-use Rattle.std.proofs.lemmas.Option.{none-some, same_Some, slice_get-map, slice_get_within}
+use Rattle.std.proofs.lemmas.Option.{none-some, same_Some, slice_get-get_or, slice_get-map, slice_get_within}
 use Rattle.sc_papers.specs.EntryOrder.{with_swapped_students}
 use Rattle.sc_papers.specs.Market.{Market}
 use Rattle.sc_stamps.specs.Stamps.{Stamps, with_swapped_stamps}
@@ -16,6 +16,7 @@ use Rattle.sc_repair.specs.Turns.{AreInTurn, AreTurns, TurnsOfEntry, entered, ex
 use Rattle.sc_repair.proofs.AmendedInTurn.{kept-swapped, swapped-in_turn}
 use Rattle.sc_repair.proofs.EntryTurns.{exchanged-second, turn-of}
 use Rattle.sc_repair.proofs.InTurn.{exchanged-other, take-there}
+use Rattle.sc_repair.proofs.Positioned.{range-push}
 
 -- the positions of those who stand, in order of turn
 abbrev pub standing : List (Option ℕ) → List ℕ
@@ -49,28 +50,11 @@ in-order places xs is = picked places xs ∙ ap (filter_map (slice_get xs)) is �
 
 -- the positions from 0 on, by one more
 range-more : (a n : ℕ) → range_with_len a (n + 1) ≡ range_with_len a n ++ (a + n) ∷ []
-range-more a zero = ap (λ k. k ∷ []) (plain a)
-  where
-    plain : (n : ℕ) → n ≡ n + 0
-    plain n = omega arith
-range-more a (suc n) = ap (range_with_len a) (more n) ∙ ap (λ rest. a ∷ rest) (range-more (a + 1) n ∙ ap (λ k. range_with_len (a + 1) n ++ k ∷ []) (next a n))
-  where
-    more : (k : ℕ) → suc k + 1 ≡ suc (k + 1)
-    more k = omega arith
-
-    next : (m k : ℕ) → m + 1 + k ≡ m + suc k
-    next m k = omega arith
+range-more a n = let more : n + 1 ≡ suc n = omega arith in ap (range_with_len a) more ∙ range-push a n
 
 range-there : (a n i : ℕ) → i < n → slice_get (range_with_len a n) i ≡ Some (a + i)
-range-there a zero i low = absurd (omega (arith, low))
-range-there a (suc n) zero low = ap Some (plain a)
-  where
-    plain : (n : ℕ) → n ≡ n + 0
-    plain n = omega arith
-range-there a (suc n) (suc i) low = range-there (a + 1) n i (omega (arith, low)) ∙ ap Some (next a i)
-  where
-    next : (m k : ℕ) → m + 1 + k ≡ m + suc k
-    next m k = omega arith
+range-there a n i low =
+    slice_get-get_or (range_with_len a n) i 0 (omega (arith, low, length-range_with_len a n)) ∙ ap Some (get_or-range_with_len a n i 0 low)
 
 range-within : (a n i k : ℕ) → slice_get (range_with_len a n) i ≡ Some k → k < a + n
 range-within a zero i k here = absurd (none-some k here)

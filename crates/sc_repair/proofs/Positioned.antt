@@ -9,6 +9,7 @@ use Rattle.std.proofs.lemmas.List.Elements.{filter-append, filter_more}
 use Rattle.std.proofs.lemmas.List.Kept.{IsStrictlyIncreasing-filter}
 use Rattle.std.proofs.lemmas.Option.{get_or_from_slice_get, slice_get_within}
 use Rattle.sc_papers.proofs.Counting.{contains-cons, contains-head, contains-tail}
+use Rattle.sc_region.proofs.Filtering.{filter-among, filter-kept}
 use Rattle.sc_checkpoint.proofs.Rising.{rising-less}
 use Rattle.sc_repair.specs.Renewed.{marked_before, marked_from, marked_within}
 
@@ -72,34 +73,7 @@ range-rising from count k low =
 pub within-rising : (marks : List Bool) (from count : ℕ) → IsStrictlyIncreasing (marked_within marks from count)
 within-rising marks from count = IsStrictlyIncreasing-filter (λ p. get_or marks p false) (range_with_len from count) (range-rising from count)
 
--- what a filter keeps
-kept-from : (test : ℕ → Bool) (xs : List ℕ) (p : ℕ) → Contains (filter test xs) p → Contains xs p × (test p ≡ true)
-kept-from test [] p (k, low, at) = absurd (omega (arith, low))
-kept-from test (x ∷ xs) p among = go (test x) refl (kept-from test xs p) among
-  where
-    go : (b : Bool) → test x ≡ b → (Contains (filter test xs) p → Contains xs p × (test p ≡ true)) → Contains (cond b (x ∷ filter test xs) (filter test xs)) p → Contains (x ∷ xs) p × (test p ≡ true)
-    go true passes rest among = elim (contains-cons x (filter test xs) p among) [
-      | inl same ↦ (subst (Contains (x ∷ xs)) same (contains-head x xs), ap test (sym same) ∙ passes)
-      | inr later ↦ let (there, its) = rest later in (contains-tail x xs p there, its)
-    ]
-    go false fails rest among = let (there, its) = rest among in (contains-tail x xs p there, its)
-
-kept-there : (test : ℕ → Bool) (xs : List ℕ) (p : ℕ) → Contains xs p → test p ≡ true → Contains (filter test xs) p
-kept-there test [] p (k, low, at) passes = absurd (omega (arith, low))
-kept-there test (x ∷ xs) p among passes = go (test x) refl (λ after. kept-there test xs p after passes)
-  where
-    later : (b : Bool) → Contains (filter test xs) p → Contains (cond b (x ∷ filter test xs) (filter test xs)) p
-    later true there = contains-tail x (filter test xs) p there
-    later false there = there
-
-    go : (b : Bool) → test x ≡ b → (Contains xs p → Contains (filter test xs) p) → Contains (cond b (x ∷ filter test xs) (filter test xs)) p
-    go b is rest = elim (contains-cons x xs p among) [
-      | inl same ↦
-          subst (λ c. Contains (cond c (x ∷ filter test xs) (filter test xs)) p) (sym (ap test same ∙ passes) ∙ is)
-          (subst (Contains (x ∷ filter test xs)) same (contains-head x (filter test xs)))
-      | inr after ↦ later b (rest after)
-    ]
-
+-- what is among a range
 range-from : (from count p : ℕ) → Contains (range_with_len from count) p → (from ≤ p) × (p < from + count)
 range-from from count p (k, low, at) =
     let long = length-range_with_len from count in
@@ -114,12 +88,12 @@ range-there from count p low high =
 
 pub within-from : (marks : List Bool) (from count p : ℕ) → Contains (marked_within marks from count) p → (from ≤ p) × (p < from + count) × (get_or marks p false ≡ true)
 within-from marks from count p among =
-    let (there, its) = kept-from (λ at. get_or marks at false) (range_with_len from count) p among in
+    let (there, its) = filter-among (λ at. get_or marks at false) (range_with_len from count) p among in
     let (low, high) = range-from from count p there in
     (low, high, its)
 
 pub within-there : (marks : List Bool) (from count p : ℕ) → from ≤ p → p < from + count → get_or marks p false ≡ true → Contains (marked_within marks from count) p
-within-there marks from count p low high its = kept-there (λ at. get_or marks at false) (range_with_len from count) p (range-there from count p low high) its
+within-there marks from count p low high its = filter-kept (λ at. get_or marks at false) (range_with_len from count) p (range-there from count p low high) its
 
 -- a marked position is that of a mark
 pub mark-low : (marks : List Bool) (p : ℕ) → get_or marks p false ≡ true → p < length marks
@@ -168,7 +142,7 @@ last-marked marks positions n from rising told fits before rest =
     ])
 
 -- one more of a range
-range-push : (from count : ℕ) → range_with_len from (suc count) ≡ range_with_len from count ++ (from + count) ∷ []
+pub range-push : (from count : ℕ) → range_with_len from (suc count) ≡ range_with_len from count ++ (from + count) ∷ []
 range-push from zero = ap (λ p. p ∷ []) (omega arith)
 range-push from (suc count) = ap (λ ps. from ∷ ps) (range-push (from + 1) count ∙ ap (λ p. range_with_len (from + 1) count ++ p ∷ []) (omega arith))
 
