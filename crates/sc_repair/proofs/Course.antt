@@ -1,5 +1,6 @@
 -- A settling of the students who pass, from a point on: it begins, a student enters or stays, and all have had their turn.
 use Rattle.std.proofs.Common.{◌≡◌, inl, inr, refl, ap, sym, subst, ◌∙◌, ℕ, zero, suc, ◌+◌, ◌==◌, Bool, true, false, not, ◌&&◌, ◌||◌, List, [], ◌∷◌, ◌++◌, cond, length, filter, take, drop, Some, slice_get, append_assoc, arith}
+use Rattle.std.proofs.Math.Bool.{or-false}
 use Rattle.std.proofs.lemmas.Bool.{cases_Bool, cond-true, cond-false, eqb-true, and_from, and_left, and_right, or_right, false≢true}
 use Rattle.std.proofs.lemmas.List.{drop-append-le, length-append, map-append, take-append-le, take_more}
 use Rattle.std.proofs.lemmas.List.Filters.{length-filter_more}
@@ -55,12 +56,8 @@ entered-passes first test i j passes =
       | inl same ↦
           or_right (first && test j) (j == i) same
           ∙ sym (and_from (first || j == i) (test j) (or_right first (j == i) same) (ap test (eqb-true j i same) ∙ passes))
-      | inr apart ↦ without (first && test j) (j == i) apart ∙ ap (λ b. b && test j) (sym (without first (j == i) apart))
+      | inr apart ↦ rw apart (or-false (first && test j) ∙ ap (λ b. b && test j) (sym (or-false first)))
     ]
-  where
-    without : (a b : Bool) → b ≡ false → (a || b) ≡ a
-    without true b off = refl
-    without false b off = off
 
 -- one more who passes is counted
 passing-one : (test : ℕ → Bool) (students : List ℕ) (k i : ℕ) → slice_get students k ≡ Some i → test i ≡ true → passing test (k + 1) students ≡ passing test k students + 1

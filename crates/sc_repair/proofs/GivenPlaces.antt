@@ -1,7 +1,7 @@
 -- Students who are given other places, one after the other.
 use Rattle.std.proofs.Common.{◌≡◌, refl, ap, sym, subst, ◌∙◌, ℕ, nat_eq, Bool, true, false, not, ◌&&◌, ◌||◌, cond, List, [], ◌∷◌, ◌++◌, Option, Some, None, is_some}
 use Rattle.std.proofs.Math.Bool.{or-false}
-use Rattle.std.proofs.lemmas.Bool.{eqb-true, false≢true, true≢false}
+use Rattle.std.proofs.lemmas.Bool.{eqb-true, or_left, false≢true, true≢false}
 use Rattle.std.proofs.lemmas.List.Folds.{list_any-append}
 use Rattle.sc_papers.specs.Matching.{Matching}
 use Rattle.sc_repair.specs.Locality.{is_among}
@@ -60,10 +60,6 @@ given-one next a after i s none stands given j = given j ∙ go (nat_eq j i) (λ
     go true own nothing = sym (own refl) ∙ ap (λ o. cond (not (is_some o)) (next j) (a j)) (sym (nothing refl))
     go false own nothing = refl
 
-or-left : (s o : Bool) → s ≡ true → (s || o) ≡ true
-or-left true o holds = refl
-or-left false o holds = absurd (false≢true holds)
-
 still : (b : Bool) (had its : Option ℕ) → had ≡ its → cond b its had ≡ its
 still true had its same = refl
 still false had its same = same
@@ -72,7 +68,7 @@ still false had its same = same
 pub movers-stay : (students movers : List ℕ) (next middle after : Matching) (i : ℕ) → AreMovers students movers next middle
     → ((j : ℕ) → after j ≡ cond (nat_eq j i && not (is_some (middle j))) (next j) (middle j)) → after i ≡ next i → AreMovers (students ++ i ∷ []) movers next after
 movers-stay students movers next middle after i are given there = record {
-  among = λ j inside. among-one students i j ∙ or-left (is_among students j) (nat_eq j i) (are.among j inside);
+  among = λ j inside. among-one students i j ∙ or_left (is_among students j) (nat_eq j i) (are.among j inside);
   others = λ j any out. go j (is_among students j) (nat_eq j i)
       (λ inside. given j ∙ still (nat_eq j i && not (is_some (middle j))) (middle j) (next j) (are.others j inside out))
       (λ same. subst (λ k. after k ≡ next k) (sym (eqb-true j i same)) there)
@@ -95,7 +91,7 @@ movers-more students movers next middle after i are given = record {
 }
   where
     into : (m o s : Bool) → (m ≡ true → s ≡ true) → (m || o) ≡ true → (s || o) ≡ true
-    into true o s among any = or-left s o (among refl)
+    into true o s among any = or_left s o (among refl)
     into false true true among any = refl
     into false true false among any = refl
     into false false s among any = absurd (false≢true any)

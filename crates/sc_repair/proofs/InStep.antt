@@ -1,31 +1,27 @@
 -- The students after an amendment stand in step with those before it, from the rewind point on.
-use Rattle.std.proofs.Common.{◌≡◌, ◌⊎◌, inl, inr, refl, ap, sym, subst, ◌∙◌, ℕ, zero, suc, ◌+◌, ◌-◌, ◌≤◌, ◌<◌, nat_eq, Bool, true, false, cond, List, [], ◌∷◌, ◌++◌, length, Option, Some, None, slice_get, arith}
+use Rattle.std.proofs.Common.{◌≡◌, ◌⊎◌, inl, inr, refl, ap, sym, subst, ◌∙◌, ℕ, zero, suc, ◌+◌, ◌-◌, ◌≤◌, ◌<◌, nat_eq, Bool, true, false, cond, List, [], ◌∷◌, ◌++◌, length, Some, None, slice_get, arith}
 use Rattle.std.specs.List.{position_or_len}
 use Rattle.std.specs.Map.{keys_of, remove_entry}
-use Rattle.std.specs.Option.{option_map_or}
 use Rattle.std.proofs.lemmas.Bool.{cases_Bool, cond-true, cond-false, eqb-true, true≢false}
 use Rattle.std.specs.Prelude.{get_or}
 use Rattle.std.proofs.lemmas.List.{length-append, length-map, map-append}
 use Rattle.std.proofs.lemmas.List.Sums.{passes_at_first}
-use Rattle.std.proofs.lemmas.Map.{keys-set_value}
 use Rattle.std.proofs.lemmas.Option.{get_or_from_slice_get, none-some, same_Some, slice_get_within}
-use Rattle.sc_papers.specs.Market.{Market, student_of, school_of, students_of, seats_of}
+use Rattle.sc_papers.specs.Market.{Market, students_of, seats_of}
 use Rattle.sc_papers.specs.WellFormed.{WellFormed}
 use Rattle.sc_papers.proofs.Amending.{WellFormed-after}
 use Rattle.sc_papers.specs.TakingBack.{is_withdrawal}
-use Rattle.sc_papers.specs.Verdict.{after, verdict, changed_student, with_seats}
+use Rattle.sc_papers.specs.Verdict.{after, verdict}
 use Rattle.sc_papers.specs.declared.amendment.Amendment.{Amendment}
 use Rattle.sc_papers.specs.declared.amendment.Amendment.TheVariants.{Enter, Withdraw, Rerank, Add, Close, Correct}
-use Rattle.sc_papers.specs.declared.records.School.{School}
 use Rattle.sc_papers.specs.declared.records.Student.{Student}
-use Rattle.sc_papers.proofs.Changing.{put_school, put_student}
 use Rattle.sc_checkpoint.specs.Chains.{students_in, Chain}
 use Rattle.sc_region.specs.Region.{amended}
 use Rattle.sc_repair.specs.Locality.{ChangesInside, KeepsStep, TellsRegion}
 use Rattle.sc_repair.specs.Newcomer.{newcomer}
 use Rattle.sc_repair.proofs.LiesApart.{region-alike, region-apart, region-apart_after}
 use Rattle.sc_repair.proofs.Resumption.{length-students}
-use Rattle.sc_repair.proofs.Rewinding.{alike-after, rewind_within, rewind-within_after}
+use Rattle.sc_repair.proofs.Rewinding.{alike-after, rewind_within, rewind-within_after, students-changed, students-seated}
 use Rattle.sc_repair.specs.Rewinding.{rewind_point}
 
 -- where the students are the same
@@ -117,21 +113,6 @@ step-left test i es passes =
   where
     further : (position gap : ℕ) → gap ≡ 1 → position + gap ≡ suc position
     further position gap one = omega (arith, one)
-
--- a change of a student or a school leaves the students' numbers
-students-changed : (m : Market) (i : ℕ) (change : Student → Student) → students_of (changed_student m i change) ≡ students_of m
-students-changed m i change = go (student_of m i)
-  where
-    go : (found : Option Student) → students_of (option_map_or (λ student. put_student m i (change student)) found m) ≡ students_of m
-    go None = refl
-    go (Some student) = keys-set_value (nat_eq i) m.students (change student)
-
-students-seated : (m : Market) (s seats : ℕ) → students_of (with_seats m s seats) ≡ students_of m
-students-seated m s seats = go (school_of m s)
-  where
-    go : (found : Option School) → students_of (option_map_or (λ school. put_school m s (record school { seats = seats })) found m) ≡ students_of m
-    go None = refl
-    go (Some school) = refl
 
 -- so it is with every amendment
 pub keeps-step : (m : Market) (a : Amendment) (test : ℕ → Bool) → TellsRegion m a test → KeepsStep test (students_of m) (students_of (after m a)) (rewind_point m a) (length (students_of m) - length (students_of (after m a)))

@@ -1,5 +1,6 @@
 -- Whom a newcomer's chain moves on, and where everybody stands after it.
 use Rattle.std.proofs.Common.{◌≡◌, inl, inr, refl, ap, sym, subst, ◌∙◌, ℕ, nat_eq, ◌==◌, Bool, true, false, not, ◌&&◌, ◌||◌, cond, List, [], ◌∷◌, ◌++◌, Option, Some, None, find, is_some, append_assoc, append-nil}
+use Rattle.std.proofs.Math.Bool.{or-false}
 use Rattle.std.proofs.lemmas.Bool.{cases_Bool, cond-true, cond-false, eq-eqb, eqb-false, eqb-true, ne_eqb, or_left, or_parts, not_from_true, not-false}
 use Rattle.std.proofs.lemmas.List.Folds.{list_any-append}
 use Rattle.std.proofs.lemmas.Option.{none-some}
@@ -59,11 +60,7 @@ module _ (m : Market) (log chain : List Rejection) (old new : RoundView) (i made
       sym ((enters.enters.continues log continues).next j) ∙ next-entered m (has_entered m new.ranks) (log ++ chain) j
 
   entered-before : (j : ℕ) → nat_eq j i ≡ false → has_entered m new.ranks j ≡ has_entered m old.ranks j
-  entered-before j other = enters.enters.entered j ∙ without (has_entered m old.ranks j) (nat_eq j i) other
-    where
-      without : (a b : Bool) → b ≡ false → (a || b) ≡ a
-      without true b off = refl
-      without false b off = off
+  entered-before j other = enters.enters.entered j ∙ ap (λ b. has_entered m old.ranks j || b) other ∙ or-false (has_entered m old.ranks j)
 
   -- nobody else moves whom the chain does not name
   pub others-unmoved : (j : ℕ) → nat_eq j i ≡ false → is_moved chain j ≡ false → next_of m new.ranks j ≡ next_of m old.ranks j

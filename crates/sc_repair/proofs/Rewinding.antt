@@ -10,7 +10,7 @@ use Rattle.std.proofs.lemmas.Grind.{common_steps}
 use Rattle.std.proofs.lemmas.List.{get_or-take, length-map, length-append, length-take, length-take-le, take-append-le, take-map, take-take}
 use Rattle.std.proofs.lemmas.List.Folds.{list_any_at}
 use Rattle.std.proofs.lemmas.List.Sums.{fails_before_first}
-use Rattle.std.proofs.lemmas.Map.{lookup-set_value, length-set_value}
+use Rattle.std.proofs.lemmas.Map.{keys-set_value, lookup-set_value}
 use Rattle.std.proofs.lemmas.Option.{none-some}
 use Rattle.sc_papers.specs.Market.{Market, student_of, school_of, students_of, choices_of, seats_of}
 use Rattle.sc_papers.specs.Log.{IsSettled}
@@ -149,20 +149,23 @@ rewind_within m (Add s count) = position-within (lists m s) m.students
 rewind_within m (Close s count) = position-within (lists m s) m.students
 rewind_within m (Correct i zone siblings continuing) = position-within (nat_eq i) m.students
 
--- a change of a student or a school leaves as many students
-length-changed : (m : Market) (i : ℕ) (change : Student → Student) → length (changed_student m i change).students ≡ length m.students
-length-changed m i change = go (student_of m i)
+-- a change of a student or a school leaves the students' numbers, and so as many
+pub students-changed : (m : Market) (i : ℕ) (change : Student → Student) → students_of (changed_student m i change) ≡ students_of m
+students-changed m i change = go (student_of m i)
   where
-    go : (found : Option Student) → length (option_map_or (λ student. put_student m i (change student)) found m).students ≡ length m.students
+    go : (found : Option Student) → students_of (option_map_or (λ student. put_student m i (change student)) found m) ≡ students_of m
     go None = refl
-    go (Some student) = length-set_value (nat_eq i) m.students (change student)
+    go (Some student) = keys-set_value (nat_eq i) m.students (change student)
 
-length-seated : (m : Market) (s seats : ℕ) → length (with_seats m s seats).students ≡ length m.students
-length-seated m s seats = go (school_of m s)
+pub students-seated : (m : Market) (s seats : ℕ) → students_of (with_seats m s seats) ≡ students_of m
+students-seated m s seats = go (school_of m s)
   where
-    go : (found : Option School) → length (option_map_or (λ school. put_school m s (record school { seats = seats })) found m).students ≡ length m.students
+    go : (found : Option School) → students_of (option_map_or (λ school. put_school m s (record school { seats = seats })) found m) ≡ students_of m
     go None = refl
     go (Some school) = refl
+
+same-count : (m n : Market) → students_of n ≡ students_of m → length n.students ≡ length m.students
+same-count m n same = omega (arith, ap (λ (is : List ℕ). length is) same, length-map m.students (λ e. e.0), length-map n.students (λ e. e.0))
 
 -- and within the amended papers
 pub rewind-within_after : (m : Market) (a : Amendment) → rewind_point m a ≤ length (after m a).students
@@ -171,11 +174,11 @@ rewind-within_after m (Enter i zone siblings choices continuing) =
     omega (arith, length-append m.students ((i, student) ∷ []))
 rewind-within_after m (Withdraw i) = position-removed (nat_eq i) m.students
 rewind-within_after m (Rerank i choices) =
-    omega (arith, position-within (nat_eq i) m.students, length-changed m i (λ student. record student { choices = choices }))
-rewind-within_after m (Add s count) = omega (arith, position-within (lists m s) m.students, length-seated m s (seats_of m s + count))
-rewind-within_after m (Close s count) = omega (arith, position-within (lists m s) m.students, length-seated m s (seats_of m s - count))
+    omega (arith, position-within (nat_eq i) m.students, same-count m (after m (Rerank i choices)) (students-changed m i (λ student. record student { choices = choices })))
+rewind-within_after m (Add s count) = omega (arith, position-within (lists m s) m.students, same-count m (after m (Add s count)) (students-seated m s (seats_of m s + count)))
+rewind-within_after m (Close s count) = omega (arith, position-within (lists m s) m.students, same-count m (after m (Close s count)) (students-seated m s (seats_of m s - count)))
 rewind-within_after m (Correct i zone siblings continuing) =
-    omega (arith, position-within (nat_eq i) m.students, length-changed m i (λ student. record student { zone = zone; siblings = siblings; continuing = continuing }))
+    omega (arith, position-within (nat_eq i) m.students, same-count m (after m (Correct i zone siblings continuing)) (students-changed m i (λ student. record student { zone = zone; siblings = siblings; continuing = continuing })))
 
 -- the segments before the rewind point still stand after the amendment
 pub segments_after : (m : Market) (a : Amendment) (segments : List (List Rejection)) → IsSegmented m segments → IsSegmented (cut (after m a) (rewind_point m a)) (take (rewind_point m a) segments)
