@@ -1,9 +1,9 @@
 -- All up to an end of the order of entry have had their turn: the segments are those of the papers cut there, and every
 -- place and proposal is told.
-use Rattle.std.proofs.Common.{◌≡◌, inl, inr, refl, ap, sym, subst, ◌∙◌, ℕ, zero, suc, ◌+◌, ◌≤◌, ◌==◌, Bool, true, false, ◌&&◌, ◌||◌, List, [], ◌∷◌, ◌++◌, length, take, drop, is_some, append-nil, arith}
+use Rattle.std.proofs.Common.{◌≡◌, inl, inr, refl, ap, sym, subst, ◌∙◌, ℕ, ◌+◌, ◌≤◌, ◌==◌, Bool, true, false, ◌&&◌, List, ◌++◌, length, take, drop, is_some, append-nil, arith}
 use Rattle.std.specs.List.{list_any}
-use Rattle.std.proofs.lemmas.Bool.{cases_Bool, cond-true, cond-false, and_left, false≢true}
-use Rattle.std.proofs.lemmas.List.{drop_all, drop-map, length-map, length-take, take-map}
+use Rattle.std.proofs.lemmas.Bool.{cases_Bool, cond-true, cond-false, and_left, false≢true, or_left}
+use Rattle.std.proofs.lemmas.List.{drop_all, drop-map, length-map, length-take, take-map, take-append-drop, take-take}
 use Rattle.sc_papers.specs.Log.{matching_of, next_choice}
 use Rattle.sc_papers.specs.Market.{Market, students_of}
 use Rattle.sc_papers.specs.Matching.{Matching, IsStudentOptimal}
@@ -30,6 +30,7 @@ use Rattle.sc_repair.specs.Locality.{chains_of, ChangesInside}
 use Rattle.sc_repair.proofs.Beginning.{students-first}
 use Rattle.sc_repair.proofs.Chains.{log-parts, part-chains}
 use Rattle.sc_repair.proofs.Course.{entered-inside}
+use Rattle.std.proofs.lemmas.List.Folds.{list_any-append}
 use Rattle.sc_repair.proofs.Parts.{next-inside}
 
 -- the students of papers cut at an end
@@ -38,14 +39,10 @@ cut-most m k = omega (arith, length-take k (students_of m), ap (λ (xs : List �
 
 -- who is among the first few is among the first
 any-first : (test : ℕ → Bool) (j k : ℕ) (xs : List ℕ) → j ≤ k → list_any test (take j xs) ≡ true → list_any test (take k xs) ≡ true
-any-first test zero k xs low here = absurd (false≢true here)
-any-first test (suc j) zero xs low here = absurd (omega (arith, low))
-any-first test (suc j) (suc k) [] low here = absurd (false≢true here)
-any-first test (suc j) (suc k) (x ∷ xs) low here = go (test x) here (any-first test j k xs (omega (arith, low)))
-  where
-    go : (b : Bool) → (b || list_any test (take j xs)) ≡ true → (list_any test (take j xs) ≡ true → list_any test (take k xs) ≡ true) → (b || list_any test (take k xs)) ≡ true
-    go true there rest = refl
-    go false there rest = rest there
+any-first test j k xs low here =
+    ap (list_any test) (sym (take-append-drop j (take k xs)))
+    ∙ list_any-append test (take j (take k xs)) (drop j (take k xs))
+    ∙ or_left (list_any test (take j (take k xs))) (list_any test (drop j (take k xs))) (ap (list_any test) (take-take j k xs low) ∙ here)
 
 -- whoever a log of papers cut at an end gives a place is among the first
 placed-first : (m : Market) (j k : ℕ) (log : List Rejection) (i : ℕ) → WellFormed m → j ≤ k → is_some (next_choice (cut m j) log i) ≡ true → is_among_first m k i ≡ true

@@ -9,7 +9,7 @@ use Rattle.indexmap.proofs.IndexTableLemmas.Indexes.{swap_self}
 use Rattle.indexmap.proofs.ReorderLemmas.{exchange-twice}
 use Rattle.sc_repair.specs.Turns.{AreTurns, TurnsOfEntry, entered, exchanged, first_turns, left, swapped, unless_at}
 use Rattle.sc_repair.proofs.InTurn.{Alone, Avoids, Each, exchanged-other, other-there, seam-there, set-there, swapped-there, take-there}
-use Rattle.sc_repair.proofs.Renewing.{get-append-low, get-take}
+use Rattle.sc_repair.proofs.Renewing.{get-append-low, get-take, get-ext}
 
 -- each position has its turn, and nobody stands past the last one
 pub turn-alone : (t : TurnsOfEntry) (p turn : ℕ) → AreTurns t → slice_get t.turns p ≡ Some turn → Alone t.positions p turn
@@ -115,13 +115,6 @@ AreTurns-left t are turn p = (there, back)
         ∙ ap (option_map (option_and_then (unless_at (length t.turns - 1)))) ((are turn p).1 old)
         ∙ ap Some (unless-other (length t.turns - 1) p (λ same. absurd (omega (arith, low, same))))
 
--- equal at each place
-same-items : {X : Type 0} (xs ys : List X) → ((i : ℕ) → slice_get xs i ≡ slice_get ys i) → xs ≡ ys
-same-items [] [] same = refl
-same-items [] (y ∷ ys) same = absurd (none-some y (same 0))
-same-items (x ∷ xs) [] same = absurd (none-some x (sym (same 0)))
-same-items (x ∷ xs) (y ∷ ys) same = (λ t. same_Some x y (same 0) t ∷ same-items xs ys (λ i. same (suc i)) t)
-
 same-or : (i j : ℕ) → (i ≡ j) ⊎ (i ≡ j → ⊥)
 same-or i j = elim (cases_Bool (i == j)) [
   | inl same ↦ inl (eqb-true i j same)
@@ -137,7 +130,7 @@ exchanged-second a b = grind (arith, nat_tests)
 -- what the two writes of a change of places make
 pub swap-written : (places : List (Option ℕ)) (a b first second : ℕ) → Alone places a first → Alone places b second
     → slice_set (slice_set places first (Some b)) second (Some a) ≡ map (option_map (exchanged a b)) places
-swap-written places a b first second one two = same-items _ _ each
+swap-written places a b first second one two = get-ext _ _ each
   where
     -- what stands at a place that neither write meets
     kept : (i : ℕ) (found : Option (Option ℕ)) → slice_get places i ≡ found → (i ≡ first → ⊥) → (i ≡ second → ⊥) → found ≡ option_map (option_map (exchanged a b)) found
@@ -168,7 +161,7 @@ swap-written places a b first second one two = same-items _ _ each
 
 -- and the one of a withdrawal
 pub left-written : (places : List (Option ℕ)) (gone turn : ℕ) → Alone places gone turn → slice_set places turn None ≡ map (option_and_then (unless_at gone)) places
-left-written places gone turn one = same-items _ _ each
+left-written places gone turn one = get-ext _ _ each
   where
     kept : (i : ℕ) (found : Option (Option ℕ)) → slice_get places i ≡ found → (i ≡ turn → ⊥) → found ≡ option_map (option_and_then (unless_at gone)) found
     kept i None there apart = refl
@@ -210,7 +203,7 @@ left-made t turns turn are own is =
 -- where nobody stands, nobody goes
 pub left-nobody : (t : TurnsOfEntry) (turns : List ℕ) → AreTurns t → length t.turns ≡ 0 → turns ≡ take (length t.turns - 1) t.turns → record { positions = t.positions; turns = turns } ≡ left t
 left-nobody t turns are none is =
-    (λ u. let r : TurnsOfEntry = record { positions = same-items t.positions (map (option_and_then (unless_at (length t.turns - 1))) t.positions) each u; turns = is u } in r)
+    (λ u. let r : TurnsOfEntry = record { positions = get-ext t.positions (map (option_and_then (unless_at (length t.turns - 1))) t.positions) each u; turns = is u } in r)
   where
     kept : (i : ℕ) (found : Option (Option ℕ)) → slice_get t.positions i ≡ found → found ≡ option_map (option_and_then (unless_at (length t.turns - 1))) found
     kept i None there = refl

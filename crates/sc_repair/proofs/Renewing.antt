@@ -19,7 +19,7 @@ use Rattle.sc_repair.proofs.InTurn.{drop-there}
 use Rattle.sc_repair.proofs.Positioned.{mark-low, within-from, within-rising, within-there}
 
 -- lists in which the same stands everywhere are the same
-get-ext : {X : Type 0} (xs ys : List X) → ((p : ℕ) → slice_get xs p ≡ slice_get ys p) → xs ≡ ys
+pub get-ext : {X : Type 0} (xs ys : List X) → ((p : ℕ) → slice_get xs p ≡ slice_get ys p) → xs ≡ ys
 get-ext [] [] same = refl
 get-ext [] (y ∷ ys) same = absurd (none-some y (same 0))
 get-ext (x ∷ xs) [] same = absurd (none-some x (sym (same 0)))

@@ -29,6 +29,7 @@ use Rattle.sc_stamps.specs.declared.record.Record.{Record}
 use Rattle.sc_stamps.specs.declared.record.Record.TheVariants.{OfStudent, OfSchool}
 use Rattle.sc_repair.specs.Turns.{AreInTurn, AreTurns, TurnsOfEntry, unless_at, in_turn, left, papers_in_turn, stamped_in_turn, stamps_in_turn}
 use Rattle.sc_repair.proofs.EntryTurns.{turn-alone, turn-of, turns-each}
+use Rattle.sc_papers.proofs.Entering.{is_some-false}
 use Rattle.sc_repair.proofs.InTurn.{Alone, Each, earlier, earlier-same, in_turn-left, in_turn-length, in_turn-permutes, in_turn-set, last-apart, remove-seam, turn-there}
 
 -- in order of turn no stamp is greater than the number of accepted amendments
@@ -51,18 +52,10 @@ entry-at {X = X} i p es here = go (lookup (nat_eq i) es) refl
     go (Some v) is = (v, is, ap (slice_get es) (sym (Found-position (nat_eq i) es p here).or_len) ∙ entry-there i v es is)
 
 pub nobody-at : {X : Type 0} (i : ℕ) (es : List (ℕ × X)) → lookup (nat_eq i) es ≡ None → position (nat_eq i) (keys_of es) ≡ None
-nobody-at i es none = go (position (nat_eq i) (keys_of es)) refl
-  where
-    go : (found : Option ℕ) → position (nat_eq i) (keys_of es) ≡ found → found ≡ None
-    go None is = refl
-    go (Some p) is = absurd (false≢true (sym (ap is_some none) ∙ sym (some_index (nat_eq i) es) ∙ ap is_some is))
+nobody-at i es none = is_some-false (position (nat_eq i) (keys_of es)) (some_index (nat_eq i) es ∙ ap is_some none)
 
 pub unknown-at : {X : Type 0} (i : ℕ) (es : List (ℕ × X)) → position (nat_eq i) (keys_of es) ≡ None → lookup (nat_eq i) es ≡ None
-unknown-at {X = X} i es nobody = go (lookup (nat_eq i) es) refl
-  where
-    go : (found : Option X) → lookup (nat_eq i) es ≡ found → found ≡ None
-    go None is = refl
-    go (Some v) is = absurd (false≢true (sym (ap is_some nobody) ∙ some_index (nat_eq i) es ∙ ap is_some is))
+unknown-at i es nobody = is_some-false (lookup (nat_eq i) es) (sym (some_index (nat_eq i) es) ∙ ap is_some nobody)
 
 -- where numbers differ, an entry's position is that of its number
 pub position-at : {X : Type 0} (i k : ℕ) (v : X) (es : List (ℕ × X)) → IsDistinct nat_eq (keys_of es) → slice_get es k ≡ Some (i, v) → position (nat_eq i) (keys_of es) ≡ Some k
