@@ -29,12 +29,7 @@ pub fn proposals_are_at_most_the_choices()
 
 /// A round that fits papers fits them with more students at the end, who have not entered: its students
 /// are the same and stand at the same choices, and it goes on from the same logs.
-#[tactic(auto, using(
-    crate::proofs::Growing::fits_grown,
-    crate::proofs::Growing::entered_grown,
-    crate::proofs::Growing::next_grown,
-    crate::proofs::Growing::continues_grown
-))]
+#[tactic(auto, using(crate::proofs::Growing::fits_grown, crate::proofs::Growing::entered_grown, crate::proofs::Growing::next_grown, crate::proofs::Growing::continues_grown))]
 pub fn round_fits_papers_that_grew()
     ensures fits { (m : Market) (k : ℕ) (r : RoundView) → WellFormed m → WithinLimits m → Fits (cut m k) r → Fits m r }
     ensures entered { (m : Market) (k : ℕ) (r : RoundView) → WellFormed m → Fits (cut m k) r → (i : ℕ)

@@ -99,7 +99,14 @@ pub(crate) fn papers_in_any_order(
     let listed = TextLines::of(alloc, lists.records.plain_text()?, room)?;
     let likely = likely_lists(alloc, roster.records.plain_text()?, &listed)?;
     let mut papers = open_with_room(alloc, seed, schools.as_slice(), listed.len()).ok()?;
-    if !enter_each(alloc, &mut papers, &mut roster, lists.width, &listed, likely.as_slice()) {
+    if !enter_each(
+        alloc,
+        &mut papers,
+        &mut roster,
+        lists.width,
+        &listed,
+        likely.as_slice(),
+    ) {
         return None;
     }
     Some(papers)

@@ -31,10 +31,7 @@ pub(super) fn renew_roll<R: Roll>(roll: &mut R, seats: Seats)
 }
 
 /// Makes the roll at a position one with these seats on which nobody is; where there is none yet, it comes last.
-#[tactic(auto, using(
-    crate::proofs::Renewing::roll_set_same,
-    crate::proofs::Renewing::roll_set_other
-))]
+#[tactic(auto, using(crate::proofs::Renewing::roll_set_same, crate::proofs::Renewing::roll_set_other))]
 fn put_empty_roll<R: Roll>(
     alloc: Global,
     rolls: &mut Vec<R>,
