@@ -1,5 +1,5 @@
 -- How many of the first students list each school.
-use Rattle.std.proofs.Common.{◌≡◌, refl, sym, ◌∙◌, ap, ℕ, ◌+◌, ◌<◌, ◌≤◌, ◌==◌, ◌||◌, nat_eq, false, cond, List, [], ◌∷◌, length, get_or, map, take, Option, Some, None, All, Contains, inl, inr, count_by, position, slice_get, arith}
+use Rattle.std.proofs.Common.{◌≡◌, refl, sym, ◌∙◌, ap, ℕ, ◌+◌, ◌<◌, ◌≤◌, ◌==◌, ◌||◌, nat_eq, false, cond, List, [], ◌∷◌, length, get_or, map, take, Option, Some, None, All, Contains, inl, inr, count_by, fold, position, slice_get, arith}
 use Rattle.std.specs.List.{IsDistinct, list_any}
 use Rattle.std.proofs.lemmas.Bool.{cases_Bool, cond-true, cond-false, eqb-true, eq-eqb, false≢true, ne_eqb, or_left}
 use Rattle.std.proofs.lemmas.List.{get_or-map, get_or_default, length-map}
@@ -8,6 +8,7 @@ use Rattle.std.proofs.lemmas.List.Folds.{list_any_none}
 use Rattle.std.proofs.lemmas.Map.Entries.{length-keys_of}
 use Rattle.std.proofs.lemmas.Map.Keys.{IsDistinct-head, IsDistinct-tail}
 use Rattle.std.proofs.lemmas.Option.{none-some, same_Some, slice_get-get_or}
+use Rattle.sc_papers.specs.Classed.{Classed}
 use Rattle.sc_papers.specs.Market.{Market, choices_of, schools_of, student_at, students_of}
 use Rattle.sc_papers.specs.Matching.{how_many}
 use Rattle.sc_papers.specs.WellFormed.{WellFormed}
@@ -89,6 +90,14 @@ listings-more m well k low old new positions are before same added = record {
       ∙ (λ t. before.counted s at found t + positions-count m s at found positions (choices_of m i) are (choices-differ m well i) t)
       ∙ sym (counted-more (lists m s) (students_of m) k i (hand-there m k low));
 }
+
+-- the choices at a position are as many as their positions that are it
+pub count-placed : (at : ℕ) (choices : List Classed) → count_by (λ c. nat_eq at c.position) choices ≡ count_by (nat_eq at) (map (λ c. c.position) choices)
+count-placed at choices = go choices 0
+  where
+    go : (cs : List Classed) (n : ℕ) → fold (λ a c. a + cond (nat_eq at c.position) 1 0) n cs ≡ fold (λ a p. a + cond (nat_eq at p) 1 0) n (map (λ c. c.position) cs)
+    go [] n = refl
+    go (c ∷ cs) n = go cs (n + cond (nat_eq at c.position) 1 0)
 
 -- no school is counted more often than there are students
 pub listings-few : (m : Market) → WellFormed m → (k : ℕ) → k < length m.students → (counts : List ℕ) → AreListings m (take k (students_of m)) counts

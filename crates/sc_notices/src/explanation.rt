@@ -196,7 +196,7 @@ fn push_explanations(
 fn room_for_explanations(papers: &FlatPapers) -> usize {
     let mut choices: usize = 0;
     for position in 0..papers.students_len() {
-        choices = choices.saturating_add(papers.choice_positions_at(position).len());
+        choices = choices.saturating_add(papers.classed_choices_at(position).len());
     }
     choices
         .saturating_mul(LONGEST_LINE)

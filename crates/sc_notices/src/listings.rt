@@ -4,19 +4,19 @@ ghost use Rattle.sc_papers.specs.Market.{students_of};
 ghost use Rattle.sc_notices.specs.Counting.{AreListings};
 ghost use Rattle.sc_notices.specs.Summary.{listed};
 
-use sc_papers::{FlatPapers, LONGEST_LIST, MOST_STUDENTS, SchoolNo};
+use sc_papers::{ClassedChoice, FlatPapers, LONGEST_LIST, MOST_STUDENTS, SchoolNo};
 use std::alloc::{AllocError, Global};
 
-/// Counts one more at each of the positions.
-fn count_positions(counts: &mut [u32], positions: &[u16])
-    requires within { All (λ at. at < length counts.old) positions.now }
-    requires short { length positions.now ≤ LONGEST_LIST }
+/// Counts one more at each of the choices' positions.
+fn count_choices(counts: &mut [u32], choices: &[ClassedChoice])
+    requires within { All (λ c. c.position < length counts.old) choices.now }
+    requires short { length choices.now ≤ LONGEST_LIST }
     requires few { (at : ℕ) → at < length counts.old → slice_index counts.old at ≤ MOST_STUDENTS }
     ensures { (at : ℕ) → at < length counts.old
-        → slice_index counts.new at ≡ slice_index counts.old at + count_by (nat_eq at) positions.now }
+        → slice_index counts.new at ≡ slice_index counts.old at + count_by (λ c. nat_eq at c.position) choices.now }
 {
-    for position in positions {
-        counts[usize::from(*position)] += 1;
+    for choice in choices {
+        counts[choice.position()] += 1;
     }
 }
 
@@ -36,7 +36,7 @@ pub(crate) fn listings(alloc: Global, papers: &FlatPapers) -> Result<Vec<u32>, A
 {
     let mut counts = no_listings(alloc, papers.schools_len())?;
     for position in 0..papers.students_len() {
-        count_positions(counts.as_mut_slice(), papers.choice_positions_at(position));
+        count_choices(counts.as_mut_slice(), papers.classed_choices_at(position));
     }
     Ok(counts)
 }

@@ -8,11 +8,12 @@ use Rattle.std.proofs.lemmas.Bool.{cases_Bool, cond-false, eqb-true, false≢tru
 use Rattle.std.proofs.lemmas.Cmp.{nat_eq_equiv}
 use Rattle.std.proofs.lemmas.List.Elements.{All-cons, All-head, All-nil, All-tail}
 use Rattle.std.proofs.lemmas.Map.{keys-set_value, lookup-remove_entry}
+use Rattle.std.proofs.lemmas.Option.{same_Some}
 use Rattle.std.proofs.lemmas.Map.Made.{is_some-lookup}
 use Rattle.indexmap.specs.IndexMap.{index_map_len, spare}
 use Rattle.sc_lottery.specs.Draw.{draw}
-use Rattle.sc_papers.specs.Market.{Market, is_student, student_of, students_of}
-use Rattle.sc_papers.specs.Representation.{IsSound, AreKept, AreOfStudents, market_of}
+use Rattle.sc_papers.specs.Market.{Market, is_student, student_of, students_of, zone_at}
+use Rattle.sc_papers.specs.Representation.{IsSound, AreKept, AreOfStudents, market_of, rows_of}
 use Rattle.sc_papers.specs.StudentRow.{positions_in, row_of}
 use Rattle.sc_papers.specs.Verdict.{changed_student, without_student}
 use Rattle.sc_papers.specs.WellFormed.{IsProper, IsShort, WellFormed}
@@ -132,7 +133,7 @@ module _ (old new : Inside) (i place : ℕ) (sound : IsSound old)
           numbers = left ∙ ap (λ ks. remove ks place) sound.numbers ∙ remove-found (λ e. e.0) (nat_eq i) m.students place at;
           rows =
               rows ∙ ap (λ rs. remove rs place) sound.rows
-              ∙ remove-found (λ e. row_of old.positions e.0 (draw old.lottery e.0) e.1) (nat_eq i) m.students place at
+              ∙ remove-found (λ e. row_of (zone_at m) old.positions e.0 (draw old.lottery e.0) e.1) (nat_eq i) m.students place at
               ∙ rw positions refl;
           siblings = rw positions (kept-removed old.positions i old.siblings.entries new.siblings.entries others m.students sound.well_formed.students_differ sound.siblings);
           of_students = λ q known. withdrawn-known m i q sound.well_formed old.siblings.entries new.siblings.entries others gone sound.of_students known;
@@ -160,7 +161,7 @@ put-known m i at student found = go (student_of m i) refl
 module _ (old new : Inside) (i place : ℕ) (student : Student) (sound : IsSound old) (proper : IsProper (market_of old) student) (short : IsShort student)
     (seed : new.lottery ≡ old.lottery) (schools : new.schools ≡ old.schools) (positions : new.positions ≡ old.positions) (numbers : new.numbers ≡ old.numbers)
     (found : Some place ≡ position (nat_eq i) (students_of (market_of old)))
-    (rows : new.rows.items ≡ slice_set old.rows.items place (row_of old.positions i (draw old.lottery i) student))
+    (rows : new.rows.items ≡ slice_set old.rows.items place (row_of (zone_at (market_of old)) old.positions i (draw old.lottery i) student))
     (others : KeepsOthers i old.siblings.entries new.siblings.entries)
     (own : nat_lt 1 (length student.siblings) ≡ true → lookup (nat_eq i) new.siblings.entries ≡ Some (positions_in old.positions student.siblings))
     (room : length new.rows.items ≤ index_map_len new.siblings + spare new.siblings)
@@ -174,8 +175,8 @@ module _ (old new : Inside) (i place : ℕ) (student : Student) (sound : IsSound
           positions = rw positions sound.positions;
           numbers = rw numbers (sound.numbers ∙ sym (keys-set_value (nat_eq i) m.students student));
           rows =
-              rows ∙ ap (λ rs. slice_set rs place (row_of old.positions i (draw old.lottery i) student)) sound.rows
-              ∙ set-found (λ k w. row_of old.positions k (draw old.lottery k) w) i m.students student place found
+              rows ∙ ap (λ rs. slice_set rs place (row_of (zone_at m) old.positions i (draw old.lottery i) student)) sound.rows
+              ∙ set-found (λ k w. row_of (zone_at m) old.positions k (draw old.lottery k) w) i m.students student place found
               ∙ rw positions refl;
           siblings = rw positions (kept-set old.positions i old.siblings.entries new.siblings.entries others student own m.students sound.well_formed.students_differ sound.siblings);
           of_students = λ q known. put-known_student m i place student q found old.siblings.entries new.siblings.entries others sound.of_students known;
@@ -190,8 +191,28 @@ module _ (old new : Inside) (i place : ℕ) (student : Student) (sound : IsSound
         IsSound-shown new (put_student (market_of old) i student) Shows-put_student
         (WellFormed-put_student (market_of old) i student sound.well_formed proper) (WithinLimits-put_student (market_of old) i student sound.within_limits short)
 
+-- a school keeps its zone, and all others theirs
+pub zone-put : (s k : ℕ) (before after : School) (es : List (ℕ × School)) → lookup (nat_eq s) es ≡ Some before → after.zone ≡ before.zone
+    → option_map_or (λ (x : School). x.zone) (lookup (nat_eq k) (set_value (nat_eq s) es after)) 0 ≡ option_map_or (λ (x : School). x.zone) (lookup (nat_eq k) es) 0
+zone-put s k before after [] known same = cc
+zone-put s k before after (e ∷ es) known same =
+    elim (cases_Bool (nat_eq s e.0)) [
+      | inl here ↦
+          let is : Some e.1 ≡ Some before = rw here at known in
+          elim (cases_Bool (nat_eq k e.0)) [
+            | inl own ↦ rw (here, own) (same ∙ sym (ap (λ (x : School). x.zone) (same_Some e.1 before is)))
+            | inr apart ↦ rw (here, apart) refl
+          ]
+      | inr other ↦
+          elim (cases_Bool (nat_eq k e.0)) [
+            | inl own ↦ rw (other, own) refl
+            | inr apart ↦ rw (other, apart) (zone-put s k before after es (rw other at known) same)
+          ]
+    ]
+
 -- what the papers hold of a school changes
 module _ (old new : Inside) (s : ℕ) (school : School) (sound : IsSound old) (seats : school.seats ≤ GREATEST)
+    (zone : (k : ℕ) → zone_at (put_school (market_of old) s school) k ≡ zone_at (market_of old) k)
     (seed : new.lottery ≡ old.lottery) (positions : new.positions ≡ old.positions) (put : new.schools.entries ≡ set_value (nat_eq s) old.schools.entries school)
     (numbers : new.numbers ≡ old.numbers) (rows : new.rows ≡ old.rows) (siblings : new.siblings ≡ old.siblings)
   where
@@ -201,7 +222,7 @@ module _ (old new : Inside) (s : ℕ) (school : School) (sound : IsSound old) (s
       schools = put;
       positions = rw (positions, keys-set_value (nat_eq s) old.schools.entries school) sound.positions;
       numbers = rw numbers sound.numbers;
-      rows = rw (rows, positions) sound.rows;
+      rows = rw (rows, positions) (sound.rows ∙ (λ t. rows_of old.lottery (λ k. sym (zone k) t) old.positions (market_of old).students));
       siblings = rw (siblings, positions) sound.siblings;
       of_students = rw siblings sound.of_students;
       room = rw (rows, siblings) sound.room;

@@ -10,15 +10,18 @@ use Rattle.std.proofs.lemmas.List.{length-map}
 use Rattle.std.proofs.lemmas.List.Elements.{All-head, All-nil, All-tail}
 use Rattle.std.proofs.lemmas.Map.Entries.{lookup_from_place}
 use Rattle.std.proofs.lemmas.Option.{get_or_from_slice_get, none-some, same_Some, slice_get-map, slice_get_read}
-use Rattle.sc_papers.specs.Market.{Market, choices_of, is_school, schools_of, siblings_of, student_at, student_of}
+use Rattle.sc_papers.specs.Classed.{Classed}
+use Rattle.sc_papers.specs.Key.{class_at}
+use Rattle.sc_papers.specs.Market.{Market, choices_of, is_school, schools_of, siblings_of, student_at, student_of, zone_at}
 use Rattle.sc_papers.specs.Representation.{AreKept, rows_of}
-use Rattle.sc_papers.specs.StudentRow.{Row, positions_in}
+use Rattle.sc_papers.specs.StudentRow.{IsRowAt, Row, class_in, classed_in, positions_in}
 use Rattle.sc_papers.specs.WellFormed.{WellFormed, IsProper}
 use Rattle.sc_papers.specs.declared.records.Student.{Student}
 use Rattle.sc_papers.proofs.Changing.{All-found}
 use Rattle.sc_papers.proofs.Hands.{hand-there}
-use Rattle.sc_papers.proofs.Keys.{found-by_position, row-there}
+use Rattle.sc_papers.proofs.Keys.{found-by_position, row-told, theirs, whose}
 use Rattle.sc_papers.proofs.Positions.{position-one, position-there}
+use Rattle.sc_papers.proofs.Representation.{positions-classed}
 
 -- a school's position in the order of entry
 abbrev place : Market → ℕ → Option ℕ
@@ -41,24 +44,33 @@ known-places m table tabled [] known = refl
 known-places m table tabled (s ∷ schools) known =
     λ t. known-place m table tabled s (All-head (λ x. is_school m x ≡ true) s schools known) t ∷ known-places m table tabled schools (All-tail (λ x. is_school m x ≡ true) s schools known) t
 
--- the row that stands at a student's position has the positions of the student's choices
-pub choices-there : (m : Market) (table : List (Option ℕ)) (rows : List Row) (at : ℕ) (row : Row)
-    → WellFormed m → ((s : ℕ) → slice_index_or table s None ≡ place m s) → rows ≡ rows_of m.seed table m.students → at < length m.students → row ≡ get_or rows at row
-    → map Some row.choices ≡ map (place m) (choices_of m (student_at m at))
+-- the classes of a student's choices are the student's
+classes-classed : (m : Market) (table : List (Option ℕ)) (i : ℕ) (student : Student) → student_of m i ≡ Some student → (schools : List ℕ)
+    → map (λ c. c.class) (classed_in (zone_at m) table (record student { choices = schools })) ≡ map (class_at m i) schools
+classes-classed m table i student theirs [] = refl
+classes-classed m table i student theirs (s ∷ schools) =
+    let own : class_in student s (zone_at m s) ≡ class_at m i s = rw theirs refl in
+    λ t. own t ∷ classes-classed m table i student theirs schools t
+
+-- the row that stands at a student's position tells of the student
+pub row-is : (m : Market) (table : List (Option ℕ)) (rows : List Row) (at : ℕ) (row : Row)
+    → WellFormed m → ((s : ℕ) → slice_index_or table s None ≡ place m s) → rows ≡ rows_of m.seed (zone_at m) table m.students → slice_get rows at ≡ Some row
+    → IsRowAt m at row
 unfolding choices_of
-choices-there m table rows at row well tabled are low is =
-    go (slice_get m.students at) refl (sym (slice_get-map (λ e. e.0) m.students at) ∙ hand-there m at low)
-  where
-    go : (o : Option (ℕ × Student)) → slice_get m.students at ≡ o → option_map (λ e. e.0) o ≡ Some (student_at m at)
-        → map Some row.choices ≡ map (place m) (choices_of m (student_at m at))
-    go None here same = cc
-    go (Some (i, student)) here same =
-        let known : lookup (nat_eq i) m.students ≡ Some student = lookup_from_place nat_eq_equiv m.students at i student well.students_differ here in
-        let theirs : student_of m (student_at m at) ≡ Some student = ap (student_of m) (sym (same_Some i (student_at m at) same)) ∙ known in
-        let proper : IsProper m student = All-found (IsProper m) i m.students student (sym known) well.students_proper in
-        ap (λ (r : Row). map Some r.choices) (row-there m.seed table m.students rows at i student row are here is)
-        ∙ known-places m table tabled student.choices proper.choices_known
-        ∙ ap (λ o. map (place m) (option_map_or (λ (found : Student). found.choices) o [])) (sym theirs)
+row-is m table rows at row well tabled are here =
+    let e = (whose m table rows at row well are here).0 in
+    let student = e.1 in
+    let is = (whose m table rows at row well are here).2 in
+    let known = theirs m table rows at row well are here in
+    let proper : IsProper m student = All-found (IsProper m) (student_at m at) m.students student (sym known) well.students_proper in
+    row-told m table rows at row well are here
+    (ap (λ (r : Row). map Some (map (λ c. c.position) r.choices)) is
+    ∙ ap (map Some) (positions-classed (zone_at m) table student student.choices)
+    ∙ known-places m table tabled student.choices proper.choices_known
+    ∙ ap (λ o. map (place m) (option_map_or (λ (found : Student). found.choices) o [])) (sym known))
+    (ap (λ (r : Row). map (λ c. c.class) r.choices) is
+    ∙ classes-classed m table (student_at m at) student known student.choices
+    ∙ ap (λ o. map (class_at m (student_at m at)) (option_map_or (λ (found : Student). found.choices) o [])) (sym known))
 
 -- what is kept of a student who has more than one sibling
 pub kept-there : (m : Market) (table : List (Option ℕ)) (kept : List (ℕ × List ℕ)) (at : ℕ) → WellFormed m → AreKept table kept m.students → at < length m.students
@@ -112,9 +124,22 @@ choice-place m choices places rank at s are here there =
         let found : place m t ≡ Some at = sym (same_Some (Some at) (place m t) same) in
         ap (place m) (same_Some s t (sym there ∙ position-there (schools_of m) t at found)) ∙ found
 
--- what a read of the positions gives
-pub place-read : (places : List ℕ) (rank x at : ℕ) → true ≡ nat_lt rank (length places) → x ≡ get_or places rank x → at ≡ x → slice_get places rank ≡ Some at
-place-read places rank x at within is same = slice_get_read places (length places) rank x refl (ltb-true rank (length places) (sym within)) is ∙ ap Some (sym same)
+-- what a read of the choices gives
+pub choice-read : (choices : List Classed) (rank : ℕ) (choice : Classed) → true ≡ nat_lt rank (length choices) → choice ≡ get_or choices rank choice → slice_get choices rank ≡ Some choice
+choice-read choices rank choice within is = slice_get_read choices (length choices) rank choice refl (ltb-true rank (length choices) (sym within)) is
+
+pub place-read : (choices : List Classed) (rank at : ℕ) (choice : Classed) → true ≡ nat_lt rank (length choices) → choice ≡ get_or choices rank choice → at ≡ choice.position
+    → slice_get (map (λ c. c.position) choices) rank ≡ Some at
+place-read choices rank at choice within is same =
+    slice_get-map (λ c. c.position) choices rank ∙ ap (option_map (λ c. c.position)) (choice-read choices rank choice within is) ∙ ap Some (sym same)
+
+-- and the class is the student's at the school
+pub class-there : (m : Market) (i : ℕ) (listed : List ℕ) (choices : List Classed) (rank s : ℕ) (choice : Classed) → map (λ c. c.class) choices ≡ map (class_at m i) listed
+    → slice_get choices rank ≡ Some choice → slice_get listed rank ≡ Some s → choice.class ≡ class_at m i s
+class-there m i listed choices rank s choice are here there =
+    same_Some choice.class (class_at m i s)
+    (sym (slice_get-map (λ c. c.class) choices rank ∙ ap (option_map (λ c. c.class)) here)
+    ∙ ap (λ xs. slice_get xs rank) are ∙ slice_get-map (class_at m i) listed rank ∙ ap (option_map (class_at m i)) there)
 
 -- a school stands at each of the positions
 pub school-at_place : (m : Market) (choices places : List ℕ) (rank at : ℕ) → map Some places ≡ map (place m) choices
@@ -151,6 +176,16 @@ choice-rank m choices places s at are found =
     let first = first-same m choices places s at are found in
     let long : length places ≡ length choices = sym (length-map places Some) ∙ ap length are ∙ length-map choices (place m) in
     λ t. cond (nat_lt (first t) (long t)) (Some (first t)) None
+
+-- the first of the choices at a place
+first-placed : (choices : List Classed) (at : ℕ) → position_or_len (λ c. c.position == at) choices ≡ position_or_len (λ p. p == at) (map (λ c. c.position) choices)
+first-placed [] at = refl
+first-placed (c ∷ choices) at = ap (λ n. cond (not (c.position == at)) (1 + n) 0) (first-placed choices at)
+
+pub rank-placed : (choices : List Classed) (at : ℕ) → position (λ c. c.position == at) choices ≡ position (λ p. p == at) (map (λ c. c.position) choices)
+rank-placed choices at =
+    let long : length choices ≡ length (map (λ c. c.position) choices) = sym (length-map choices (λ c. c.position)) in
+    λ t. cond (nat_lt (first-placed choices at t) (long t)) (Some (first-placed choices at t)) None
 
 -- so a school is among the choices exactly where its place is among theirs
 pub any-there : (m : Market) (choices places : List ℕ) (s at : ℕ) → map Some places ≡ map (place m) choices → place m s ≡ Some at

@@ -1,13 +1,14 @@
 -- A student who may enter, and where the schools of their choices stand.
-use Rattle.std.proofs.Common.{◌≡◌, ℕ, ◌≤◌, nat_eq, List, [], ◌∷◌, length, map, position, Option, Some, None, Result, Ok, Err, refl, ap, subst, sym, ◌∙◌, arith}
+use Rattle.std.proofs.Common.{◌≡◌, ℕ, ◌≤◌, nat_eq, List, [], ◌∷◌, length, map, position, true, All, Option, Some, None, Result, Ok, Err, refl, ap, subst, sym, ◌∙◌, arith}
 use Rattle.std.specs.Result.{IfErr, IsErrAnd, OnOk}
 use Rattle.std.specs.Option.{option_map}
 use Rattle.std.specs.Prelude.{nat_le, slice_index_or, unwrap_or}
 use Rattle.std.proofs.lemmas.List.{length-map}
-use Rattle.sc_papers.specs.Market.{Market, is_student, schools_of}
-use Rattle.sc_papers.specs.Entry.{objections_to_enter_at, MayEnterAt}
+use Rattle.sc_papers.specs.Market.{Market, is_school, is_student, schools_of, zone_at}
+use Rattle.sc_papers.specs.Entry.{objections_to_enter_at, with_choices_at, MayEnterAt}
 use Rattle.sc_papers.specs.Placed.{schools_at, AreOfSchools}
-use Rattle.sc_papers.specs.StudentRow.{positions_in}
+use Rattle.sc_papers.specs.Classed.{Classed}
+use Rattle.sc_papers.specs.StudentRow.{Row, class_in, classed_at, classed_in, positions_in, row_at, row_of}
 use Rattle.sc_papers.specs.Verdict.{first_of, first_repeat, no_choices, objections_to_enter, refuse_if, too_long, twice_in, unknown_in, unknown_school, unless_refused}
 use Rattle.sc_papers.specs.WellFormed.{WellFormed}
 use Rattle.sc_papers.specs.declared.limits.TheConstants.{LONGEST_LIST, MOST_STUDENTS}
@@ -83,21 +84,29 @@ MayEnterAt-filled m table tabled i student positions allowed filled =
       back,
     )
 
--- positions of schools are those that the table gives them
-places-tabled : (m : Market) (table : List (Option ℕ)) → IsTable m table → (schools positions : List ℕ)
-    → map Some positions ≡ map (λ s. position (nat_eq s) (schools_of m)) schools → positions ≡ positions_in table schools
-places-tabled m table tabled [] [] are = refl
-places-tabled m table tabled [] (p ∷ positions) are = cc
-places-tabled m table tabled (s ∷ schools) [] are = cc
-places-tabled m table tabled (s ∷ schools) (p ∷ positions) are =
-    let here : Some p ≡ position (nat_eq s) (schools_of m) = cc in
-    let rest : map Some positions ≡ map (λ s. position (nat_eq s) (schools_of m)) schools = cc in
-    λ t. ap (λ o. unwrap_or o 0) (here ∙ sym (tabled s)) t ∷ places-tabled m table tabled schools positions rest t
+-- the choices of the schools at some positions are those that the table gives
+pub choices-tabled : (m : Market) → WellFormed m → (table : List (Option ℕ)) → IsTable m table → (student : Student) (positions : List ℕ)
+    → AreOfSchools m positions → map (classed_at m student) positions ≡ classed_in (zone_at m) table (with_choices_at m positions student)
+choices-tabled m well table tabled student positions within = go positions (placed-there m well positions within)
+  where
+    go : (ps : List ℕ) → map Some ps ≡ map (λ s. position (nat_eq s) (schools_of m)) (schools_at (schools_of m) ps)
+        → map (classed_at m student) ps ≡ classed_in (zone_at m) table (with_choices_at m ps student)
+    go [] are = refl
+    go (p ∷ ps) are =
+        let s = slice_index_or (schools_of m) p 0 in
+        let here : Some p ≡ position (nat_eq s) (schools_of m) = cc in
+        let rest : map Some ps ≡ map (λ x. position (nat_eq x) (schools_of m)) (schools_at (schools_of m) ps) = cc in
+        let own : p ≡ unwrap_or (slice_index_or table s None) 0 = ap (λ o. unwrap_or o 0) (here ∙ sym (tabled s)) in
+        λ t. record { position = own t; class = class_in student s (zone_at m s) } ∷ go ps rest t
 
-pub row-tabled : (m : Market) → WellFormed m → (table : List (Option ℕ)) → IsTable m table → (positions : List ℕ)
-    → AreOfSchools m positions → positions ≡ positions_in table (schools_at (schools_of m) positions)
-row-tabled m well table tabled positions within =
-    places-tabled m table tabled (schools_at (schools_of m) positions) positions (placed-there m well positions within)
+-- and so the row is that of a student whose choices' schools stand where the table says
+pub row-tabled : (m : Market) → WellFormed m → (table : List (Option ℕ)) → IsTable m table → (i d : ℕ) (student : Student) (positions : List ℕ) (row : Row)
+    → All (λ s. is_school m s ≡ true) student.choices → positions ≡ positions_in table student.choices
+    → row ≡ row_at (map (classed_at m student) positions) i d student → row ≡ row_of (zone_at m) table i d student
+row-tabled m well table tabled i d student positions row known filled is =
+    let are = ap (map Some) filled ∙ known-places m table tabled student.choices known in
+    is ∙ ap (λ (cs : List Classed). row_at cs i d student) (choices-tabled m well table tabled student positions (places-low m student.choices positions are))
+    ∙ ap (λ (list : List ℕ). row_of (zone_at m) table i d (record student { choices = list })) (places-back m student.choices positions are)
 
 -- the error of a test that fails is the refusal
 refused-same : (o : Option Refusal) (r : Refusal) → Err r ≡ unless_refused o → Some r ≡ o

@@ -10,15 +10,16 @@ use Rattle.std.specs.Map.{lookup}
 use Rattle.indexmap.specs.IndexMap.{index_map_len, spare}
 use Rattle.sc_lottery.specs.Draw.{draw}
 use Rattle.sc_papers.specs.Entry.{with_choices_at}
-use Rattle.sc_papers.specs.Market.{Market, is_student, students_of}
+use Rattle.sc_papers.specs.Market.{Market, is_student, students_of, zone_at}
 use Rattle.sc_papers.specs.Placed.{AreOfSchools}
 use Rattle.sc_papers.specs.Representation.{IsSound, AreOfStudents, market_of}
-use Rattle.sc_papers.specs.StudentRow.{Row, positions_in, row_at, row_of}
+use Rattle.sc_papers.specs.Classed.{Classed}
+use Rattle.sc_papers.specs.StudentRow.{Row, classed_at, positions_in, row_at, row_of}
 use Rattle.sc_papers.specs.Verdict.{with_student}
 use Rattle.sc_papers.specs.declared.flat_papers.FlatPapers.TheInside.{Inside}
 use Rattle.sc_papers.specs.declared.records.Student.{Student}
 use Rattle.sc_papers.proofs.Entering.{MayEnter, WellFormed-with_student, WithinLimits-with_student, keys_of-push}
-use Rattle.sc_papers.proofs.EnteringAt.{row-tabled}
+use Rattle.sc_papers.proofs.EnteringAt.{choices-tabled}
 use Rattle.sc_papers.proofs.Representation.{IsSound-shown, KeepsOthers, Shows, kept-others, market_of-shown}
 
 -- what stands for one student more
@@ -28,11 +29,11 @@ map-push f (x ∷ es) e = ap (λ rest. f x ∷ rest) (map-push f es e)
 
 -- the row that is made of a student who may enter
 pub row-made : (old : Inside) (i : ℕ) (student : Student) (positions : List ℕ) → IsSound old → AreOfSchools (market_of old) positions
-    → (d : ℕ) (row : Row) → d ≡ draw old.lottery i → row ≡ row_at positions i d student
-    → row ≡ row_of old.positions i (draw old.lottery i) (with_choices_at (market_of old) positions student)
+    → (d : ℕ) (row : Row) → d ≡ draw old.lottery i → row ≡ row_at (map (classed_at (market_of old) student) positions) i d student
+    → row ≡ row_of (zone_at (market_of old)) old.positions i (draw old.lottery i) (with_choices_at (market_of old) positions student)
 row-made old i student positions sound within d row drawn is =
-    is ∙ ap (λ (ps : List ℕ). row_at ps i d student) (row-tabled (market_of old) sound.well_formed old.positions sound.positions positions within)
-    ∙ ap (λ (x : ℕ). row_of old.positions i x (with_choices_at (market_of old) positions student)) drawn
+    is ∙ ap (λ (cs : List Classed). row_at cs i d student) (choices-tabled (market_of old) sound.well_formed old.positions sound.positions student positions within)
+    ∙ ap (λ (x : ℕ). row_of (zone_at (market_of old)) old.positions i x (with_choices_at (market_of old) positions student)) drawn
 
 -- who is not in the papers is none of the students
 others-differ : (i : ℕ) (es : List (ℕ × Student)) → lookup (nat_eq i) es ≡ None → All (λ e. nat_eq i e.0 ≡ false) es
@@ -64,7 +65,7 @@ entered-known m i student q known =
 module _ (old new : Inside) (i : ℕ) (student : Student) (sound : IsSound old) (may : MayEnter (market_of old) i student)
     (seed : new.lottery ≡ old.lottery) (schools : new.schools ≡ old.schools) (positions : new.positions ≡ old.positions)
     (pushed : new.numbers ≡ old.numbers ++ i ∷ [])
-    (row : new.rows.items ≡ old.rows.items ++ row_of old.positions i (draw old.lottery i) student ∷ [])
+    (row : new.rows.items ≡ old.rows.items ++ row_of (zone_at (market_of old)) old.positions i (draw old.lottery i) student ∷ [])
     (others : KeepsOthers i old.siblings.entries new.siblings.entries)
     (own : nat_lt 1 (length student.siblings) ≡ true → lookup (nat_eq i) new.siblings.entries ≡ Some (positions_in old.positions student.siblings))
     (room : length new.rows.items ≤ index_map_len new.siblings + spare new.siblings)
@@ -78,8 +79,8 @@ module _ (old new : Inside) (i : ℕ) (student : Student) (sound : IsSound old) 
           positions = rw positions sound.positions;
           numbers = pushed ∙ ap (λ ks. ks ++ i ∷ []) sound.numbers ∙ sym (keys_of-push m.students (i, student));
           rows =
-              row ∙ ap (λ rows. rows ++ row_of old.positions i (draw old.lottery i) student ∷ []) sound.rows
-              ∙ rw (positions, map-push (λ e. row_of old.positions e.0 (draw old.lottery e.0) e.1) m.students (i, student)) refl;
+              row ∙ ap (λ rows. rows ++ row_of (zone_at m) old.positions i (draw old.lottery i) student ∷ []) sound.rows
+              ∙ rw (positions, map-push (λ e. row_of (zone_at m) old.positions e.0 (draw old.lottery e.0) e.1) m.students (i, student)) refl;
           siblings = rw positions
               (All-push (λ (e : ℕ × Student). nat_lt 1 (length e.1.siblings) ≡ true → lookup (nat_eq e.0) new.siblings.entries ≡ Some (positions_in old.positions e.1.siblings)) m.students (i, student)
               (kept-others old.positions i old.siblings.entries new.siblings.entries others m.students (others-differ i m.students may.new) sound.siblings) own);

@@ -18,7 +18,7 @@ use Rattle.indexmap.proofs.ReorderLemmas.{map-swap}
 use Rattle.indexmap.proofs.SetLemmas.{map-move}
 use Rattle.sc_lottery.specs.Draw.{draw}
 use Rattle.sc_papers.specs.EntryOrder.{with_moved_student, with_swapped_students}
-use Rattle.sc_papers.specs.Market.{Market, is_student, student_of, students_of}
+use Rattle.sc_papers.specs.Market.{Market, is_student, student_of, students_of, zone_at}
 use Rattle.sc_papers.specs.Reordering.{IsReordering}
 use Rattle.sc_papers.specs.Restriction.{cut, AreApart}
 use Rattle.sc_papers.specs.Representation.{IsSound, market_of}
@@ -112,7 +112,7 @@ module _ (old new : Inside) (from to : ℕ) (sound : IsSound old)
           numbers = numbers ∙ ap (λ ks. move_index ks from to) sound.numbers ∙ sym (map-move (λ (e : ℕ × Student). e.0) m.students from to);
           rows =
               rows ∙ ap (λ rs. move_index rs from to) sound.rows
-              ∙ sym (map-move (λ (e : ℕ × Student). row_of old.positions e.0 (draw old.lottery e.0) e.1) m.students from to)
+              ∙ sym (map-move (λ (e : ℕ × Student). row_of (zone_at (market_of old)) old.positions e.0 (draw old.lottery e.0) e.1) m.students from to)
               ∙ rw positions refl;
           siblings = rw (positions, siblings) (All-permutation (Keeps old) m.students (move_index m.students from to) (moved-items m.students from to) sound.siblings);
           of_students = rw siblings (λ q known. moved-known m (move_index m.students from to) q (moved-items m.students from to) sound.well_formed (sound.of_students q known));
@@ -148,7 +148,7 @@ module _ (old new : Inside) (a b : ℕ) (low : a < length (market_of old).studen
           numbers = numbers ∙ ap (λ ks. swap ks a b) sound.numbers ∙ sym (map-swap (λ (e : ℕ × Student). e.0) m.students a b);
           rows =
               rows ∙ ap (λ rs. swap rs a b) sound.rows
-              ∙ sym (map-swap (λ (e : ℕ × Student). row_of old.positions e.0 (draw old.lottery e.0) e.1) m.students a b)
+              ∙ sym (map-swap (λ (e : ℕ × Student). row_of (zone_at (market_of old)) old.positions e.0 (draw old.lottery e.0) e.1) m.students a b)
               ∙ rw positions refl;
           siblings = rw (positions, siblings) (All-permutation (Keeps old) m.students (swap m.students a b) moved sound.siblings);
           of_students = rw siblings (λ q known. moved-known m (swap m.students a b) q moved sound.well_formed (sound.of_students q known));

@@ -1,12 +1,12 @@
 -- What look-ups in the papers' tables give.
-use Rattle.std.proofs.Common.{◌≡◌, ℕ, ◌<◌, nat_eq, Bool, List, [], ◌∷◌, get_or, length, inl, inr, Option, Some, None, refl, sym, ap, arith, ◌∙◌, cond, false, true, is_some, position}
+use Rattle.std.proofs.Common.{◌≡◌, ℕ, ◌<◌, nat_eq, Bool, List, [], ◌∷◌, get_or, length, map, inl, inr, Option, Some, None, refl, sym, ap, arith, ◌∙◌, cond, false, true, is_some, position}
 use Rattle.std.specs.Prelude.{◌==◌, ◌&&◌, ◌||◌, nat_lt}
 use Rattle.std.specs.List.{slice_get, list_any}
 use Rattle.sc_lottery.specs.Draw.{draw}
-use Rattle.sc_papers.specs.Key.{class_by, has_sibling_at, same_zone, key_of, key_at}
-use Rattle.sc_papers.specs.Market.{Market, student_at, student_of, students_of, school_of, schools_of, seats_of, is_student, is_school}
+use Rattle.sc_papers.specs.Key.{class_at, class_by, has_sibling_at, same_zone, key_of, key_at}
+use Rattle.sc_papers.specs.Market.{Market, choices_of, zone_at, student_at, student_of, students_of, school_of, schools_of, seats_of, is_student, is_school}
 use Rattle.sc_papers.specs.Representation.{rows_of}
-use Rattle.sc_papers.specs.StudentRow.{IsRowAt, Row, row_of}
+use Rattle.sc_papers.specs.StudentRow.{IsRowAt, Row, classed_at, row_of}
 use Rattle.sc_papers.specs.WellFormed.{WellFormed}
 use Rattle.sc_papers.specs.declared.records.School.{School}
 use Rattle.sc_papers.specs.declared.records.Student.{Student}
@@ -26,25 +26,25 @@ pub key-there : {X : Type 0} (es : List (ℕ × X)) (place k : ℕ) (x : X) → 
 key-there es place k x entry = slice_get-map (λ e. e.0) es place ∙ ap (option_map (λ e. e.0)) entry
 
 -- the row that stands at the place of an entry is its student's row
-pub row-there : (seed : List ℕ) (table : List (Option ℕ)) (es : List (ℕ × Student)) (rows : List Row) (place k : ℕ) (student : Student) (row : Row)
-    → rows ≡ rows_of seed table es → slice_get es place ≡ Some (k, student) → row ≡ get_or rows place row → row ≡ row_of table k (draw seed k) student
-row-there seed table es rows place k student row are entry at =
-    let own = row_of table k (draw seed k) student in
-    let here : slice_get (rows_of seed table es) place ≡ Some own =
-    slice_get-map (λ e. row_of table e.0 (draw seed e.0) e.1) es place ∙ ap (option_map (λ e. row_of table e.0 (draw seed e.0) e.1)) entry in
-    let there : get_or (rows_of seed table es) place row ≡ own = get_or_from_slice_get (rows_of seed table es) place own row here in
+pub row-there : (seed : List ℕ) (zones : ℕ → ℕ) (table : List (Option ℕ)) (es : List (ℕ × Student)) (rows : List Row) (place k : ℕ) (student : Student) (row : Row)
+    → rows ≡ rows_of seed zones table es → slice_get es place ≡ Some (k, student) → row ≡ get_or rows place row → row ≡ row_of zones table k (draw seed k) student
+row-there seed zones table es rows place k student row are entry at =
+    let own = row_of zones table k (draw seed k) student in
+    let here : slice_get (rows_of seed zones table es) place ≡ Some own =
+    slice_get-map (λ e. row_of zones table e.0 (draw seed e.0) e.1) es place ∙ ap (option_map (λ e. row_of zones table e.0 (draw seed e.0) e.1)) entry in
+    let there : get_or (rows_of seed zones table es) place row ≡ own = get_or_from_slice_get (rows_of seed zones table es) place own row here in
     at ∙ rw are there
 
 -- and its draw is the draw of the number whose place it is
-pub draw-there : (seed : List ℕ) (table : List (Option ℕ)) (es : List (ℕ × Student)) (rows : List Row) (place i : ℕ) (row : Row)
-    → rows ≡ rows_of seed table es → Some place ≡ position (nat_eq i) (keys_of es) → row ≡ get_or rows place row → row.draw ≡ draw seed i
-draw-there seed table es rows place i row are found at =
+pub draw-there : (seed : List ℕ) (zones : ℕ → ℕ) (table : List (Option ℕ)) (es : List (ℕ × Student)) (rows : List Row) (place i : ℕ) (row : Row)
+    → rows ≡ rows_of seed zones table es → Some place ≡ position (nat_eq i) (keys_of es) → row ≡ get_or rows place row → row.draw ≡ draw seed i
+draw-there seed zones table es rows place i row are found at =
     go (slice_get es place) refl (sym (slice_get-map (λ e. e.0) es place) ∙ position-there (keys_of es) i place (sym found))
   where
     go : (o : Option (ℕ × Student)) → slice_get es place ≡ o → option_map (λ e. e.0) o ≡ Some i → row.draw ≡ draw seed i
     go None here same = cc
     go (Some (k, student)) here same =
-        ap (λ (r : Row). r.draw) (row-there seed table es rows place k student row are here at) ∙ ap (draw seed) (same_Some k i same)
+        ap (λ (r : Row). r.draw) (row-there seed zones table es rows place k student row are here at) ∙ ap (draw seed) (same_Some k i same)
 
 -- what the papers hold of the student at a place
 pub record-there : (m : Market) (place i : ℕ) (student : Student) → slice_get m.students place ≡ Some (i, student) → student_of m i ≡ Some student
@@ -68,6 +68,13 @@ unfolding key_of
 key-of_places m place at i s class d student school entry entry' known known' class_is draw_is =
     rw (key-there m.students place i student entry, key-there m.schools at s school entry', known, known', class_is, draw_is) refl
 
+-- the choice that is put together from what stands at a school's place
+pub classed-made : (m : Market) (student : Student) (at s class : ℕ) (school : School) → slice_get m.schools at ≡ Some (s, school) → school_of m s ≡ Some school
+    → class ≡ class_by (option_eq nat_eq student.continuing (Some s)) (list_any (λ t. t == s) student.siblings) (same_zone student.zone school.zone)
+    → record { position = at; class = class } ≡ classed_at m student at
+classed-made m student at s class school entry known class_is =
+    rw (get_or_from_slice_get (schools_of m) at s 0 (key-there m.schools at s school entry), known, class_is) refl
+
 -- where a list of schools has one that is another, all is said by the first school where there is no other
 pub some-sibling : (s : ℕ) (siblings : List ℕ) → (option_eq nat_eq (slice_get siblings 0) (Some s) || (nat_lt 1 (length siblings) && list_any (λ t. t == s) siblings)) ≡ list_any (λ t. t == s) siblings
 some-sibling s [] = refl
@@ -81,36 +88,36 @@ pub row-read : (rows : List Row) (place : ℕ) (row : Row) → true ≡ nat_lt p
 row-read rows place row within is = slice_get_read rows (length rows) place row refl (ltb-true place (length rows) (sym within)) is
 
 -- the numbers of the rows are the students', in their order
-pub number-there : (m : Market) (table : List (Option ℕ)) (rows : List Row) (place : ℕ) → rows ≡ rows_of m.seed table m.students
+pub number-there : (m : Market) (table : List (Option ℕ)) (rows : List Row) (place : ℕ) → rows ≡ rows_of m.seed (zone_at m) table m.students
     → option_map (λ (r : Row). r.number) (slice_get rows place) ≡ slice_get (students_of m) place
 number-there m table rows place are =
     ap (λ rs. option_map (λ (r : Row). r.number) (slice_get rs place)) are
-    ∙ ap (option_map (λ (r : Row). r.number)) (slice_get-map (λ e. row_of table e.0 (draw m.seed e.0) e.1) m.students place)
+    ∙ ap (option_map (λ (r : Row). r.number)) (slice_get-map (λ e. row_of (zone_at m) table e.0 (draw m.seed e.0) e.1) m.students place)
     ∙ go (slice_get m.students place)
     ∙ sym (slice_get-map (λ e. e.0) m.students place)
   where
-    go : (o : Option (ℕ × Student)) → option_map (λ (r : Row). r.number) (option_map (λ e. row_of table e.0 (draw m.seed e.0) e.1) o) ≡ option_map (λ e. e.0) o
+    go : (o : Option (ℕ × Student)) → option_map (λ (r : Row). r.number) (option_map (λ e. row_of (zone_at m) table e.0 (draw m.seed e.0) e.1) o) ≡ option_map (λ e. e.0) o
     go None = refl
     go (Some e) = refl
 
 -- the row of a student of the papers is read at the student's position
-pub row-indexed : (m : Market) (table : List (Option ℕ)) (rows : List Row) (place : ℕ) (row : Row) → rows ≡ rows_of m.seed table m.students
+pub row-indexed : (m : Market) (table : List (Option ℕ)) (rows : List Row) (place : ℕ) (row : Row) → rows ≡ rows_of m.seed (zone_at m) table m.students
     → place < length m.students → row ≡ get_or rows place row → slice_get rows place ≡ Some row
 row-indexed m table rows place row are low is =
-    slice_get-get_or rows place row (omega (arith, low, ap length are, length-map m.students (λ e. row_of table e.0 (draw m.seed e.0) e.1))) ∙ ap Some (sym is)
+    slice_get-get_or rows place row (omega (arith, low, ap length are, length-map m.students (λ e. row_of (zone_at m) table e.0 (draw m.seed e.0) e.1))) ∙ ap Some (sym is)
 
 -- a row at a place, and the student whose row it is
-module _ (m : Market) (table : List (Option ℕ)) (rows : List Row) (place : ℕ) (row : Row) (well : WellFormed m) (are : rows ≡ rows_of m.seed table m.students) (here : slice_get rows place ≡ Some row) where
-  whose : (e : ℕ × Student) × (slice_get m.students place ≡ Some e) × (row ≡ row_of table e.0 (draw m.seed e.0) e.1)
+module _ (m : Market) (table : List (Option ℕ)) (rows : List Row) (place : ℕ) (row : Row) (well : WellFormed m) (are : rows ≡ rows_of m.seed (zone_at m) table m.students) (here : slice_get rows place ≡ Some row) where
+  pub whose : (e : ℕ × Student) × (slice_get m.students place ≡ Some e) × (row ≡ row_of (zone_at m) table e.0 (draw m.seed e.0) e.1)
   whose =
-      go (slice_get m.students place) refl (sym (slice_get-map (λ e. row_of table e.0 (draw m.seed e.0) e.1) m.students place) ∙ ap (λ rs. slice_get rs place) (sym are) ∙ here)
+      go (slice_get m.students place) refl (sym (slice_get-map (λ e. row_of (zone_at m) table e.0 (draw m.seed e.0) e.1) m.students place) ∙ ap (λ rs. slice_get rs place) (sym are) ∙ here)
     where
-      go : (o : Option (ℕ × Student)) → slice_get m.students place ≡ o → option_map (λ e. row_of table e.0 (draw m.seed e.0) e.1) o ≡ Some row
-          → (e : ℕ × Student) × (slice_get m.students place ≡ Some e) × (row ≡ row_of table e.0 (draw m.seed e.0) e.1)
+      go : (o : Option (ℕ × Student)) → slice_get m.students place ≡ o → option_map (λ e. row_of (zone_at m) table e.0 (draw m.seed e.0) e.1) o ≡ Some row
+          → (e : ℕ × Student) × (slice_get m.students place ≡ Some e) × (row ≡ row_of (zone_at m) table e.0 (draw m.seed e.0) e.1)
       go None there same = cc
-      go (Some e) there same = (e, there, sym (same_Some (row_of table e.0 (draw m.seed e.0) e.1) row same))
+      go (Some e) there same = (e, there, sym (same_Some (row_of (zone_at m) table e.0 (draw m.seed e.0) e.1) row same))
 
-  theirs : student_of m (student_at m place) ≡ Some whose.0.1
+  pub theirs : student_of m (student_at m place) ≡ Some whose.0.1
   theirs =
       ap (student_of m) (get_or_from_slice_get (students_of m) place whose.0.0 0 (key-there m.students place whose.0.0 whose.0.1 whose.1))
       ∙ lookup_from_place nat_eq_equiv m.students place whose.0.0 whose.0.1 well.students_differ whose.1
@@ -119,10 +126,13 @@ module _ (m : Market) (table : List (Option ℕ)) (rows : List Row) (place : ℕ
   pub row-number : row.number ≡ student_at m place
   row-number = ap (λ (r : Row). r.number) whose.2 ∙ sym (get_or_from_slice_get (students_of m) place whose.0.0 0 (key-there m.students place whose.0.0 whose.0.1 whose.1))
 
-  -- and what else is asked of it beside draw and choices
-  pub row-told : IsRowAt m place row
-  row-told = record {
+  -- and what else is asked of it beside the choices
+  pub row-told : (positions : map Some (map (λ c. c.position) row.choices) ≡ map (λ s. position (nat_eq s) (schools_of m)) (choices_of m (student_at m place)))
+      (classes : map (λ c. c.class) row.choices ≡ map (class_at m (student_at m place)) (choices_of m (student_at m place))) → IsRowAt m place row
+  row-told positions classes = record {
     within = slice_get_within m.students place whose.0 whose.1;
+    number = row-number;
+    draw = ap (λ (r : Row). r.draw) whose.2 ∙ ap (draw m.seed) (sym (get_or_from_slice_get (students_of m) place whose.0.0 0 (key-there m.students place whose.0.0 whose.0.1 whose.1)));
     zone = ap (λ (r : Row). r.zone) whose.2 ∙ ap (λ o. option_map_or (λ (student : Student). student.zone) o 0) (sym theirs);
     continuing = ap (λ (r : Row). r.continuing) whose.2 ∙ ap (λ o. option_and_then (λ (student : Student). student.continuing) o) (sym theirs);
     sibling =
@@ -131,6 +141,8 @@ module _ (m : Market) (table : List (Option ℕ)) (rows : List Row) (place : ℕ
     more_siblings =
         ap (λ (r : Row). r.more_siblings) whose.2
         ∙ ap (λ o. nat_lt 1 (length (option_map_or (λ (student : Student). student.siblings) o []))) (sym theirs);
+    positions = positions;
+    classes = classes;
   }
 
   -- and a key is put together from it

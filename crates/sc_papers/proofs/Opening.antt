@@ -12,7 +12,7 @@ use Rattle.std.proofs.lemmas.Map.Keys.{IsDistinct-push}
 use Rattle.sc_lottery.specs.Draw.{draw}
 use Rattle.sc_papers.specs.Representation.{IsSound, AreKept, market_of}
 use Rattle.sc_papers.specs.StudentRow.{row_of}
-use Rattle.sc_papers.specs.Market.{Market, is_school, schools_of}
+use Rattle.sc_papers.specs.Market.{Market, is_school, schools_of, zone_at}
 use Rattle.sc_papers.specs.Verdict.{refuse_if, school_verdict, with_school}
 use Rattle.sc_papers.specs.WellFormed.{WellFormed, WithinLimits}
 use Rattle.sc_papers.specs.declared.flat_papers.FlatPapers.TheInside.{Inside}
@@ -94,7 +94,8 @@ module _ (old new : Inside) (s : ℕ) (school : School) (sound : IsSound old) (m
           numbers = rw numbers sound.numbers;
           rows =
               ap (λ rs. rs.items) rows ∙ sound.rows
-              ∙ none-listed (λ e. row_of old.positions e.0 (draw old.lottery e.0) e.1) (λ e. row_of new.positions e.0 (draw old.lottery e.0) e.1) m.students may.early;
+              ∙ none-listed (λ e. row_of (zone_at m) old.positions e.0 (draw old.lottery e.0) e.1)
+              (λ e. row_of (zone_at (with_school m s school)) new.positions e.0 (draw old.lottery e.0) e.1) m.students may.early;
           siblings = rw siblings (nothing-kept old.siblings.entries new.positions m.students may.early);
           of_students = rw siblings sound.of_students;
           room = rw (rows, siblings) sound.room;

@@ -1,12 +1,13 @@
 -- The records that stand beside flat papers, and what is made of these.
-use Rattle.std.proofs.Common.{◌≡◌, refl, ap, sym, ◌∙◌, ℕ, ◌+◌, ◌<◌, nat_eq, List, [], ◌∷◌, ◌++◌, length, get_or, map, take, Option, Some, None, false, is_some, position, slice_get, arith}
+use Rattle.std.proofs.Common.{◌≡◌, refl, ap, subst, sym, ◌∙◌, All, ℕ, ◌+◌, ◌<◌, nat_eq, List, [], ◌∷◌, ◌++◌, length, get_or, map, take, Option, Some, None, false, is_some, position, slice_get, arith}
 use Rattle.std.specs.Prelude.{slice_set}
 use Rattle.std.specs.Option.{option_and_then, option_map, option_map_or}
 use Rattle.std.proofs.lemmas.Bool.{false≢true}
 use Rattle.std.proofs.lemmas.Cmp.{nat_eq_equiv}
-use Rattle.std.proofs.lemmas.List.{length-map, map-append, take_more}
+use Rattle.std.proofs.lemmas.List.{get_or-map, length-map, map-append, take_more, take-map}
 use Rattle.std.proofs.lemmas.Map.Entries.{lookup_from_place}
 use Rattle.std.proofs.lemmas.Option.{get_or_from_slice_get, none-some, slice_get-get_or, slice_get-map}
+use Rattle.sc_papers.specs.Classed.{Classed}
 use Rattle.sc_papers.specs.Market.{Market, choices_of, continuing_of, siblings_of, student_at, student_of, students_of, zone_of}
 use Rattle.sc_papers.specs.Records.{AreRecords}
 use Rattle.sc_papers.specs.Placed.{schools_at}
@@ -102,6 +103,20 @@ schools-more schools places k p s d made low is there before =
     ∙ ap (λ x. schools_at schools (take k places) ++ x ∷ []) (sym (get_or_from_slice_get schools p s 0 (sym there)))
     ∙ sym (map-append (λ q. get_or schools q 0) (take k places) (p ∷ []))
     ∙ ap (schools_at schools) (ap (λ (q : ℕ). take k places ++ q ∷ []) is ∙ sym (take_more places k d low))
+
+pub schools-chosen_more : (schools : List ℕ) (choices : List Classed) (k p s : ℕ) (d : Classed) (made : List ℕ) → k < length choices → p ≡ (get_or choices k d).position
+    → Some s ≡ slice_get schools p → made ≡ schools_at schools (map (λ c. c.position) (take k choices))
+    → made ++ s ∷ [] ≡ schools_at schools (map (λ c. c.position) (take (k + 1) choices))
+schools-chosen_more schools choices k p s d made low is there before =
+    let places = map (λ c. c.position) choices in
+    schools-more schools places k p s d.position made (omega (arith, low, length-map choices (λ c. c.position)))
+    (is ∙ sym (get_or-map (λ c. c.position) choices k d d.position low)) there (before ∙ ap (schools_at schools) (sym (take-map (λ c. c.position) k choices)))
+    ∙ ap (schools_at schools) (take-map (λ c. c.position) (k + 1) choices)
+
+-- choices whose places are those of schools are within them
+pub chosen-low : (n : ℕ) (choices : List Classed) → All (λ p. p < n) (map (λ c. c.position) choices) → All (λ (c : Classed). c.position < n) choices
+chosen-low n choices low = λ k d within.
+    subst (λ p. p < n) (get_or-map (λ c. c.position) choices k d d.position within) (low k d.position (omega (arith, within, length-map choices (λ c. c.position))))
 
 -- the record that is made of what the papers tell of a student is what they hold
 pub made-record : (m : Market) (at zone : ℕ) (continuing : Option ℕ) (siblings choices : List ℕ) → at < length m.students

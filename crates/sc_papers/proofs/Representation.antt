@@ -14,10 +14,10 @@ use Rattle.std.proofs.lemmas.List.Elements.{All-head, All-tail}
 use Rattle.std.proofs.lemmas.Option.{get_or_from_slice_get}
 use Rattle.indexmap.specs.IndexMap.{index_map_len, spare}
 use Rattle.sc_lottery.specs.Draw.{draw}
-use Rattle.sc_papers.specs.Market.{Market, is_school, schools_of, students_of}
+use Rattle.sc_papers.specs.Market.{Market, is_school, schools_of, students_of, zone_at}
 use Rattle.sc_papers.specs.Placed.{schools_at}
 use Rattle.sc_papers.specs.Representation.{IsSound, AreKept, AreOfStudents, entry_in, market_of, rows_of}
-use Rattle.sc_papers.specs.StudentRow.{positions_in, row_of}
+use Rattle.sc_papers.specs.StudentRow.{classed_in, positions_in, row_of}
 use Rattle.sc_papers.specs.WellFormed.{IsProper, WellFormed, WithinLimits}
 use Rattle.sc_papers.specs.declared.flat_papers.FlatPapers.TheInside.{Inside}
 use Rattle.sc_papers.specs.declared.records.Student.{Student}
@@ -30,10 +30,16 @@ pub record Shows (p : Inside) (m : Market) : Type 0 where
   pub schools : p.schools.entries ≡ m.schools
   pub positions : (s : ℕ) → slice_index_or p.positions s None ≡ position (nat_eq s) (schools_of m)
   pub numbers : p.numbers ≡ students_of m
-  pub rows : p.rows.items ≡ rows_of m.seed p.positions m.students
+  pub rows : p.rows.items ≡ rows_of m.seed (zone_at m) p.positions m.students
   pub siblings : AreKept p.positions p.siblings.entries m.students
   pub of_students : AreOfStudents m p.siblings.entries
   pub room : length p.rows.items ≤ index_map_len p.siblings + spare p.siblings
+
+-- the positions of classed choices are those that the table gives
+pub positions-classed : (zones : ℕ → ℕ) (table : List (Option ℕ)) (student : Student) (schools : List ℕ)
+    → map (λ c. c.position) (classed_in zones table (record student { choices = schools })) ≡ positions_in table schools
+positions-classed zones table student [] = refl
+positions-classed zones table student (s ∷ schools) = λ t. unwrap_or (slice_index_or table s None) 0 ∷ positions-classed zones table student schools t
 
 -- a list of one at most is its first
 pub first-only : (xs : List ℕ) → nat_lt 1 (length xs) ≡ false → option_to_list (slice_get xs 0) ≡ xs
@@ -62,9 +68,9 @@ module _ (m : Market) (table : List (Option ℕ)) (kept : List (ℕ × List ℕ)
   -- so the row leads back to the student
   entry-back : (i : ℕ) (student : Student) → IsProper m student
       → (nat_lt 1 (length student.siblings) ≡ true → lookup (nat_eq i) kept ≡ Some (positions_in table student.siblings))
-      → entry_in (schools_of m) kept (row_of table i (draw m.seed i) student) ≡ (i, student)
+      → entry_in (schools_of m) kept (row_of (zone_at m) table i (draw m.seed i) student) ≡ (i, student)
   entry-back i student proper keeps =
-      let choices = schools-back student.choices proper.choices_known in
+      let choices = ap (schools_at (schools_of m)) (positions-classed (zone_at m) table student student.choices) ∙ schools-back student.choices proper.choices_known in
       elim (cases_Bool (nat_lt 1 (length student.siblings))) [
         | inl more ↦
             let own = ap (λ o. schools_at (schools_of m) (unwrap_or o [])) (keeps more) ∙ schools-back student.siblings proper.siblings_known in
@@ -75,7 +81,7 @@ module _ (m : Market) (table : List (Option ℕ)) (kept : List (ℕ × List ℕ)
       ]
 
   -- and the rows to the students
-  pub entries-back : (es : List (ℕ × Student)) → All (λ e. IsProper m e.1) es → AreKept table kept es → map (entry_in (schools_of m) kept) (rows_of m.seed table es) ≡ es
+  pub entries-back : (es : List (ℕ × Student)) → All (λ e. IsProper m e.1) es → AreKept table kept es → map (entry_in (schools_of m) kept) (rows_of m.seed (zone_at m) table es) ≡ es
   entries-back [] proper keeps = refl
   entries-back ((i, student) ∷ es) proper keeps =
       let own : IsProper m student = All-head (λ (e : ℕ × Student). IsProper m e.1) (i, student) es proper in
@@ -101,7 +107,7 @@ IsSound-shown p m shows well within =
       within_limits = rw is within;
       positions = λ s. shows.positions s ∙ sym (ap (λ (n : Market). position (nat_eq s) (schools_of n)) is);
       numbers = shows.numbers ∙ sym (ap students_of is);
-      rows = shows.rows ∙ sym (λ t. rows_of (shows.seed t) p.positions (is t).students);
+      rows = shows.rows ∙ sym (λ t. rows_of (shows.seed t) (zone_at (is t)) p.positions (is t).students);
       siblings = subst (λ (n : Market). AreKept p.positions p.siblings.entries n.students) (sym is) shows.siblings;
       of_students = subst (λ (n : Market). AreOfStudents n p.siblings.entries) (sym is) shows.of_students;
       room = shows.room;

@@ -7,6 +7,7 @@ pub mod Verdict
 pub mod TakingBack
 pub mod Marks
 pub mod WellFormed
+pub mod Classed
 pub mod StudentRow
 pub mod Entry
 pub mod Representation

@@ -3,7 +3,7 @@ use Rattle.std.specs.Prelude.{◌≡◌, ◌≤◌, ◌+◌, ℕ, nat_eq, nat_lt
 use Rattle.std.specs.Map.{keys_of, lookup}
 use Rattle.indexmap.specs.IndexMap.{index_map_len, spare}
 use Rattle.sc_lottery.specs.Draw.{draw}
-use Rattle.sc_papers.specs.Market.{Market, is_student, schools_of, students_of}
+use Rattle.sc_papers.specs.Market.{Market, is_student, schools_of, students_of, zone_at}
 use Rattle.sc_papers.specs.Placed.{schools_at}
 use Rattle.sc_papers.specs.StudentRow.{Row, positions_in, row_of}
 use Rattle.sc_papers.specs.declared.records.Student.{Student}
@@ -23,7 +23,7 @@ entry_in schools kept row = (
     zone = row.zone;
     continuing = row.continuing;
     siblings = siblings_told schools kept row;
-    choices = schools_at schools row.choices;
+    choices = schools_at schools (map (λ c. c.position) row.choices);
   },
 )
 
@@ -36,8 +36,8 @@ market_of p = record {
 }
 
 -- the rows of students with the draws under a seed
-abbrev pub rows_of : List ℕ → List (Option ℕ) → List (ℕ × Student) → List Row
-rows_of seed table entries = map (λ entry. row_of table entry.0 (draw seed entry.0) entry.1) entries
+abbrev pub rows_of : List ℕ → (ℕ → ℕ) → List (Option ℕ) → List (ℕ × Student) → List Row
+rows_of seed zones table entries = map (λ entry. row_of zones table entry.0 (draw seed entry.0) entry.1) entries
 
 -- where a student has more than one sibling, the positions of the siblings' schools are kept under the number
 abbrev pub AreKept : List (Option ℕ) → List (ℕ × List ℕ) → List (ℕ × Student) → Type 0
@@ -50,13 +50,13 @@ AreOfStudents m kept = (i : ℕ) → is_some (lookup (nat_eq i) kept) ≡ true �
 
 -- what is true of the fields: the papers are well-formed and within the limits, the table of positions
 -- says where each school stands in the order of entry, the numbers and the rows are the students', the rows with their
--- draws, the siblings' schools are kept of students alone, and there is room to keep those of every student
+-- draws and the classes of their choices, the siblings' schools are kept of students alone, and there is room to keep those of every student
 pub record IsSound (p : Inside) : Type 0 where
   pub well_formed : WellFormed (market_of p)
   pub within_limits : WithinLimits (market_of p)
   pub positions : (s : ℕ) → slice_index_or p.positions s None ≡ position (nat_eq s) (schools_of (market_of p))
   pub numbers : p.numbers ≡ students_of (market_of p)
-  pub rows : p.rows.items ≡ rows_of p.lottery p.positions (market_of p).students
+  pub rows : p.rows.items ≡ rows_of p.lottery (zone_at (market_of p)) p.positions (market_of p).students
   pub siblings : AreKept p.positions p.siblings.entries (market_of p).students
   pub of_students : AreOfStudents (market_of p) p.siblings.entries
   pub room : length p.rows.items ≤ index_map_len p.siblings + spare p.siblings

@@ -10,6 +10,7 @@ mod number_table;
 pub(crate) mod numbers;
 pub(crate) mod order;
 
+use crate::classed_choice::ClassedChoice;
 use crate::flat_papers::numbers::{Finding, Numbers};
 use crate::position_list::PositionList;
 use crate::records::School;
@@ -91,6 +92,7 @@ impl FlatPapers {
     ghost use Rattle.std.specs.Prelude.{◌≡◌, ◌<◌, [], length, map, slice_get, position, nat_eq, Some, IfOk};
     ghost use Rattle.std.specs.Option.{option_map};
     ghost use Rattle.sc_lottery.specs.Draw.{draw};
+    ghost use Rattle.sc_papers.specs.Key.{class_at};
     ghost use Rattle.sc_papers.specs.Market.{choices_of, school_of, student_at, schools_of, students_of, seats_of};
     ghost use Rattle.sc_papers.specs.WellFormed.{WellFormed, WithinLimits};
 
@@ -232,14 +234,16 @@ impl FlatPapers {
         Some(row.draw())
     }
 
-    /// The positions of the choices' schools in their order of entry, best choice first, of the student at a
-    /// position of the order of entry, each from 0. In constant time, without a look-up by number.
-    pub fn choice_positions_at(&self, student: usize) -> &[u16]
+    /// The choices of the student at a position of the order of entry, from 0, best first: where each school stands in
+    /// the schools' order of entry, and the student's priority class there. In constant time, without a look-up by number.
+    pub fn classed_choices_at(&self, student: usize) -> &[ClassedChoice]
         requires { student < length self.now.students }
-        ensures { map Some result.now ≡ map (λ s. position (nat_eq s) (schools_of self.now))
-            (choices_of self.now (student_at self.now student)) }
+        ensures positions { map Some (map (λ c. c.position) result.now)
+            ≡ map (λ s. position (nat_eq s) (schools_of self.now)) (choices_of self.now (student_at self.now student)) }
+        ensures classes { map (λ c. c.class) result.now
+            ≡ map (class_at self.now (student_at self.now student)) (choices_of self.now (student_at self.now student)) }
     {
-        self.rows[student].choices()
+        self.row_at(student).choices()
     }
 
     /// A school's position in the order of entry. In constant time.

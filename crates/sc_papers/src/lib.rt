@@ -9,6 +9,7 @@ mod amendment;
 mod apply;
 mod assignment;
 mod check;
+mod classed_choice;
 mod count;
 mod flat_papers;
 mod hints;
@@ -39,6 +40,7 @@ mod zone;
 
 pub use amendment::{Amendment, Refusal, Stamped};
 pub use assignment::Assignment;
+pub use classed_choice::ClassedChoice;
 pub use count::Count;
 pub use flat_papers::FlatPapers;
 pub use hints::Hints;

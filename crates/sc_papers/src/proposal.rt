@@ -28,17 +28,20 @@ impl FlatPapers {
         ensures position { IfSome result (λ p. position (nat_eq p.school) (schools_of self.now) ≡ Some p.position) }
         ensures key { IfSome result (λ p. p.key ≡ key_of self.now (student_at self.now student) p.school) }
     {
-        let position = usize::from(*self.choice_positions_at(student).get(rank)?);
+        let row = self.row_at(student);
+        let choice = row.choices().get(rank)?;
+        let position = choice.position();
         let Some(school) = self.school_at(position) else {
-            unreachable!()
-        };
-        let Some(key) = self.key_at(student, position) else {
             unreachable!()
         };
         Some(Proposal {
             school,
             position,
-            key,
+            key: Key {
+                class: choice.class(),
+                student: row.number(),
+                draw: row.draw(),
+            },
         })
     }
 }

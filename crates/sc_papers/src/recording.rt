@@ -1,11 +1,12 @@
 //! Records made of what flat papers tell of students, and changed.
 
-ghost use Rattle.std.specs.Prelude.{◌≡◌, ◌<◌, All, Some, length, IfOk};
+ghost use Rattle.std.specs.Prelude.{◌≡◌, ◌<◌, All, Some, length, map, IfOk};
 ghost use Rattle.sc_papers.specs.Market.{schools_of, siblings_of, student_at, student_of};
 ghost use Rattle.sc_papers.specs.Records.{AreRecords};
 ghost use Rattle.sc_papers.specs.Placed.{schools_at};
 ghost use Rattle.sc_papers.specs.StudentRow.{IsRowAt};
 
+use crate::classed_choice::ClassedChoice;
 use crate::flat_papers::FlatPapers;
 use crate::limits::MOST_STUDENTS;
 use crate::records::Student;
@@ -24,6 +25,21 @@ fn schools_at(papers: &FlatPapers, positions: &[u16]) -> Result<SchoolList, Allo
     let mut schools = Vec::with_capacity(papers.allocator(), positions.len())?;
     for position in positions {
         let Some(school) = papers.school_at(usize::from(*position)) else {
+            unreachable!()
+        };
+        schools.push(school)?;
+    }
+    Ok(SchoolList::from_vec(schools))
+}
+
+/// The schools of some choices.
+fn schools_chosen(papers: &FlatPapers, choices: &[ClassedChoice]) -> Result<SchoolList, AllocError>
+    requires { All (λ c. c.position < length papers.now.schools) choices.now }
+    ensures { IfOk result (λ list. list ≡ schools_at (schools_of papers.now) (map (λ c. c.position) choices.now)) }
+{
+    let mut schools = Vec::with_capacity(papers.allocator(), choices.len())?;
+    for choice in choices {
+        let Some(school) = papers.school_at(choice.position()) else {
             unreachable!()
         };
         schools.push(school)?;
@@ -59,7 +75,7 @@ fn record_of(papers: &FlatPapers, position: usize, row: &StudentRow) -> Result<S
     // This call tells that the papers are well-formed, and so are their lists.
     prove!(papers.students_len() <= MOST_STUDENTS);
     let siblings = siblings_at(papers, position, row)?;
-    let choices = schools_at(papers, papers.choice_positions_at(position))?;
+    let choices = schools_chosen(papers, papers.classed_choices_at(position))?;
     Ok(Student {
         zone: row.zone(),
         continuing: row.continuing(),

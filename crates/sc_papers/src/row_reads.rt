@@ -3,16 +3,17 @@
 ghost use Rattle.std.specs.Prelude.{◌≡◌, ◌<◌, ◌==◌, length, position, nat_eq, slice_get};
 ghost use Rattle.sc_papers.specs.Market.{choices_of, students_of, student_at};
 
+use crate::classed_choice::ClassedChoice;
 use crate::flat_papers::FlatPapers;
 use crate::limits::MOST_STUDENTS;
 use crate::school_no::SchoolNo;
 use sc_lottery::StudentNumber;
 
-/// The first rank at which this position stands among the positions.
-fn rank_of(positions: &[u16], at: usize) -> Option<usize>
-    ensures { result ≡ position (λ p. p == at) positions.now }
+/// The first rank at which the school at this position stands among the choices.
+fn rank_of(choices: &[ClassedChoice], at: usize) -> Option<usize>
+    ensures { result ≡ position (λ c. c.position == at) choices.now }
 {
-    positions.iter().position(|other| usize::from(*other) == at)
+    choices.iter().position(|choice| choice.position() == at)
 }
 
 impl FlatPapers {
@@ -37,8 +38,8 @@ impl FlatPapers {
         requires { student < length self.now.students }
         ensures { result ≡ slice_get (choices_of self.now (student_at self.now student)) rank }
     {
-        let position = usize::from(*self.choice_positions_at(student).get(rank)?);
-        self.school_at(position)
+        let choice = self.classed_choices_at(student).get(rank)?;
+        self.school_at(choice.position())
     }
 
     /// The rank, from 0, of a school among the choices of the student at a position of the order of entry, from 0;
@@ -48,7 +49,7 @@ impl FlatPapers {
         requires { student < length self.now.students }
         ensures { result ≡ position (λ s. s == school) (choices_of self.now (student_at self.now student)) }
     {
-        let positions = self.choice_positions_at(student);
-        rank_of(positions, self.school_position(school)?)
+        let choices = self.classed_choices_at(student);
+        rank_of(choices, self.school_position(school)?)
     }
 }

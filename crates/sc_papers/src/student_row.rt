@@ -1,9 +1,9 @@
 ghost use Rattle.std.specs.Prelude.{◌≡◌, ◌≤◌, Some, length, nat_eq, take};
 ghost use Rattle.std.specs.Option.{option_eq};
-ghost use Rattle.sc_papers.specs.StudentRow.{positions_in, row_at, row_of, school_in};
+ghost use Rattle.sc_papers.specs.StudentRow.{positions_in, row_at, school_in};
 
+use crate::classed_choice::{ClassedChoice, ClassedList};
 use crate::limits::LONGEST_LIST;
-use crate::position_list::PositionList;
 use crate::records::Student;
 use crate::school_no::SchoolNo;
 use crate::school_positions::SchoolPositions;
@@ -26,19 +26,20 @@ pub(crate) struct StudentRow {
     more_siblings: bool,
     // How many choices there are.
     count: u8,
-    positions: [u16; 20],
+    choices: [ClassedChoice; LONGEST_LIST],
 }
 
 impl Model for StudentRow {
     ghost use Rattle.std.specs.Prelude.{◌≤◌};
     ghost use Rattle.sc_papers.specs.StudentRow.{Row, row_in};
+    ghost use Rattle.sc_papers.specs.declared.limits.TheConstants.{LONGEST_LIST};
     ghost use Rattle.sc_papers.specs.declared.school_no.TheConstants.SchoolNo.{GREATEST};
 
     ghost Value = { Row };
 
     ghost view = { row_in };
 
-    ghost invariant = { λ r. (r.count ≤ 20) × (r.continuing ≤ GREATEST) × (r.sibling ≤ GREATEST) };
+    ghost invariant = { λ r. (r.count ≤ LONGEST_LIST) × (r.continuing ≤ GREATEST) × (r.sibling ≤ GREATEST) };
 }
 
 /// The positions of the schools, and zeros after the last of them.
@@ -65,26 +66,11 @@ fn number_or_zero(school: Option<SchoolNo>) -> u32
 }
 
 impl StudentRow {
-    /// The row of a student with this number and this draw.
+    /// The row of a student with this number, this draw and these choices, whatever the student's own list is.
     pub(crate) fn new(
         number: StudentNumber,
         draw: u64,
-        table: &SchoolPositions,
-        student: &Student,
-    ) -> Self
-        requires { length student.now.choices ≤ LONGEST_LIST }
-        ensures { result ≡ row_of table.now number draw student.now }
-    {
-        let choices = PositionList::new(table, student.choices.as_slice());
-        Self::with_choices(number, draw, &choices, student)
-    }
-
-    /// The row of a student with this number and this draw, whose choices' schools stand at these positions, whatever the
-    /// student's own list is.
-    pub(crate) fn with_choices(
-        number: StudentNumber,
-        draw: u64,
-        choices: &PositionList,
+        choices: &ClassedList,
         student: &Student,
     ) -> Self
         ensures { result ≡ row_at choices.now number draw student.now }
@@ -97,7 +83,7 @@ impl StudentRow {
             zone: student.zone,
             more_siblings: student.siblings.as_slice().len() > 1,
             count: choices.count,
-            positions: choices.positions,
+            choices: choices.choices,
         }
     }
 
@@ -157,11 +143,11 @@ impl StudentRow {
         self.continuing == school.get()
     }
 
-    /// The positions of the choices' schools, best first.
-    pub(crate) fn choices(&self) -> &[u16]
+    /// The choices, best first.
+    pub(crate) fn choices(&self) -> &[ClassedChoice]
         ensures { result.now ≡ self.now.choices }
     {
-        &self.positions[..self.count as usize]
+        &self.choices[..self.count as usize]
     }
 }
 
@@ -177,7 +163,7 @@ impl Clone for StudentRow {
             zone: self.zone,
             more_siblings: self.more_siblings,
             count: self.count,
-            positions: self.positions,
+            choices: self.choices,
         })
     }
 }

@@ -92,7 +92,7 @@ pub(crate) fn first_position_at(papers: &FlatPapers, position: usize) -> usize
 {
     // This call tells that the papers are well-formed, so that there are choices.
     prove!(position < papers.students_len());
-    usize::from(papers.choice_positions_at(position)[0])
+    papers.classed_choices_at(position)[0].position()
 }
 
 /// Joins the choices of the student at a position, by their positions alone.
@@ -103,8 +103,8 @@ fn join_choices(papers: &FlatPapers, groups: &mut SchoolGroups, position: usize)
     ensures one_each { length groups.new ≡ length (schools_of papers.now) }
 {
     let first = first_position_at(papers, position);
-    for choice in papers.choice_positions_at(position) {
-        groups.join(first, usize::from(*choice));
+    for choice in papers.classed_choices_at(position) {
+        groups.join(first, choice.position());
     }
 }
 

@@ -1,19 +1,18 @@
 -- A student's rows, choice by choice.
-use Rattle.std.proofs.Common.{◌≡◌, refl, inl, inr, sym, ◌∙◌, ap, ℕ, suc, ◌+◌, ◌<◌, ◌≤◌, nat_eq, Bool, true, false, ◌==◌, not, List, [], ◌∷◌, ◌++◌, length, get_or, map, take, add-one, append_assoc, position, slice_get, Option, None, Some, arith}
+use Rattle.std.proofs.Common.{◌≡◌, refl, inl, inr, sym, ◌∙◌, ap, ℕ, suc, ◌+◌, ◌≤◌, nat_eq, Bool, true, false, ◌==◌, not, List, [], ◌∷◌, ◌++◌, length, take, add-one, append_assoc, position, slice_get, Option, None, Some, arith}
 use Rattle.std.specs.List.{before_first, position_or_len}
-use Rattle.std.specs.Option.{option_and_then, option_map, option_map_or}
+use Rattle.std.specs.Option.{option_map, option_map_or}
 use Rattle.std.proofs.lemmas.Bool.{cases_eq, cond-true, cond-false, eq-eqb, ne_eqb}
 use Rattle.std.proofs.Math.Seq.{take-suc}
 use Rattle.std.proofs.lemmas.List.{length-map, length-take-le, take_all}
 use Rattle.std.proofs.lemmas.List.Sums.{prefix_len-le-length}
-use Rattle.std.proofs.lemmas.Option.{get_or_from_slice_get, none-some, same_Some, slice_get-map, slice_get_past, slice_get_read, slice_get_within}
-use Rattle.sc_papers.specs.Key.{key_at, key_of}
-use Rattle.sc_papers.specs.Market.{Market, choices_of, schools_of, student_at, students_of}
+use Rattle.std.proofs.lemmas.Option.{get_or_from_slice_get, none-some, same_Some, slice_get-map, slice_get_past, slice_get_within}
+use Rattle.sc_papers.specs.Key.{key_of}
+use Rattle.sc_papers.specs.Market.{Market, choices_of, schools_of}
 use Rattle.sc_papers.specs.Matching.{Matching, has}
 use Rattle.sc_papers.specs.declared.key.Key.{Key}
 use Rattle.sc_papers.proofs.Choices.{places-end}
-use Rattle.sc_papers.proofs.Hands.{hand-is}
-use Rattle.sc_papers.proofs.Positions.{position-one, position-there}
+use Rattle.sc_papers.proofs.Positions.{position-one}
 use Rattle.sc_repair.proofs.InTurn.{slice_get_none}
 use Rattle.sc_repair.proofs.Positions.{first-here, first-later}
 use Rattle.sc_repair.proofs.Renewing.{get-take}
@@ -94,38 +93,6 @@ pub held-test : (m : Market) (a : Matching) (i s p : ℕ) (held at : Option ℕ)
 held-test m a i s p held at r b here at_is held_is r_is is =
     ap (λ o. option_map_or (λ t. t == s) o false) (sym held_is) ∙ sym (held-place m s p held here)
     ∙ ap (λ o. option_map_or (λ q. q == p) o false) (sym at_is) ∙ sym r_is ∙ is
-
--- the choice whose position stands at a rank, of the student who stands at a place
-pub choice-there : (m : Market) (positions : List ℕ) (at i k p : ℕ) → map Some positions ≡ map (λ s. position (nat_eq s) (schools_of m)) (choices_of m (student_at m at))
-    → slice_get (students_of m) at ≡ Some i → k < length positions → (read : ℕ) → read ≡ get_or positions k read → p ≡ read
-    → (s : ℕ) × (slice_get (choices_of m i) k ≡ Some s) × (position (nat_eq s) (schools_of m) ≡ Some p)
-choice-there m positions at i k p are stands low read is same =
-    let here : slice_get positions k ≡ Some p = slice_get_read positions (length positions) k read refl low is ∙ ap Some (sym same) in
-    go (slice_get (choices_of m i) k) refl
-    (sym (slice_get-map place (choices_of m i) k) ∙ ap (λ xs. slice_get xs k) (sym (are ∙ ap (λ j. map place (choices_of m j)) (hand-is m at i stands)))
-    ∙ slice_get-map (λ (q : ℕ). Some q) positions k ∙ ap (option_map (λ (q : ℕ). Some q)) here)
-  where
-    place : ℕ → Option ℕ
-    place s = position (nat_eq s) (schools_of m)
-
-    go : (o : Option ℕ) → slice_get (choices_of m i) k ≡ o → option_map place o ≡ Some (Some p)
-        → (s : ℕ) × (slice_get (choices_of m i) k ≡ Some s) × (place s ≡ Some p)
-    go None none ends = absurd (none-some (Some p) ends)
-    go (Some s) found is = (s, found, same_Some (place s) (Some p) is)
-
--- where no position stands at a rank, no choice does
-pub choice-past : (m : Market) (positions : List ℕ) (at i k : ℕ) → map Some positions ≡ map (λ s. position (nat_eq s) (schools_of m)) (choices_of m (student_at m at))
-    → slice_get (students_of m) at ≡ Some i → length positions ≤ k → slice_get (choices_of m i) k ≡ None
-choice-past m positions at i k are stands over =
-    let place : ℕ → Option ℕ = λ s. position (nat_eq s) (schools_of m) in
-    let same = are ∙ ap (λ j. map place (choices_of m j)) (hand-is m at i stands) in
-    slice_get_past (choices_of m i) k
-    (omega (arith, over, sym (length-map positions (λ (q : ℕ). Some q)) ∙ ap length same ∙ length-map (choices_of m i) place))
-
--- the key of the student who stands at a place, at the school that stands at one
-pub key-there : (m : Market) (at i p s : ℕ) → slice_get (students_of m) at ≡ Some i → position (nat_eq s) (schools_of m) ≡ Some p → key_at m at p ≡ Some (key_of m i s)
-key-there m at i p s stands found =
-    ap (option_and_then (λ j. option_map (key_of m j) (slice_get (schools_of m) p))) stands ∙ ap (option_map (key_of m i)) (position-there (schools_of m) s p found)
 
 -- a row of these parts
 abbrev row_with : ℕ → ℕ → Reason → ReasonRow

@@ -10,7 +10,7 @@ ghost use Rattle.sc_report.specs.Reason.{held_at, reason_by, reason_rows, reason
 
 use crate::cutoff::{Cutoff, CutoffRow, rows_in_order};
 use crate::entrants::{Entrant, rising_entrants};
-use sc_papers::{FlatPapers, Key, SchoolNo, StudentNo};
+use sc_papers::{FlatPapers, Key, Proposal, SchoolNo, StudentNo};
 use sc_repair::Clearing;
 use sc_tallies::places_of;
 use std::alloc::{AllocError, Global};
@@ -83,15 +83,10 @@ pub(crate) fn missed_at(
     ensures within { IsSome result → rank < length (choices_of papers.now entrant.now.student) }
     ensures position { IfSome result (λ missed. missed.position < length papers.now.schools) }
 {
-    let student = entrant.position as usize;
-    let position = usize::from(*papers.choice_positions_at(student).get(rank)?);
-    // Of what a student has, no key is made.
+    let Proposal { position, key, .. } = papers.proposal(entrant.position as usize, rank)?;
     if is_held(&held, position) {
         return None;
     }
-    let Some(key) = papers.key_at(student, position) else {
-        unreachable!()
-    };
     Some(Missed { position, key })
 }
 

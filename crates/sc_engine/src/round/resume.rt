@@ -27,7 +27,7 @@ fn rank_in(papers: &FlatPapers, at: usize, school: Option<SchoolNo>, guess: usiz
     // This call tells that the choices are few enough.
     prove!(papers.students_len() <= MOST_STUDENTS);
     let Some(school) = school else {
-        return papers.choice_positions_at(at).len();
+        return papers.classed_choices_at(at).len();
     };
     let Some(rank) = papers.choice_rank_at(at, school) else {
         unreachable!()

@@ -2,7 +2,7 @@
 
 use crate::count::Count;
 use crate::flat_papers::FlatPapers;
-use crate::position_list::keep_siblings;
+use crate::position_list::{PositionList, keep_siblings};
 use crate::records::Student;
 use crate::school_no::SchoolNo;
 use crate::seats::Seats;
@@ -24,7 +24,9 @@ impl FlatPapers {
         ensures { self.new ≡ changed_student self.old number (λ _. student.now) }
     {
         let draw = self.rows[at].draw();
-        self.rows[at] = StudentRow::new(number, draw, &self.positions, student);
+        let positions = PositionList::new(&self.positions, student.choices.as_slice());
+        let choices = self.classed_list(student, &positions);
+        self.rows[at] = StudentRow::new(number, draw, &choices, student);
         // This call tells that no number stands twice.
         let _ = self.siblings.len();
         keep_siblings(&mut self.siblings, &self.positions, number, student);

@@ -214,11 +214,12 @@ impl FlatPapers {
         ensures { ChangesTo self.old self.new
             (with_student self.old number (with_choices_at self.old choices.now student.now)) result }
     {
+        let choices = self.classed_list(student, choices);
         self.rows.reserve(1)?;
         let room = (self.rows.len() + 1).saturating_sub(self.siblings.len());
         self.siblings.reserve(room)?;
         let draw = self.lottery.draw(number);
-        let row = StudentRow::with_choices(number, draw, choices, student);
+        let row = StudentRow::new(number, draw, &choices, student);
         self.numbers.push(number)?;
         self.rows.push_reserved(row);
         keep_siblings(&mut self.siblings, &self.positions, number, student);

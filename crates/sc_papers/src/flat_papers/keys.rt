@@ -3,10 +3,14 @@
 ghost use Rattle.std.specs.Prelude.{◌≡◌, ◌<◌, ◌==◌, length, map, nat_eq, position, nat_lt, true, ◌&&◌, Some, None, if◌then◌else◌};
 ghost use Rattle.std.specs.List.{list_any};
 ghost use Rattle.sc_papers.specs.Key.{class_by, same_zone};
+ghost use Rattle.sc_papers.specs.StudentRow.{class_in};
 
+use crate::classed_choice::{ClassedChoice, ClassedList};
 use crate::flat_papers::FlatPapers;
 use crate::key::Key;
-use crate::records::School;
+use crate::limits::{LONGEST_LIST, MOST_STUDENTS};
+use crate::position_list::PositionList;
+use crate::records::{School, Student};
 use crate::school_no::SchoolNo;
 use crate::student_row::StudentRow;
 use crate::zone::Zone;
@@ -27,6 +31,20 @@ fn class_of(continuing: bool, sibling: bool, zone: Zone, school: School) -> u8
     }
 }
 
+/// The priority class of a student at a school of this number. Most have no sibling at any school and continue at none, and
+/// of these the zone alone is looked at.
+#[inline]
+fn class_in(student: &Student, number: SchoolNo, school: School) -> u8
+    ensures { result ≡ class_in student.now number school.zone }
+{
+    let siblings = student.siblings.as_slice();
+    if student.continuing.is_none() && siblings.is_empty() {
+        return class_of(false, false, student.zone, school);
+    }
+    let continuing = student.continuing == Some(number);
+    class_of(continuing, siblings.contains(&number), student.zone, school)
+}
+
 /// Whether a position is among some.
 fn is_among(positions: &[u16], at: usize) -> bool
     ensures { result ≡ list_any (λ p. p == at) positions.now }
@@ -36,7 +54,8 @@ fn is_among(positions: &[u16], at: usize) -> bool
 
 impl FlatPapers {
     ghost use Rattle.sc_papers.specs.Market.{student_at, schools_of, siblings_of, is_school, is_student};
-    ghost use Rattle.sc_papers.specs.StudentRow.{IsRowAt};
+    ghost use Rattle.sc_papers.specs.Placed.{AreOfSchools};
+    ghost use Rattle.sc_papers.specs.StudentRow.{classed_at, IsRowAt};
     ghost use Rattle.sc_papers.specs.Key.{has_sibling_at, key_at, key_of};
 
     /// The student's key at the school, or `None` where either is not in the papers. The student
@@ -68,6 +87,36 @@ impl FlatPapers {
             draw: row.draw(),
             student: row.number(),
         })
+    }
+
+    /// The choice by a student of the school at a position of the order of entry, from 0, with the student's class there.
+    #[inline]
+    fn classed_choice(&self, student: &Student, position: u16) -> ClassedChoice
+        requires { position < length self.now.schools }
+        ensures { result ≡ classed_at self.now student.now position }
+    {
+        // This call tells that the papers are within their limits.
+        prove!(self.students_len() <= MOST_STUDENTS);
+        let Some((name, school)) = self.schools.get_index(usize::from(position)) else {
+            unreachable!()
+        };
+        ClassedChoice::new(position, class_in(student, *name, *school))
+    }
+
+    /// The choices by a student of the schools at these positions of the order of entry, each from 0. The cost is a look at
+    /// each school, and at the student's siblings for each.
+    pub(crate) fn classed_list(&self, student: &Student, positions: &PositionList) -> ClassedList
+        requires { AreOfSchools self.now positions.now }
+        ensures { result ≡ map (classed_at self.now student.now) positions.now }
+    {
+        let mut choices = [ClassedChoice::default(); LONGEST_LIST];
+        for (rank, position) in positions.as_slice().iter().enumerate() {
+            choices[rank] = self.classed_choice(student, *position);
+        }
+        ClassedList {
+            count: positions.count,
+            choices,
+        }
     }
 
     /// What a proposal reads of the student at a position of the order of entry, from 0.

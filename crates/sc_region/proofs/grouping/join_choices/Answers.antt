@@ -12,13 +12,13 @@ loop-choice-init c = (refl, c.requires.one_each)
 pub join-requires-clause-second : goal.join-requires-clause-second
 join-requires-clause-second c =
     let m = c.args.papers.now in
-    let positions = c.choice_positions_at-choice-items.result.now in
-    let choices = choices_of m (student_at m c.args.position) in
+    let listed = c.classed_choices_at-choice-items.result.now in
     omega (
       arith,
-      c.from.ensures,
+      c.position.ensures,
       c.loop-choice.invariant.1,
-      choice-within m positions choices c.choice_positions_at-choice-items.ensures c.loop-choice.choice-index 0 c.loop-choice-test.true,
+      choice-within m listed (choices_of m (student_at m c.args.position)) c.classed_choices_at-choice-items.ensures.positions c.loop-choice.choice-index c.choice-item.result
+          c.loop-choice-test.true c.choice-item.is,
     )
 
 pub loop-choice-preserved : goal.loop-choice-preserved
@@ -27,11 +27,12 @@ loop-choice-preserved c =
     let m = c.args.papers.now in
     let i = student_at m c.args.position in
     let choices = choices_of m i in
-    let positions = c.choice_positions_at-choice-items.result.now in
+    let listed = c.classed_choices_at-choice-items.result.now in
     let at = c.loop-choice.choice-index in
-    let told = c.choice_positions_at-choice-items.ensures in
-    let there : c.from.result ≡ position_of m (get_or choices at 0) = c.from.ensures ∙ choice-told m positions choices told at 0 0 c.loop-choice-test.true in
-    let low : at < length choices = omega (arith, c.loop-choice-test.true, choices-count m positions choices told) in (
+    let told = c.classed_choices_at-choice-items.ensures.positions in
+    let there : c.position.result ≡ position_of m (get_or choices at 0) =
+    c.position.ensures ∙ choice-told m listed choices told at 0 c.choice-item.result c.loop-choice-test.true c.choice-item.is in
+    let low : at < length choices = omega (arith, c.loop-choice-test.true, choices-count m listed choices told) in (
       c.join.ensures.joined ∙ (λ t. joined (c.loop-choice.invariant.0 t) (c.first_position_at-first.ensures.position t) (there t))
           ∙ sym (fold_more (λ g s. joined g (position_of m (first_choice m i)) (position_of m s)) c.args.groups.now choices at 0 low),
       c.join.ensures.one_each ∙ c.loop-choice.invariant.1,

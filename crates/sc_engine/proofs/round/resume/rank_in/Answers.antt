@@ -1,5 +1,6 @@
-use Rattle.std.proofs.Common.{sym, ◌∙◌, ap, subst, ℕ, Option, IfSome, Contains, Some, length, nat_eq, position, arith}
-use Rattle.sc_papers.specs.Market.{choices_of, schools_of, student_at}
+use Rattle.std.proofs.Common.{sym, ◌∙◌, ap, subst, ℕ, Option, IfSome, Contains, length, arith}
+use Rattle.sc_papers.specs.Key.{class_at}
+use Rattle.sc_papers.specs.Market.{choices_of, student_at}
 use Rattle.sc_papers.proofs.Students.{choices-short}
 use Rattle.sc_engine.proofs.Tables.{length-mapped}
 use Rattle.sc_engine.proofs.Ranks.{rank-there, rank-low, rank-found}
@@ -7,7 +8,7 @@ use Rattle.sc_engine.proofs.round.resume.rank_in.Goals as goal
 
 pub returns-in_default-clause-within : goal.returns-in_default-clause-within
 returns-in_default-clause-within c =
-    omega (arith, choices-short c.args.papers.now c.students_len.ensures.within_limits (student_at c.args.papers.now c.args.at), ap length c.choice_positions_at.ensures, length-mapped (λ (p : ℕ). Some p) c.choice_positions_at.result.now, length-mapped (λ s. position (nat_eq s) (schools_of c.args.papers.now)) (choices_of c.args.papers.now (student_at c.args.papers.now c.args.at)))
+    omega (arith, choices-short c.args.papers.now c.students_len.ensures.within_limits (student_at c.args.papers.now c.args.at), ap length c.classed_choices_at.ensures.classes, length-mapped (λ c'. c'.class) c.classed_choices_at.result.now, length-mapped (class_at c.args.papers.now (student_at c.args.papers.now c.args.at)) (choices_of c.args.papers.now (student_at c.args.papers.now c.args.at)))
 
 pub unreachable-requires : goal.unreachable-requires
 unreachable-requires c =

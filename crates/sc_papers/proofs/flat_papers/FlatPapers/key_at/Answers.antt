@@ -3,7 +3,8 @@ use Rattle.sc_papers.specs.Representation.{market_of}
 use Rattle.sc_papers.specs.Key.{class_by, has_sibling_at, key_at, same_zone}
 use Rattle.sc_papers.specs.Market.{Market, schools_of, student_at}
 use Rattle.sc_papers.specs.StudentRow.{IsRowAt}
-use Rattle.sc_papers.proofs.Keys.{key-of_row, key-there, row-read, row-told}
+use Rattle.sc_papers.proofs.ChoicePositions.{row-is}
+use Rattle.sc_papers.proofs.Keys.{key-of_row, key-there, row-read}
 use Rattle.sc_papers.proofs.Positions.{school-place_position}
 use Rattle.sc_papers.proofs.flat_papers.FlatPapers.key_at.Goals as goal
 
@@ -31,7 +32,7 @@ has_sibling_at-sibling-requires-clause-row c =
     let read = c.in_ok-row.ensures.lookup in
     let here = row-read c.deref.result.now c.args.student c.in_ok-row.row.now read.0 read.1 in
     subst (λ (n : Market). IsRowAt n c.args.student c.in_ok-row.row.now) c.self.view_is
-    (row-told m c.self.inside.positions c.deref.result.now c.args.student c.in_ok-row.row.now c.self.invariant.well_formed (c.deref.ensures.value ∙ c.self.invariant.rows) here)
+    (row-is m c.self.inside.positions c.deref.result.now c.args.student c.in_ok-row.row.now c.self.invariant.well_formed c.self.invariant.positions (c.deref.ensures.value ∙ c.self.invariant.rows) here)
 
 pub has_sibling_at-sibling-requires-clause-school : goal.has_sibling_at-sibling-requires-clause-school
 has_sibling_at-sibling-requires-clause-school c =
