@@ -50,7 +50,7 @@ fn first_room(capacity: Seats) -> usize {
 }
 
 /// Whether the key is ahead of the last of those held, if there is one.
-fn is_ahead_of_last(last: &Option<Key>, key: &Key) -> bool
+fn is_ahead_of_last(last: &Option<HeldKey>, key: &HeldKey) -> bool
     ensures { result ≡ option_map_or (is_before key.now) last.now false }
 {
     match last {
@@ -82,18 +82,19 @@ impl Roll for HeapRoll {
             self.held.add(self.alloc, first_room(self.capacity), key)?;
             return Ok(None);
         }
-        if is_ahead_of_last(&self.held.last(), &key.key()) {
+        if is_ahead_of_last(&self.held.last(), &key) {
             return Ok(Some(self.held.replace_last(self.alloc, key)));
         }
         Ok(Some(key))
     }
 
     fn refuses(&self, key: &Key) -> bool {
-        self.held.len() >= self.capacity.get() as usize && !is_ahead_of_last(&self.held.last(), key)
+        self.held.len() >= self.capacity.get() as usize
+            && !is_ahead_of_last(&self.held.last(), &HeldKey::of(*key, 0))
     }
 
     fn worst(&self) -> Option<Key> {
-        self.held.last()
+        self.held.last().map(|last| last.key())
     }
 
     fn len(&self) -> usize {

@@ -8,7 +8,6 @@ use crate::held_key::HeldKey;
 use crate::key_heap::KeyHeap;
 use crate::key_list::KeyList;
 use crate::key_memory::KeyMemory;
-use sc_papers::Key;
 use std::alloc::{AllocError, Global};
 use std::mem;
 
@@ -100,7 +99,7 @@ impl Held {
     }
 
     /// The last of the keys, or `None` where nobody is held.
-    pub(crate) fn last(&self) -> Option<Key>
+    pub(crate) fn last(&self) -> Option<HeldKey>
         ensures { IsLastOf result (keys_of self.now) }
     {
         match self {

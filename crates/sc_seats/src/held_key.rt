@@ -1,10 +1,11 @@
-ghost use Rattle.std.specs.Prelude.{◌≡◌, ◌==◌, ◌&&◌, ◌/◌};
+ghost use Rattle.std.specs.Prelude.{◌≡◌, ◌+◌, ◌*◌, ◌==◌, ◌&&◌, ◌/◌, ◌%◌, ◌<◌};
 ghost use Rattle.std.proofs.Common.{rules};
 ghost use Rattle.std.specs.Cmp.{partial_order_from_own_ties};
 ghost use Rattle.std.specs.Cmp.Rules.{comparing};
 ghost use Rattle.std.specs.Ordering.{as_partial_cmp, nat_cmp, on, then_cmp};
+ghost use Rattle.sc_papers.specs.Key.{is_before};
 ghost use Rattle.sc_papers.specs.declared.key.Key.{Key as Priority};
-ghost use Rattle.sc_seats.specs.declared.held_key.TheConstants.{GUESSES};
+ghost use Rattle.sc_seats.specs.declared.held_key.TheConstants.{GUESSES, HEADS, TAILS};
 
 use sc_papers::{Key, MOST_STUDENTS, StudentNo};
 use std::cmp::Ordering;
@@ -12,6 +13,12 @@ use std::marker::Model;
 
 /// How many guesses there are: enough for each student.
 const GUESSES: u32 = 0x100_0000;
+
+/// How many last bytes a draw may have.
+const TAILS: u64 = 0x100;
+
+/// How many draws there are without their last byte.
+const HEADS: u64 = 0x100_0000_0000_0000;
 
 const _: () = prove!(MOST_STUDENTS <= GUESSES as usize);
 
@@ -21,16 +28,20 @@ const _: () = prove!(MOST_STUDENTS <= GUESSES as usize);
 /// right, it spares a look-up.
 #[derive(Clone, Drop)]
 pub struct HeldKey {
-    // The class and the guess in one number: so there is no padding, and a key is copied in one piece.
-    class_and_guess: u32,
+    // The class and the draw without its last byte, in one number: two keys seldom have the same, so one comparison tells
+    // which is ahead.
+    head: u64,
+    // The last byte of the draw, and the guess.
+    tail: u32,
     student: StudentNo,
-    draw: u64,
 }
 
 impl Model for HeldKey {
     ghost Value = { Priority };
 
-    ghost view = { λ k. record { class = k.class_and_guess / GUESSES; student = k.student; draw = k.draw } };
+    ghost view = { λ k. record { class = k.head / HEADS; student = k.student; draw = k.head % HEADS * TAILS + k.tail / GUESSES } };
+
+    ghost invariant = { λ k. k.tail / GUESSES < TAILS };
 }
 
 impl PartialEq for HeldKey {
@@ -57,7 +68,10 @@ impl Ord for HeldKey {
     ghost matches_eq = { Prim.search (comparing, rules) };
 
     fn cmp(&self, other: &HeldKey) -> Ordering {
-        self.key().compare(&other.key())
+        match self.head.cmp(&other.head) {
+            Ordering::Equal => self.key().compare(&other.key()),
+            order => order,
+        }
     }
 }
 
@@ -77,9 +91,9 @@ impl HeldKey {
         ensures { result ≡ key }
     {
         HeldKey {
-            class_and_guess: u32::from(key.class) * GUESSES + (guess % GUESSES as usize) as u32,
+            head: u64::from(key.class) * HEADS + key.draw / TAILS,
+            tail: (key.draw % TAILS) as u32 * GUESSES + (guess % GUESSES as usize) as u32,
             student: key.student,
-            draw: key.draw,
         }
     }
 
@@ -88,14 +102,32 @@ impl HeldKey {
         ensures { result ≡ self.now }
     {
         Key {
-            class: (self.class_and_guess / GUESSES) as u8,
+            class: (self.head / HEADS) as u8,
             student: self.student,
-            draw: self.draw,
+            draw: self.head % HEADS * TAILS + u64::from(self.tail / GUESSES),
         }
+    }
+
+    /// The same key with the same guess.
+    pub(crate) fn copy(&self) -> Self
+        ensures { result ≡ self.now }
+    {
+        HeldKey {
+            head: self.head,
+            tail: self.tail,
+            student: self.student,
+        }
+    }
+
+    /// Whether this key is ahead of the other one. This is `<`.
+    pub(crate) fn is_ahead_of(&self, other: &HeldKey) -> bool
+        ensures { result ≡ is_before self.now other.now }
+    {
+        self < other
     }
 
     /// The position at which the student may stand: any number, also none of a position, which its reader tests.
     pub fn guess(&self) -> usize {
-        (self.class_and_guess % GUESSES) as usize
+        (self.tail % GUESSES) as usize
     }
 }

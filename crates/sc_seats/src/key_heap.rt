@@ -7,7 +7,6 @@ ghost use Rattle.sc_papers.specs.LastKey.{IsLastOf};
 
 use crate::held_key::HeldKey;
 use crate::key_memory::KeyMemory;
-use sc_papers::Key;
 use std::alloc::{AllocError, Global};
 use std::collections::BinaryHeap;
 use std::marker::Model;
@@ -18,7 +17,7 @@ use std::mem;
 pub(crate) struct KeyHeap {
     keys: BinaryHeap<HeldKey>,
     // The top, so that an offer that is refused reads no heap.
-    last: Key,
+    last: HeldKey,
 }
 
 impl Model for KeyHeap {
@@ -30,13 +29,13 @@ impl Model for KeyHeap {
 }
 
 /// The last key of a heap.
-fn last_of(keys: &BinaryHeap<HeldKey>) -> Key
+fn last_of(keys: &BinaryHeap<HeldKey>) -> HeldKey
     requires some { 0 < length (heap_items keys.now) }
     requires heap { IsHeap key_cmp (heap_items keys.now) }
     ensures { IsLastOf (Some result) (heap_items keys.now) }
 {
     match keys.peek() {
-        Some(last) => last.key(),
+        Some(last) => last.copy(),
         None => unreachable!(),
     }
 }
@@ -86,10 +85,10 @@ impl KeyHeap {
     }
 
     /// The last of the keys.
-    pub(crate) fn last(&self) -> Key
+    pub(crate) fn last(&self) -> HeldKey
         ensures { IsLastOf (Some result) self.now }
     {
-        self.last
+        self.last.copy()
     }
 
     /// The memory of the keys, which are let go. In constant time.
@@ -103,7 +102,7 @@ impl KeyHeap {
     {
         Ok(KeyHeap {
             keys: self.keys.clone()?,
-            last: self.last,
+            last: self.last.copy(),
         })
     }
 }

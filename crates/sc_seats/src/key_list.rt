@@ -7,7 +7,6 @@ ghost use Rattle.sc_papers.specs.LastKey.{IsLastOf};
 use crate::held_key::HeldKey;
 use crate::key_heap::KeyHeap;
 use crate::key_memory::KeyMemory;
-use sc_papers::Key;
 use std::alloc::AllocError;
 use std::marker::Model;
 
@@ -15,7 +14,7 @@ use std::marker::Model;
 #[derive(Drop)]
 pub(crate) struct KeyList {
     keys: Vec<HeldKey>,
-    last: Key,
+    last: HeldKey,
 }
 
 impl Model for KeyList {
@@ -31,7 +30,7 @@ impl KeyList {
     pub(crate) fn of(memory: KeyMemory, room: usize, key: HeldKey) -> Result<Self, AllocError>
         ensures { IfOk result (λ list. list ≡ key ∷ []) }
     {
-        let last = key.key();
+        let last = key.copy();
         let mut keys = memory.with_room(room)?;
         keys.push(key)?;
         Ok(KeyList { keys, last })
@@ -41,7 +40,7 @@ impl KeyList {
     pub(crate) fn append(&mut self, key: HeldKey) -> Result<(), AllocError>
         ensures { ChangesTo self.old self.new (self.old ++ key ∷ []) result }
     {
-        let newest = key.key();
+        let newest = key.copy();
         self.keys.push(key)?;
         if self.last.is_ahead_of(&newest) {
             self.last = newest;
@@ -57,10 +56,10 @@ impl KeyList {
     }
 
     /// The last of the keys.
-    pub(crate) fn last(&self) -> Key
+    pub(crate) fn last(&self) -> HeldKey
         ensures { IsLastOf (Some result) self.now }
     {
-        self.last
+        self.last.copy()
     }
 
     /// The keys as a heap, which takes no memory. The cost is their number.
@@ -81,7 +80,7 @@ impl KeyList {
     {
         Ok(KeyList {
             keys: self.keys.clone()?,
-            last: self.last,
+            last: self.last.copy(),
         })
     }
 }

@@ -1,8 +1,6 @@
-use Rattle.std.proofs.Common.{false, sym, ◌∙◌, ap, subst, Contains, ◌∷◌, length, arith}
-use Rattle.std.specs.Option.{option_map_or}
+use Rattle.std.proofs.Common.{sym, ◌∙◌, ap, subst, Contains, ◌∷◌, length, arith}
 use Rattle.std.proofs.lemmas.Bool.{true≢false}
 use Rattle.std.proofs.lemmas.List.Sorted.{length_permutation}
-use Rattle.sc_papers.specs.Key.{is_before}
 use Rattle.sc_seats.specs.Held.{keys_of}
 use Rattle.sc_seats.specs.Roll.{RollView, in_order}
 use Rattle.sc_seats.proofs.Heaps.{length-in_order, ahead-held, behind-all, added-together, added-ascending, replaced-together, replaced-ascending, replaced-last, refused-last}
@@ -46,7 +44,7 @@ returns-then-is_ahead_of_last-clause-together c =
 pub returns-then-is_ahead_of_last-clause-last : goal.returns-then-is_ahead_of_last-clause-last
 returns-then-is_ahead_of_last-clause-last c =
     let fresh : Contains (in_order (keys_of c.self.inside.held)) c.args.key → ⊥ = subst (λ (h : RollView). Contains h.keys c.args.key → ⊥) (sym c.self.view_is) c.requires in
-    let ahead = ahead-held c.last.result (keys_of c.self.inside.held) c.args.key c.last.ensures (ap (λ key. option_map_or (is_before key) c.last.result false) (sym c.key.ensures) ∙ sym c.is_ahead_of_last.ensures ∙ c.if-is_ahead_of_last.true) in
+    let ahead = ahead-held c.last.result (keys_of c.self.inside.held) c.args.key c.last.ensures (sym c.is_ahead_of_last.ensures ∙ c.if-is_ahead_of_last.true) in
     replaced-last (keys_of c.self.inside.held) (keys_of c.replace_last.new.self) c.args.key c.replace_last.result ahead.0 c.self.invariant.ascending fresh c.replace_last.ensures.together c.replace_last.ensures.last ahead.1 ahead.2
 
 pub returns-then-is_ahead_of_last-clause-full : goal.returns-then-is_ahead_of_last-clause-full
@@ -65,7 +63,7 @@ returns-then-is_ahead_of_last-clause-ascending c =
 pub returns-clause-last : goal.returns-clause-last
 returns-clause-last c =
     let fresh : Contains (in_order (keys_of c.self.inside.held)) c.args.key → ⊥ = subst (λ (h : RollView). Contains h.keys c.args.key → ⊥) (sym c.self.view_is) c.requires in
-    rw (← c.self.view_is) (refused-last (keys_of c.self.inside.held) c.args.key fresh (behind-all c.last.result (keys_of c.self.inside.held) c.args.key c.last.ensures (ap (λ key. option_map_or (is_before key) c.last.result false) (sym c.key.ensures) ∙ sym c.is_ahead_of_last.ensures ∙ c.if-is_ahead_of_last.false)))
+    rw (← c.self.view_is) (refused-last (keys_of c.self.inside.held) c.args.key fresh (behind-all c.last.result (keys_of c.self.inside.held) c.args.key c.last.ensures (sym c.is_ahead_of_last.ensures ∙ c.if-is_ahead_of_last.false)))
 
 pub returns-clause-full : goal.returns-clause-full
 returns-clause-full c some =
