@@ -18,13 +18,6 @@ pub record HasPositions (m : Market) (students old new : List ℕ) : Type 0 wher
   pub kept : (p : ℕ) → Contains old p → Contains new p
   pub all : (p : ℕ) → p < length (students_of m) → Contains students (student_at m p) → Contains new p
 
-pub positions-begun : (m : Market) (students old : List ℕ) → ((p : ℕ) → Contains old p → p < length (students_of m)) → HasPositions m (take 0 students) old old
-positions-begun m students old within = record {
-  within = within;
-  kept = λ p among. among;
-  all = λ p low (k, below, at). absurd (omega (arith, below));
-}
-
 -- one more of the students, who is in the papers or is not
 module _ (m : Market) (well : WellFormed m) (students old new : List ℕ) (at i : ℕ) (low : at < length students) (here : i ≡ get_or students at i) (before : HasPositions m (take at students) old new) where
   own-position : (q : ℕ) → q < length (students_of m) → student_at m q ≡ i → position (nat_eq i) (students_of m) ≡ Some q
@@ -60,12 +53,6 @@ module _ (m : Market) (well : WellFormed m) (students old new : List ℕ) (at i 
 pub record HasListed (m : Market) (firsts : List (List ℕ)) (schools : List ℕ) (positions : List ℕ) : Type 0 where
   pub within : (p : ℕ) → Contains positions p → p < length (students_of m)
   pub all : (school p : ℕ) → Contains schools school → p < length (students_of m) → Contains (firsts_at firsts school) (student_at m p) → Contains positions p
-
-pub listed-begun : (m : Market) (firsts : List (List ℕ)) (schools : List ℕ) → HasListed m firsts (take 0 schools) []
-listed-begun m firsts schools = record {
-  within = λ p (k, below, at). absurd (omega (arith, below));
-  all = λ school p (k, below, at) p_low among. absurd (omega (arith, below));
-}
 
 -- one school more
 pub listed-more : (m : Market) (firsts : List (List ℕ)) (schools : List ℕ) (at d : ℕ) (old new : List ℕ) → at < length schools → HasListed m firsts (take at schools) old
