@@ -15,6 +15,9 @@ use sc_decimal::number_at_front;
 use sc_papers::{FlatPapers, LONGEST_LIST, PlacedChoices, SchoolList, SchoolNo, StudentNo};
 use std::alloc::Global;
 
+/// How many digits the longest number has.
+const LONGEST_NUMBER: usize = 9;
+
 /// The number whose digits a text begins with, and the text after them.
 #[inline(always)]
 fn take_number(text: &[u8]) -> Option<(u32, &[u8])>
@@ -74,8 +77,8 @@ fn take_schools(alloc: Global, text: &[u8]) -> Option<(SchoolList, &[u8])>
 }
 
 /// Reads the schools that a text begins with, at least one, puts where each stands in the papers into `placed`, in place
-/// of what was there, and answers the text after them. `None` says nothing of the text: it begins with no such number,
-/// there are more of them than a list may have, or a school is not in the papers or comes twice.
+/// of what was there, and answers the text after them. `None` says nothing of the text: it begins with no such number or
+/// ends soon, there are more of them than a list may have, or a school is not in the papers or comes twice.
 ///
 /// It is not inlined, so that what its loop uses stays in registers.
 #[inline(never)]
@@ -91,6 +94,10 @@ fn place_schools<'a>(
     placed.clear();
     let mut rest = text;
     for _ in 0..LONGEST_LIST {
+        if rest.len() <= LONGEST_NUMBER {
+            // A row so near the end of the text is read the other way, so that here no digit is tested for that end.
+            return None;
+        }
         let (number, after) = take_number(rest)?;
         let school = SchoolNo::new(number)?;
         if !placed.push(papers, school) {
