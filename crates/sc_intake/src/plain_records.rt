@@ -3,6 +3,7 @@
 ghost use Rattle.std.specs.Prelude.{◌≡◌, ℕ, ◌≤◌, ◌^◌, ◌++◌, ◌∷◌, [], List, IfOk, drop, false, length, option_map, take};
 ghost use Rattle.std.specs.List.{list_any};
 ghost use Rattle.csv.specs.Records.{field_at};
+ghost use Rattle.memchr.specs.Find.{IsFirstByte, is_byte2};
 ghost use Rattle.sc_intake.specs.Plain.{EndsField, after_line, ends_field, ends_line, fields_from, first_line, plain_records};
 ghost use Rattle.sc_intake.specs.Representation.{fields_beyond, fields_in};
 
@@ -13,6 +14,9 @@ use std::marker::Model;
 
 /// How many fields of a record are kept: as many as the longest record of a form has.
 const KEPT: usize = 7;
+
+/// How many bytes most lines have at most.
+const LIKELY_LINE: usize = 160;
 
 /// The records of a text without a quote: the one read last, and those that are left. Its first fields are slices of the
 /// text, in a list that is used again and again, so that nothing is copied. The fields beyond them, which no form has,
@@ -88,12 +92,24 @@ fn field_len(text: &[u8]) -> usize
     len
 }
 
+/// Where the first line end of a text stands. It is looked for in the first bytes alone at first, since most lines are
+/// short: a search that may go far costs more for each byte.
+fn line_end(text: &[u8]) -> Option<usize>
+    ensures { IsFirstByte (is_byte2 10 13) text.now result }
+{
+    let near = &text[..text.len().min(LIKELY_LINE)];
+    match memchr2(b'\n', b'\r', near) {
+        Some(end) => Some(end),
+        None => memchr2(b'\n', b'\r', text),
+    }
+}
+
 /// A text's first line, and the text after it.
 fn split_line(text: &[u8]) -> (&[u8], &[u8])
     ensures line { result.0.now ≡ first_line text.now }
     ensures rest { result.1.now ≡ after_line text.now }
 {
-    match memchr2(b'\n', b'\r', text) {
+    match line_end(text) {
         Some(end) => (&text[..end], &text[end + 1..]),
         None => (text, &[]),
     }
