@@ -22,3 +22,4 @@ pub mod TidyRows
 pub mod ReadTogether
 pub mod InAnyOrder
 pub mod JudgingSteps
+pub mod Unquoting

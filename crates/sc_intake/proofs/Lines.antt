@@ -11,7 +11,7 @@ use Rattle.sc_intake.specs.Plain.{EndsField, after_line, ends_field, ends_line, 
 use Rattle.sc_intake.specs.Representation.{fields_in}
 
 -- the first line, and those after it
-lines-first : (line text : List ℕ) → lines_from line text ≡ line_of (line ++ first_line text) ++ lines_from [] (after_line text)
+pub lines-first : (line text : List ℕ) → lines_from line text ≡ line_of (line ++ first_line text) ++ lines_from [] (after_line text)
 unfolding lines_from first_line after_line
 lines-first line [] = ap line_of (sym (append-nil line)) ∙ sym (append-nil (line_of (line ++ [])))
 lines-first line (c ∷ cs) = by (ends_line c) (lines-first (line ++ c ∷ []) cs)

@@ -23,3 +23,4 @@ pub mod Seen
 pub mod Sheets
 pub mod Tidy
 pub mod Together
+pub mod Unquoted

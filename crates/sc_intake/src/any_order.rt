@@ -17,6 +17,7 @@ use crate::roster::RosterRow;
 use crate::schools::SchoolRows;
 use crate::text_lines::{TextLines, likely_numbers};
 use crate::together::enter_next;
+use crate::unquoted::unquoted_text;
 use sc_papers::{FlatPapers, PlacedChoices, Seed};
 use std::alloc::Global;
 
@@ -94,16 +95,24 @@ pub(crate) fn papers_in_any_order(
     ensures { IfSome result (λ papers. papers_below seed schools.now roster.now lists.now ≡ Ok papers) }
 {
     let room = likely_students(roster);
-    let mut roster = below_header::<RosterRow>(alloc, roster)?;
-    let lists = below_header::<ListRow>(alloc, lists)?;
-    let listed = TextLines::of(alloc, lists.records.plain_text()?, room)?;
-    let likely = likely_lists(alloc, roster.records.plain_text()?, &listed)?;
-    let mut papers = open_with_room(alloc, seed, schools.as_slice(), listed.len()).ok()?;
+    let mut students = below_header::<RosterRow>(alloc, roster)?;
+    let mut choices = below_header::<ListRow>(alloc, lists)?;
+    let roster = unquoted_text(alloc, &mut students.records, roster.len())?;
+    let lists = unquoted_text(alloc, &mut choices.records, lists.len())?;
+    let listed = TextLines::of(alloc, lists.as_slice(), room)?;
+    let likely = likely_lists(alloc, roster.as_slice(), &listed)?;
+    let mut rows = Below {
+        width: students.width,
+        records: Records::plain(alloc, roster.as_slice()),
+    };
+    let Ok(mut papers) = open_with_room(alloc, seed, schools.as_slice(), listed.len()) else {
+        return None;
+    };
     if !enter_each(
         alloc,
         &mut papers,
-        &mut roster,
-        lists.width,
+        &mut rows,
+        choices.width,
         &listed,
         likely.as_slice(),
     ) {

@@ -34,6 +34,7 @@ mod sheet;
 mod text_lines;
 mod tidy_rows;
 mod together;
+mod unquoted;
 
 pub use blanks::{Blanks, trimmed};
 pub use fault::{Cause, IntakeFault, Source};

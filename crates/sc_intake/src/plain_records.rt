@@ -77,7 +77,7 @@ fn without_line_ends(text: &[u8]) -> &[u8]
 
 /// How many bytes stand before the first comma or line end of a text, or its length where there is none. The text is
 /// looked at in runs of 32 bytes, since most fields are short: a search that is to go far costs more to begin.
-fn field_len(text: &[u8]) -> usize
+pub(crate) fn field_len(text: &[u8]) -> usize
     ensures within { result ≤ length text.now }
     ensures clean { list_any ends_field (take result text.now) ≡ false }
     ensures end { EndsField (drop result text.now) }

@@ -57,14 +57,21 @@ impl<'a> Records<'a> {
         }
     }
 
+    /// The records of a text, which has no quote; none is read yet.
+    pub(crate) fn plain(alloc: Global, text: &'a [u8]) -> Self
+        ensures { result.left ≡ plain_records text.now }
+    {
+        Records {
+            cutter: Cutter::Plain(PlainRecords::new(alloc, text)),
+        }
+    }
+
     /// No records.
     #[tactic(auto, unfolding(crate::specs::Plain::plain_records, crate::specs::Plain::lines_from))]
     pub(crate) fn none(alloc: Global) -> Self
         ensures { result.left ≡ [] }
     {
-        Records {
-            cutter: Cutter::Plain(PlainRecords::new(alloc, &[])),
-        }
+        Records::plain(alloc, &[])
     }
 
     /// Reads the next record, and says whether there was one. The only error is want of memory.
@@ -119,7 +126,7 @@ impl<'a> Records<'a> {
     }
 
     /// A field of the record read last, if it has so many.
-    fn get(&self, index: usize) -> Option<&[u8]>
+    pub(crate) fn get(&self, index: usize) -> Option<&[u8]>
         ensures { option_map (λ f. f.now) result ≡ field_at self.now.current index }
     {
         match &self.cutter {

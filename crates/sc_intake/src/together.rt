@@ -95,10 +95,10 @@ fn papers_together(
 /// There are three ways, each tried where the one before gave up. Where the lists stand in the order of the roster, row
 /// by row, and nothing is wrong, both are read together: no row is kept, no list is copied and none is looked up. Then
 /// the cost is the length of the texts, a look-up for each school named, and a draw of the lottery for each student.
-/// Where they stand in any other order, neither text has a quote and nothing is wrong, it is noted where each list begins,
-/// the numbers of both are sorted, and each list is read as its student enters. Otherwise the roster and the lists are read
-/// once more, each alone, which finds the first fault where there is one, and what is more than reading is the cost of
-/// `papers_of` without its records.
+/// Where they stand in any other order and nothing is wrong, it is noted where each list begins, the numbers of both are
+/// sorted, and each list is read as its student enters; a text with a quote is first written again without, in as much
+/// memory. Otherwise the roster and the lists are read once more, each alone, which finds the first fault where there is
+/// one, and what is more than reading is the cost of `papers_of` without its records.
 pub fn read_flat_papers(
     alloc: Global,
     seed: Seed,
