@@ -11,10 +11,11 @@ use std::io::Write;
 use std::mem;
 
 /// How many bytes fill a page. It ends with the lines of the student that filled it, and so has some more.
-const FULL: usize = 1_000_000;
+const FULL: usize = 245_000;
 
-/// The room of a page, 1 MiB: the bytes that fill it, and the lines that it ends with.
-const ROOM: usize = 1_048_576;
+/// The room of a page, 240 KiB: the bytes that fill it, and the lines that it ends with. The first page grows to just this
+/// by doubling, from the 15 bytes of the report's first line.
+const ROOM: usize = 245_760;
 
 /// A text that grows, on pages.
 #[derive(Drop)]
