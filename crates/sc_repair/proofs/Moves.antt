@@ -1,7 +1,7 @@
 -- Whom a newcomer's chain moves on, and where everybody stands after it.
 use Rattle.std.proofs.Common.{◌≡◌, inl, inr, refl, ap, sym, subst, ◌∙◌, ℕ, nat_eq, ◌==◌, Bool, true, false, not, ◌&&◌, ◌||◌, cond, List, [], ◌∷◌, ◌++◌, Option, Some, None, find, is_some, append_assoc, append-nil}
 use Rattle.std.proofs.Math.Bool.{or-false}
-use Rattle.std.proofs.lemmas.Bool.{cases_Bool, cond-true, cond-false, eq-eqb, eqb-false, eqb-true, ne_eqb, or_left, or_parts, not_from_true, not-false}
+use Rattle.std.proofs.lemmas.Bool.{cases_Bool, cond-true, cond-false, eqb-false, eqb-true, or_left, or_parts, not_from_true, not-false}
 use Rattle.std.proofs.lemmas.List.Folds.{list_any-append}
 use Rattle.std.proofs.lemmas.Option.{none-some}
 use Rattle.sc_papers.specs.Assignment.{assigned}
@@ -111,40 +111,6 @@ module _ (m : Market) (log chain : List Rejection) (old new : RoundView) (i made
 -- the places as the loop over the chain moves their students
 abbrev pub MovesFirst : (ℕ → Option ℕ) → List Rejection → List (ℕ × ℕ) → List (ℕ × ℕ) → Type 0
 MovesFirst next log before after = (j : ℕ) → assigned after j ≡ cond (is_moved log j && is_some (assigned before j)) (next j) (assigned before j)
-
-pub moves-next : (next : ℕ → Option ℕ) (log : List Rejection) (e : Rejection) (before middle after : List (ℕ × ℕ)) → MovesFirst next log before middle
-    → ((j : ℕ) → assigned after j ≡ cond (nat_eq j e.student && is_some (assigned middle j)) (next e.student) (assigned middle j))
-    → MovesFirst next (log ++ e ∷ []) before after
-moves-next next log e before middle after first moved j =
-    moved j
-    ∙ elim (cases_Bool (nat_eq j e.student)) [
-      | inl own ↦
-          let is : j ≡ e.student = eqb-true j e.student own in
-          let turned : (e.student == j) ≡ true = eq-eqb e.student j (sym is) in
-          ap (λ b. cond (b && is_some (assigned middle j)) (next e.student) (assigned middle j)) own
-          ∙ ap (λ k. cond (is_some (assigned middle j)) (next k) (assigned middle j)) (sym is)
-          ∙ named (is_moved log j) (assigned before j) (assigned middle j) (next j) (first j)
-          ∙ ap (λ b. cond (b && is_some (assigned before j)) (next j) (assigned before j)) (sym (pushed true turned))
-      | inr other ↦
-          let turned : (e.student == j) ≡ false = ne_eqb e.student j (λ is. eqb-false j e.student other (sym is)) in
-          ap (λ b. cond (b && is_some (assigned middle j)) (next e.student) (assigned middle j)) other
-          ∙ first j
-          ∙ ap (λ b. cond (b && is_some (assigned before j)) (next j) (assigned before j)) (sym (pushed false turned ∙ without (is_moved log j)))
-    ]
-  where
-    without : (b : Bool) → (b || false) ≡ b
-    without true = refl
-    without false = refl
-
-    pushed : (b : Bool) → (e.student == j) ≡ b → is_moved (log ++ e ∷ []) j ≡ (is_moved log j || b)
-    pushed b is = list_any-append (λ (entry : Rejection). entry.student == j) log (e ∷ []) ∙ ap (λ c. is_moved log j || c) (without (e.student == j) ∙ is)
-
-    named : (moved_before : Bool) (had middle next : Option ℕ) → middle ≡ cond (moved_before && is_some had) next had → cond (is_some middle) next middle ≡ cond ((moved_before || true) && is_some had) next had
-    named true None middle next is = ap (λ o. cond (is_some o) next o) is
-    named true (Some s) None next is = is
-    named true (Some s) (Some t) next is = refl
-    named false None middle next is = ap (λ o. cond (is_some o) next o) is
-    named false (Some s) middle next is = ap (λ o. cond (is_some o) next o) is
 
 -- a round that forgets its log has forgotten the newcomer's chain
 pub enters-by : (m : Market) (old middle new : RoundView) (i : ℕ) → Enters m old middle i → new ≡ without_log middle → EntersBy m old new i middle.log middle.proposals

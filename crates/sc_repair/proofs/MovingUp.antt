@@ -25,9 +25,6 @@ none-stood gone p same = elim (stood gone p) [ inl (below, here) ↦ omega (arit
 abbrev pub AreMovedUp : ℕ → List ℕ → List ℕ → Type 0
 AreMovedUp gone positions moved = (p : ℕ) → (Contains moved p ↔ Contains positions (before_leaving gone p))
 
-pub moved-none : (gone : ℕ) → AreMovedUp gone [] []
-moved-none gone p = (λ (k, low, at). absurd (omega (arith, low)), λ (k, low, at). absurd (omega (arith, low)))
-
 pub moved-one : (gone : ℕ) (positions moved : List ℕ) (n position : ℕ) → n < length positions → before_leaving gone position ≡ get_or positions n 0 → AreMovedUp gone (take n positions) moved → AreMovedUp gone (take (n + 1) positions) (moved ++ position ∷ [])
 moved-one gone positions moved n position low is before p = (
   λ among. elim (Contains-push_cases moved position p among) [

@@ -162,20 +162,3 @@ goes-on-next m kept r r' chains new k i here on enters (chain, more, pushed) =
     (subst (λ xs. GoesOn m kept r' xs (logs_in (with_chain chains i chain)) (k + 1)) (sym (map-append (λ (c : Chain). c.student) chains (record { student = i; rejections = chain } ∷ [])))
     (subst (λ ls. GoesOn m kept r' (students_in chains ++ i ∷ []) ls (k + 1)) (sym (map-append (λ (c : Chain). c.rejections) chains (record { student = i; rejections = chain } ∷ [])))
     (goes-on-more m kept chain r r' (students_in chains) (logs_in chains) k i here on enters more)))
-
--- past the last student
-pub goes-on-past : (m : Market) (kept : List (List Rejection)) (r : RoundView) (students : List ℕ) (segments : List (List Rejection)) (k : ℕ)
-    → length m.students ≤ k → GoesOn m kept r students segments k → GoesOn m kept r students segments (length m.students)
-goes-on-past m kept r students segments k past on =
-    let same : take k (students_of m) ≡ take (length m.students) (students_of m) =
-    take_all k (students_of m) (omega (arith, past, length-students m)) ∙ sym (take_all (length m.students) (students_of m) (omega (arith, length-students m))) in
-    record {
-      fits = on.fits;
-      entered = λ i. on.entered i ∙ ap (list_any (nat_eq i)) same;
-      continues = on.continues;
-      theirs = on.theirs ∙ same;
-      segmented = subst (λ n. IsSegmented n segments) (cut-all m k (omega (arith, past, length-students m)) ∙ sym (whole-cut m)) on.segmented;
-      stays = on.stays;
-      log = on.log;
-      counted = on.counted;
-    }

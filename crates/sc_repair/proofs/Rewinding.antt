@@ -25,7 +25,6 @@ use Rattle.sc_papers.proofs.Changing.{put_school, put_student}
 use Rattle.sc_papers.proofs.Cutting.{cut-cut, length-students_cut}
 use Rattle.sc_papers.proofs.Rewinding.{alike-seats, alike-students, settled-rewound}
 use Rattle.sc_papers.proofs.Students.{lister-among}
-use Rattle.sc_stamps.specs.Record.{record_of}
 use Rattle.sc_stamps.specs.declared.record.Record.{Record}
 use Rattle.sc_stamps.specs.declared.record.Record.TheVariants.{OfStudent, OfSchool}
 use Rattle.sc_repair.proofs.Positions.{position-removed, position-within, take-put, take-removed}
@@ -187,15 +186,6 @@ segments_after m a = segments-rewound m (after m a) (rewind_point m a) (alike-af
 abbrev number_in : Record → ℕ
 number_in (OfStudent i) = i
 number_in (OfSchool s) = s
-
--- an amendment of a school changes nothing before the first student who lists it
-pub point-school : (m : Market) (a : Amendment) (s : ℕ) → record_of a ≡ OfSchool s → first_to_list m s ≡ rewind_point m a
-point-school m (Enter j zone siblings choices continuing) s is = cc
-point-school m (Withdraw j) s is = cc
-point-school m (Rerank j choices) s is = cc
-point-school m (Add t count) s is = ap (first_to_list m) (sym (ap number_in is))
-point-school m (Close t count) s is = ap (first_to_list m) (sym (ap number_in is))
-point-school m (Correct j zone siblings continuing) s is = cc
 
 -- a list with a position for a test is one that has a member that passes it
 some-listed : (test : ℕ → Bool) (xs : List ℕ) → is_some (position test xs) ≡ list_any test xs
