@@ -1,12 +1,12 @@
 -- What look-ups in the papers' tables give.
 use Rattle.std.proofs.Common.{◌≡◌, ℕ, ◌<◌, nat_eq, Bool, List, [], ◌∷◌, get_or, length, map, inl, inr, Option, Some, None, refl, sym, ap, arith, ◌∙◌, cond, false, true, is_some, position}
-use Rattle.std.specs.Prelude.{◌==◌, ◌&&◌, ◌||◌, nat_lt}
+use Rattle.std.specs.Prelude.{◌==◌, ◌&&◌, ◌||◌, ◌-◌, nat_lt, if◌then◌else◌}
 use Rattle.std.specs.List.{slice_get, list_any}
 use Rattle.sc_lottery.specs.Draw.{draw}
 use Rattle.sc_papers.specs.Key.{class_at, class_by, has_sibling_at, same_zone, key_of, key_at}
 use Rattle.sc_papers.specs.Market.{Market, choices_of, zone_at, student_at, student_of, students_of, school_of, schools_of, seats_of, is_student, is_school}
 use Rattle.sc_papers.specs.Representation.{rows_of}
-use Rattle.sc_papers.specs.StudentRow.{IsRowAt, Row, classed_at, row_of}
+use Rattle.sc_papers.specs.StudentRow.{IsRowAt, IsZoned, Row, classed_at, row_of}
 use Rattle.sc_papers.specs.WellFormed.{WellFormed}
 use Rattle.sc_papers.specs.declared.records.School.{School}
 use Rattle.sc_papers.specs.declared.records.Student.{Student}
@@ -74,6 +74,16 @@ pub classed-made : (m : Market) (student : Student) (at s class : ℕ) (school :
     → record { position = at; class = class } ≡ classed_at m student at
 classed-made m student at s class school entry known class_is =
     rw (get_or_from_slice_get (schools_of m) at s 0 (key-there m.schools at s school entry), known, class_is) refl
+
+-- the class of a student whose zone alone tells it
+pub zoned-class : (student : Student) (s : ℕ) (school : School) → IsZoned student
+    → (if student.zone == school.zone then 4 - 1 else 4) ≡ class_by (option_eq nat_eq student.continuing (Some s)) (list_any (λ t. t == s) student.siblings) (same_zone student.zone school.zone)
+zoned-class student s school zoned =
+    let lives : (student.zone == 0) ≡ false = grind (arith, nat_tests, zoned.zone) in
+    elim (cases_Bool (student.zone == school.zone)) [
+      | inl home ↦ rw (zoned.continuing, zoned.siblings, home, lives) refl
+      | inr away ↦ rw (zoned.continuing, zoned.siblings, away) refl
+    ]
 
 -- where a list of schools has one that is another, all is said by the first school where there is no other
 pub some-sibling : (s : ℕ) (siblings : List ℕ) → (option_eq nat_eq (slice_get siblings 0) (Some s) || (nat_lt 1 (length siblings) && list_any (λ t. t == s) siblings)) ≡ list_any (λ t. t == s) siblings

@@ -1,5 +1,5 @@
 -- What the papers keep of a student in one row, beside the student's record.
-use Rattle.std.specs.Prelude.{◌≡◌, ◌<◌, ℕ, ◌==◌, Bool, nat_eq, nat_lt, List, Option, None, Some, length, map, position, take, slice_get, slice_index_or, unwrap_or, if◌then◌else◌}
+use Rattle.std.specs.Prelude.{◌≡◌, ◌<◌, ℕ, ◌==◌, Bool, nat_eq, nat_lt, List, [], Option, None, Some, length, map, position, take, slice_get, slice_index_or, unwrap_or, if◌then◌else◌}
 use Rattle.std.specs.List.{list_any}
 use Rattle.std.specs.Option.{option_eq}
 use Rattle.sc_lottery.specs.Draw.{draw}
@@ -44,6 +44,12 @@ positions_in table schools = map (λ s. unwrap_or (slice_index_or table s None) 
 abbrev pub class_in : Student → ℕ → ℕ → ℕ
 class_in student school zone =
     class_by (option_eq nat_eq student.continuing (Some school)) (list_any (λ t. t == school) student.siblings) (same_zone student.zone zone)
+
+-- a student who lives in a zone, continues nowhere and has no siblings: the zone alone tells the class at each school
+pub record IsZoned (student : Student) : Type 0 where
+  pub zone : 0 < student.zone
+  pub continuing : student.continuing ≡ None
+  pub siblings : student.siblings ≡ []
 
 -- the choice by a student of the school at a position
 abbrev pub classed_at : Market → Student → ℕ → Classed

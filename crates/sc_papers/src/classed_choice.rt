@@ -1,4 +1,4 @@
-ghost use Rattle.std.specs.Prelude.{◌≡◌, ◌<◌};
+ghost use Rattle.std.specs.Prelude.{◌≡◌, ◌<◌, ◌-◌, if◌then◌else◌};
 
 use crate::limits::{LONGEST_LIST, MOST_SCHOOLS};
 use std::marker::Model;
@@ -42,6 +42,16 @@ impl ClassedChoice {
     {
         ClassedChoice {
             class_and_position: u16::from(class) * POSITIONS + position,
+        }
+    }
+
+    /// The same choice, of the class ahead where it is so.
+    pub(crate) fn moved_ahead(self, is_ahead: bool) -> Self
+        requires { 0 < self.class }
+        ensures { result ≡ record { position = self.position; class = if is_ahead then self.class - 1 else self.class } }
+    {
+        ClassedChoice {
+            class_and_position: self.class_and_position - u16::from(is_ahead) * POSITIONS,
         }
     }
 

@@ -1,9 +1,10 @@
 //! The keys of the students at the schools.
 
-ghost use Rattle.std.specs.Prelude.{◌≡◌, ◌<◌, ◌==◌, length, map, nat_eq, position, nat_lt, true, ◌&&◌, Some, None, if◌then◌else◌};
+ghost use Rattle.std.specs.Prelude.{◌≡◌, ◌<◌, ◌==◌, length, map, nat_eq, position, nat_lt, take, true, ◌&&◌, Some, None, if◌then◌else◌};
+ghost use Rattle.std.specs.Bool.{OnTrue};
 ghost use Rattle.std.specs.List.{list_any};
 ghost use Rattle.sc_papers.specs.Key.{class_by, same_zone};
-ghost use Rattle.sc_papers.specs.StudentRow.{class_in};
+ghost use Rattle.sc_papers.specs.StudentRow.{class_in, IsZoned};
 
 use crate::classed_choice::{ClassedChoice, ClassedList};
 use crate::flat_papers::FlatPapers;
@@ -31,18 +32,23 @@ fn class_of(continuing: bool, sibling: bool, zone: Zone, school: School) -> u8
     }
 }
 
-/// The priority class of a student at a school of this number. Most have no sibling at any school and continue at none, and
-/// of these the zone alone is looked at.
+/// The priority class of a student at a school of this number.
 #[inline]
 fn class_in(student: &Student, number: SchoolNo, school: School) -> u8
     ensures { result ≡ class_in student.now number school.zone }
 {
-    let siblings = student.siblings.as_slice();
-    if student.continuing.is_none() && siblings.is_empty() {
-        return class_of(false, false, student.zone, school);
-    }
     let continuing = student.continuing == Some(number);
-    class_of(continuing, siblings.contains(&number), student.zone, school)
+    let sibling = student.siblings.as_slice().contains(&number);
+    class_of(continuing, sibling, student.zone, school)
+}
+
+/// Whether the zone alone tells the student's class at each school, as it does of most.
+fn is_zoned(student: &Student) -> bool
+    ensures { OnTrue result (IsZoned student.now) }
+{
+    student.zone.get() != 0
+        && student.continuing.is_none()
+        && student.siblings.as_slice().is_empty()
 }
 
 /// Whether a position is among some.
@@ -55,7 +61,7 @@ fn is_among(positions: &[u16], at: usize) -> bool
 impl FlatPapers {
     ghost use Rattle.sc_papers.specs.Market.{student_at, schools_of, siblings_of, is_school, is_student};
     ghost use Rattle.sc_papers.specs.Placed.{AreOfSchools};
-    ghost use Rattle.sc_papers.specs.StudentRow.{classed_at, IsRowAt};
+    ghost use Rattle.sc_papers.specs.StudentRow.{classed_at, IsRowAt, IsZoned};
     ghost use Rattle.sc_papers.specs.Key.{has_sibling_at, key_at, key_of};
 
     /// The student's key at the school, or `None` where either is not in the papers. The student
@@ -103,16 +109,58 @@ impl FlatPapers {
         ClassedChoice::new(position, class_in(student, *name, *school))
     }
 
+    /// The same of a student whose class the zone alone tells. No branch is taken on it, since nobody can guess whether the
+    /// next choice is at home.
+    #[inline]
+    fn zoned_choice(&self, student: &Student, position: u16) -> ClassedChoice
+        requires within { position < length self.now.schools }
+        requires zoned { IsZoned student.now }
+        ensures { result ≡ classed_at self.now student.now position }
+    {
+        // This call tells that the papers are within their limits.
+        prove!(self.students_len() <= MOST_STUDENTS);
+        let Some((_, school)) = self.schools.get_index(usize::from(position)) else {
+            unreachable!()
+        };
+        ClassedChoice::new(position, 4).moved_ahead(student.zone == school.zone)
+    }
+
+    /// What `filled_choices` answers of a student whose class the zone alone tells.
+    fn zoned_choices(&self, student: &Student, positions: &PositionList) -> [ClassedChoice; 20]
+        requires positions { AreOfSchools self.now positions.now }
+        requires zoned { IsZoned student.now }
+        ensures { take (length positions.now) result ≡ map (classed_at self.now student.now) positions.now }
+    {
+        let mut choices = [ClassedChoice::default(); LONGEST_LIST];
+        for (rank, position) in positions.as_slice().iter().enumerate() {
+            choices[rank] = self.zoned_choice(student, *position);
+        }
+        choices
+    }
+
+    /// The choices by a student of the schools at these positions, and any after the last of them.
+    fn filled_choices(&self, student: &Student, positions: &PositionList) -> [ClassedChoice; 20]
+        requires { AreOfSchools self.now positions.now }
+        ensures { take (length positions.now) result ≡ map (classed_at self.now student.now) positions.now }
+    {
+        let mut choices = [ClassedChoice::default(); LONGEST_LIST];
+        for (rank, position) in positions.as_slice().iter().enumerate() {
+            choices[rank] = self.classed_choice(student, *position);
+        }
+        choices
+    }
+
     /// The choices by a student of the schools at these positions of the order of entry, each from 0. The cost is a look at
     /// each school, and at the student's siblings for each.
     pub(crate) fn classed_list(&self, student: &Student, positions: &PositionList) -> ClassedList
         requires { AreOfSchools self.now positions.now }
         ensures { result ≡ map (classed_at self.now student.now) positions.now }
     {
-        let mut choices = [ClassedChoice::default(); LONGEST_LIST];
-        for (rank, position) in positions.as_slice().iter().enumerate() {
-            choices[rank] = self.classed_choice(student, *position);
-        }
+        let choices = if is_zoned(student) {
+            self.zoned_choices(student, positions)
+        } else {
+            self.filled_choices(student, positions)
+        };
         ClassedList {
             count: positions.count,
             choices,

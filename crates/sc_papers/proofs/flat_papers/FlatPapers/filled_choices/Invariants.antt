@@ -1,7 +1,7 @@
 -- The first choices are those at the first positions.
 use Rattle.std.proofs.Common.{◌≡◌, length, map, take}
 use Rattle.sc_papers.specs.StudentRow.{classed_at}
-use Rattle.sc_papers.proofs.flat_papers.FlatPapers.classed_list.Given as goal
+use Rattle.sc_papers.proofs.flat_papers.FlatPapers.filled_choices.Given as goal
 
 abbrev pub invariant-loop-rank : goal.invariant-loop-rank
 invariant-loop-rank l = record {
