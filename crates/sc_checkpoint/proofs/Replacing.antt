@@ -1,12 +1,8 @@
 -- Chains that give way to renewed ones.
 use Rattle.std.proofs.Common.{◌≡◌, refl, ap, subst, ◌∙◌, ℕ, zero, suc, ◌<◌, List, [], ◌∷◌, ◌++◌, length, map, set, Some, Contains, slice_get, length-set, arith}
+use Rattle.std.proofs.lemmas.List.{map-set}
 use Rattle.sc_papers.proofs.Counting.{contains-head, contains-tail}
 use Rattle.sc_checkpoint.specs.Chains.{replaced}
-
-map-set : {X Y : Type 0} (f : X → Y) (xs : List X) (k : ℕ) (x : X) → map f (set xs k x) ≡ set (map f xs) k (f x)
-map-set f [] k x = refl
-map-set f (y ∷ ys) zero x = refl
-map-set f (y ∷ ys) (suc k) x = ap (λ rest. f y ∷ rest) (map-set f ys k x)
 
 -- what stands at an index after a write
 pub get-set-same : {X : Type 0} (xs : List X) (k : ℕ) (x : X) → k < length xs → slice_get (set xs k x) k ≡ Some x
