@@ -1,13 +1,12 @@
 -- What a filter keeps of a list.
-use Rattle.std.proofs.Common.{◌≡◌, inl, inr, refl, zero-add, sym, ap, subst, ◌∙◌, ℕ, ◌+◌, ◌≤◌, nat_eq, Bool, true, false, List, [], ◌∷◌, ◌++◌, length, take, cond, Some, Contains, filter, slice_get}
+use Rattle.std.proofs.Common.{◌≡◌, inl, inr, zero-add, sym, ap, subst, ◌∙◌, ℕ, ◌+◌, ◌≤◌, nat_eq, Bool, true, false, List, [], ◌∷◌, ◌++◌, length, take, cond, Some, Contains, filter, slice_get}
 use Rattle.std.specs.List.{range_with_len, IsDistinct}
 use Rattle.std.proofs.lemmas.Bool.{cases_Bool, false≢true}
 use Rattle.std.proofs.lemmas.List.{append-nil, take_all}
 use Rattle.std.proofs.lemmas.List.Elements.{All-contains, All-contains_itself, All-filter, All-from_recursion, filter-append, filter_more, filter_passes, recursion_from_All}
-use Rattle.std.proofs.lemmas.List.Folds.{map_fixed}
-use Rattle.std.proofs.lemmas.List.FromFn.{map-range_with_len_more}
 use Rattle.std.proofs.lemmas.Option.{get_or_from_slice_get, slice_get_within}
 use Rattle.sc_papers.proofs.Counting.{contains-cons, contains-head, contains-tail}
+use Rattle.sc_region.proofs.Rising.{range-more}
 
 pub filter-kept : (p : ℕ → Bool) (xs : List ℕ) (i : ℕ) → Contains xs i → p i ≡ true → Contains (filter p xs) i
 filter-kept p [] i among passes = among
@@ -58,13 +57,8 @@ pub filter-whole : (p : ℕ → Bool) (xs : List ℕ) (at : ℕ) → length xs �
 filter-whole p xs at past = ap (filter p) (take_all at xs past)
 
 -- one number more of those below a count
-range-more : (n : ℕ) → range_with_len 0 (n + 1) ≡ range_with_len 0 n ++ n ∷ []
-range-more n =
-    sym (map_fixed (λ k. k) (range_with_len 0 (n + 1)) (λ k d low. refl)) ∙ map-range_with_len_more (λ k. k) 0 n n (zero-add n)
-    ∙ ap (λ xs. xs ++ n ∷ []) (map_fixed (λ k. k) (range_with_len 0 n) (λ k d low. refl))
-
-filter-range : (p : ℕ → Bool) (n : ℕ) → filter p (range_with_len 0 (n + 1)) ≡ filter p (range_with_len 0 n) ++ cond (p n) (n ∷ []) []
-filter-range p n = ap (filter p) (range-more n) ∙ filter-append p (range_with_len 0 n) (n ∷ [])
+pub filter-range : (p : ℕ → Bool) (n : ℕ) → filter p (range_with_len 0 (n + 1)) ≡ filter p (range_with_len 0 n) ++ cond (p n) (n ∷ []) []
+filter-range p n = ap (filter p) (range-more 0 n ∙ ap (λ k. range_with_len 0 n ++ k ∷ []) (zero-add n)) ∙ filter-append p (range_with_len 0 n) (n ∷ [])
 
 pub filter-range_keeps : (p : ℕ → Bool) (n : ℕ) → p n ≡ true → filter p (range_with_len 0 (n + 1)) ≡ filter p (range_with_len 0 n) ++ n ∷ []
 filter-range_keeps p n passes = filter-range p n ∙ ap (λ b. filter p (range_with_len 0 n) ++ cond b (n ∷ []) []) passes

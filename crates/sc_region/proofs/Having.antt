@@ -1,5 +1,5 @@
 -- The region is found among students of whom it is known that they have all of it.
-use Rattle.std.proofs.Common.{◌≡◌, ◌↔◌, ◌==◌, inl, inr, ◌<◌, ◌+◌, ap, refl, subst, sym, zero-add, ◌∙◌, ℕ, List, [], ◌∷◌, length, map, Bool, true, Some, None, Contains, Global, Vec, filter, slice_get, arith}
+use Rattle.std.proofs.Common.{◌≡◌, ◌↔◌, ◌==◌, inl, inr, ◌<◌, ap, refl, subst, sym, ◌∙◌, ℕ, List, [], ◌∷◌, length, map, Bool, true, Some, None, Contains, Global, Vec, filter, slice_get, arith}
 use Rattle.std.proofs.lemmas.Bool.{eqb-true, eq-eqb}
 use Rattle.std.proofs.lemmas.Map.Entries.{length-keys_of}
 use Rattle.std.proofs.lemmas.Option.{slice_get_within}
@@ -19,14 +19,13 @@ use Rattle.std.specs.List.Sorted.{IsStrictlyIncreasing}
 use Rattle.std.specs.Prelude.{slice_index}
 use Rattle.std.proofs.lemmas.List.Kept.{IsStrictlyIncreasing-filter}
 use Rattle.std.specs.List.{range_with_len}
-use Rattle.std.proofs.lemmas.List.Elements.{Contains-get_or}
-use Rattle.std.proofs.lemmas.List.FromFn.{get_or-range_with_len, length-range_with_len}
 use Rattle.std.proofs.lemmas.List.{length-map}
 use Rattle.sc_region.specs.declared.first.First.{First}
 use Rattle.sc_region.proofs.Firsts.{names}
 use Rattle.sc_region.proofs.Filtering.{filter-among, filter-kept}
 use Rattle.sc_region.proofs.Joining.{first-known, joined-partial, position-within}
 use Rattle.sc_region.proofs.Reaching.{in-member, partial-in, students-tell, TellRegion}
+use Rattle.sc_region.proofs.Rising.{range-from, range-rising, range-there}
 
 -- what stands in a list stands, mapped, in the mapped one
 map-kept : (f : ℕ → ℕ) (xs : List ℕ) (x : ℕ) → Contains xs x → Contains (map f xs) (f x)
@@ -105,25 +104,16 @@ district-near m a well d before group its i inside known =
     (in-member m a well before.allowed d.groups before.districts.one_each (λ j. Unit {0}) (λ j s of listed. before.districts.closed j s listed) (λ j within. tt) i inside known)
     ∙ sym its
 
--- the positions below a count
-range-has : (count p : ℕ) → p < count → Contains (range_with_len 0 count) p
-range-has count p low =
-    let is : slice_index (range_with_len 0 count) p ≡ p = get_or-range_with_len 0 count p 0 low ∙ zero-add p in
-    subst (Contains (range_with_len 0 count)) is (Contains-get_or (range_with_len 0 count) p 0 (omega (arith, low, length-range_with_len 0 count)))
-
-range-low : (count p : ℕ) → Contains (range_with_len 0 count) p → p < count
-range-low count p (k, low, at) = let within : k < count = omega (arith, low, length-range_with_len 0 count) in omega (arith, within, at, get_or-range_with_len 0 count k p within)
-
 -- the positions of the schools of a group
 pub position-among : (groups : List ℕ) (group at : ℕ) → Contains (schools_of_group groups group) at → (at < length groups) × (slice_index groups at ≡ group)
 unfolding schools_of_group
 position-among groups group at among =
     let (there, passes) = filter-among (λ q. slice_index groups q == group) (range_with_len 0 (length groups)) at among in
-    (range-low (length groups) at there, eqb-true _ _ passes)
+    (omega (arith, (range-from 0 (length groups) at there).1), eqb-true _ _ passes)
 
 pub position-kept : (groups : List ℕ) (group at : ℕ) → at < length groups → slice_index groups at ≡ group → Contains (schools_of_group groups group) at
 unfolding schools_of_group
-position-kept groups group at low is = filter-kept (λ q. slice_index groups q == group) (range_with_len 0 (length groups)) at (range-has (length groups) at low) (eq-eqb _ _ is)
+position-kept groups group at low is = filter-kept (λ q. slice_index groups q == group) (range_with_len 0 (length groups)) at (range-there 0 (length groups) at (omega arith) (omega (arith, low))) (eq-eqb _ _ is)
 
 -- each is that of a school of the papers, and has a list of students
 pub position-low : (m : Market) (d : DistrictsView) → AreDistricts m d → (schools : List ℕ) (group at : ℕ) → schools ≡ schools_of_group d.groups group → Contains schools at → at < length (schools_of m)
@@ -196,16 +186,9 @@ listed-district m a well d now view start searched schools are found positions s
         listed at p (subst (λ xs. Contains xs at) (sym schools_are) (position-kept d.groups (slice_index d.groups start) at (omega (arith, there, before.districts.one_each)) here)) low
         (before.districts.listed (student_at m p) (student-among m (student_at m p) (known p low)))
 
--- positions in a range
-range-rising : (count : ℕ) → IsStrictlyIncreasing (range_with_len 0 count)
-range-rising count k low =
-    let long = length-range_with_len 0 count in
-    let next : k + 1 < count = omega (arith, low, long) in
-    omega (arith, get_or-range_with_len 0 count k 0 (omega (arith, next)), get_or-range_with_len 0 count (k + 1) 0 next)
-
 -- groups that tell the region tell it of all students
 pub all-told : (m : Market) (a : Amendment) (groups : List ℕ) → TellRegion m a groups → (at : ℕ) → at ≡ position_of m (start_of m a) → (numbers found : List ℕ) (group : ℕ) → numbers ≡ groups → group ≡ slice_index groups at
     → found ≡ positions_in m numbers group (range_with_len 0 (length (students_of m))) → AreOfRegion m a found
 all-told m a groups tell =
-    region-told m a groups tell (range_with_len 0 (length (students_of m))) (range-rising (length (students_of m)))
-    (range-low (length (students_of m))) (λ p low inside. range-has (length (students_of m)) p low)
+    region-told m a groups tell (range_with_len 0 (length (students_of m))) (range-rising 0 (length (students_of m)))
+    (λ p among. omega (arith, (range-from 0 (length (students_of m)) p among).1)) (λ p low inside. range-there 0 (length (students_of m)) p (omega arith) (omega (arith, low)))
