@@ -1,15 +1,16 @@
 -- What an accepted amendment changes in who lists what.
-use Rattle.std.proofs.Common.{◌≡◌, ◌⊎◌, inl, inr, refl, sym, ap, subst, ◌∙◌, ℕ, nat_eq, Bool, true, false, not, List, [], ◌∷◌, ◌++◌, cond, length, Option, Some, None, Contains, is_some, arith}
+use Rattle.std.proofs.Common.{◌≡◌, ◌⊎◌, inl, inr, refl, sym, ap, subst, ◌∙◌, ℕ, nat_eq, true, false, not, List, [], ◌∷◌, ◌++◌, cond, length, Option, Some, None, Contains, is_some, arith}
 use Rattle.std.specs.Prelude.{slice_index}
 use Rattle.std.specs.Option.{option_map_or, IsSome}
-use Rattle.std.specs.List.{IsDistinct, list_any}
+use Rattle.std.specs.List.{IsDistinct}
 use Rattle.std.proofs.lemmas.List.{append-nil}
 use Rattle.std.proofs.lemmas.Map.Keys.{IsDistinct-push}
 use Rattle.std.specs.Map.{lookup}
-use Rattle.std.proofs.lemmas.Bool.{cases_Bool, cond-true, cond-false, eqb-true, eq-eqb, false≢true}
+use Rattle.std.proofs.lemmas.Bool.{cases_Bool, cond-true, cond-false, eqb-true, eq-eqb, false≢true, not-false}
 use Rattle.std.proofs.lemmas.Cmp.{nat_eq_equiv}
-use Rattle.std.proofs.lemmas.List.Elements.{All-contains, All-head, Contains-get_or}
+use Rattle.std.proofs.lemmas.List.Elements.{All-contains, All-contains_itself, All-head, All-weaker, Contains-get_or}
 use Rattle.std.proofs.lemmas.List.Edits.{insert_end}
+use Rattle.std.proofs.lemmas.List.Folds.{list_any_none}
 use Rattle.std.proofs.lemmas.Map.{lookup-insert, lookup-remove_entry, lookup-set_value, none_passes_from_lookup}
 use Rattle.std.proofs.lemmas.Option.{none-some, same_Some}
 use Rattle.sc_papers.specs.Market.{Market, choices_of, is_school, is_student, school_of, student_of}
@@ -20,7 +21,7 @@ use Rattle.sc_papers.specs.declared.amendment.Amendment.TheVariants.{Enter, With
 use Rattle.sc_papers.specs.declared.amendment.Refusal.TheVariants.{UnknownStudent}
 use Rattle.sc_papers.specs.declared.records.School.{School}
 use Rattle.sc_papers.specs.declared.records.Student.{Student}
-use Rattle.sc_papers.proofs.Counting.{contains-cons, contains-head, contains-tail}
+use Rattle.sc_papers.proofs.Counting.{contains-cons}
 use Rattle.sc_papers.proofs.Entering.{MayEnter, MayEnter-allowed}
 use Rattle.sc_papers.proofs.Objections.{first_of-none, refuse_if-none, unknown_in-none}
 use Rattle.sc_papers.proofs.Positions.{among-student}
@@ -64,12 +65,12 @@ changed m j change old held i =
     (lookup-set_value nat_eq_equiv (nat_eq j) (one-key j) i (change old) m.students (subst IsSome (sym held) refl))
 
 -- a change of a school changes no student
-pub of-changed : {X : Type 0} (P : Market → Type 0) (found : Option X) (change : X → Market) (m : Market) → P m → ((x : X) → P (change x)) → P (option_map_or change found m)
+pub of-changed : {X : Type 0} (P : Market → Type 0) (found : Option X) (change : X → Market) (m : Market) → P m → ((x : X) → found ≡ Some x → P (change x)) → P (option_map_or change found m)
 of-changed P None change m same changes = same
-of-changed P (Some x) change m same changes = changes x
+of-changed P (Some x) change m same changes = changes x refl
 
 seated-student : (m : Market) (s : ℕ) (change : School → School) (i : ℕ) → student_of (changed_school m s change) i ≡ student_of m i
-seated-student m s change i = of-changed (λ n. student_of n i ≡ student_of m i) (school_of m s) _ m refl (λ school. refl)
+seated-student m s change i = of-changed (λ n. student_of n i ≡ student_of m i) (school_of m s) _ m refl (λ school is. refl)
 
 -- whom an amendment names, the papers hold, unless the student enters
 pub is-held : (m : Market) (i : ℕ) → is_student m i ≡ true → (student : Student) × (student_of m i ≡ Some student)
@@ -78,10 +79,6 @@ is-held m i known = go (student_of m i) refl known
     go : (found : Option Student) → student_of m i ≡ found → is_some found ≡ true → (student : Student) × (student_of m i ≡ Some student)
     go None is none = absurd (false≢true none)
     go (Some student) is some = (student, is)
-
-not-false : (b : Bool) → not b ≡ false → b ≡ true
-not-false true e = refl
-not-false false e = absurd (false≢true (sym e))
 
 pub withdraw-known : (m : Market) (i : ℕ) → verdict m (Withdraw i) ≡ None → is_student m i ≡ true
 withdraw-known m i allowed = not-false (is_student m i) (refuse_if-none (not (is_student m i)) UnknownStudent (first_of-none (objections_to_withdraw m i) allowed).0)
@@ -159,36 +156,29 @@ new-listed m (Enter j zone siblings choices continuing) allowed i s is among =
     let same : j ≡ i = cc in
     let found = entered m j new (enter-may m j zone siblings choices continuing allowed).new j ∙ found-own j (Some new) (student_of m j) in
     subst (λ k. Contains (choices_of (with_student m j new) k) s) same (subst (λ list. Contains list s) (sym (choices-told (with_student m j new) j new found)) among)
-new-listed m (Withdraw j) allowed i s is (k, low, at) = absurd (omega (arith, low))
 new-listed m (Rerank j choices) allowed i s is among =
     let change : Student → Student = λ student. record student { choices = choices } in
     let (old, held) = is-held m j (rerank-known m j choices allowed) in
     let same : j ≡ i = cc in
     let found = changed m j change old held j ∙ found-own j (Some (change old)) (student_of m j) in
     subst (λ k. Contains (choices_of (changed_student m j change) k) s) same (subst (λ list. Contains list s) (sym (choices-told (changed_student m j change) j (change old) found)) among)
-new-listed m (Add t count) allowed i s is (k, low, at) = absurd (omega (arith, low))
-new-listed m (Close t count) allowed i s is (k, low, at) = absurd (omega (arith, low))
-new-listed m (Correct j zone siblings continuing) allowed i s is (k, low, at) = absurd (omega (arith, low))
+new-listed m _ allowed i s is (k, low, at) = absurd (omega (arith, low))
 
 -- the new choices are schools of the papers
 pub new-known : (m : Market) (a : Amendment) → verdict m a ≡ None → (s : ℕ) → Contains (new_choices a) s → is_school m s ≡ true
 new-known m (Enter j zone siblings choices continuing) allowed s among =
     All-contains (λ t. is_school m t ≡ true) choices s (enter-may m j zone siblings choices continuing allowed).lists.choices_known among
-new-known m (Withdraw j) allowed s (k, low, at) = absurd (omega (arith, low))
 new-known m (Rerank j choices) allowed s among =
     All-contains (λ t. is_school m t ≡ true) choices s (unknown_in-none m choices (first_of-none (objections_to_rerank m j choices) allowed).1.1.1.0) among
-new-known m (Add t count) allowed s (k, low, at) = absurd (omega (arith, low))
-new-known m (Close t count) allowed s (k, low, at) = absurd (omega (arith, low))
-new-known m (Correct j zone siblings continuing) allowed s (k, low, at) = absurd (omega (arith, low))
+new-known m _ allowed s (k, low, at) = absurd (omega (arith, low))
 
 -- the amended student is one of the papers or enters
 pub amended-known : (m : Market) (a : Amendment) → verdict m a ≡ None → (i : ℕ) → amended_student a ≡ Some i → (is_student m i ≡ true) ⊎ Contains (entrants a) i
 amended-known m (Enter j zone siblings choices continuing) allowed i is = let same : j ≡ i = cc in inr (0, omega arith, same)
 amended-known m (Withdraw j) allowed i is = let same : j ≡ i = cc in inl (subst (λ k. is_student m k ≡ true) same (withdraw-known m j allowed))
 amended-known m (Rerank j choices) allowed i is = let same : j ≡ i = cc in inl (subst (λ k. is_student m k ≡ true) same (rerank-known m j choices allowed))
-amended-known m (Add t count) allowed i is = absurd (none-some i is)
-amended-known m (Close t count) allowed i is = absurd (none-some i is)
 amended-known m (Correct j zone siblings continuing) allowed i is = let same : j ≡ i = cc in inl (subst (λ k. is_student m k ≡ true) same (correct-known m j zone siblings continuing allowed))
+amended-known m _ allowed i is = absurd (none-some i is)
 
 -- who enters is amended, and is new
 pub entrant-amended : (m : Market) (a : Amendment) (i : ℕ) → Contains (entrants a) i → amended_student a ≡ Some i
@@ -196,11 +186,7 @@ entrant-amended m (Enter j zone siblings choices continuing) i among = elim (con
   | inl same ↦ ap Some same
   | inr (k, low, at) ↦ absurd (omega (arith, low))
 ]
-entrant-amended m (Withdraw j) i (k, low, at) = absurd (omega (arith, low))
-entrant-amended m (Rerank j choices) i (k, low, at) = absurd (omega (arith, low))
-entrant-amended m (Add t count) i (k, low, at) = absurd (omega (arith, low))
-entrant-amended m (Close t count) i (k, low, at) = absurd (omega (arith, low))
-entrant-amended m (Correct j zone siblings continuing) i (k, low, at) = absurd (omega (arith, low))
+entrant-amended m _ i (k, low, at) = absurd (omega (arith, low))
 
 -- the amended student lists the school to begin with, before or after, and it is the amended school
 pub start-listed : (m : Market) (a : Amendment) → WellFormed m → verdict m a ≡ None → (i : ℕ) → amended_student a ≡ Some i → Lists m a i (start_of m a)
@@ -212,19 +198,15 @@ start-listed m (Withdraw j) well allowed i is =
 start-listed m (Rerank j choices) well allowed i is =
     let same : j ≡ i = cc in
     subst (λ k. Lists m (Rerank j choices) k (first_choice m j)) same (inl (first-listed m well j (rerank-known m j choices allowed)))
-start-listed m (Add t count) well allowed i is = absurd (none-some i is)
-start-listed m (Close t count) well allowed i is = absurd (none-some i is)
 start-listed m (Correct j zone siblings continuing) well allowed i is =
     let same : j ≡ i = cc in
     subst (λ k. Lists m (Correct j zone siblings continuing) k (first_choice m j)) same (inl (first-listed m well j (correct-known m j zone siblings continuing allowed)))
+start-listed m _ well allowed i is = absurd (none-some i is)
 
 pub start-amended : (m : Market) (a : Amendment) (s : ℕ) → amended_school a ≡ Some s → start_of m a ≡ s
-start-amended m (Enter j zone siblings choices continuing) s is = absurd (none-some s is)
-start-amended m (Withdraw j) s is = absurd (none-some s is)
-start-amended m (Rerank j choices) s is = absurd (none-some s is)
 start-amended m (Add t count) s is = cc
 start-amended m (Close t count) s is = cc
-start-amended m (Correct j zone siblings continuing) s is = absurd (none-some s is)
+start-amended m _ s is = absurd (none-some s is)
 
 -- where the amended student has old choices, it is the first of them
 pub start-first : (m : Market) (a : Amendment) → verdict m a ≡ None → (i s : ℕ) → amended_student a ≡ Some i → Contains (choices_of m i) s → start_of m a ≡ first_choice m i
@@ -234,9 +216,8 @@ start-first m (Enter j zone siblings choices continuing) allowed i s is listed =
     absurd (none-some student (sym (enter-may m j zone siblings choices continuing allowed).new ∙ ap (student_of m) same ∙ found))
 start-first m (Withdraw j) allowed i s is listed = let same : j ≡ i = cc in ap (first_choice m) same
 start-first m (Rerank j choices) allowed i s is listed = let same : j ≡ i = cc in ap (first_choice m) same
-start-first m (Add t count) allowed i s is listed = absurd (none-some i is)
-start-first m (Close t count) allowed i s is listed = absurd (none-some i is)
 start-first m (Correct j zone siblings continuing) allowed i s is listed = let same : j ≡ i = cc in ap (first_choice m) same
+start-first m _ allowed i s is listed = absurd (none-some i is)
 
 -- and it is a school of the papers
 pub start-known : (m : Market) (a : Amendment) → WellFormed m → verdict m a ≡ None → is_school m (start_of m a) ≡ true
@@ -251,11 +232,8 @@ start-known m (Correct j zone siblings continuing) well allowed = choice-known m
 -- new choices come with an amended student
 pub new-amended : (a : Amendment) (s : ℕ) → Contains (new_choices a) s → (i : ℕ) × (amended_student a ≡ Some i)
 new-amended (Enter j zone siblings choices continuing) s among = (j, refl)
-new-amended (Withdraw j) s among = (j, refl)
 new-amended (Rerank j choices) s among = (j, refl)
-new-amended (Add t count) s (k, low, at) = absurd (omega (arith, low))
-new-amended (Close t count) s (k, low, at) = absurd (omega (arith, low))
-new-amended (Correct j zone siblings continuing) s among = (j, refl)
+new-amended _ s (k, low, at) = absurd (omega (arith, low))
 
 -- a student is amended or a school
 pub amended-some : (a : Amendment) → ((i : ℕ) × (amended_student a ≡ Some i)) ⊎ ((s : ℕ) × (amended_school a ≡ Some s))
@@ -266,32 +244,21 @@ amended-some (Add t count) = inr (t, refl)
 amended-some (Close t count) = inr (t, refl)
 amended-some (Correct j zone siblings continuing) = inl (j, refl)
 
-absent : (i : ℕ) (xs : List ℕ) → ((j : ℕ) → Contains xs j → nat_eq i j ≡ false) → list_any (nat_eq i) xs ≡ false
-absent i [] apart = refl
-absent i (x ∷ xs) apart = rw (apart x (contains-head x xs)) (absent i xs (λ j among. apart j (contains-tail x xs j among)))
-
 -- the members of a list and a student who enters differ where the list has students of the papers alone
 pub entrants-differ : (m : Market) (a : Amendment) → verdict m a ≡ None → (students : List ℕ) → ((i : ℕ) → Contains students i → is_student m i ≡ true)
     → IsDistinct nat_eq students → IsDistinct nat_eq (students ++ entrants a)
 entrants-differ m (Enter j zone siblings choices continuing) allowed students known differ =
-    IsDistinct-push nat_eq_equiv students j differ (absent j students (λ i among. apart i (known i among)))
+    IsDistinct-push nat_eq_equiv students j differ
+    (list_any_none (nat_eq j) students (All-weaker (Contains students) (λ i. nat_eq j i ≡ false) (λ i among. apart i (known i among)) students (All-contains_itself students)))
   where
     apart : (i : ℕ) → is_student m i ≡ true → nat_eq j i ≡ false
     apart i held = elim (cases_Bool (nat_eq j i)) [
       | inl same ↦ absurd (false≢true (sym (ap is_some (enter-may m j zone siblings choices continuing allowed).new) ∙ ap (is_student m) (eqb-true j i same) ∙ held))
       | inr other ↦ other
     ]
-entrants-differ m (Withdraw j) allowed students known differ = rw (append-nil students) differ
-entrants-differ m (Rerank j choices) allowed students known differ = rw (append-nil students) differ
-entrants-differ m (Add t count) allowed students known differ = rw (append-nil students) differ
-entrants-differ m (Close t count) allowed students known differ = rw (append-nil students) differ
-entrants-differ m (Correct j zone siblings continuing) allowed students known differ = rw (append-nil students) differ
+entrants-differ m _ allowed students known differ = rw (append-nil students) differ
 
 -- where nobody enters, there is no entrant
 pub entrants-none : (a : Amendment) → ((i zone : ℕ) (siblings choices : List ℕ) (continuing : Option ℕ) → a ≡ Enter i zone siblings choices continuing → ⊥) → entrants a ≡ []
 entrants-none (Enter j zone siblings choices continuing) other = absurd (other j zone siblings choices continuing refl)
-entrants-none (Withdraw j) other = refl
-entrants-none (Rerank j choices) other = refl
-entrants-none (Add t count) other = refl
-entrants-none (Close t count) other = refl
-entrants-none (Correct j zone siblings continuing) other = refl
+entrants-none _ other = refl

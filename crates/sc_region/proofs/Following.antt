@@ -9,7 +9,7 @@ use Rattle.sc_papers.specs.Market.{Market, school_of, schools_of, student_of}
 use Rattle.sc_papers.specs.Verdict.{after, changed_school, changed_student, objections_to_rerank, verdict}
 use Rattle.sc_papers.specs.WellFormed.{WellFormed}
 use Rattle.sc_papers.specs.declared.amendment.Amendment.{Amendment}
-use Rattle.sc_papers.specs.declared.amendment.Amendment.TheVariants.{Enter, Withdraw, Rerank, Add, Close, Correct}
+use Rattle.sc_papers.specs.declared.amendment.Amendment.TheVariants.{Enter, Rerank, Add, Close, Correct}
 use Rattle.sc_papers.specs.declared.amendment.Refusal.TheVariants.{EmptyList}
 use Rattle.sc_papers.specs.declared.records.School.{School}
 use Rattle.sc_papers.specs.declared.records.Student.{Student}
@@ -25,18 +25,17 @@ use Rattle.sc_region.proofs.Reaching.{region-together}
 
 -- the schools stay as they are
 keys-changed : (m : Market) (i : ℕ) (change : Student → Student) → schools_of (changed_student m i change) ≡ schools_of m
-keys-changed m i change = of-changed (λ n. schools_of n ≡ schools_of m) (student_of m i) _ m refl (λ student. refl)
+keys-changed m i change = of-changed (λ n. schools_of n ≡ schools_of m) (student_of m i) _ m refl (λ student is. refl)
 
 keys-seated : (m : Market) (s : ℕ) (change : School → School) → schools_of (changed_school m s change) ≡ schools_of m
-keys-seated m s change = of-changed (λ n. schools_of n ≡ schools_of m) (school_of m s) _ m refl (λ school. keys-set_value (nat_eq s) m.schools (change school))
+keys-seated m s change = of-changed (λ n. schools_of n ≡ schools_of m) (school_of m s) _ m refl (λ school is. keys-set_value (nat_eq s) m.schools (change school))
 
 pub schools-stay : (m : Market) (a : Amendment) → schools_of (after m a) ≡ schools_of m
-schools-stay m (Enter i zone siblings choices continuing) = refl
-schools-stay m (Withdraw i) = refl
 schools-stay m (Rerank i choices) = keys-changed m i (λ student. record student { choices = choices })
 schools-stay m (Add s count) = keys-seated m s _
 schools-stay m (Close s count) = keys-seated m s _
 schools-stay m (Correct i zone siblings continuing) = keys-changed m i (λ student. record student { zone = zone; siblings = siblings; continuing = continuing })
+schools-stay m _ = refl
 
 -- who comes, comes with choices
 positive : (n : ℕ) → (n == 0) ≡ false → 0 < n
@@ -44,11 +43,8 @@ positive n some = grind (arith, nat_tests)
 
 pub listed_by-some : (m : Market) (a : Amendment) → verdict m a ≡ None → (i : ℕ) → listed_by a ≡ Some i → 0 < length (new_choices a)
 listed_by-some m (Enter j zone siblings choices continuing) allowed i is = (enter-may m j zone siblings choices continuing allowed).lists.choices_some
-listed_by-some m (Withdraw j) allowed i is = absurd (none-some i is)
 listed_by-some m (Rerank j choices) allowed i is = positive (length choices) (refuse_if-none (length choices == 0) EmptyList (first_of-none (objections_to_rerank m j choices) allowed).1.0)
-listed_by-some m (Add t count) allowed i is = absurd (none-some i is)
-listed_by-some m (Close t count) allowed i is = absurd (none-some i is)
-listed_by-some m (Correct j zone siblings continuing) allowed i is = absurd (none-some i is)
+listed_by-some m _ allowed i is = absurd (none-some i is)
 
 -- the widened districts, with the students listed anew, are districts of the papers after the amendment
 pub districts-after : (m : Market) (a : Amendment) → WellFormed m → WellFormed (after m a) → verdict m a ≡ None → (d : DistrictsView) → AreDistricts m d

@@ -4,7 +4,7 @@ use Rattle.std.specs.declared.alloc.Global.{Global}
 use Rattle.sc_papers.specs.Market.{Market, choices_of, schools_of, students_of}
 use Rattle.sc_papers.specs.Verdict.{verdict}
 use Rattle.sc_papers.specs.declared.amendment.Amendment.{Amendment}
-use Rattle.sc_papers.specs.declared.amendment.Amendment.TheVariants.{Enter, Withdraw, Rerank, Add, Close, Correct}
+use Rattle.sc_papers.specs.declared.amendment.Amendment.TheVariants.{Enter, Withdraw, Rerank}
 use Rattle.sc_region.specs.declared.first.First.{First}
 use Rattle.sc_region.specs.Groups.{first_choice, group_of, new_choices, position_of, start_of, widened}
 
@@ -49,21 +49,15 @@ pub record AreSearchedFrom (m : Market) (a : Amendment) (d : DistrictsView) (at 
 
 -- who is no longer listed at the first choice that they had
 abbrev pub unlisted_by : Amendment → Option ℕ
-unlisted_by (Enter i zone siblings choices continuing) = None
 unlisted_by (Withdraw i) = Some i
 unlisted_by (Rerank i choices) = Some i
-unlisted_by (Add s count) = None
-unlisted_by (Close s count) = None
-unlisted_by (Correct i zone siblings continuing) = None
+unlisted_by _ = None
 
 -- who comes to be listed at the first of the new choices
 abbrev pub listed_by : Amendment → Option ℕ
 listed_by (Enter i zone siblings choices continuing) = Some i
-listed_by (Withdraw i) = None
 listed_by (Rerank i choices) = Some i
-listed_by (Add s count) = None
-listed_by (Close s count) = None
-listed_by (Correct i zone siblings continuing) = None
+listed_by _ = None
 
 -- the first of the new choices
 abbrev pub new_first : Amendment → ℕ

@@ -52,20 +52,13 @@ start_of m (Correct i zone siblings continuing) = first_choice m i
 -- the choices that come with the amendment
 abbrev pub new_choices : Amendment → List ℕ
 new_choices (Enter i zone siblings choices continuing) = choices
-new_choices (Withdraw i) = []
 new_choices (Rerank i choices) = choices
-new_choices (Add s count) = []
-new_choices (Close s count) = []
-new_choices (Correct i zone siblings continuing) = []
+new_choices _ = []
 
 -- the student who enters, if one does
 abbrev pub entrants : Amendment → List ℕ
 entrants (Enter i zone siblings choices continuing) = i ∷ []
-entrants (Withdraw i) = []
-entrants (Rerank i choices) = []
-entrants (Add s count) = []
-entrants (Close s count) = []
-entrants (Correct i zone siblings continuing) = []
+entrants _ = []
 
 -- the positions of the schools of a group, rising
 unfoldable pub schools_of_group : List ℕ → ℕ → List ℕ

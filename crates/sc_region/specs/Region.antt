@@ -10,18 +10,14 @@ abbrev pub amended_student : Amendment → Option ℕ
 amended_student (Enter i zone siblings choices continuing) = Some i
 amended_student (Withdraw i) = Some i
 amended_student (Rerank i choices) = Some i
-amended_student (Add s count) = None
-amended_student (Close s count) = None
 amended_student (Correct i zone siblings continuing) = Some i
+amended_student _ = None
 
 -- the school that is amended, if it is a school
 abbrev pub amended_school : Amendment → Option ℕ
-amended_school (Enter i zone siblings choices continuing) = None
-amended_school (Withdraw i) = None
-amended_school (Rerank i choices) = None
 amended_school (Add s count) = Some s
 amended_school (Close s count) = Some s
-amended_school (Correct i zone siblings continuing) = None
+amended_school _ = None
 
 -- a student lists a school, by the choices in the papers before the amendment or in those after it
 abbrev pub Lists : Market → Amendment → ℕ → ℕ → Type 0
