@@ -12,7 +12,7 @@ use Rattle.std.proofs.lemmas.Option.{none-some}
 use Rattle.std.specs.declared.alloc.AllocError.{AllocError}
 use Rattle.sc_papers.specs.Verdict.{after, verdict}
 use Rattle.sc_papers.specs.WellFormed.{WellFormed}
-use Rattle.sc_papers.specs.declared.amendment.Amendment.TheVariants.{Enter, Withdraw, Rerank, Add, Close, Correct}
+use Rattle.sc_papers.specs.declared.amendment.Amendment.TheVariants.{Enter}
 use Rattle.sc_papers.proofs.Choices.{place-of}
 use Rattle.sc_papers.proofs.Positions.{student-among}
 use Rattle.sc_papers.specs.declared.amendment.Amendment.{Amendment}
@@ -41,11 +41,7 @@ list-tells m a region tells i = (
 -- the marks of a region where nobody enters
 nobody-enters : (a : Amendment) (i : ℕ) → newcomer a ≡ None → Contains (entrants a) i → ⊥
 nobody-enters (Enter j zone siblings choices continuing) i none (k, low, at) = none-some j (sym none)
-nobody-enters (Withdraw j) i none (k, low, at) = omega (arith, low)
-nobody-enters (Rerank j choices) i none (k, low, at) = omega (arith, low)
-nobody-enters (Add s count) i none (k, low, at) = omega (arith, low)
-nobody-enters (Close s count) i none (k, low, at) = omega (arith, low)
-nobody-enters (Correct j zone siblings continuing) i none (k, low, at) = omega (arith, low)
+nobody-enters _ i none (k, low, at) = omega (arith, low)
 
 pub marks-tell : (m : Market) (a : Amendment) (marks : List Bool) → WellFormed m → verdict m a ≡ None → newcomer a ≡ None
     → ((position i : ℕ) → slice_get (students_of m) position ≡ Some i → (IsTrue (slice_index_or marks position false) ↔ InRegion m a i)) → TellsRegion m a (is_among (marked marks (students_of m)))

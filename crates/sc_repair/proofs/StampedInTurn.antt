@@ -18,7 +18,7 @@ use Rattle.sc_papers.specs.Verdict.{first_of, no_choices, objections_to_list, re
 use Rattle.sc_papers.proofs.Changing.{remove-found, set-found}
 use Rattle.sc_papers.proofs.EntryOrder.{entry-there}
 use Rattle.sc_papers.specs.declared.amendment.Amendment.{Amendment}
-use Rattle.sc_papers.specs.declared.amendment.Amendment.TheVariants.{Enter, Withdraw, Rerank, Add, Close, Correct}
+use Rattle.sc_papers.specs.declared.amendment.Amendment.TheVariants.{Enter, Withdraw, Rerank, Correct}
 use Rattle.sc_papers.specs.declared.amendment.Refusal.TheVariants.{RosterFull, StudentExists, UnknownStudent}
 use Rattle.sc_papers.specs.declared.amendment.Stamped.{Stamped}
 use Rattle.sc_papers.specs.declared.limits.TheConstants.{MOST_STUDENTS}
@@ -127,11 +127,10 @@ module _ (t : TurnsOfEntry) (m : Market) (stamps : Stamps) (kept : AreInTurn t m
   verdict_in_turn (Withdraw i) = let known = ap is_some (known-in_turn i) in (λ u. first_of (refuse_if (not (known u)) UnknownStudent ∷ []))
   verdict_in_turn (Rerank i choices) =
       let known = ap is_some (known-in_turn i) in (λ u. first_of (refuse_if (not (known u)) UnknownStudent ∷ no_choices choices ∷ objections_to_list m choices))
-  verdict_in_turn (Add s count) = refl
-  verdict_in_turn (Close s count) = refl
   verdict_in_turn (Correct i zone siblings continuing) =
       let known = ap is_some (known-in_turn i) in
       (λ u. first_of (refuse_if (not (known u)) UnknownStudent ∷ too_long siblings ∷ unknown_in m siblings ∷ unknown_school m continuing ∷ twice_in siblings ∷ []))
+  verdict_in_turn _ = refl
 
   -- whoever stands at a position, and whoever does not
   pub place-in_turn : (i p turn : ℕ) → slice_get t.turns p ≡ Some turn → position (nat_eq i) (students_of m) ≡ Some p

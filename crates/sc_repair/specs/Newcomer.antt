@@ -7,7 +7,7 @@ use Rattle.sc_papers.specs.Market.{Market, students_of}
 use Rattle.sc_papers.specs.Restriction.{cut, joined, IsSegmented}
 use Rattle.sc_papers.specs.WellFormed.{WellFormed}
 use Rattle.sc_papers.specs.declared.amendment.Amendment.{Amendment}
-use Rattle.sc_papers.specs.declared.amendment.Amendment.TheVariants.{Enter, Withdraw, Rerank, Add, Close, Correct}
+use Rattle.sc_papers.specs.declared.amendment.Amendment.TheVariants.{Enter}
 use Rattle.sc_papers.specs.declared.rejection.Rejection.{Rejection}
 use Rattle.sc_checkpoint.specs.Chains.{logs_in, students_in, with_chain, Chain}
 use Rattle.sc_engine.specs.RoundView.{RoundView, has_entered, next_of, Continues, Enters, Fits}
@@ -16,11 +16,7 @@ use Rattle.sc_repair.specs.Locality.{is_among}
 -- the student who enters, if the amendment enters one
 abbrev pub newcomer : Amendment → Option ℕ
 newcomer (Enter i zone siblings choices continuing) = Some i
-newcomer (Withdraw i) = None
-newcomer (Rerank i choices) = None
-newcomer (Add s count) = None
-newcomer (Close s count) = None
-newcomer (Correct i zone siblings continuing) = None
+newcomer _ = None
 
 -- whether some school of a log rejected the student
 abbrev pub is_moved : List Rejection → ℕ → Bool

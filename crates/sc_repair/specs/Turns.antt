@@ -7,7 +7,7 @@ use Rattle.sc_papers.specs.WellFormed.{WellFormed}
 use Rattle.sc_stamps.specs.Stamps.{IsInStep, Stamps, with_swapped_stamps}
 use Rattle.sc_stamps.specs.Verdict.{StampedPapers}
 use Rattle.sc_stamps.specs.declared.marking.Marking.{Marking}
-use Rattle.sc_stamps.specs.declared.marking.Marking.TheVariants.{Newcomer, StudentLeaves, StudentStays, School}
+use Rattle.sc_stamps.specs.declared.marking.Marking.TheVariants.{Newcomer, StudentLeaves}
 
 -- of each turn, in which one student entered, the position where that student stands now, None for one who
 -- withdrew; and of each position, the turn of its student
@@ -61,23 +61,17 @@ left t = record { positions = map (option_and_then (unless_at (length t.turns - 
 -- what becomes of the turns before an amendment is made: a newcomer has their turn already
 abbrev pub begun_turns : Marking → TurnsOfEntry → TurnsOfEntry
 begun_turns Newcomer t = entered t
-begun_turns (StudentLeaves place) t = t
-begun_turns (StudentStays place) t = t
-begun_turns (School place) t = t
+begun_turns _ t = t
 
 -- and once it is accepted: who stands last goes, where a student leaves
 abbrev pub finished_turns : Marking → TurnsOfEntry → TurnsOfEntry
-finished_turns Newcomer t = t
 finished_turns (StudentLeaves place) t = left t
-finished_turns (StudentStays place) t = t
-finished_turns (School place) t = t
+finished_turns _ t = t
 
 -- the position of a student who leaves, if there is one
 abbrev pub position_of_leaver : Marking → Option ℕ
-position_of_leaver Newcomer = None
 position_of_leaver (StudentLeaves place) = place
-position_of_leaver (StudentStays place) = None
-position_of_leaver (School place) = None
+position_of_leaver _ = None
 
 -- each student of the papers has a stamp and a turn
 pub record AreInTurn (t : TurnsOfEntry) (m : Market) (stamps : Stamps) : Type 0 where
