@@ -4,13 +4,13 @@ use Rattle.std.specs.List.{list_any}
 use Rattle.std.proofs.lemmas.List.{length-map, map-append, take-append-le, take_all}
 use Rattle.std.proofs.lemmas.Option.{none-some, same_Some}
 use Rattle.sc_papers.specs.Assignment.{assigned}
-use Rattle.sc_papers.specs.Log.{next_choice, IsSettled}
+use Rattle.sc_papers.specs.Log.{next_choice}
 use Rattle.sc_papers.specs.Market.{Market, is_student, students_of}
 use Rattle.sc_papers.specs.Restriction.{cut, joined, IsSegmented}
 use Rattle.sc_papers.specs.Verdict.{after, verdict, with_student}
 use Rattle.sc_papers.specs.WellFormed.{WellFormed, WithinLimits}
 use Rattle.sc_papers.specs.declared.amendment.Amendment.{Amendment}
-use Rattle.sc_papers.specs.declared.amendment.Amendment.TheVariants.{Enter, Withdraw, Rerank, Add, Close, Correct}
+use Rattle.sc_papers.specs.declared.amendment.Amendment.TheVariants.{Enter}
 use Rattle.sc_papers.specs.declared.records.Student.{Student}
 use Rattle.sc_papers.specs.declared.rejection.Rejection.{Rejection}
 use Rattle.sc_papers.proofs.Choices.{contains-at}
@@ -19,7 +19,8 @@ use Rattle.sc_papers.proofs.Positions.{among-student}
 use Rattle.sc_checkpoint.specs.Chains.{logs_in, students_in, Chain}
 use Rattle.sc_checkpoint.specs.NextChoices.{next_choices_after, stands, AreNextChoices}
 use Rattle.sc_checkpoint.specs.declared.standing.Standing.{Standing}
-use Rattle.sc_engine.specs.RoundView.{RoundView, entered_papers, has_entered, next_of, rank_of, without_log, Continues, Fits}
+use Rattle.sc_engine.specs.RoundView.{RoundView, has_entered, next_of, rank_of, without_log, Continues, Fits}
+use Rattle.sc_engine.proofs.Forgetting.{continues-without_log, fits-without_log}
 use Rattle.sc_engine.proofs.Growing.{continues_grown, entered_grown, fits_grown}
 use Rattle.sc_engine.proofs.Settling.{first-apart}
 use Rattle.sc_engine.proofs.Tables.{next-none}
@@ -50,11 +51,7 @@ is-entry (Enter j zone siblings choices continuing) i is =
       amended = refl;
       no_school = refl;
     })
-is-entry (Withdraw j) i is = absurd (none-some i is)
-is-entry (Rerank j choices) i is = absurd (none-some i is)
-is-entry (Add s count) i is = absurd (none-some i is)
-is-entry (Close s count) i is = absurd (none-some i is)
-is-entry (Correct j zone siblings continuing) i is = absurd (none-some i is)
+is-entry _ i is = absurd (none-some i is)
 
 -- the papers without the newcomer
 pub cut-grown : (m : Market) (i : ℕ) (student : Student) → cut (with_student m i student) (length m.students) ≡ m
@@ -154,53 +151,18 @@ goes-on-entered n i made chains new before given r turn has =
     has.stood.continues has.stood.no_log has.stood.no_proposals)
     has.enters.enters (has.chain, ap (λ l. l ++ has.chain) (sym has.stood.no_log), has.pushed)
 
--- and everybody stands in the round again
-fits-forgotten : (n : Market) (r : RoundView) (chain : List Rejection) (made : ℕ) → Fits n (with_log r chain made) → r.proposals ≡ 0 → Fits n r
-fits-forgotten n r chain made fits none = record {
-  well_formed = fits.well_formed;
-  within_limits = fits.within_limits;
-  ranks = fits.ranks;
-  rolls = fits.rolls;
-  each = fits.each;
-  proposals = omega (arith, none);
-}
-
 -- everybody stands where a settling leaves them, once its log is forgotten
 pub stands-forgotten : (n : Market) (kept : List (List Rejection)) (k : ℕ) (new : List Chain) (r after : RoundView) → after ≡ without_log r → GoesOn n kept r (students_in new) (logs_in new) k → StandsAfter n new after
 stands-forgotten n kept k new r after is on =
     subst (StandsAfter n new) (sym is) (record {
-      fits = record {
-        well_formed = on.fits.well_formed;
-        within_limits = on.fits.within_limits;
-        ranks = on.fits.ranks;
-        rolls = on.fits.rolls;
-        each = on.fits.each;
-        proposals = omega arith;
-      };
+      fits = fits-without_log n r on.fits;
       entered = λ j. on.entered j ∙ ap (list_any (nat_eq j)) (sym on.theirs);
-      continues = record {
-        settled = subst (IsSettled (entered_papers n r.ranks)) whole on.continues.settled;
-        next = λ j. ap (λ l. next_choice (entered_papers n r.ranks) l j) (sym whole) ∙ on.continues.next j;
-      };
+      continues = subst (λ (log : List Rejection). Continues n log (without_log r)) (sym on.log) (continues-without_log n r (joined kept) on.continues);
       no_log = refl;
       no_proposals = refl;
     })
-  where
-    whole : joined kept ++ r.log ≡ joined (logs_in new) ++ []
-    whole = sym on.log ∙ sym (append-nil (joined (logs_in new)))
 
 pub stands-entered : (n : Market) (i made k : ℕ) (chains new : List Chain) (given : List (ℕ × ℕ)) (r : RoundView) (has : HasEntered n chains new given r i made)
     → GoesOn n (logs_in chains) (with_log r has.chain made) (students_in new) (logs_in new) k → StandsAfter n new r
 stands-entered n i made k chains new given r has on =
-    let whole : joined (logs_in chains) ++ has.chain ≡ joined (logs_in new) ++ r.log =
-    sym on.log ∙ sym (append-nil (joined (logs_in new))) ∙ ap (λ l. joined (logs_in new) ++ l) (sym has.enters.no_log) in
-    record {
-      fits = fits-forgotten n r has.chain made on.fits has.enters.no_proposals;
-      entered = λ j. on.entered j ∙ ap (list_any (nat_eq j)) (sym on.theirs);
-      continues = record {
-        settled = subst (IsSettled (entered_papers n r.ranks)) whole on.continues.settled;
-        next = λ j. ap (λ l. next_choice (entered_papers n r.ranks) l j) (sym whole) ∙ on.continues.next j;
-      };
-      no_log = has.enters.no_log;
-      no_proposals = has.enters.no_proposals;
-    }
+    stands-forgotten n (logs_in chains) k new (with_log r has.chain made) r (λ t. record r { log = has.enters.no_log t; proposals = has.enters.no_proposals t }) on
