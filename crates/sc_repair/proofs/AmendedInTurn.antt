@@ -22,7 +22,7 @@ use Rattle.sc_stamps.proofs.Given.{given-swapped}
 use Rattle.sc_stamps.proofs.Places.{length-put}
 use Rattle.sc_stamps.proofs.Step.{in-step-after}
 use Rattle.sc_stamps.specs.declared.marking.Marking.{Marking}
-use Rattle.sc_stamps.specs.declared.marking.Marking.TheVariants.{Newcomer, StudentLeaves, StudentStays, School as OfSchool}
+use Rattle.sc_stamps.specs.declared.marking.Marking.TheVariants.{Newcomer, StudentLeaves}
 use Rattle.sc_repair.specs.Turns.{AreInTurn, AreTurns, TurnsOfEntry, begun_turns, entered, finished_turns, first_turns, in_turn, last_papers, last_stamps, last_turns, position_of_leaver, left, papers_in_turn, stamped_in_turn, swapped}
 use Rattle.sc_repair.proofs.EntryTurns.{AreTurns-first, AreTurns-entered, AreTurns-left, AreTurns-swapped, exchanged-first, turn-alone, turns-avoid}
 use Rattle.sc_repair.proofs.InTurn.{Avoids, earlier, earlier-same, in_turn-entered, in_turn-set, in_turn-swapped, swapped-there}
@@ -35,6 +35,20 @@ student_with zone siblings choices continuing = record { zone = zone; siblings =
 entered-in_turn : {X : Type 0} (t : TurnsOfEntry) (xs : List X) (x : X) → AreTurns t → length t.turns ≡ length xs → in_turn (entered t).positions (xs ++ x ∷ []) ≡ in_turn t.positions xs ++ x ∷ []
 entered-in_turn t xs x are count =
     (λ u. in_turn (t.positions ++ Some (count u) ∷ []) (xs ++ x ∷ [])) ∙ in_turn-entered t.positions xs x (subst (Avoids t.positions) count (turns-avoid t are))
+
+-- an amendment leaves turns what they are
+pub turns-begun : (k : Marking) (u : TurnsOfEntry) → AreTurns u → AreTurns (begun_turns k u)
+turns-begun Newcomer u are = AreTurns-entered u are
+turns-begun _ u are = are
+
+turns-finished : (k : Marking) (u : TurnsOfEntry) → AreTurns u → AreTurns (finished_turns k u)
+turns-finished (StudentLeaves q) u are = AreTurns-left u are
+turns-finished _ u are = are
+
+-- the three, told by equations
+pub kept-along : (t u : TurnsOfEntry) (m n : Market) (stamps others : Stamps) → u ≡ t → n ≡ m → others ≡ stamps → AreInTurn t m stamps → AreInTurn u n others
+kept-along t u m n stamps others turns papers marks kept =
+    subst (λ (x : TurnsOfEntry). AreInTurn x n others) (sym turns) (subst (λ (x : Market). AreInTurn t x others) (sym papers) (subst (λ (x : Stamps). AreInTurn t m x) (sym marks) kept))
 
 module _ (t : TurnsOfEntry) (m : Market) (stamps : Stamps) (kept : AreInTurn t m stamps) where
   -- what the papers hold of a student changes
@@ -147,18 +161,10 @@ module _ (t : TurnsOfEntry) (m : Market) (stamps : Stamps) (kept : AreInTurn t m
   kept-after a allowed = record {
     well_formed = WellFormed-after m a kept.well_formed allowed;
     in_step = in-step-after m stamps a kept.in_step;
-    turns = turns-after a;
+    turns = turns-finished (marking_of m a) (begun_turns (marking_of m a) t) (turns-begun (marking_of m a) t kept.turns);
     count = count-after a allowed (in-step-after m stamps a kept.in_step);
   }
     where
-      turns-after : (b : Amendment) → AreTurns (finished_turns (marking_of m b) (begun_turns (marking_of m b) t))
-      turns-after (Enter i zone siblings choices continuing) = AreTurns-entered t kept.turns
-      turns-after (Withdraw i) = AreTurns-left t kept.turns
-      turns-after (Rerank i choices) = kept.turns
-      turns-after (Add s count) = kept.turns
-      turns-after (Close s count) = kept.turns
-      turns-after (Correct i zone siblings continuing) = kept.turns
-
       count-after : (b : Amendment) → verdict m b ≡ None → IsInStep (after m b) (stamps_after m b stamps) → length (finished_turns (marking_of m b) (begun_turns (marking_of m b) t)).turns ≡ length (after m b).students
       count-after (Enter i zone siblings choices continuing) may step =
           omega (arith, kept.count, length-append t.turns (length t.positions ∷ []), length-append m.students ((i, student_with zone siblings choices continuing) ∷ []))
@@ -171,40 +177,26 @@ module _ (t : TurnsOfEntry) (m : Market) (stamps : Stamps) (kept : AreInTurn t m
               let low = slice_get_within m.students p (i, v) at in
               omega (arith, kept.count, length-take (length t.turns - 1) t.turns, length-remove m.students p low, ap (λ (es : List (ℕ × Student)). length es) (remove-plain i p m.students here))
       count-after (Rerank i choices) may step = kept.count ∙ sym kept.in_step.students ∙ sym (length-put stamps.students (position (nat_eq i) (students_of m)) (stamps.accepted + 1)) ∙ step.students
-      count-after (Add s count) may step = kept.count ∙ sym kept.in_step.students ∙ step.students
-      count-after (Close s count) may step = kept.count ∙ sym kept.in_step.students ∙ step.students
       count-after (Correct i zone siblings continuing) may step = kept.count ∙ sym kept.in_step.students ∙ sym (length-put stamps.students (position (nat_eq i) (students_of m)) (stamps.accepted + 1)) ∙ step.students
-
--- a newcomer's turn leaves turns what they are
-pub turns-begun : (k : Marking) (u : TurnsOfEntry) → AreTurns u → AreTurns (begun_turns k u)
-turns-begun Newcomer u are = AreTurns-entered u are
-turns-begun (StudentLeaves q) u are = are
-turns-begun (StudentStays q) u are = are
-turns-begun (OfSchool q) u are = are
+      count-after _ may step = kept.count ∙ sym kept.in_step.students ∙ step.students
 
 -- a student who leaves stands in the papers
 pub leaver-within : (m : Market) (a : Amendment) → IfSome (position_of_leaver (marking_of m a)) (λ p. p < length m.students)
-leaver-within m (Enter i zone siblings choices continuing) = tt
 leaver-within m (Withdraw i) = go (position (nat_eq i) (students_of m)) refl
   where
     go : (place : Option ℕ) → position (nat_eq i) (students_of m) ≡ place → IfSome place (λ p. p < length m.students)
     go None here = tt
     go (Some p) here = let (v, is, at) = entry-at i p m.students here in slice_get_within m.students p (i, v) at
-leaver-within m (Rerank i choices) = tt
-leaver-within m (Add s count) = tt
-leaver-within m (Close s count) = tt
-leaver-within m (Correct i zone siblings continuing) = tt
+leaver-within m _ = tt
 
 -- papers, stamps and turns where whoever leaves has changed places with the last one
 module _ (t : TurnsOfEntry) (m : Market) (stamps : Stamps) (kept : AreInTurn t m stamps) where
   pub kept-last : (place : Option ℕ) → IfSome place (λ p. p < length m.students) → AreInTurn (last_turns place t) (last_papers place m) (last_stamps place stamps)
   kept-last None within = kept
   kept-last (Some p) within =
-      let turns : length m.students - 1 ≡ length t.turns - 1 = omega (arith, kept.count) in
-      let marks : length m.students - 1 ≡ length stamps.students - 1 = omega (arith, kept.in_step.students) in
-      subst (λ k. AreInTurn (swapped p k t) (with_swapped_students m p (length m.students - 1)) (with_swapped_stamps stamps p (length stamps.students - 1))) turns
-      (subst (λ k. AreInTurn (swapped p (length m.students - 1) t) (with_swapped_students m p (length m.students - 1)) (with_swapped_stamps stamps p k)) marks
-      (kept-swapped t m stamps kept p (length m.students - 1) within (omega (arith, within))))
+      let turns : length t.turns - 1 ≡ length m.students - 1 = omega (arith, kept.count) in
+      let marks : length stamps.students - 1 ≡ length m.students - 1 = omega (arith, kept.in_step.students) in
+      kept-along _ _ _ _ _ _ (ap (λ k. swapped p k t) turns) refl (ap (with_swapped_stamps stamps p) marks) (kept-swapped t m stamps kept p (length m.students - 1) within (omega (arith, within)))
 
   pub same-last : (place : Option ℕ) → IfSome place (λ p. p < length m.students)
       → stamped_in_turn (last_turns place t).positions (last_papers place m) (last_stamps place stamps) ≡ stamped_in_turn t.positions m stamps
@@ -216,120 +208,53 @@ module _ (t : TurnsOfEntry) (m : Market) (stamps : Stamps) (kept : AreInTurn t m
       ∙ swapped-in_turn t m stamps kept p (length m.students - 1) within (omega (arith, within))
 
   -- who is then the last one
-  pub leaves-last : (a : Amendment) (p : ℕ) → position_of_leaver (marking_of (last_papers (position_of_leaver (marking_of m a)) m) a) ≡ Some p → p ≡ length (last_turns (position_of_leaver (marking_of m a)) t).turns - 1
-  leaves-last (Enter i zone siblings choices continuing) p is = absurd (none-some p is)
-  leaves-last (Withdraw i) p is = go (position (nat_eq i) (students_of m)) refl is
-    where
-      go : (place : Option ℕ) → position (nat_eq i) (students_of m) ≡ place → position (nat_eq i) (students_of (last_papers place m)) ≡ Some p → p ≡ length (last_turns place t).turns - 1
-      go None here there = absurd (none-some p (sym here ∙ there))
-      go (Some q) here there =
-          let (v, found, at) = entry-at i q m.students here in
-          let low : q < length m.students = slice_get_within m.students q (i, v) at in
-          let high : length m.students - 1 < length m.students = omega (arith, low) in
-          let moved : slice_get (swap m.students q (length m.students - 1)) (length m.students - 1) ≡ Some (i, v) =
-          ap (slice_get (swap m.students q (length m.students - 1))) (sym (exchanged-first q (length m.students - 1))) ∙ swapped-there m.students q (length m.students - 1) q low high ∙ at in
-          let differ = (WellFormed-swapped m q (length m.students - 1) low high kept.well_formed).students_differ in
-          let own : p ≡ length m.students - 1 = same_Some p (length m.students - 1) (sym there ∙ position-at i (length m.students - 1) v (swap m.students q (length m.students - 1)) differ moved) in
-          omega (arith, own, kept.count, length-swap t.turns q (length t.turns - 1))
-  leaves-last (Rerank i choices) p is = absurd (none-some p is)
-  leaves-last (Add s count) p is = absurd (none-some p is)
-  leaves-last (Close s count) p is = absurd (none-some p is)
-  leaves-last (Correct i zone siblings continuing) p is = absurd (none-some p is)
+  pub leaves-last : (a : Amendment) (place : Option ℕ) → place ≡ position_of_leaver (marking_of m a) → (p : ℕ) → position_of_leaver (marking_of (last_papers place m) a) ≡ Some p → p ≡ length (last_turns place t).turns - 1
+  leaves-last (Withdraw i) None at p is = absurd (none-some p (at ∙ is))
+  leaves-last (Withdraw i) (Some q) at p is =
+      let (v, found, here) = entry-at i q m.students (sym at) in
+      let low : q < length m.students = slice_get_within m.students q (i, v) here in
+      let high : length m.students - 1 < length m.students = omega (arith, low) in
+      let moved : slice_get (swap m.students q (length m.students - 1)) (length m.students - 1) ≡ Some (i, v) =
+      ap (slice_get (swap m.students q (length m.students - 1))) (sym (exchanged-first q (length m.students - 1))) ∙ swapped-there m.students q (length m.students - 1) q low high ∙ here in
+      let differ = (WellFormed-swapped m q (length m.students - 1) low high kept.well_formed).students_differ in
+      let own : p ≡ length m.students - 1 = same_Some p (length m.students - 1) (sym is ∙ position-at i (length m.students - 1) v (swap m.students q (length m.students - 1)) differ moved) in
+      omega (arith, own, kept.count, length-swap t.turns q (length t.turns - 1))
+  leaves-last _ place at p is = absurd (none-some p is)
 
-  -- the verdict, and what becomes of all three by an amendment
-  module _ (a : Amendment) where
-    pub kept-ready : AreInTurn (last_turns (position_of_leaver (marking_of m a)) t) (last_papers (position_of_leaver (marking_of m a)) m) (last_stamps (position_of_leaver (marking_of m a)) stamps)
-    kept-ready = kept-last (position_of_leaver (marking_of m a)) (leaver-within m a)
+-- what becomes of turns hangs on the kind of the amendment alone
+same-kind : (m n : Market) (u : TurnsOfEntry) (a : Amendment) → finished_turns (marking_of m a) (begun_turns (marking_of m a) u) ≡ finished_turns (marking_of n a) (begun_turns (marking_of n a) u)
+same-kind m n u (Withdraw i) = refl
+same-kind m n u _ = refl
 
-    pub same-ready : stamped_in_turn (last_turns (position_of_leaver (marking_of m a)) t).positions (last_papers (position_of_leaver (marking_of m a)) m) (last_stamps (position_of_leaver (marking_of m a)) stamps) ≡ stamped_in_turn t.positions m stamps
-    same-ready = same-last (position_of_leaver (marking_of m a)) (leaver-within m a)
-
-    pub verdict-ready : verdict (papers_in_turn t.positions m) a ≡ verdict (last_papers (position_of_leaver (marking_of m a)) m) a
-    verdict-ready =
-        ap (λ (p : StampedPapers). verdict p.papers a) (sym same-ready)
-        ∙ verdict_in_turn (last_turns (position_of_leaver (marking_of m a)) t) (last_papers (position_of_leaver (marking_of m a)) m) (last_stamps (position_of_leaver (marking_of m a)) stamps) kept-ready a
-
-    pub accepted-ready : (last_stamps (position_of_leaver (marking_of m a)) stamps).accepted ≡ stamps.accepted
-    accepted-ready = ap (λ (p : StampedPapers). p.stamps.accepted) same-ready
-
-    same-kind : (n : Market) (u : TurnsOfEntry) (b : Amendment) → finished_turns (marking_of m b) (begun_turns (marking_of m b) u) ≡ finished_turns (marking_of n b) (begun_turns (marking_of n b) u)
-    same-kind n u (Enter i zone siblings choices continuing) = refl
-    same-kind n u (Withdraw i) = refl
-    same-kind n u (Rerank i choices) = refl
-    same-kind n u (Add s count) = refl
-    same-kind n u (Close s count) = refl
-    same-kind n u (Correct i zone siblings continuing) = refl
-
-    -- once the amendment is made
-    pub kept-made : (u : TurnsOfEntry) (n : Market) (others : Stamps) → verdict (last_papers (position_of_leaver (marking_of m a)) m) a ≡ None
-        → n ≡ after (last_papers (position_of_leaver (marking_of m a)) m) a → others ≡ stamps_after (last_papers (position_of_leaver (marking_of m a)) m) a (last_stamps (position_of_leaver (marking_of m a)) stamps)
-        → u ≡ finished_turns (marking_of m a) (begun_turns (marking_of m a) (last_turns (position_of_leaver (marking_of m a)) t))
-        → AreInTurn u n others
-    kept-made u n others allowed papers marks turns =
-        let done : TurnsOfEntry = finished_turns (marking_of (last_papers (position_of_leaver (marking_of m a)) m) a) (begun_turns (marking_of (last_papers (position_of_leaver (marking_of m a)) m) a) (last_turns (position_of_leaver (marking_of m a)) t)) in
-        subst (λ (x : TurnsOfEntry). AreInTurn x n others) (sym (turns ∙ same-kind (last_papers (position_of_leaver (marking_of m a)) m) (last_turns (position_of_leaver (marking_of m a)) t) a))
-        (subst (λ (x : Market). AreInTurn done x others) (sym papers)
-        (subst (λ (x : Stamps). AreInTurn done (after (last_papers (position_of_leaver (marking_of m a)) m) a) x) (sym marks)
-        (kept-after (last_turns (position_of_leaver (marking_of m a)) t) (last_papers (position_of_leaver (marking_of m a)) m) (last_stamps (position_of_leaver (marking_of m a)) stamps) kept-ready a allowed)))
-
-    pub made-in_turn : (u : TurnsOfEntry) (n : Market) (others : Stamps) → verdict (last_papers (position_of_leaver (marking_of m a)) m) a ≡ None
-        → n ≡ after (last_papers (position_of_leaver (marking_of m a)) m) a → others ≡ stamps_after (last_papers (position_of_leaver (marking_of m a)) m) a (last_stamps (position_of_leaver (marking_of m a)) stamps)
-        → u ≡ finished_turns (marking_of m a) (begun_turns (marking_of m a) (last_turns (position_of_leaver (marking_of m a)) t))
-        → stamped_in_turn u.positions n others ≡ stamped_after (stamped_in_turn t.positions m stamps) a
-    made-in_turn u n others allowed papers marks turns =
-        let kinds = turns ∙ same-kind (last_papers (position_of_leaver (marking_of m a)) m) (last_turns (position_of_leaver (marking_of m a)) t) a in
-        (λ x. stamped_in_turn (kinds x).positions (papers x) (marks x))
-        ∙ after-in_turn (last_turns (position_of_leaver (marking_of m a)) t) (last_papers (position_of_leaver (marking_of m a)) m) (last_stamps (position_of_leaver (marking_of m a)) stamps) kept-ready a (leaves-last a) allowed
-        ∙ ap (λ (p : StampedPapers). stamped_after p a) same-ready
-
--- the three, told by equations
-pub kept-along : (t u : TurnsOfEntry) (m n : Market) (stamps others : Stamps) → u ≡ t → n ≡ m → others ≡ stamps → AreInTurn t m stamps → AreInTurn u n others
-kept-along t u m n stamps others turns papers marks kept =
-    subst (λ (x : TurnsOfEntry). AreInTurn x n others) (sym turns) (subst (λ (x : Market). AreInTurn t x others) (sym papers) (subst (λ (x : Stamps). AreInTurn t m x) (sym marks) kept))
-
+-- papers, stamps and turns, told by equations, where whoever leaves by an amendment has changed places with the last one
 module _ {t : TurnsOfEntry} {m : Market} {stamps : Stamps} (kept : AreInTurn t m stamps) (a : Amendment) {place : Option ℕ} {u : TurnsOfEntry} {n : Market} {others : Stamps}
     (at : place ≡ position_of_leaver (marking_of m a)) (turns : u ≡ last_turns place t) (papers : n ≡ last_papers place m) (marks : others ≡ last_stamps place stamps) where
-  place-turns : u ≡ last_turns (position_of_leaver (marking_of m a)) t
-  place-turns = turns ∙ ap (λ p. last_turns p t) at
-
-  place-papers : n ≡ last_papers (position_of_leaver (marking_of m a)) m
-  place-papers = papers ∙ ap (λ p. last_papers p m) at
-
-  place-stamps : others ≡ last_stamps (position_of_leaver (marking_of m a)) stamps
-  place-stamps = marks ∙ ap (λ p. last_stamps p stamps) at
+  within : IfSome place (λ p. p < length m.students)
+  within = subst (λ found. IfSome found (λ p. p < length m.students)) (sym at) (leaver-within m a)
 
   pub ready-kept : AreInTurn u n others
-  ready-kept = kept-along _ u _ n _ others place-turns place-papers place-stamps (kept-ready t m stamps kept a)
+  ready-kept = kept-along _ u _ n _ others turns papers marks (kept-last t m stamps kept place within)
 
   pub ready-same : stamped_in_turn u.positions n others ≡ stamped_in_turn t.positions m stamps
-  ready-same = (λ x. stamped_in_turn (place-turns x).positions (place-papers x) (place-stamps x)) ∙ same-ready t m stamps kept a
+  ready-same = (λ x. stamped_in_turn (turns x).positions (papers x) (marks x)) ∙ same-last t m stamps kept place within
 
   pub ready-verdict : verdict (papers_in_turn t.positions m) a ≡ verdict n a
-  ready-verdict = verdict-ready t m stamps kept a ∙ ap (λ (p : Market). verdict p a) (sym place-papers)
+  ready-verdict = ap (λ (p : StampedPapers). verdict p.papers a) (sym ready-same) ∙ verdict_in_turn u n others ready-kept a
 
-  pub ready-accepted : others.accepted ≡ stamps.accepted
-  ready-accepted = ap (λ (p : StampedPapers). p.stamps.accepted) ready-same
+  ready-last : (p : ℕ) → position_of_leaver (marking_of n a) ≡ Some p → p ≡ length u.turns - 1
+  ready-last p is =
+      leaves-last t m stamps kept a place at p (ap (λ (k : Market). position_of_leaver (marking_of k a)) (sym papers) ∙ is) ∙ ap (λ (x : TurnsOfEntry). length x.turns - 1) (sym turns)
 
   -- and once the amendment is made
   module _ {v : TurnsOfEntry} {after_it : Market} {with_it : Stamps} (allowed : verdict n a ≡ None) (made : after_it ≡ after n a) (marked : with_it ≡ stamps_after n a others)
       (turned : v ≡ finished_turns (marking_of m a) (begun_turns (marking_of m a) u)) where
-    the-verdict : verdict (last_papers (position_of_leaver (marking_of m a)) m) a ≡ None
-    the-verdict = ap (λ (p : Market). verdict p a) (sym place-papers) ∙ allowed
-
-    the-papers : after_it ≡ after (last_papers (position_of_leaver (marking_of m a)) m) a
-    the-papers = made ∙ ap (λ (p : Market). after p a) place-papers
-
-    the-stamps : with_it ≡ stamps_after (last_papers (position_of_leaver (marking_of m a)) m) a (last_stamps (position_of_leaver (marking_of m a)) stamps)
-    the-stamps = marked ∙ (λ x. stamps_after (place-papers x) a (place-stamps x))
-
-    the-turns : v ≡ finished_turns (marking_of m a) (begun_turns (marking_of m a) (last_turns (position_of_leaver (marking_of m a)) t))
-    the-turns = turned ∙ ap (λ (x : TurnsOfEntry). finished_turns (marking_of m a) (begun_turns (marking_of m a) x)) place-turns
-
     pub done-kept : AreInTurn v after_it with_it
-    done-kept = kept-made t m stamps kept a v after_it with_it the-verdict the-papers the-stamps the-turns
+    done-kept = kept-along _ v _ after_it _ with_it (turned ∙ same-kind m n u a) made marked (kept-after u n others ready-kept a allowed)
 
     pub done-in_turn : stamped_in_turn v.positions after_it with_it ≡ stamped_after (stamped_in_turn t.positions m stamps) a
-    done-in_turn = made-in_turn t m stamps kept a v after_it with_it the-verdict the-papers the-stamps the-turns
+    done-in_turn =
+        (λ x. stamped_in_turn ((turned ∙ same-kind m n u a) x).positions (made x) (marked x))
+        ∙ after-in_turn u n others ready-kept a ready-last allowed ∙ ap (λ (p : StampedPapers). stamped_after p a) ready-same
 
 -- students who enter in the order in which they stand
 pub kept-first : (m : Market) (stamps : Stamps) → WellFormed m → IsInStep m stamps → AreInTurn (first_turns (length m.students)) m stamps
