@@ -1,14 +1,15 @@
 -- Turns of entry stay turns where a student enters, two change places, or the last one withdraws.
 use Rattle.std.proofs.Common.{◌≡◌, refl, sym, ap, ◌∙◌, ℕ, zero, suc, ◌-◌, ◌<◌, ◌==◌, cond, List, [], ◌∷◌, ◌++◌, length, map, take, slice_get, slice_set, swap, Option, Some, None, inl, inr, ◌⊎◌, arith}
 use Rattle.std.specs.Option.{option_and_then, option_map}
-use Rattle.std.proofs.lemmas.Bool.{cases_Bool, eqb-true, eq-eqb, false≢true}
+use Rattle.std.proofs.lemmas.Bool.{cases_Bool, cases_eq, eqb-true, eq-eqb, false≢true}
 use Rattle.std.proofs.lemmas.Bool.Decides.{nat_tests}
 use Rattle.std.proofs.lemmas.List.{length-append, length-set}
 use Rattle.std.proofs.lemmas.Option.{none-some, same_Some, slice_get-map, slice_get_within}
 use Rattle.indexmap.proofs.IndexTableLemmas.Indexes.{swap_self}
 use Rattle.indexmap.proofs.ReorderLemmas.{exchange-twice}
+use Rattle.sc_checkpoint.proofs.Replacing.{get-set-other, get-set-same}
 use Rattle.sc_repair.specs.Turns.{AreTurns, TurnsOfEntry, entered, exchanged, first_turns, left, swapped, unless_at}
-use Rattle.sc_repair.proofs.InTurn.{Alone, Avoids, Each, exchanged-other, other-there, seam-there, set-there, swapped-there, take-there}
+use Rattle.sc_repair.proofs.InTurn.{Alone, Avoids, Each, exchanged-other, seam-there, swapped-there, take-there}
 use Rattle.sc_repair.proofs.Renewing.{get-append-low, get-take, get-ext}
 
 -- each position has its turn, and nobody stands past the last one
@@ -18,7 +19,7 @@ turn-alone t p turn are own = record {
   alone = λ other here. same_Some other turn (sym ((are other p).0 here) ∙ own);
 }
 
-pub turn-of : (xs : List ℕ) (p : ℕ) → p < length xs → (turn : ℕ) × (slice_get xs p ≡ Some turn)
+pub turn-of : {X : Type 0} (xs : List X) (p : ℕ) → p < length xs → (x : X) × (slice_get xs p ≡ Some x)
 turn-of [] p low = absurd (omega (arith, low))
 turn-of (x ∷ xs) zero low = (x, refl)
 turn-of (x ∷ xs) (suc p) low = turn-of xs p (omega (arith, low))
@@ -59,23 +60,18 @@ AreTurns-first zero = λ turn p. (λ here. absurd (none-some (Some p) here), λ 
 AreTurns-first (suc count) = AreTurns-entered (first_turns count) (AreTurns-first count)
 
 -- what a change of the positions one by one leaves at a place
-mapped-there : (f : ℕ → Option ℕ) (places : List (Option ℕ)) (turn p : ℕ) → slice_get (map (option_and_then f) places) turn ≡ Some (Some p) → (q : ℕ) × (slice_get places turn ≡ Some (Some q)) × (f q ≡ Some p)
-mapped-there f [] turn p here = absurd (none-some (Some p) here)
-mapped-there f (None ∷ places) zero p here = absurd (none-some p (same_Some None (Some p) here))
-mapped-there f (Some q ∷ places) zero p here = (q, refl, same_Some (f q) (Some p) here)
-mapped-there f (place ∷ places) (suc turn) p here = mapped-there f places turn p here
+mapped-there : (f : Option ℕ → Option ℕ) (places : List (Option ℕ)) (turn p : ℕ) → f None ≡ None → slice_get (map f places) turn ≡ Some (Some p) → (q : ℕ) × (slice_get places turn ≡ Some (Some q)) × (f (Some q) ≡ Some p)
+mapped-there f [] turn p none here = absurd (none-some (Some p) here)
+mapped-there f (None ∷ places) zero p none here = absurd (none-some p (sym none ∙ same_Some (f None) (Some p) here))
+mapped-there f (Some q ∷ places) zero p none here = (q, refl, same_Some (f (Some q)) (Some p) here)
+mapped-there f (place ∷ places) (suc turn) p none here = mapped-there f places turn p none here
 
 pub AreTurns-swapped : (t : TurnsOfEntry) (a b : ℕ) → a < length t.turns → b < length t.turns → AreTurns t → AreTurns (swapped a b t)
 AreTurns-swapped t a b low high are turn p = (there, back)
   where
-    as_then : (places : List (Option ℕ)) → map (option_map (exchanged a b)) places ≡ map (option_and_then (λ q. Some (exchanged a b q))) places
-    as_then [] = refl
-    as_then (None ∷ places) = ap (λ rest. None ∷ rest) (as_then places)
-    as_then (Some q ∷ places) = ap (λ rest. Some (exchanged a b q) ∷ rest) (as_then places)
-
     there : slice_get (swapped a b t).positions turn ≡ Some (Some p) → slice_get (swapped a b t).turns p ≡ Some turn
     there here =
-        let (q, old, is) = mapped-there (λ q. Some (exchanged a b q)) t.positions turn p (ap (λ places. slice_get places turn) (sym (as_then t.positions)) ∙ here) in
+        let (q, old, is) = mapped-there (option_map (exchanged a b)) t.positions turn p refl here in
         ap (slice_get (swap t.turns a b)) (sym (same_Some (exchanged a b q) p is)) ∙ swapped-there t.turns a b q low high ∙ (are turn q).0 old
 
     back : slice_get (swapped a b t).turns p ≡ Some turn → slice_get (swapped a b t).positions turn ≡ Some (Some p)
@@ -103,7 +99,7 @@ AreTurns-left t are turn p = (there, back)
   where
     there : slice_get (left t).positions turn ≡ Some (Some p) → slice_get (left t).turns p ≡ Some turn
     there here =
-        let (q, old, is) = mapped-there (unless_at (length t.turns - 1)) t.positions turn p here in
+        let (q, old, is) = mapped-there (option_and_then (unless_at (length t.turns - 1))) t.positions turn p refl here in
         let (same, apart) = unless-some (length t.turns - 1) q p is in
         let own : slice_get t.turns p ≡ Some turn = (are turn p).0 (old ∙ ap (λ k. Some (Some k)) same) in
         get-take (length t.turns - 1) t.turns p (omega (arith, slice_get_within t.turns p turn own, same, apart)) ∙ own
@@ -114,12 +110,6 @@ AreTurns-left t are turn p = (there, back)
         slice_get-map (option_and_then (unless_at (length t.turns - 1))) t.positions turn
         ∙ ap (option_map (option_and_then (unless_at (length t.turns - 1)))) ((are turn p).1 old)
         ∙ ap Some (unless-other (length t.turns - 1) p (λ same. absurd (omega (arith, low, same))))
-
-same-or : (i j : ℕ) → (i ≡ j) ⊎ (i ≡ j → ⊥)
-same-or i j = elim (cases_Bool (i == j)) [
-  | inl same ↦ inl (eqb-true i j same)
-  | inr other ↦ inr (λ same. false≢true (sym other ∙ eq-eqb i j same))
-]
 
 pub exchanged-first : (a b : ℕ) → exchanged a b a ≡ b
 exchanged-first a b = grind (arith, nat_tests)
@@ -144,18 +134,18 @@ swap-written places a b first second one two = get-ext _ _ each
     each : (i : ℕ) → slice_get (slice_set (slice_set places first (Some b)) second (Some a)) i ≡ slice_get (map (option_map (exchanged a b)) places) i
     each i =
         let as_mapped : slice_get (map (option_map (exchanged a b)) places) i ≡ option_map (option_map (exchanged a b)) (slice_get places i) = slice_get-map (option_map (exchanged a b)) places i in
-        elim (same-or i second) [
+        elim (cases_eq i second) [
           | inl at ↦
               let within : second < length (slice_set places first (Some b)) = omega (arith, slice_get_within places second (Some b) two.here, length-set places first (Some b)) in
-              ap (slice_get (slice_set (slice_set places first (Some b)) second (Some a))) at ∙ set-there (slice_set places first (Some b)) second (Some a) within
+              ap (slice_get (slice_set (slice_set places first (Some b)) second (Some a))) at ∙ get-set-same (slice_set places first (Some b)) second (Some a) within
               ∙ sym (as_mapped ∙ ap (option_map (option_map (exchanged a b))) (ap (slice_get places) at ∙ two.here) ∙ ap (λ k. Some (Some k)) (exchanged-second a b))
           | inr away ↦
-              other-there (slice_set places first (Some b)) second i (Some a) away
-              ∙ elim (same-or i first) [
+              get-set-other (slice_set places first (Some b)) second i (Some a) away
+              ∙ elim (cases_eq i first) [
                 | inl at ↦
-                    ap (slice_get (slice_set places first (Some b))) at ∙ set-there places first (Some b) (slice_get_within places first (Some a) one.here)
+                    ap (slice_get (slice_set places first (Some b))) at ∙ get-set-same places first (Some b) (slice_get_within places first (Some a) one.here)
                     ∙ sym (as_mapped ∙ ap (option_map (option_map (exchanged a b))) (ap (slice_get places) at ∙ one.here) ∙ ap (λ k. Some (Some k)) (exchanged-first a b))
-                | inr apart ↦ other-there places first i (Some b) apart ∙ kept i (slice_get places i) refl apart away ∙ sym as_mapped
+                | inr apart ↦ get-set-other places first i (Some b) apart ∙ kept i (slice_get places i) refl apart away ∙ sym as_mapped
               ]
         ]
 
@@ -174,11 +164,11 @@ left-written places gone turn one = get-ext _ _ each
     each : (i : ℕ) → slice_get (slice_set places turn None) i ≡ slice_get (map (option_and_then (unless_at gone)) places) i
     each i =
         let as_mapped : slice_get (map (option_and_then (unless_at gone)) places) i ≡ option_map (option_and_then (unless_at gone)) (slice_get places i) = slice_get-map (option_and_then (unless_at gone)) places i in
-        elim (same-or i turn) [
+        elim (cases_eq i turn) [
           | inl at ↦
-              ap (slice_get (slice_set places turn None)) at ∙ set-there places turn None (slice_get_within places turn (Some gone) one.here)
+              ap (slice_get (slice_set places turn None)) at ∙ get-set-same places turn None (slice_get_within places turn (Some gone) one.here)
               ∙ sym (as_mapped ∙ ap (option_map (option_and_then (unless_at gone))) (ap (slice_get places) at ∙ one.here) ∙ ap Some gone-there)
-          | inr apart ↦ other-there places turn i None apart ∙ kept i (slice_get places i) refl apart ∙ sym as_mapped
+          | inr apart ↦ get-set-other places turn i None apart ∙ kept i (slice_get places i) refl apart ∙ sym as_mapped
         ]
 
 -- what the writes need and make

@@ -1,9 +1,9 @@
 -- Students who are put in order of turn, one turn after the other.
-use Rattle.std.proofs.Common.{◌≡◌, refl, sym, ap, subst, ◌∙◌, ℕ, zero, suc, ◌+◌, ◌<◌, ◌≤◌, List, [], ◌∷◌, ◌++◌, length, map, take, slice_get, Option, Some, None, arith}
+use Rattle.std.proofs.Common.{◌≡◌, add-zero, zero-add, refl, sym, ap, subst, ◌∙◌, ℕ, zero, suc, ◌+◌, ◌<◌, ◌≤◌, List, [], ◌∷◌, ◌++◌, length, map, take, slice_get, Option, Some, None, arith}
 use Rattle.std.specs.Prelude.{filter_map}
 use Rattle.std.specs.List.{cons_option, range_with_len}
 use Rattle.std.specs.Option.{option_map}
-use Rattle.std.proofs.lemmas.List.{append-nil, length-append, length-map, map-append, take-map, take_all}
+use Rattle.std.proofs.lemmas.List.{append-nil, length-map, map-append, take-map, take_all}
 use Rattle.std.proofs.lemmas.List.FromFn.{get_or-range_with_len, length-range_with_len}
 use native.Mathlib.Decide.{dec_lt}
 use Rattle.std.proofs.lemmas.List.Elements.{filter_map-append}
@@ -12,11 +12,12 @@ use Rattle.sc_papers.specs.EntryOrder.{with_swapped_students}
 use Rattle.sc_papers.specs.Market.{Market}
 use Rattle.sc_stamps.specs.Stamps.{Stamps, with_swapped_stamps}
 use Rattle.sc_stamps.specs.Verdict.{StampedPapers}
+use Rattle.sc_engine.proofs.Settling.{take-next}
+use Rattle.sc_region.proofs.Rising.{range-more}
 use Rattle.sc_repair.specs.Turns.{AreInTurn, AreTurns, TurnsOfEntry, entered, exchanged, first_turns, in_turn, stamped_in_turn, swapped}
 use Rattle.sc_repair.proofs.AmendedInTurn.{kept-swapped, swapped-in_turn}
 use Rattle.sc_repair.proofs.EntryTurns.{exchanged-second, turn-of}
 use Rattle.sc_repair.proofs.InTurn.{exchanged-other, take-there}
-use Rattle.sc_repair.proofs.Positioned.{range-push}
 
 -- the positions of those who stand, in order of turn
 abbrev pub standing : List (Option ℕ) → List ℕ
@@ -32,26 +33,15 @@ picked (Some p ∷ places) xs = ap (cons_option (slice_get xs p)) (picked places
 from-place : {X : Type 0} (zs xs : List X) (a : ℕ) → ((i : ℕ) → slice_get zs (a + i) ≡ slice_get xs i) → filter_map (slice_get zs) (range_with_len a (length xs)) ≡ xs
 from-place zs [] a same = refl
 from-place zs (x ∷ xs) a same =
-    let own : slice_get zs a ≡ Some x = ap (slice_get zs) (plain a) ∙ same 0 in
-    (λ t. cons_option (own t) (from-place zs xs (a + 1) (λ i. ap (slice_get zs) (next a i) ∙ same (suc i)) t))
-  where
-    plain : (n : ℕ) → n ≡ n + 0
-    plain n = omega arith
-
-    next : (n i : ℕ) → n + 1 + i ≡ n + suc i
-    next n i = omega arith
+    let own : slice_get zs a ≡ Some x = ap (slice_get zs) (sym (add-zero a)) ∙ same 0 in
+    let next : (i : ℕ) → a + 1 + i ≡ a + suc i = λ i. omega arith in
+    (λ t. cons_option (own t) (from-place zs xs (a + 1) (λ i. ap (slice_get zs) (next i) ∙ same (suc i)) t))
 
 -- so nobody is elsewhere than in order of turn
 pub in-order : {X : Type 0} (places : List (Option ℕ)) (xs : List X) → standing places ≡ range_with_len 0 (length xs) → in_turn places xs ≡ xs
-in-order places xs is = picked places xs ∙ ap (filter_map (slice_get xs)) is ∙ from-place xs xs 0 (λ i. ap (slice_get xs) (plain i))
-  where
-    plain : (i : ℕ) → 0 + i ≡ i
-    plain i = omega arith
+in-order places xs is = picked places xs ∙ ap (filter_map (slice_get xs)) is ∙ from-place xs xs 0 (λ i. ap (slice_get xs) (zero-add i))
 
--- the positions from 0 on, by one more
-range-more : (a n : ℕ) → range_with_len a (n + 1) ≡ range_with_len a n ++ (a + n) ∷ []
-range-more a n = let more : n + 1 ≡ suc n = omega arith in ap (range_with_len a) more ∙ range-push a n
-
+-- the positions from one on
 range-there : (a n i : ℕ) → i < n → slice_get (range_with_len a n) i ≡ Some (a + i)
 range-there a n i low =
     slice_get-get_or (range_with_len a n) i 0 (omega (arith, low, length-range_with_len a n)) ∙ ap Some (get_or-range_with_len a n i 0 low)
@@ -84,15 +74,6 @@ standing-mapped f [] = refl
 standing-mapped f (None ∷ places) = standing-mapped f places
 standing-mapped f (Some p ∷ places) = ap (λ rest. f p ∷ rest) (standing-mapped f places)
 
--- the turns up to one more
-take-next : {X : Type 0} (xs : List X) (n : ℕ) (x : X) → slice_get xs n ≡ Some x → take (n + 1) xs ≡ take n xs ++ x ∷ []
-take-next [] n x here = absurd (none-some x here)
-take-next (y ∷ xs) zero x here = ap (λ z. z ∷ []) (same_Some y x here)
-take-next (y ∷ xs) (suc n) x here = ap (λ k. take k (y ∷ xs)) (more n) ∙ ap (λ rest. y ∷ rest) (take-next xs n x here)
-  where
-    more : (k : ℕ) → suc k + 1 ≡ suc (k + 1)
-    more k = omega arith
-
 -- the first turns' students stand in order at the first positions
 abbrev pub FirstInOrder : List (Option ℕ) → ℕ → ℕ → Type 0
 FirstInOrder places turn place = standing (take turn places) ≡ range_with_len 0 place
@@ -107,14 +88,11 @@ order-passed places turn place here before =
 pub order-later : (t : TurnsOfEntry) (turn place p : ℕ) → AreTurns t → slice_get t.positions turn ≡ Some (Some p) → FirstInOrder t.positions turn place → place ≤ p
 order-later t turn place p are here before = elim (dec_lt p place) [
   | yes low ↦
-      let (early, at) = standing-turn (take turn t.positions) p p (ap (λ ps. slice_get ps p) before ∙ range-there 0 place p low ∙ ap Some (plain p)) in
+      let (early, at) = standing-turn (take turn t.positions) p p (ap (λ ps. slice_get ps p) before ∙ range-there 0 place p low ∙ ap Some (zero-add p)) in
       let (first, there) = take-there turn early t.positions (Some p) at in
       absurd (omega (arith, first, same_Some early turn (sym ((are early p).0 there) ∙ (are turn p).0 here)))
   | no high ↦ omega (arith, high)
 ]
-  where
-    plain : (i : ℕ) → 0 + i ≡ i
-    plain i = omega arith
 
 -- and changes places with whoever stands next
 pub order-next : (t : TurnsOfEntry) (turn place p : ℕ) → AreTurns t → slice_get t.positions turn ≡ Some (Some p) → FirstInOrder t.positions turn place
@@ -128,16 +106,13 @@ order-next t turn place p are here before =
     ∙ ap (λ ps. ps ++ place ∷ [])
     (ap standing (take-map (option_map (exchanged place p)) turn t.positions) ∙ standing-mapped (exchanged place p) (take turn t.positions) ∙ ap (map (exchanged place p)) before
     ∙ range-kept (exchanged place p) 0 place (λ k low. exchanged-other place p k (λ same. absurd (omega (arith, low, same))) (λ same. absurd (omega (arith, low, same, later)))))
-    ∙ sym (range-more 0 place ∙ ap (λ k. range_with_len 0 place ++ k ∷ []) (plain place))
-  where
-    plain : (i : ℕ) → 0 + i ≡ i
-    plain i = omega arith
+    ∙ sym (range-more 0 place ∙ ap (λ k. range_with_len 0 place ++ k ∷ []) (zero-add place))
 
 -- at the end, everybody stands in order
 pub order-whole : (t : TurnsOfEntry) (place : ℕ) → AreTurns t → standing t.positions ≡ range_with_len 0 place → place ≡ length t.turns
 order-whole t place are is = elim (dec_lt (length t.turns) place) [
   | yes low ↦
-      let (turn, at) = standing-turn t.positions (length t.turns) (length t.turns) (ap (λ ps. slice_get ps (length t.turns)) is ∙ range-there 0 place (length t.turns) low ∙ ap Some (plain (length t.turns))) in
+      let (turn, at) = standing-turn t.positions (length t.turns) (length t.turns) (ap (λ ps. slice_get ps (length t.turns)) is ∙ range-there 0 place (length t.turns) low ∙ ap Some (zero-add (length t.turns))) in
       absurd (omega (arith, slice_get_within t.turns (length t.turns) turn ((are turn (length t.turns)).0 at)))
   | no high ↦ elim (dec_lt place (length t.turns)) [
     | yes short ↦
@@ -147,9 +122,6 @@ order-whole t place are is = elim (dec_lt (length t.turns) place) [
     | no long ↦ omega (arith, high, long)
   ]
 ]
-  where
-    plain : (i : ℕ) → 0 + i ≡ i
-    plain i = omega arith
 
 -- what has been put in order so far
 pub record IsOrdering (whole : StampedPapers) (turn place end : ℕ) (t : TurnsOfEntry) (m : Market) (stamps : Stamps) : Type 0 where
@@ -203,10 +175,7 @@ ordering-done whole turn place end t m stamps so past =
 pub ordering-at : (whole : StampedPapers) (turn place now end : ℕ) (s t : TurnsOfEntry) (m n : Market) (stamps others : Stamps) → IsOrdering whole turn place end s m stamps
     → now ≡ place → t ≡ s → n ≡ m → others ≡ stamps → IsOrdering whole turn now end t n others
 ordering-at whole turn place now end s t m n stamps others so places turns papers marks =
-    subst (λ k. IsOrdering whole turn k end t n others) (sym places)
-    (subst (λ (u : TurnsOfEntry). IsOrdering whole turn place end u n others) (sym turns)
-    (subst (λ (p : Market). IsOrdering whole turn place end s p others) (sym papers)
-    (subst (λ (q : Stamps). IsOrdering whole turn place end s m q) (sym marks) so)))
+    subst (λ (x : ℕ × TurnsOfEntry × Market × Stamps). IsOrdering whole turn x.0 end x.1 x.2 x.3) (λ u. (sym places u, sym turns u, sym papers u, sym marks u)) so
 
 -- so many turns, each of a student who stands at the position of the same number
 pub first-made : (count : ℕ) → record { positions = map Some (range_with_len 0 count); turns = range_with_len 0 count } ≡ first_turns count
@@ -216,26 +185,18 @@ first-made (suc count) =
     let many : length own ≡ count = length-range_with_len 0 count in
     let placed : length (map Some own) ≡ count = length-map own Some ∙ many in
     let next : suc count ≡ count + 1 = omega arith in
-    let more : range_with_len 0 (suc count) ≡ own ++ count ∷ [] = ap (range_with_len 0) next ∙ range-more 0 count ∙ ap (λ k. own ++ k ∷ []) (plain count) in
+    let more : range_with_len 0 (suc count) ≡ own ++ count ∷ [] = ap (range_with_len 0) next ∙ range-more 0 count ∙ ap (λ k. own ++ k ∷ []) (zero-add count) in
     let positions : map Some (range_with_len 0 (suc count)) ≡ map Some own ++ Some (length own) ∷ [] =
     ap (map Some) more ∙ map-append Some own (count ∷ []) ∙ ap (λ k. map Some own ++ Some k ∷ []) (sym many) in
     let turns : range_with_len 0 (suc count) ≡ own ++ length (map Some own) ∷ [] = more ∙ ap (λ k. own ++ k ∷ []) (sym placed) in
     (λ u. record { positions = positions u; turns = turns u }) ∙ ap entered (first-made count)
-  where
-    plain : (n : ℕ) → 0 + n ≡ n
-    plain n = omega arith
 
 -- whoever enters in the order in which they stand is in order
 pub first-in_turn : {X : Type 0} (xs : List X) → in_turn (first_turns (length xs)).positions xs ≡ xs
-first-in_turn xs = in-order (first_turns (length xs)).positions xs (first-standing (length xs)).1
+first-in_turn xs =
+    in-order (first_turns (length xs)).positions xs
+    (ap (λ (t : TurnsOfEntry). standing t.positions) (sym (first-made (length xs))) ∙ all-stand (range_with_len 0 (length xs)))
   where
-    first-standing : (count : ℕ) → (length (first_turns count).turns ≡ count) × (standing (first_turns count).positions ≡ range_with_len 0 count)
-    first-standing zero = (refl, refl)
-    first-standing (suc count) =
-        let (many, before) = first-standing count in
-        let more : suc count ≡ count + 1 = omega arith in
-        let plain : length (first_turns count).turns ≡ 0 + count = omega (arith, many) in (
-          length-append (first_turns count).turns (length (first_turns count).positions ∷ []) ∙ omega (arith, many),
-          filter_map-append (λ (q : Option ℕ). q) (first_turns count).positions (Some (length (first_turns count).turns) ∷ [])
-              ∙ (λ u. before u ++ plain u ∷ []) ∙ sym (range-more 0 count) ∙ ap (range_with_len 0) (sym more),
-        )
+    all-stand : (ps : List ℕ) → standing (map Some ps) ≡ ps
+    all-stand [] = refl
+    all-stand (p ∷ ps) = ap (λ rest. p ∷ rest) (all-stand ps)

@@ -10,6 +10,7 @@ use Rattle.std.proofs.lemmas.List.Elements.{filter_map-append}
 use Rattle.std.proofs.lemmas.List.Sorted.{IsPermutation-cons, IsPermutation-middle, IsPermutation-refl, IsPermutation-sym, IsPermutation-to_front, IsPermutation-trans}
 use Rattle.std.proofs.lemmas.Option.{get_or_from_slice_get, none-some, same_Some, slice_get-get_or, slice_get_past, slice_get_within}
 use Rattle.indexmap.proofs.ReorderLemmas.{exchange-twice, exchange-within, get_or-swap}
+use Rattle.sc_checkpoint.proofs.Replacing.{get-set-other, get-set-same}
 use Rattle.sc_repair.specs.Turns.{exchanged, in_turn, unless_at}
 
 -- what stands at a position, if there is one
@@ -79,36 +80,27 @@ in_turn-entered places xs x avoids =
     filter_map-append (λ place. at (xs ++ x ∷ []) place) places (Some (length xs) ∷ [])
     ∙ (λ t. in_turn-more places xs x avoids t ++ cons_option (seam-there xs x [] t) [])
 
--- the items before and after the one of a turn
-pub in_turn-split : {X : Type 0} (places : List (Option ℕ)) (xs : List X) (turn p : ℕ) (x : X) → slice_get places turn ≡ Some (Some p) → slice_get xs p ≡ Some x
-    → in_turn places xs ≡ in_turn (take turn places) xs ++ x ∷ in_turn (drop (suc turn) places) xs
-in_turn-split [] xs turn p x here there = absurd (none-some (Some p) here)
-in_turn-split (place ∷ places) xs zero p x here there =
-    let own = same_Some place (Some p) here in
-    (λ t. cons_option (at xs (own t)) (in_turn places xs)) ∙ (λ t. cons_option (there t) (in_turn places xs))
-in_turn-split (None ∷ places) xs (suc turn) p x here there = in_turn-split places xs turn p x here there
-in_turn-split {X = X} (Some q ∷ places) xs (suc turn) p x here there = go (slice_get xs q) (in_turn-split places xs turn p x here there)
+-- the items before and after the one of a turn, if there is one
+in_turn-parts : {X : Type 0} (places : List (Option ℕ)) (xs : List X) (turn p : ℕ) → slice_get places turn ≡ Some (Some p)
+    → in_turn places xs ≡ in_turn (take turn places) xs ++ cons_option (slice_get xs p) (in_turn (drop (suc turn) places) xs)
+in_turn-parts [] xs turn p here = absurd (none-some (Some p) here)
+in_turn-parts (place ∷ places) xs zero p here = ap (λ q. cons_option (at xs q) (in_turn places xs)) (same_Some place (Some p) here)
+in_turn-parts (None ∷ places) xs (suc turn) p here = in_turn-parts places xs turn p here
+in_turn-parts {X = X} (Some q ∷ places) xs (suc turn) p here = go (slice_get xs q) (in_turn-parts places xs turn p here)
   where
-    go : (found : Option X) → in_turn places xs ≡ in_turn (take turn places) xs ++ x ∷ in_turn (drop (suc turn) places) xs
-        → cons_option found (in_turn places xs) ≡ cons_option found (in_turn (take turn places) xs) ++ x ∷ in_turn (drop (suc turn) places) xs
+    go : (found : Option X) → in_turn places xs ≡ in_turn (take turn places) xs ++ cons_option (slice_get xs p) (in_turn (drop (suc turn) places) xs)
+        → cons_option found (in_turn places xs) ≡ cons_option found (in_turn (take turn places) xs) ++ cons_option (slice_get xs p) (in_turn (drop (suc turn) places) xs)
     go None rest = rest
     go (Some y) rest = ap (λ ys. y ∷ ys) rest
 
+in_turn-found : {X : Type 0} (places : List (Option ℕ)) (xs : List X) (turn p : ℕ) (found : Option X) → slice_get places turn ≡ Some (Some p) → slice_get xs p ≡ found
+    → in_turn places xs ≡ in_turn (take turn places) xs ++ cons_option found (in_turn (drop (suc turn) places) xs)
+in_turn-found places xs turn p found here there =
+    in_turn-parts places xs turn p here ∙ ap (λ o. in_turn (take turn places) xs ++ cons_option o (in_turn (drop (suc turn) places) xs)) there
+
 -- an item is replaced
-pub other-there : {X : Type 0} (xs : List X) (p q : ℕ) (x : X) → (q ≡ p → ⊥) → slice_get (slice_set xs p x) q ≡ slice_get xs q
-other-there [] p q x apart = refl
-other-there (y ∷ xs) zero zero x apart = absurd (apart refl)
-other-there (y ∷ xs) zero (suc q) x apart = refl
-other-there (y ∷ xs) (suc p) zero x apart = refl
-other-there (y ∷ xs) (suc p) (suc q) x apart = other-there xs p q x (λ same. apart (ap suc same))
-
-pub set-there : {X : Type 0} (xs : List X) (p : ℕ) (x : X) → p < length xs → slice_get (slice_set xs p x) p ≡ Some x
-set-there [] p x low = absurd (omega (arith, low))
-set-there (y ∷ xs) zero x low = refl
-set-there (y ∷ xs) (suc p) x low = set-there xs p x (omega (arith, low))
-
 in_turn-apart : {X : Type 0} (places : List (Option ℕ)) (xs : List X) (p : ℕ) (x : X) → Avoids places p → in_turn places (slice_set xs p x) ≡ in_turn places xs
-in_turn-apart places xs p x avoids = alike places xs (slice_set xs p x) (λ turn q here. other-there xs p q x (λ same. avoids turn (here ∙ ap (λ k. Some (Some k)) same)))
+in_turn-apart places xs p x avoids = alike places xs (slice_set xs p x) (λ turn q here. get-set-other xs p q x (λ same. avoids turn (here ∙ ap (λ k. Some (Some k)) same)))
 
 -- before and after the turn of a student, nobody stands at that student's position
 pub take-there : {X : Type 0} (n k : ℕ) (xs : List X) (x : X) → slice_get (take n xs) k ≡ Some x → (k < n) × (slice_get xs k ≡ Some x)
@@ -146,10 +138,10 @@ in_turn-set {X = X} places xs p turn x one low =
     let before : List X = in_turn (take turn places) xs in
     let after : List X = in_turn (drop (suc turn) places) xs in
     let old : X = get_or xs p x in
-    in_turn-split places (slice_set xs p x) turn p x one.here (set-there xs p x low)
+    in_turn-found places (slice_set xs p x) turn p (Some x) one.here (get-set-same xs p x low)
     ∙ (λ t. in_turn-apart (take turn places) xs p x (avoids-before places p turn one) t ++ x ∷ in_turn-apart (drop (suc turn) places) xs p x (avoids-after places p turn one) t)
     ∙ sym (set-append_seam before old after x)
-    ∙ ap (λ ys. slice_set ys (length before) x) (sym (in_turn-split places xs turn p old one.here (slice_get-get_or xs p x low)))
+    ∙ ap (λ ys. slice_set ys (length before) x) (sym (in_turn-found places xs turn p (Some old) one.here (slice_get-get_or xs p x low)))
 
 -- whoever stands last goes: the others keep their order
 pub remove-seam : {X : Type 0} (xs : List X) (y : X) (ys : List X) → remove (xs ++ y ∷ ys) (length xs) ≡ xs ++ ys
@@ -167,30 +159,16 @@ in_turn-unless [] xs = refl
 in_turn-unless (None ∷ places) xs = in_turn-unless places xs
 in_turn-unless (Some p ∷ places) xs = (λ t. cons_option (unless-there xs p t) (in_turn-unless places xs t))
 
-split-missing : {X : Type 0} (places : List (Option ℕ)) (xs : List X) (turn p : ℕ) → slice_get places turn ≡ Some (Some p) → slice_get xs p ≡ None
-    → in_turn places xs ≡ in_turn (take turn places) xs ++ in_turn (drop (suc turn) places) xs
-split-missing [] xs turn p here there = absurd (none-some (Some p) here)
-split-missing (place ∷ places) xs zero p here there =
-    let own = same_Some place (Some p) here in
-    (λ t. cons_option (at xs (own t)) (in_turn places xs)) ∙ (λ t. cons_option (there t) (in_turn places xs))
-split-missing (None ∷ places) xs (suc turn) p here there = split-missing places xs turn p here there
-split-missing {X = X} (Some q ∷ places) xs (suc turn) p here there = go (slice_get xs q) (split-missing places xs turn p here there)
-  where
-    go : (found : Option X) → in_turn places xs ≡ in_turn (take turn places) xs ++ in_turn (drop (suc turn) places) xs
-        → cons_option found (in_turn places xs) ≡ cons_option found (in_turn (take turn places) xs) ++ in_turn (drop (suc turn) places) xs
-    go None rest = rest
-    go (Some y) rest = ap (λ ys. y ∷ ys) rest
-
 -- with the last item and without it
 with-last : {X : Type 0} (places : List (Option ℕ)) (xs : List X) (x : X) (turn : ℕ) → Alone places (length xs) turn
     → in_turn places (xs ++ x ∷ []) ≡ in_turn (take turn places) xs ++ x ∷ in_turn (drop (suc turn) places) xs
 with-last places xs x turn one =
-    in_turn-split places (xs ++ x ∷ []) turn (length xs) x one.here (seam-there xs x [])
+    in_turn-found places (xs ++ x ∷ []) turn (length xs) (Some x) one.here (seam-there xs x [])
     ∙ (λ t. in_turn-more (take turn places) xs x (avoids-before places (length xs) turn one) t ++ x ∷ in_turn-more (drop (suc turn) places) xs x (avoids-after places (length xs) turn one) t)
 
 without-last : {X : Type 0} (places : List (Option ℕ)) (xs : List X) (turn : ℕ) → Alone places (length xs) turn
     → in_turn places xs ≡ in_turn (take turn places) xs ++ in_turn (drop (suc turn) places) xs
-without-last places xs turn one = split-missing places xs turn (length xs) one.here (slice_get_past xs (length xs) (omega arith))
+without-last places xs turn one = in_turn-found places xs turn (length xs) None one.here (slice_get_past xs (length xs) (omega arith))
 
 -- so the item of the last student's turn is taken out
 pub in_turn-left : {X : Type 0} (places : List (Option ℕ)) (xs : List X) (x : X) (turn : ℕ) → Alone places (length xs) turn
@@ -253,5 +231,5 @@ earlier-same places turn xs ys same = in_turn-length (take turn places) xs ys sa
 pub turn-there : {X : Type 0} (places : List (Option ℕ)) (xs : List X) (p turn : ℕ) (x : X) → slice_get places turn ≡ Some (Some p) → slice_get xs p ≡ Some x
     → slice_get (in_turn places xs) (earlier places turn xs) ≡ Some x
 turn-there {X = X} places xs p turn x here there =
-    ap (λ (ys : List X). slice_get ys (earlier places turn xs)) (in_turn-split places xs turn p x here there)
+    ap (λ (ys : List X). slice_get ys (earlier places turn xs)) (in_turn-found places xs turn p (Some x) here there)
     ∙ seam-there (in_turn (take turn places) xs) x (in_turn (drop (suc turn) places) xs)

@@ -1,5 +1,5 @@
 -- Students who stand in an order of their own are those in order of turn, up to their order.
-use Rattle.std.proofs.Common.{◌≡◌, refl, subst, ℕ, zero, suc, ◌+◌, ◌<◌, List, [], ◌∷◌, length, slice_get, swap, Option, Some, None, IsPermutation, arith}
+use Rattle.std.proofs.Common.{◌≡◌, refl, subst, ℕ, zero, suc, ◌+◌, length, slice_get, swap, Option, Some, None, IsPermutation, arith}
 use Rattle.std.proofs.lemmas.List.Sorted.{IsPermutation-refl, IsPermutation-swap, IsPermutation-trans}
 use Rattle.sc_papers.specs.EntryOrder.{with_swapped_students}
 use Rattle.sc_papers.specs.Market.{Market}
@@ -7,13 +7,8 @@ use Rattle.sc_papers.specs.Reordering.{IsReordering}
 use Rattle.sc_stamps.specs.Stamps.{Stamps, with_swapped_stamps}
 use Rattle.sc_stamps.specs.Verdict.{StampedPapers}
 use Rattle.sc_repair.specs.Turns.{AreInTurn, TurnsOfEntry, papers_in_turn, stamped_in_turn, swapped}
+use Rattle.sc_repair.proofs.EntryTurns.{turn-of}
 use Rattle.sc_repair.proofs.InOrder.{IsOrdering, ordering-begun, ordering-done, ordering-next, ordering-passed, ordering-within}
-
--- what stands at a place that there is
-there : {X : Type 0} (xs : List X) (i : ℕ) → i < length xs → (x : X) × (slice_get xs i ≡ Some x)
-there [] i low = absurd (omega (arith, low))
-there (x ∷ xs) zero low = (x, refl)
-there (x ∷ xs) (suc i) low = there xs i (omega (arith, low))
 
 -- a turn changes one student at most for another, and the later turns do the rest
 permutes-by : (found : Option ℕ) (whole : StampedPapers) (turn place end : ℕ) (t : TurnsOfEntry) (m : Market) (stamps : Stamps) → IsOrdering whole turn place end t m stamps → slice_get t.positions turn ≡ Some found
@@ -30,7 +25,7 @@ permutes-from : (k : ℕ) (whole : StampedPapers) (turn place end : ℕ) (t : Tu
 permutes-from zero whole turn place end t m stamps so is =
     subst (λ (p : StampedPapers). IsPermutation m.students p.papers.students) (ordering-done whole turn place end t m stamps so (omega (arith, is))) (IsPermutation-refl m.students)
 permutes-from (suc k) whole turn place end t m stamps so is =
-    let (found, here) = there t.positions turn (omega (arith, is, so.count)) in
+    let (found, here) = turn-of t.positions turn (omega (arith, is, so.count)) in
     permutes-by found whole turn place end t m stamps so here
     (λ later u n others on. permutes-from k whole (turn + 1) later end u n others on (omega (arith, is)))
 
