@@ -8,7 +8,7 @@ pub mod Reaching
 pub mod ChoicePositions
 pub mod Marked
 pub mod Having
-mod MarkedPositions
+pub mod MarkedPositions
 pub mod Listed
 pub mod Firsts
 pub mod Following

@@ -9,7 +9,7 @@ use Rattle.std.proofs.lemmas.Map.Views.{Contains-from_any, list_any-from_Contain
 use Rattle.sc_region.specs.Marks.{marks_at, AreRisingBelow}
 
 -- a marked position is that of one of those who have marks
-below-marked : (marks : List Bool) (p : ℕ) → get_or marks p false ≡ true → p < length marks
+pub below-marked : (marks : List Bool) (p : ℕ) → get_or marks p false ≡ true → p < length marks
 below-marked marks p its = elim (cases_lt p (length marks)) [
   | inl low ↦ low
   | inr over ↦ absurd (false≢true (sym (get_or_past marks p false over) ∙ its))

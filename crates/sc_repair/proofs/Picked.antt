@@ -9,10 +9,10 @@ use Rattle.sc_papers.specs.Matching.{Matching}
 use Rattle.sc_checkpoint.specs.Chains.{Chain}
 use Rattle.sc_region.specs.Marks.{marked}
 use Rattle.sc_region.proofs.Marked.{marked-from, marked-there}
+use Rattle.sc_region.proofs.MarkedPositions.{below-marked}
 use Rattle.sc_repair.specs.Locality.{is_among}
 use Rattle.sc_repair.specs.Placing.{with_new, AreMovers}
 use Rattle.sc_repair.proofs.GivenPlaces.{movers-more, movers-stay}
-use Rattle.sc_repair.proofs.Positioned.{mark-low}
 
 -- those at these positions
 abbrev pub picked : List ℕ → List ℕ → List ℕ
@@ -38,7 +38,7 @@ module _ (marks : List Bool) (positions : List ℕ) (told : (p : ℕ) → (Conta
             let within : k < length positions = omega (arith, low, length-map positions (λ p. get_or students p 0)) in
             let its = marked-at k within in
             let here : slice_get students (get_or positions k 0) ≡ Some j =
-            slice_get-get_or students (get_or positions k 0) 0 (omega (arith, mark-low marks (get_or positions k 0) its, one_each))
+            slice_get-get_or students (get_or positions k 0) 0 (omega (arith, below-marked marks (get_or positions k 0) its, one_each))
             ∙ ap Some (sym (get_or-map (λ p. get_or students p 0) positions k 0 j within) ∙ at) in
             inside ∙ sym (list_any-from_Contains nat_eq_equiv j (marked marks students) (marked-there marks students (get_or positions k 0) j here its))
         | inr other ↦
@@ -53,7 +53,7 @@ module _ (marks : List Bool) (positions : List ℕ) (told : (p : ℕ) → (Conta
 
 -- a marked position is that of a chain
 pub picked-low : (marks : List Bool) (positions : List ℕ) (chains : List Chain) (k : ℕ) → ((p : ℕ) → (Contains positions p ↔ IsTrue (get_or marks p false))) → length marks ≡ length chains → k < length positions → get_or positions k 0 < length chains
-picked-low marks positions chains k told one_each low = omega (arith, mark-low marks (get_or positions k 0) (marked-at marks positions told k low), one_each)
+picked-low marks positions chains k told one_each low = omega (arith, below-marked marks (get_or positions k 0) (marked-at marks positions told k low), one_each)
 
 -- and all of them
 pub picked-new : (marks : List Bool) (positions students : List ℕ) (n : ℕ) → ((p : ℕ) → (Contains positions p ↔ IsTrue (get_or marks p false))) → length marks ≡ length students → (next a after : Matching) → length positions ≤ n

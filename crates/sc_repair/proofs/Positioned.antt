@@ -1,24 +1,22 @@
 -- The positions of the marked, before a point and from one on.
-use Rattle.std.proofs.Common.{◌≡◌, ◌↔◌, inl, inr, refl, ap, sym, subst, ◌∙◌, ℕ, zero, suc, ◌+◌, ◌-◌, ◌<◌, ◌≤◌, Bool, true, false, List, [], ◌∷◌, ◌++◌, cond, drop, filter, get_or, length, map, take, Contains, IsTrue, Some, slice_get, arith}
+use Rattle.std.proofs.Common.{◌≡◌, add-one, suc-add, ◌↔◌, inl, inr, refl, ap, sym, subst, ◌∙◌, ℕ, zero, suc, ◌+◌, ◌-◌, ◌<◌, ◌≤◌, Bool, true, false, List, [], ◌∷◌, ◌++◌, cond, drop, filter, get_or, length, map, take, Contains, IsTrue, Some, slice_get, arith}
 use Rattle.std.specs.List.{range_with_len}
 use Rattle.std.specs.List.Sorted.{IsStrictlyIncreasing}
-use Rattle.std.proofs.lemmas.Bool.{cases_lt, false≢true}
+use Rattle.std.proofs.lemmas.Bool.{cases_lt}
 use Rattle.std.proofs.lemmas.List.{get_or-take, get_or-drop, get_or_default, length-drop, length-take-le, map-append}
-use Rattle.std.proofs.lemmas.List.FromFn.{get_or-range_with_len, length-range_with_len}
-use Rattle.std.proofs.lemmas.List.Elements.{filter-append, filter_more}
+use Rattle.std.proofs.lemmas.List.Elements.{filter_more}
 use Rattle.std.proofs.lemmas.List.Kept.{IsStrictlyIncreasing-filter}
 use Rattle.std.proofs.lemmas.Option.{get_or_from_slice_get, slice_get_within}
 use Rattle.sc_papers.proofs.Counting.{contains-cons, contains-head, contains-tail}
-use Rattle.sc_region.proofs.Filtering.{filter-among, filter-kept}
+use Rattle.sc_region.proofs.Filtering.{filter-among, filter-kept, filter-range}
+use Rattle.sc_region.proofs.MarkedPositions.{below-marked}
+use Rattle.sc_region.proofs.Rising.{range-from, range-rising, range-there}
 use Rattle.sc_checkpoint.proofs.Rising.{rising-less}
 use Rattle.sc_repair.specs.Renewed.{marked_before, marked_from, marked_within}
 
 -- rising numbers behind the first
 rising-tail : (x : ℕ) (xs : List ℕ) → IsStrictlyIncreasing (x ∷ xs) → IsStrictlyIncreasing xs
-rising-tail x xs rising k low = omega (arith, rising (suc k) (omega (arith, low)), ap (λ n. get_or (x ∷ xs) n 0) (far k))
-  where
-    far : (k : ℕ) → suc k + 1 ≡ suc (k + 1)
-    far k = omega arith
+rising-tail x xs rising k low = omega (arith, rising (suc k) (omega (arith, low)), ap (λ n. get_or (x ∷ xs) n 0) (suc-add k 1))
 
 rising-head : (x : ℕ) (xs : List ℕ) (p : ℕ) → IsStrictlyIncreasing (x ∷ xs) → Contains xs p → x < p
 rising-head x xs p rising (k, low, at) =
@@ -65,27 +63,10 @@ rising-drop n xs rising k low =
       rising (n + k) (omega (arith, low, length-drop n xs)),
     )
 
-range-rising : (from count : ℕ) → IsStrictlyIncreasing (range_with_len from count)
-range-rising from count k low =
-    let long = length-range_with_len from count in
-    omega (arith, get_or-range_with_len from count k 0 (omega (arith, low, long)), get_or-range_with_len from count (k + 1) 0 (omega (arith, low, long)))
-
 pub within-rising : (marks : List Bool) (from count : ℕ) → IsStrictlyIncreasing (marked_within marks from count)
 within-rising marks from count = IsStrictlyIncreasing-filter (λ p. get_or marks p false) (range_with_len from count) (range-rising from count)
 
--- what is among a range
-range-from : (from count p : ℕ) → Contains (range_with_len from count) p → (from ≤ p) × (p < from + count)
-range-from from count p (k, low, at) =
-    let long = length-range_with_len from count in
-    let is = get_or-range_with_len from count k p (omega (arith, low, long)) in
-    (omega (arith, is, at), omega (arith, is, at, low, long))
-
-range-there : (from count p : ℕ) → from ≤ p → p < from + count → Contains (range_with_len from count) p
-range-there from count p low high =
-    let long = length-range_with_len from count in
-    let within : p - from < count = omega (arith, low, high) in
-    (p - from, omega (arith, within, long), get_or-range_with_len from count (p - from) p within ∙ omega (arith, low))
-
+-- what is among them
 pub within-from : (marks : List Bool) (from count p : ℕ) → Contains (marked_within marks from count) p → (from ≤ p) × (p < from + count) × (get_or marks p false ≡ true)
 within-from marks from count p among =
     let (there, its) = filter-among (λ at. get_or marks at false) (range_with_len from count) p among in
@@ -94,12 +75,6 @@ within-from marks from count p among =
 
 pub within-there : (marks : List Bool) (from count p : ℕ) → from ≤ p → p < from + count → get_or marks p false ≡ true → Contains (marked_within marks from count) p
 within-there marks from count p low high its = filter-kept (λ at. get_or marks at false) (range_with_len from count) p (range-there from count p low high) its
-
--- a marked position is that of a mark
-pub mark-low : (marks : List Bool) (p : ℕ) → get_or marks p false ≡ true → p < length marks
-mark-low [] p its = absurd (false≢true its)
-mark-low (b ∷ marks) zero its = omega arith
-mark-low (b ∷ marks) (suc p) its = omega (arith, mark-low marks p its)
 
 -- the rising positions of all that are marked, cut where those from a position on begin
 pub first-marked : (marks : List Bool) (positions : List ℕ) (n point : ℕ) → IsStrictlyIncreasing positions → ((p : ℕ) → (Contains positions p ↔ IsTrue (get_or marks p false)))
@@ -130,7 +105,7 @@ last-marked marks positions n from rising told fits before rest =
     let is : get_or positions (n + k) p ≡ p = sym (get_or-drop n positions k p) ∙ at in
     let its = (told p).0 (n + k, within, is) in
     let low : from ≤ p = omega (arith, rest (n + k) (omega arith) within, get_or_default positions (n + k) 0 p within, is) in
-    within-there marks from (length marks - from) p low (omega (arith, low, mark-low marks p its)) its)
+    within-there marks from (length marks - from) p low (omega (arith, low, below-marked marks p its)) its)
     (λ p among.
     let (low, high, its) = within-from marks from (length marks - from) p among in
     let (k, within, is) = (told p).1 its in
@@ -141,11 +116,6 @@ last-marked marks positions n from rising told fits before rest =
           (k - n, omega (arith, past, within, length-drop n positions), get_or-drop n positions (k - n) p ∙ ap (λ at. get_or positions at p) far ∙ is)
     ])
 
--- one more of a range
-pub range-push : (from count : ℕ) → range_with_len from (suc count) ≡ range_with_len from count ++ (from + count) ∷ []
-range-push from zero = ap (λ p. p ∷ []) (omega arith)
-range-push from (suc count) = ap (λ ps. from ∷ ps) (range-push (from + 1) count ∙ ap (λ p. range_with_len (from + 1) count ++ p ∷ []) (omega arith))
-
 -- what stands at the marked positions before a point is what passes of the first
 pub picked-first : {X : Type 0} (f : ℕ → X) (xs : List X) (test : X → Bool) (marks : List Bool) (point : ℕ) → point ≤ length xs → ((p : ℕ) → p < point → slice_get xs p ≡ Some (f p)) → ((p : ℕ) → p < point → get_or marks p false ≡ test (f p))
     → map f (marked_before marks point) ≡ filter test (take point xs)
@@ -153,9 +123,10 @@ picked-first f xs test marks zero fits there told = refl
 picked-first {X = X} f xs test marks (suc k) fits there told =
     let first = picked-first f xs test marks k (omega (arith, fits)) (λ p low. there p (omega (arith, low))) (λ p low. told p (omega (arith, low))) in
     let here : slice_get xs k ≡ Some (f k) = there k (omega arith) in
-    let more : marked_within marks 0 (suc k) ≡ marked_within marks 0 k ++ cond (get_or marks k false) (k ∷ []) [] = range-more marks k in
+    let more : marked_within marks 0 (suc k) ≡ marked_within marks 0 k ++ cond (get_or marks k false) (k ∷ []) [] =
+    ap (marked_within marks 0) (sym (add-one k)) ∙ filter-range (λ p. get_or marks p false) k in
     let last : filter test (take (suc k) xs) ≡ filter test (take k xs) ++ cond (test (f k)) (f k ∷ []) [] =
-    ap (λ n. filter test (take n xs)) (one k) ∙ filter_more test xs k (f k) (slice_get_within xs k (f k) here)
+    ap (λ n. filter test (take n xs)) (sym (add-one k)) ∙ filter_more test xs k (f k) (slice_get_within xs k (f k) here)
     ∙ ap (λ (x : X). filter test (take k xs) ++ cond (test x) (x ∷ []) []) (get_or_from_slice_get xs k (f k) (f k) here) in
     ap (map f) more ∙ map-append f (marked_within marks 0 k) (cond (get_or marks k false) (k ∷ []) [])
     ∙ ap (λ ys. ys ++ map f (cond (get_or marks k false) (k ∷ []) [])) first
@@ -163,17 +134,9 @@ picked-first {X = X} f xs test marks (suc k) fits there told =
     ∙ ap (λ ys. filter test (take k xs) ++ ys) (mapped (test (f k)))
     ∙ sym last
   where
-    one : (k : ℕ) → suc k ≡ k + 1
-    one k = omega arith
-
     mapped : (b : Bool) → map f (cond b (k ∷ []) []) ≡ cond b (f k ∷ []) []
     mapped true = refl
     mapped false = refl
-
-    range-more : (marks : List Bool) (k : ℕ) → marked_within marks 0 (suc k) ≡ marked_within marks 0 k ++ cond (get_or marks k false) (k ∷ []) []
-    range-more marks k =
-        let whole : range_with_len 0 (suc k) ≡ range_with_len 0 k ++ k ∷ [] = range-push 0 k ∙ ap (λ p. range_with_len 0 k ++ p ∷ []) (omega arith) in
-        ap (filter (λ p. get_or marks p false)) whole ∙ filter-append (λ p. get_or marks p false) (range_with_len 0 k) (k ∷ [])
 
 -- positions before a point are below it, and those from one on are positions of marks
 pub before-low : (marks : List Bool) (point : ℕ) (positions : List ℕ) → positions ≡ marked_before marks point → (k : ℕ) → k < length positions → get_or positions k 0 < point
@@ -182,5 +145,5 @@ before-low marks point positions is k low =
 
 pub from-low : (marks : List Bool) (from : ℕ) (positions : List ℕ) → positions ≡ marked_from marks from → (k : ℕ) → k < length positions → get_or positions k 0 < length marks
 from-low marks from positions is k low =
-    mark-low marks (get_or positions k 0)
+    below-marked marks (get_or positions k 0)
     (within-from marks from (length marks - from) (get_or positions k 0) (subst (λ ps. Contains ps (get_or positions k 0)) is (k, low, get_or_default positions k (get_or positions k 0) 0 low))).2

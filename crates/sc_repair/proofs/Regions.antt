@@ -27,7 +27,7 @@ unfolding nobody
 logs-picked [] old = refl
 logs-picked (p ∷ positions) old = λ t. get_or-map (λ (c : Chain). c.rejections) old p nobody t ∷ logs-picked positions old t
 
-module _ (m : Market) (old : List Chain) (marks : List Bool) (point end : ℕ) (turns : HaveTurns m marks old point end) where
+module _ {m : Market} {old : List Chain} {marks : List Bool} {point end : ℕ} (turns : HaveTurns m marks old point end) where
   told : (p i : ℕ) → slice_get (students_in old) p ≡ Some i → get_or marks p false ≡ is_among (marked_in marks old) i
   told p i here = marked-told marks (students_in old) p i turns.differ here
 

@@ -1,5 +1,5 @@
 -- A settling in which the students of a region have their turn at their positions alone, and all others stay where they are.
-use Rattle.std.proofs.Common.{◌≡◌, inl, inr, refl, ap, sym, subst, ◌∙◌, ℕ, zero, suc, ◌+◌, ◌-◌, ◌<◌, ◌≤◌, Bool, true, false, List, [], ◌∷◌, ◌++◌, drop, get_or, length, set, take, Contains, Some, None, slice_get, length-set, arith}
+use Rattle.std.proofs.Common.{◌≡◌, add-zero, inl, inr, refl, ap, sym, subst, ◌∙◌, ℕ, zero, suc, ◌+◌, ◌-◌, ◌<◌, ◌≤◌, Bool, true, false, List, [], ◌∷◌, ◌++◌, drop, get_or, length, set, take, Contains, Some, None, slice_get, length-set, arith}
 use Rattle.std.specs.Option.{option_map}
 use Rattle.std.proofs.lemmas.Bool.{cases_lt, cases_Bool}
 use Rattle.std.proofs.lemmas.List.{get_or-take, get_or_default, length-append, length-drop, length-map, length-take, length-take-le, take-append-le, take_all, take_more}
@@ -11,12 +11,13 @@ use Rattle.sc_checkpoint.proofs.Replacing.{get-set-other, get-set-same, replaced
 use Rattle.sc_checkpoint.proofs.Rising.{rising-less}
 use Rattle.sc_engine.proofs.Settling.{take-next}
 use Rattle.sc_engine.specs.RoundView.{RoundView, has_entered, Enters}
+use Rattle.sc_region.proofs.MarkedPositions.{below-marked}
 use Rattle.sc_repair.specs.Course.{GoesOnInside}
 use Rattle.sc_repair.specs.Renewed.{marked_from, renewed_from, without}
 use Rattle.sc_repair.proofs.Chains.{drop-next}
 use Rattle.sc_repair.proofs.Course.{inside-absent, inside-more, outside-more}
 use Rattle.sc_repair.proofs.InTurn.{drop-there}
-use Rattle.sc_repair.proofs.Positioned.{mark-low, within-from, within-rising, within-there}
+use Rattle.sc_repair.proofs.Positioned.{within-from, within-rising, within-there}
 
 -- lists in which the same stands everywhere are the same
 pub get-ext : {X : Type 0} (xs ys : List X) → ((p : ℕ) → slice_get xs p ≡ slice_get ys p) → xs ≡ ys
@@ -66,7 +67,7 @@ first-without point gap chains fits =
 -- a chain that is renewed further back changes none of the first
 first-same : (point gap k : ℕ) (chains : List Chain) (chain : Chain) → point ≤ length chains → point ≤ k → take k (without point gap (set chains (k + gap) chain)) ≡ take k (without point gap chains)
 first-same point gap k chains chain fits from =
-    let long : point ≤ length (set chains (k + gap) chain) = omega (arith, fits, length-set-chain) in
+    let long : point ≤ length (set chains (k + gap) chain) = omega (arith, fits, length-set chains (k + gap) chain) in
     get-ext (take k (without point gap (set chains (k + gap) chain))) (take k (without point gap chains)) (λ p.
     elim (cases_lt p k) [
       | inl low ↦
@@ -85,9 +86,6 @@ first-same point gap k chains chain fits from =
       | inr past ↦ slice_get_past (take k (without point gap (set chains (k + gap) chain))) p (omega (arith, past, length-take k (without point gap (set chains (k + gap) chain))))
           ∙ sym (slice_get_past (take k (without point gap chains)) p (omega (arith, past, length-take k (without point gap chains))))
     ])
-  where
-    length-set-chain : length (set chains (k + gap) chain) ≡ length chains
-    length-set-chain = length-set chains (k + gap) chain
 
 module _ (m : Market) (test : ℕ → Bool) (old : List Chain) (point gap : ℕ) (fits : point ≤ length old) where
   -- the chains of the first k students, where those at these positions had their turn
@@ -133,18 +131,13 @@ module _ (m : Market) (test : ℕ → Bool) (old : List Chain) (point gap : ℕ)
       → ((p : ℕ) → k ≤ p → p < k + d → Contains positions (p + gap) → ⊥)
       → GoesOnInside m test old point gap r (first_of positions renewed k) k → GoesOnInside m test old point gap r (first_of positions renewed (k + d)) (k + d)
   outside-until zero positions renewed r k from stays apart on =
-      subst (λ at. GoesOnInside m test old point gap r (first_of positions renewed at) at) (same k) on
-    where
-      same : (k : ℕ) → k ≡ k + 0
-      same k = omega arith
+      subst (λ at. GoesOnInside m test old point gap r (first_of positions renewed at) at) (sym (add-zero k)) on
   outside-until (suc d) positions renewed r k from stays apart on =
       let (i, here, there, fails) = stays k (omega arith) (omega arith) in
       let next = outside-stays positions renewed r k i from here there fails (apart k (omega arith) (omega arith)) on in
-      subst (λ at. GoesOnInside m test old point gap r (first_of positions renewed at) at) (further k d)
+      let further : k + 1 + d ≡ k + suc d = omega arith in
+      subst (λ at. GoesOnInside m test old point gap r (first_of positions renewed at) at) further
       (outside-until d positions renewed r (k + 1) (omega (arith, from)) (λ p low high. stays p (omega (arith, low)) (omega (arith, high))) (λ p low high. apart p (omega (arith, low)) (omega (arith, high))) next)
-    where
-      further : (k d : ℕ) → k + 1 + d ≡ k + suc d
-      further k d = omega arith
 
 -- of those who have their turn the first n had it, and nobody else is passed over up to k
 pub record HadTurns (m : Market) (test : ℕ → Bool) (old : List Chain) (point gap end : ℕ) (turns : List ℕ) (n : ℕ) (renewed : List Chain) (r : RoundView) : Type 0 where
@@ -165,7 +158,7 @@ pub record AreTurns (m : Market) (test : ℕ → Bool) (old : List Chain) (marks
   pub there : (p : ℕ) → point ≤ p → p < end → (i : ℕ) × (slice_get (students_of m) p ≡ Some i) × (slice_get (students_in old) (p + gap) ≡ Some i)
   pub told : (p i : ℕ) → slice_get (students_in old) p ≡ Some i → get_or marks p false ≡ test i
 
-module _ (m : Market) (test : ℕ → Bool) (old : List Chain) (marks : List Bool) (point gap end : ℕ) (are : AreTurns m test old marks point gap end) where
+module _ {m : Market} {test : ℕ → Bool} {old : List Chain} {marks : List Bool} {point gap end : ℕ} (are : AreTurns m test old marks point gap end) where
   abbrev pub turns : List ℕ
   turns = marked_from marks (point + gap)
 
@@ -173,7 +166,7 @@ module _ (m : Market) (test : ℕ → Bool) (old : List Chain) (marks : List Boo
   pub turn-at : (n : ℕ) → n < length turns → (point + gap ≤ get_or turns n 0) × (get_or turns n 0 < end + gap) × (get_or marks (get_or turns n 0) false ≡ true)
   turn-at n low =
       let (from, high, its) = within-from marks (point + gap) (length marks - (point + gap)) (get_or turns n 0) (n, low, get_or_default turns n (get_or turns n 0) 0 low) in
-      (from, omega (arith, mark-low marks (get_or turns n 0) its, are.one_each, are.long), its)
+      (from, omega (arith, below-marked marks (get_or turns n 0) its, are.one_each, are.long), its)
 
   -- where no turn is, nobody of the region is
   quiet : (n k j p : ℕ) → ((j : ℕ) → j < n → get_or turns j 0 < k + gap) → ((i : ℕ) → n ≤ i → i < length turns → j + gap ≤ get_or turns i 0) → k ≤ p → p < j → Contains turns (p + gap) → ⊥
@@ -194,7 +187,7 @@ module _ (m : Market) (test : ℕ → Bool) (old : List Chain) (marks : List Boo
         sym (are.told (p + gap) i own) ∙ elim (cases_Bool (get_or marks (p + gap) false)) [
           | inl its ↦
               absurd (quiet n k j p past left low high (within-there marks (point + gap) (length marks - (point + gap)) (p + gap) (omega (arith, from, low))
-              (omega (arith, mark-low marks (p + gap) its, from, low)) its))
+              (omega (arith, below-marked marks (p + gap) its, from, low)) its))
           | inr fails ↦ fails
         ],
       )
@@ -233,11 +226,9 @@ module _ (m : Market) (test : ℕ → Bool) (old : List Chain) (marks : List Boo
   turn-here n low =
       let (from, high, its) = turn-at n low in
       let (i, here, own) = are.there (get_or turns n 0 - gap) (omega (arith, from)) (omega (arith, from, high)) in
-      let there : slice_get (students_in old) (get_or turns n 0) ≡ Some i = ap (slice_get (students_in old)) (back (get_or turns n 0) (omega (arith, from))) ∙ own in
+      let back : get_or turns n 0 ≡ get_or turns n 0 - gap + gap = omega (arith, from) in
+      let there : slice_get (students_in old) (get_or turns n 0) ≡ Some i = ap (slice_get (students_in old)) back ∙ own in
       (i, here, there, sym (are.told (get_or turns n 0) i there) ∙ its)
-    where
-      back : (t : ℕ) → gap ≤ t → t ≡ t - gap + gap
-      back t low = omega (arith, low)
 
   pub turn-before : (n : ℕ) (renewed : List Chain) (r : RoundView) → (had : HadTurns m test old point gap end turns n renewed r) → n < length turns
       → GoesOnInside m test old point gap r (take (get_or turns n 0 - gap) (without point gap (replaced old (take n turns) renewed))) (get_or turns n 0 - gap)
@@ -246,11 +237,8 @@ module _ (m : Market) (test : ℕ → Bool) (old : List Chain) (marks : List Boo
       turns-until n (get_or turns n 0 - gap) renewed r had (omega (arith, had.left n (omega arith) low)) (omega (arith, from, high))
       (λ i later within. elim (cases_lt n i) [
         | inl after ↦ omega (arith, from, rising-less turns n i (within-rising marks (point + gap) (length marks - (point + gap))) after within)
-        | inr same ↦ omega (arith, from, ap (λ at. get_or turns at 0) (alike i n later same))
+        | inr same ↦ let one : i ≡ n = omega (arith, later, same) in omega (arith, from, ap (λ at. get_or turns at 0) one)
       ])
-    where
-      alike : (i n : ℕ) → n ≤ i → i ≤ n → i ≡ n
-      alike i n low high = omega (arith, low, high)
 
   -- whose it is
   pub turn-student : (n i : ℕ) → n < length turns → slice_get (students_in old) (get_or turns n 0) ≡ Some i → slice_get (students_of m) (get_or turns n 0 - gap) ≡ Some i
@@ -288,7 +276,7 @@ module _ (m : Market) (test : ℕ → Bool) (old : List Chain) (marks : List Boo
         within = omega (arith, from, high);
         past = λ j had_it. elim (cases_lt j n) [
           | inl before ↦ omega (arith, from, rising-less turns j n (within-rising marks (point + gap) (length marks - (point + gap))) before low)
-          | inr not_before ↦ omega (arith, from, ap (λ at. get_or turns at 0) (alike j n had_it not_before))
+          | inr not_before ↦ let one : j ≡ n = omega (arith, had_it, not_before) in omega (arith, from, ap (λ at. get_or turns at 0) one)
         ];
         left = λ j later within. omega (arith, from, rising-less turns n j (within-rising marks (point + gap) (length marks - (point + gap))) (omega (arith, later)) within);
         count = ap (λ (cs : List Chain). length cs) pushed ∙ length-append renewed (record { student = i; rejections = chain } ∷ []) ∙ ap (λ l. l + 1) had.count;
@@ -297,9 +285,6 @@ module _ (m : Market) (test : ℕ → Bool) (old : List Chain) (marks : List Boo
             (inside-enters m test old point gap are.fits (take n turns) renewed r r' chain (at - gap) i (omega (arith, from)) few (here ∙ ap Some same) (ap (slice_get (students_in old)) back ∙ own)
             (ap test (sym same) ∙ passes) (turn-before n renewed r had low) enters more);
       }
-    where
-      alike : (j n : ℕ) → j < n + 1 → n ≤ j → j ≡ n
-      alike j n low high = omega (arith, low, high)
 
   -- all have had their turn
   pub turns-end : (n : ℕ) (renewed : List Chain) (r : RoundView) → (had : HadTurns m test old point gap end turns n renewed r) → n ≡ length turns → GoesOnInside m test old point gap r (renewed_from old marks point gap renewed) end

@@ -13,6 +13,7 @@ use Rattle.sc_repair.proofs.Positioned.{before-low, within-rising}
 use Rattle.sc_repair.proofs.Regions.{before-stand}
 use Rattle.sc_repair.proofs.Resumption.{length-students}
 use Rattle.sc_repair.proofs.resettling.settle_region.Goals as goal
+use Rattle.sc_repair.proofs.resettling.settle_region.Goals.{In_ok-standings}
 
 pub next_choices_of-requires-clause-rising : goal.next_choices_of-requires-clause-rising
 next_choices_of-requires-clause-rising g c = subst IsStrictlyIncreasing (sym c.positions_before-positions.ensures) (within-rising c.args.part.region.now 0 c.args.part.point)
@@ -25,32 +26,30 @@ pub next_choices_of-requires-clause-held : goal.next_choices_of-requires-clause-
 next_choices_of-requires-clause-held g c = λ k low.
     omega (arith, before-low c.args.part.region.now c.args.part.point c.positions_before-positions.result.now c.positions_before-positions.ensures k low, c.requires.given.turns.in_order, c.requires.given.turns.nobody_new)
 
-pub resumed-requires : goal.resumed-requires
-resumed-requires g c =
-    let m = c.args.part.papers.now in
-    let old = c.args.old.now in
-    let marks = c.args.part.region.now in
-    let test = is_among (marked_in marks old) in
-    let first = take c.args.part.point old in
-    let standing : c.in_ok-standings.standings.choices.items ≡ next_choices_after m (log_of test first) (filter test (take c.args.part.point (students_of m))) =
+-- those who stand before the point stand at their next choices
+standing : (g : _) (c : In_ok-standings g)
+    → c.in_ok-standings.standings.choices.items ≡ next_choices_after c.args.part.papers.now (log_of (is_among (marked_in c.args.part.region.now c.args.old.now)) (take c.args.part.point c.args.old.now)) (filter (is_among (marked_in c.args.part.region.now c.args.old.now)) (take c.args.part.point (students_of c.args.part.papers.now)))
+standing g c =
     c.in_ok-standings.ensures
-    ∙ ap (λ ps. next_choices_after m (joined (logs_at ps old)) (map (student_at m) ps)) c.positions_before-positions.ensures
-    ∙ before-stand m old marks c.args.part.point c.args.part.end c.requires.given.turns c.requires.given.theirs in
-    (log_of test first, subst (AreNextChoices m (log_of test first)) (sym standing) (stand-inside m test first c.args.part.point c.requires.given.well_formed c.requires.given.apart c.requires.given.theirs c.requires.given.segmented))
+    ∙ ap (λ ps. next_choices_after c.args.part.papers.now (joined (logs_at ps c.args.old.now)) (map (student_at c.args.part.papers.now) ps)) c.positions_before-positions.ensures
+    ∙ before-stand c.requires.given.turns c.requires.given.theirs
+
+stand : (g : _) (c : In_ok-standings g) → AreNextChoices c.args.part.papers.now (log_of (is_among (marked_in c.args.part.region.now c.args.old.now)) (take c.args.part.point c.args.old.now)) c.in_ok-standings.standings.choices.items
+stand g c =
+    let test = is_among (marked_in c.args.part.region.now c.args.old.now) in
+    let first = take c.args.part.point c.args.old.now in
+    subst (AreNextChoices c.args.part.papers.now (log_of test first)) (sym (standing g c)) (stand-inside c.args.part.papers.now test first c.args.part.point c.requires.given.well_formed c.requires.given.apart c.requires.given.theirs c.requires.given.segmented)
+
+pub resumed-requires : goal.resumed-requires
+resumed-requires g c = (_, stand g (goal.at.resumed-requires g c).In_ok-standings)
 
 pub take_turns-requires-clause-on : goal.take_turns-requires-clause-on
 take_turns-requires-clause-on g c =
-    let m = c.args.part.papers.now in
+    let before = (goal.at.take_turns-requires-clause-on g c).In_ok-standings in
     let old = c.args.old.now in
-    let marks = c.args.part.region.now in
-    let test = is_among (marked_in marks old) in
+    let test = is_among (marked_in c.args.part.region.now old) in
     let first = take c.args.part.point old in
-    let standing : c.in_ok-standings.standings.choices.items ≡ next_choices_after m (log_of test first) (filter test (take c.args.part.point (students_of m))) =
-    c.in_ok-standings.ensures
-    ∙ ap (λ ps. next_choices_after m (joined (logs_at ps old)) (map (student_at m) ps)) c.positions_before-positions.ensures
-    ∙ before-stand m old marks c.args.part.point c.args.part.end c.requires.given.turns c.requires.given.theirs in
-    inside-begins m test old first (length old - c.args.part.end) (view_of g.R.Roll.keys g.R.Roll.seats c.in_ok-round.round) c.args.part.point c.requires.given.apart
+    inside-begins c.args.part.papers.now test old first (length old - c.args.part.end) (view_of g.R.Roll.keys g.R.Roll.seats c.in_ok-round.round) c.args.part.point c.requires.given.apart
     (length-take-le c.args.part.point old (omega (arith, c.requires.given.turns.in_order, c.requires.given.turns.nobody_new))) refl c.requires.given.theirs c.requires.given.segmented c.requires.given.others c.in_ok-round.ensures.fits
-    (λ i. c.in_ok-round.ensures.entered i ∙ ap (λ ss. stands ss i) standing)
-    (c.in_ok-round.ensures.continues (log_of test first) (subst (AreNextChoices m (log_of test first)) (sym standing) (stand-inside m test first c.args.part.point c.requires.given.well_formed c.requires.given.apart c.requires.given.theirs c.requires.given.segmented)))
+    (λ i. c.in_ok-round.ensures.entered i ∙ ap (λ ss. stands ss i) (standing g before)) (c.in_ok-round.ensures.continues (log_of test first) (stand g before))
     c.in_ok-round.ensures.log c.in_ok-round.ensures.proposals

@@ -1,7 +1,7 @@
-use Rattle.std.proofs.Common.{◌≡◌, ◌<◌, ◌↔◌, below_more, Bool, List, inl, inr, true, false, length, get_or, sym, ap, subst, ◌∙◌, is_some, ℕ, IsTrue, Contains, arith}
-use Rattle.std.proofs.lemmas.Bool.{cases_lt, false≢true}
-use Rattle.std.proofs.lemmas.List.{get_or_default, get_or_past, length-map}
+use Rattle.std.proofs.Common.{◌≡◌, ◌<◌, ◌↔◌, below_more, Bool, List, true, false, length, get_or, sym, ap, ◌∙◌, is_some, ℕ, IsTrue, Contains, arith}
+use Rattle.std.proofs.lemmas.List.{get_or_default, length-map}
 use Rattle.sc_papers.specs.Market.{student_at, students_of}
+use Rattle.sc_region.proofs.MarkedPositions.{below-marked}
 use Rattle.sc_repair.specs.Rewinding.{lists}
 use Rattle.sc_repair.proofs.FirstAmong.{first-among, none-among}
 use Rattle.sc_repair.proofs.Rewinding.{rank-lists}
@@ -11,11 +11,7 @@ use Rattle.sc_repair.proofs.rewind.first_marked.Goals as goal
 within : (marks : List Bool) (positions : List ℕ) (k count : ℕ) → k < length positions
     → ((p : ℕ) → (Contains positions p ↔ IsTrue (get_or marks p false))) → length marks ≡ count → get_or positions k 0 < count
 within marks positions k count low marked one_each =
-    let p = get_or positions k 0 in
-    elim (cases_lt p (length marks)) [
-      | inl inside ↦ omega (arith, inside, one_each)
-      | inr past ↦ absurd (false≢true (subst IsTrue (get_or_past marks p false past) ((marked p).0 (k, low, get_or_default positions k p 0 low))))
-    ]
+    let p = get_or positions k 0 in omega (arith, one_each, below-marked marks p ((marked p).0 (k, low, get_or_default positions k p 0 low)))
 
 pub choice_rank_at-requires : goal.choice_rank_at-requires
 choice_rank_at-requires c =
