@@ -1,5 +1,5 @@
 -- The region of an amendment lies apart, before it and after it, and outside the region nothing changes.
-use Rattle.std.proofs.Common.{◌≡◌, inl, inr, refl, ap, sym, subst, ◌∙◌, ℕ, ◌+◌, ◌-◌, nat_eq, Bool, true, false, cond, not, List, [], ◌∷◌, ◌++◌, Option, Some, None, Contains, filter, append-nil}
+use Rattle.std.proofs.Common.{◌≡◌, inl, inr, refl, ap, sym, subst, ◌∙◌, ℕ, ◌+◌, ◌-◌, nat_eq, Bool, true, false, cond, not, List, [], ◌∷◌, ◌++◌, Contains, filter, append-nil}
 use Rattle.std.specs.Map.{lookup, remove_entry, set_value}
 use Rattle.std.specs.Option.{option_map_or}
 use Rattle.std.proofs.lemmas.Bool.{cases_Bool, cond-true, cond-false, eqb-true, false≢true}
@@ -11,8 +11,9 @@ use Rattle.sc_papers.specs.declared.amendment.Amendment.{Amendment}
 use Rattle.sc_papers.specs.declared.amendment.Amendment.TheVariants.{Enter, Withdraw, Rerank, Add, Close, Correct}
 use Rattle.sc_papers.specs.declared.records.School.{School}
 use Rattle.sc_papers.specs.declared.records.Student.{Student}
-use Rattle.sc_papers.proofs.Changing.{put_school, put_student}
+use Rattle.sc_papers.proofs.Changing.{put_student}
 use Rattle.sc_region.specs.Region.{amended, concerned, next}
+use Rattle.sc_region.proofs.Changes.{of-changed}
 use Rattle.sc_repair.specs.Locality.{TellsRegion}
 use Rattle.sc_repair.proofs.Rewinding.{field-kept}
 
@@ -74,28 +75,23 @@ alike-entries m n test seed schools students = record {
 }
 
 alike-changed : (m : Market) (test : ℕ → Bool) (i : ℕ) (change : Student → Student) → test i ≡ true → AlikeOutside test m (changed_student m i change)
-alike-changed m test i change passes = go (student_of m i)
-  where
-    go : (found : Option Student) → AlikeOutside test m (option_map_or (λ student. put_student m i (change student)) found m)
-    go None = alike-entries m m test refl refl refl
-    go (Some student) = alike-entries m (put_student m i (change student)) test refl refl (others-changed test i m.students (change student) passes)
+alike-changed m test i change passes =
+    of-changed (AlikeOutside test m) (student_of m i) _ m (alike-entries m m test refl refl refl) (λ student is.
+    alike-entries m (put_student m i (change student)) test refl refl (others-changed test i m.students (change student) passes))
 
 -- each who lists the amended school passes: the students stay, and so do the other schools
 alike-seated : (m : Market) (test : ℕ → Bool) (s seats : ℕ) → ((i : ℕ) → Contains (choices_of m i) s → test i ≡ true) → AlikeOutside test m (with_seats m s seats)
 unfolding seats_of
-alike-seated m test s seats listers = go (school_of m s) refl
-  where
-    go : (found : Option School) → school_of m s ≡ found → AlikeOutside test m (option_map_or (λ school. put_school m s (record school { seats = seats })) found m)
-    go None is = alike-entries m m test refl refl refl
-    go (Some school) is =
-        let put : School = record school { seats = seats } in
-        record {
-          seed = refl;
-          students = refl;
-          zones = λ t. field-kept (λ found. found.zone) s t school put m.schools is (λ same. refl);
-          seats = λ i t out listed. field-kept (λ found. found.seats) s t school put m.schools is
-              (λ same. absurd (false≢true (sym out ∙ listers i (subst (Contains (choices_of m i)) (sym (eqb-true s t same)) listed))));
-        }
+alike-seated m test s seats listers =
+    of-changed (AlikeOutside test m) (school_of m s) _ m (alike-entries m m test refl refl refl) (λ school is.
+    let put : School = record school { seats = seats } in
+    record {
+      seed = refl;
+      students = refl;
+      zones = λ t. field-kept (λ found. found.zone) s t school put m.schools is (λ same. refl);
+      seats = λ i t out listed. field-kept (λ found. found.seats) s t school put m.schools is
+          (λ same. absurd (false≢true (sym out ∙ listers i (subst (Contains (choices_of m i)) (sym (eqb-true s t same)) listed))));
+    })
 
 pub region-alike : (m : Market) (a : Amendment) (test : ℕ → Bool) → TellsRegion m a test → AlikeOutside test m (after m a)
 region-alike m (Enter i zone siblings choices continuing) test tells =

@@ -61,12 +61,3 @@ take-put test (suc k) (e ∷ es) w low =
       | inl here ↦ let none : suc k ≤ 0 = rw here at low in absurd (omega (arith, none))
       | inr other ↦ let rest : suc k ≤ 1 + position_or_len test (keys_of es) = rw other at low in rw other (ap (λ fs. e ∷ fs) (take-put test k es w (omega (arith, rest))))
     ]
-
--- a removal leaves as many entries as stand before the first place
-pub position-removed : {X : Type 0} (test : ℕ → Bool) (es : List (ℕ × X)) → position_or_len test (keys_of es) ≤ length (remove_entry test es)
-position-removed test [] = omega arith
-position-removed test (e ∷ es) =
-    elim (cases_Bool (test e.0)) [
-      | inl here ↦ rw here (omega arith)
-      | inr other ↦ rw other (let rest = position-removed test es in omega arith)
-    ]

@@ -7,7 +7,7 @@ use Rattle.std.specs.Option.{option_map_or}
 use Rattle.std.proofs.lemmas.Bool.{cases_Bool, cond-true, cond-false, eqb-true, eq-eqb, false≢true}
 use Rattle.std.proofs.lemmas.Cmp.{nat_eq_equiv}
 use Rattle.std.proofs.lemmas.Grind.{common_steps}
-use Rattle.std.proofs.lemmas.List.{get_or-take, length-map, length-append, length-take, length-take-le, take-append-le, take-map, take-take}
+use Rattle.std.proofs.lemmas.List.{get_or-take, length-map, length-take, length-take-le, take-append-le, take-map, take-take}
 use Rattle.std.proofs.lemmas.List.Folds.{list_any_at}
 use Rattle.std.proofs.lemmas.List.Sums.{fails_before_first}
 use Rattle.std.proofs.lemmas.Map.{keys-set_value, lookup-set_value}
@@ -25,9 +25,8 @@ use Rattle.sc_papers.proofs.Changing.{put_school, put_student}
 use Rattle.sc_papers.proofs.Cutting.{cut-cut, length-students_cut}
 use Rattle.sc_papers.proofs.Rewinding.{alike-seats, alike-students, settled-rewound}
 use Rattle.sc_papers.proofs.Students.{lister-among}
-use Rattle.sc_stamps.specs.declared.record.Record.{Record}
-use Rattle.sc_stamps.specs.declared.record.Record.TheVariants.{OfStudent, OfSchool}
-use Rattle.sc_repair.proofs.Positions.{position-removed, position-within, take-put, take-removed}
+use Rattle.sc_region.proofs.Changes.{of-changed}
+use Rattle.sc_repair.proofs.Positions.{position-within, take-put, take-removed}
 use Rattle.sc_repair.specs.Rewinding.{first_to_list, lists, position_of, rewind_point}
 
 -- what a look-up finds among the first entries it finds among all
@@ -109,24 +108,19 @@ field-kept f s t v w es found kept =
 -- papers with other seats for a school
 alike-seated : (m : Market) (s seats : ℕ) → AlikeUpTo (first_to_list m s) m (with_seats m s seats)
 unfolding seats_of
-alike-seated m s seats = go (school_of m s) refl
-  where
-    go : (found : Option School) → school_of m s ≡ found → AlikeUpTo (first_to_list m s) m (option_map_or (λ school. put_school m s (record school { seats = seats })) found m)
-    go None is = alike-students m m (first_to_list m s) refl refl refl
-    go (Some school) is =
-        let put : School = record school { seats = seats } in
-        alike-seats m (put_school m s put) (first_to_list m s) s refl refl
-        (λ t. field-kept (λ found. found.zone) s t school put m.schools is (λ same. refl))
-        (λ t apart. field-kept (λ found. found.seats) s t school put m.schools is (λ same. absurd (apart (sym (eqb-true s t same)))))
-        (unlisted-before m s)
+alike-seated m s seats =
+    of-changed (AlikeUpTo (first_to_list m s) m) (school_of m s) _ m (alike-students m m (first_to_list m s) refl refl refl) (λ school is.
+    let put : School = record school { seats = seats } in
+    alike-seats m (put_school m s put) (first_to_list m s) s refl refl
+    (λ t. field-kept (λ found. found.zone) s t school put m.schools is (λ same. refl))
+    (λ t apart. field-kept (λ found. found.seats) s t school put m.schools is (λ same. absurd (apart (sym (eqb-true s t same)))))
+    (unlisted-before m s))
 
 -- papers with a student changed
 alike-changed : (m : Market) (i : ℕ) (change : Student → Student) → AlikeUpTo (position_of m i) m (changed_student m i change)
-alike-changed m i change = go (student_of m i)
-  where
-    go : (found : Option Student) → AlikeUpTo (position_of m i) m (option_map_or (λ student. put_student m i (change student)) found m)
-    go None = alike-students m m (position_of m i) refl refl refl
-    go (Some student) = alike-students m (put_student m i (change student)) (position_of m i) refl refl (take-put (nat_eq i) (position_of m i) m.students (change student) (omega arith))
+alike-changed m i change =
+    of-changed (AlikeUpTo (position_of m i) m) (student_of m i) _ m (alike-students m m (position_of m i) refl refl refl) (λ student is.
+    alike-students m (put_student m i (change student)) (position_of m i) refl refl (take-put (nat_eq i) (position_of m i) m.students (change student) (omega arith)))
 
 -- papers and what an amendment makes of them are alike up to its rewind point
 pub alike-after : (m : Market) (a : Amendment) → AlikeUpTo (rewind_point m a) m (after m a)
@@ -150,42 +144,20 @@ rewind_within m (Correct i zone siblings continuing) = position-within (nat_eq i
 
 -- a change of a student or a school leaves the students' numbers, and so as many
 pub students-changed : (m : Market) (i : ℕ) (change : Student → Student) → students_of (changed_student m i change) ≡ students_of m
-students-changed m i change = go (student_of m i)
-  where
-    go : (found : Option Student) → students_of (option_map_or (λ student. put_student m i (change student)) found m) ≡ students_of m
-    go None = refl
-    go (Some student) = keys-set_value (nat_eq i) m.students (change student)
+students-changed m i change = of-changed (λ n. students_of n ≡ students_of m) (student_of m i) _ m refl (λ student is. keys-set_value (nat_eq i) m.students (change student))
 
 pub students-seated : (m : Market) (s seats : ℕ) → students_of (with_seats m s seats) ≡ students_of m
-students-seated m s seats = go (school_of m s)
-  where
-    go : (found : Option School) → students_of (option_map_or (λ school. put_school m s (record school { seats = seats })) found m) ≡ students_of m
-    go None = refl
-    go (Some school) = refl
-
-same-count : (m n : Market) → students_of n ≡ students_of m → length n.students ≡ length m.students
-same-count m n same = omega (arith, ap (λ (is : List ℕ). length is) same, length-map m.students (λ e. e.0), length-map n.students (λ e. e.0))
+students-seated m s seats = of-changed (λ n. students_of n ≡ students_of m) (school_of m s) _ m refl (λ school is. refl)
 
 -- and within the amended papers
 pub rewind-within_after : (m : Market) (a : Amendment) → rewind_point m a ≤ length (after m a).students
-rewind-within_after m (Enter i zone siblings choices continuing) =
-    let student : Student = record { zone = zone; siblings = siblings; choices = choices; continuing = continuing } in
-    omega (arith, length-append m.students ((i, student) ∷ []))
-rewind-within_after m (Withdraw i) = position-removed (nat_eq i) m.students
-rewind-within_after m (Rerank i choices) =
-    omega (arith, position-within (nat_eq i) m.students, same-count m (after m (Rerank i choices)) (students-changed m i (λ student. record student { choices = choices })))
-rewind-within_after m (Add s count) = omega (arith, position-within (lists m s) m.students, same-count m (after m (Add s count)) (students-seated m s (seats_of m s + count)))
-rewind-within_after m (Close s count) = omega (arith, position-within (lists m s) m.students, same-count m (after m (Close s count)) (students-seated m s (seats_of m s - count)))
-rewind-within_after m (Correct i zone siblings continuing) =
-    omega (arith, position-within (nat_eq i) m.students, same-count m (after m (Correct i zone siblings continuing)) (students-changed m i (λ student. record student { zone = zone; siblings = siblings; continuing = continuing })))
+rewind-within_after m a =
+    let k = rewind_point m a in
+    omega (arith, rewind_within m a, ap (λ (es : List (ℕ × Student)). length es) (alike-after m a).students, length-take k m.students, length-take k (after m a).students)
 
 -- the segments before the rewind point still stand after the amendment
 pub segments_after : (m : Market) (a : Amendment) (segments : List (List Rejection)) → IsSegmented m segments → IsSegmented (cut (after m a) (rewind_point m a)) (take (rewind_point m a) segments)
 segments_after m a = segments-rewound m (after m a) (rewind_point m a) (alike-after m a) (rewind_within m a) (rewind-within_after m a)
-
-abbrev number_in : Record → ℕ
-number_in (OfStudent i) = i
-number_in (OfSchool s) = s
 
 -- a list with a position for a test is one that has a member that passes it
 some-listed : (test : ℕ → Bool) (xs : List ℕ) → is_some (position test xs) ≡ list_any test xs
