@@ -1,5 +1,5 @@
 -- The round in which everybody stands: the students of a region leave it, the papers change, and they come back.
-use Rattle.std.proofs.Common.{◌≡◌, ◌↔◌, inl, inr, refl, ap, sym, subst, ◌∙◌, ℕ, ◌<◌, ◌≤◌, nat_eq, nat_lt, ◌==◌, ◌+◌, ◌⊎◌, zero, suc, Bool, true, false, ◌&&◌, List, [], ◌∷◌, ◌++◌, length, take, Option, None, Some, Contains, IfSome, IsTrue, is_some, position, slice_get, slice_index_or, remove, arith}
+use Rattle.std.proofs.Common.{◌≡◌, ◌↔◌, inl, inr, refl, ap, sym, subst, ◌∙◌, ℕ, ◌<◌, ◌≤◌, nat_eq, nat_lt, ◌==◌, ◌+◌, ◌⊎◌, Bool, true, false, ◌&&◌, List, [], ◌++◌, length, take, Option, None, Some, Contains, IfSome, IsTrue, is_some, position, slice_get, slice_index_or, remove, arith}
 use Rattle.std.specs.Option.{IsSomeAnd, option_map_or}
 use Rattle.std.proofs.lemmas.Bool.{cases_Bool, cond-false, cond-true, eq-eqb, eqb-true, false≢true, ltb-false, ltb-true}
 use Rattle.std.proofs.Math.Bool.{and-false, and-true}
@@ -17,12 +17,10 @@ use Rattle.sc_papers.specs.Restriction.{joined, AlikeOutside, AreApart}
 use Rattle.sc_papers.specs.Verdict.{after, changed_student, verdict, with_seats, without_student}
 use Rattle.sc_papers.specs.WellFormed.{WellFormed, WithinLimits}
 use Rattle.sc_papers.specs.declared.amendment.Amendment.{Amendment}
-use Rattle.sc_papers.specs.declared.amendment.Amendment.TheVariants.{Enter, Withdraw, Rerank, Add, Close, Correct}
+use Rattle.sc_papers.specs.declared.amendment.Amendment.TheVariants.{Withdraw, Rerank, Add, Close, Correct}
 use Rattle.sc_papers.specs.declared.key.Key.{Key}
-use Rattle.sc_papers.specs.declared.records.School.{School}
 use Rattle.sc_papers.specs.declared.records.Student.{Student}
 use Rattle.sc_papers.specs.declared.rejection.Rejection.{Rejection}
-use Rattle.sc_papers.proofs.Changing.{put_school, put_student}
 use Rattle.sc_papers.proofs.Choices.{places-end}
 use Rattle.sc_papers.proofs.Entering.{is_some-false}
 use Rattle.sc_papers.proofs.Hands.{hand-position, has-position}
@@ -42,8 +40,11 @@ use Rattle.sc_engine.proofs.Taking.{none-contained}
 use Rattle.sc_region.specs.Marks.{marked}
 use Rattle.sc_region.specs.Region.{amended_school, concerned, InRegion}
 use Rattle.sc_region.specs.Telling.{MarkRegion}
+use Rattle.sc_region.proofs.Changes.{of-changed}
 use Rattle.sc_region.proofs.Following.{schools-stay}
+use Rattle.sc_region.proofs.MarkedPositions.{below-marked}
 use Rattle.sc_stamps.specs.Record.{record_of}
+use Rattle.sc_stamps.specs.declared.record.Record.{Record}
 use Rattle.sc_repair.specs.Locality.{is_among, marked_in, TellsRegion}
 use Rattle.sc_repair.specs.Newcomer.{newcomer, StandsAfter}
 use Rattle.sc_repair.specs.Rejoining.{before_leaving, school_in, HasJoined, HasLeft, HasMovedUp, HasSeats, Joins, StandBehind, StandsInside}
@@ -55,19 +56,9 @@ use Rattle.sc_repair.proofs.Renewing.{get-take}
 use Rattle.sc_repair.proofs.Resumption.{length-students}
 use Rattle.sc_repair.proofs.Rewinding.{field-kept}
 
--- what holds of a value, if there is one, may be said in other words
-pub if-some : {X : Type 0} (P Q : X → Type 0) (o : Option X) → ((x : X) → P x → Q x) → IfSome o P → IfSome o Q
-if-some P Q None wider holds = tt
-if-some P Q (Some x) wider holds = wider x holds
-
 -- the positions of marks are within the papers
 pub marked-within : (m : Market) (marks : List Bool) (positions : List ℕ) → length marks ≡ length m.students → ((p : ℕ) → (Contains positions p ↔ IsTrue (slice_index_or marks p false))) → AreWithin m positions
-marked-within m marks positions count marked p among = omega (arith, count, low marks p ((marked p).0 among))
-  where
-    low : (marks : List Bool) (p : ℕ) → IsTrue (slice_index_or marks p false) → p < length marks
-    low [] p marked = absurd (false≢true marked)
-    low (b ∷ bs) zero marked = omega arith
-    low (b ∷ bs) (suc p) marked = omega (arith, low bs p marked)
+marked-within m marks positions count marked p among = omega (arith, count, below-marked marks p ((marked p).0 among))
 
 -- the students of a region stand at its positions
 pub stand-at : (m : Market) (a : Amendment) (test : ℕ → Bool) (marks : List Bool) (positions : List ℕ) → length marks ≡ length m.students → TellsRegion m a test
@@ -130,36 +121,25 @@ change m n a marks positions chains well_m allowed no_entry accepted well within
 -- an amendment gives no other school than its own other seats
 seats-student : (m : Market) (i t : ℕ) (change : Student → Student) → seats_of (changed_student m i change) t ≡ seats_of m t
 unfolding seats_of
-seats-student m i t change = go (student_of m i)
-  where
-    go : (found : Option Student) → option_map_or (λ (school : School). school.seats) (school_of (option_map_or (λ student. put_student m i (change student)) found m) t) 0 ≡ option_map_or (λ (school : School). school.seats) (school_of m t) 0
-    go None = refl
-    go (Some student) = refl
+seats-student m i t change = of-changed (λ n. seats_of n t ≡ seats_of m t) (student_of m i) _ m refl (λ student is. refl)
 
 seats-school : (m : Market) (s t seats : ℕ) → (s ≡ t → ⊥) → seats_of (with_seats m s seats) t ≡ seats_of m t
 unfolding seats_of
-seats-school m s t seats apart = go (school_of m s) refl
-  where
-    go : (found : Option School) → school_of m s ≡ found → option_map_or (λ (school : School). school.seats) (school_of (option_map_or (λ school. put_school m s (record school { seats = seats })) found m) t) 0 ≡ option_map_or (λ (school : School). school.seats) (school_of m t) 0
-    go None is = refl
-    go (Some school) is = let put : School = record school { seats = seats } in field-kept (λ found. found.seats) s t school put m.schools is (λ same. absurd (apart (eqb-true s t same)))
+seats-school m s t seats apart =
+    of-changed (λ n. seats_of n t ≡ seats_of m t) (school_of m s) _ m refl (λ school is.
+    field-kept (λ found. found.seats) s t school (record school { seats = seats }) m.schools is (λ same. absurd (apart (eqb-true s t same))))
 
 pub seats-elsewhere : (m : Market) (a : Amendment) (t : ℕ) → (amended_school a ≡ Some t → ⊥) → seats_of (after m a) t ≡ seats_of m t
 unfolding seats_of
-seats-elsewhere m (Enter i zone siblings choices continuing) t other = refl
-seats-elsewhere m (Withdraw i) t other = refl
 seats-elsewhere m (Rerank i choices) t other = seats-student m i t _
 seats-elsewhere m (Add s count) t other = seats-school m s t _ (λ same. other (ap Some same))
 seats-elsewhere m (Close s count) t other = seats-school m s t _ (λ same. other (ap Some same))
 seats-elsewhere m (Correct i zone siblings continuing) t other = seats-student m i t _
+seats-elsewhere m _ t other = refl
 
 pub amended-in : (a : Amendment) → school_in (record_of a) ≡ amended_school a
-amended-in (Enter i zone siblings choices continuing) = refl
-amended-in (Withdraw i) = refl
-amended-in (Rerank i choices) = refl
 amended-in (Add s count) = refl
-amended-in (Close s count) = refl
-amended-in (Correct i zone siblings continuing) = refl
+amended-in _ = refl
 
 -- the students who pass have left a round in which everybody stood
 pub record HasGone (m : Market) (test : ℕ → Bool) (chains : List Chain) (r : RoundView) : Type 0 where
@@ -223,7 +203,7 @@ follows-waits m n a test positions chains l r changed gone follows = record {
     quiet = follows.proposals ∙ gone.leave.proposals ∙ gone.stood.no_proposals
 
 -- where the students stay
-pub waits : (m n : Market) (a : Amendment) (test : ℕ → Bool) (positions : List ℕ) (chains : List Chain) (l r : RoundView) → Change m n a test positions → students_of n ≡ students_of m → students_in chains ≡ students_of m → HasGone m test chains l → IsReseated n (amended_school a) l r → Waits m n test chains r
+waits : (m n : Market) (a : Amendment) (test : ℕ → Bool) (positions : List ℕ) (chains : List Chain) (l r : RoundView) → Change m n a test positions → students_of n ≡ students_of m → students_in chains ≡ students_of m → HasGone m test chains l → IsReseated n (amended_school a) l r → Waits m n test chains r
 waits m n a test positions chains l r changed students theirs gone reseated = follows-waits m n a test positions chains l r changed gone (record {
   same = λ i. ap (λ ranks. rank_of n ranks i) reseated.ranks ∙ rank-same m n l.ranks i students;
   short = omega (arith, ap length reseated.ranks, gone.leave.fits.ranks, count);
@@ -417,13 +397,16 @@ module _ {R : Type 0} (keys : R → List Key) (seats : R → ℕ) where
   gone-some m test chains (Some before) (Some new) left kept =
       (left.spent ∙ kept.0, record { before = view_of keys seats before; stood = kept.1; leave = left.left kept.1.no_proposals })
 
-  pub waits-some : (m n : Market) (test : ℕ → Bool) (chains : List Chain) (amended : Option ℕ) (left seated : Option (Round R)) → IfSome seated (λ new. IsSomeAnd left (λ before. HasSeats keys seats n amended before new))
-      → IfSome left (λ before. (is_spent before ≡ false) × HasGone m test chains (view_of keys seats before))
-      → ((l r : RoundView) → HasGone m test chains l → IsReseated n amended l r → Waits m n test chains r) → IfSome seated (λ new. (is_spent new ≡ false) × Waits m n test chains (view_of keys seats new))
-  waits-some m n test chains amended left None seated gone law = tt
-  waits-some m n test chains amended None (Some new) seated gone law = absurd seated
-  waits-some m n test chains amended (Some before) (Some new) seated gone law =
-      (seated.spent ∙ gone.0, law (view_of keys seats before) (view_of keys seats new) gone.1 seated.reseated)
+  pub waits-some : (m n p : Market) (a : Amendment) (test : ℕ → Bool) (positions : List ℕ) (chains : List Chain) (named : Record) (left seated : Option (Round R)) → p ≡ n → named ≡ record_of a
+      → IfSome seated (λ new. IsSomeAnd left (λ before. HasSeats keys seats p (school_in named) before new))
+      → IfSome left (λ before. (is_spent before ≡ false) × HasGone m test chains (view_of keys seats before)) → Change m n a test positions → students_of n ≡ students_of m → students_in chains ≡ students_of m
+      → IfSome seated (λ new. (is_spent new ≡ false) × Waits m n test chains (view_of keys seats new))
+  waits-some m n p a test positions chains named left None papers names seated gone changed students theirs = tt
+  waits-some m n p a test positions chains named None (Some new) papers names seated gone changed students theirs = absurd seated
+  waits-some m n p a test positions chains named (Some before) (Some new) papers names seated gone changed students theirs =
+      let told : HasSeats keys seats n (amended_school a) before new =
+      subst (λ k. HasSeats keys seats k (amended_school a) before new) papers (subst (λ s. HasSeats keys seats p s before new) (ap school_in names ∙ amended-in a) seated) in
+      (told.spent ∙ gone.0, waits m n a test positions chains (view_of keys seats before) (view_of keys seats new) changed students theirs gone.1 told.reseated)
 
   pub rejoined-some : (m n : Market) (test : ℕ → Bool) (old new : List Chain) (given : List (ℕ × ℕ)) (waiting spare joined' : Option (Round R))
       → IfSome joined' (λ r'. IsSomeAnd waiting (λ r. IsSomeAnd spare (λ other. HasJoined keys seats n test r other r')))

@@ -1,6 +1,6 @@
 use Rattle.std.proofs.Common.{sym, subst}
+use Rattle.std.proofs.lemmas.Option.{IfSome_then}
 use Rattle.sc_repair.proofs.MovingUp.{AreMovedUp}
-use Rattle.sc_repair.proofs.Rejoining.{if-some}
 use Rattle.sc_repair.proofs.kept_round.rejoin_without.Goals as goal
 
 pub rejoin-requires : goal.rejoin-requires
@@ -10,7 +10,7 @@ rejoin-requires g c =
       fits = c.requires.fits;
       spare_rolls = c.requires.spare_rolls;
       within = λ p among. c.requires.within p ((moved p).0 among);
-      room = if-some _ _ c.args.round.now (λ standing room p among. room p ((moved p).0 among)) c.requires.room;
+      room = IfSome_then c.args.round.now c.requires.room (λ standing room p among. room p ((moved p).0 among));
     }
 
 pub returns : goal.returns

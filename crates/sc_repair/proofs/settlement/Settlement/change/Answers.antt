@@ -1,9 +1,9 @@
 use Rattle.std.proofs.Common.{◌≡◌, ℕ, List, Ok, length, true, false, Contains, ap, sym, subst, ◌∙◌, IfSome, arith}
+use Rattle.std.proofs.lemmas.Option.{IfSome_then}
 use Rattle.std.specs.Option.{IsSomeAnd}
 use Rattle.std.proofs.lemmas.List.{take_all}
 use Rattle.std.specs.declared.alloc.AllocError.{AllocError}
-use Rattle.sc_region.specs.Region.{amended_school}
-use Rattle.sc_repair.specs.Rejoining.{school_in, CanRejoin, HasJoined, HasLeft, HasSeats, StandsInside}
+use Rattle.sc_repair.specs.Rejoining.{CanRejoin, HasJoined, HasLeft, StandsInside}
 use Rattle.sc_papers.specs.Market.{Market, students_of}
 use Rattle.sc_papers.specs.Restriction.{cut, AreApart}
 use Rattle.sc_papers.specs.Verdict.{after, verdict}
@@ -25,113 +25,102 @@ use Rattle.sc_repair.proofs.Admitted.{keys, same-standing, seats, unamended}
 use Rattle.sc_repair.proofs.Changed.{in-place-changed, whole-cut-of}
 use Rattle.sc_repair.proofs.InStep.{students-stay}
 use Rattle.sc_repair.proofs.LiesApart.{region-apart}
-use Rattle.sc_repair.proofs.Rejoining.{amended-in, change, gone-some, if-some, joins-inside, marked-within, region-tells, rejoined, rejoined-some, stand-at, stand-still, waits, waits-some}
+use Rattle.sc_repair.proofs.Rejoining.{change, gone-some, joins-inside, marked-within, rejoined, rejoined-some, stand-still, waits-some, Change, HasGone}
 use Rattle.sc_repair.proofs.Resumption.{length-students}
 use Rattle.sc_repair.proofs.Regional.{marks-count, settled-anew}
 use Rattle.sc_repair.proofs.settlement.Settlement.change.Goals as goal
+use Rattle.sc_repair.proofs.settlement.Settlement.change.Goals.{After-students_len-end}
 
-pub resettle-settled-requires : goal.resettle-settled-requires
-resettle-settled-requires c =
-    let m = c.self.inside.papers in
+-- the papers have changed inside the region, whose students have left the round
+changed : (c : After-students_len-end) → Change c.self.inside.papers c.apply_reversibly.new.self c.args.amendment (is_among (marked_in c.in_ok-region.region c.self.inside.segments)) c.positions-positions.result.now
+changed c =
+    change c.self.inside.papers c.apply_reversibly.new.self c.args.amendment c.in_ok-region.region c.positions-positions.result.now c.self.inside.segments c.self.invariant.certified.well_formed
+    (ap (λ (s : Standing). verdict s.papers c.args.amendment) c.self.view_is ∙ c.requires.allowed) c.requires.no_entry c.in-Ok.ensures.accepted
+    (subst WellFormed c.deref-4.ensures c.students_len-end.ensures.well_formed) (subst WithinLimits c.deref-4.ensures c.students_len-end.ensures.within_limits)
+    (subst (λ p. MarkRegion p c.args.amendment c.in_ok-region.region) c.deref.ensures c.in_ok-region.ensures.region) c.positions-positions.ensures.marked c.self.invariant.theirs
+
+gone : (c : After-students_len-end) → IfSome c.let_leave.new.round (λ r. (is_spent r ≡ false) × HasGone c.self.inside.papers (is_among (marked_in c.in_ok-region.region c.self.inside.segments)) c.self.inside.segments (view_of keys seats r))
+gone c =
     let test = is_among (marked_in c.in_ok-region.region c.self.inside.segments) in
-    let tells = region-tells m c.args.amendment c.in_ok-region.region c.self.inside.segments c.self.invariant.certified.well_formed (ap (λ (s : Standing). verdict s.papers c.args.amendment) c.self.view_is ∙ c.requires.allowed) c.requires.no_entry (subst (λ p. MarkRegion p c.args.amendment c.in_ok-region.region) c.deref.ensures c.in_ok-region.ensures.region) c.self.invariant.theirs in
-    record {
-      changed = subst (λ p. HaveChanged p c.self.inside.places c.self.inside.segments test c.point_in-point.result c.students_len-end.result) (sym c.deref-5.ensures)
-          (in-place-changed m c.apply_reversibly.new.self c.args.amendment c.point_in-point.result c.students_len-end.result c.self.invariant.certified.well_formed (ap (λ (s : Standing). verdict s.papers c.args.amendment) c.self.view_is ∙ c.requires.allowed) c.requires.no_entry
-          c.requires.no_withdrawal c.in-Ok.ensures.accepted (c.point_in-point.ensures ∙ ap (λ p. rewind_point p c.args.amendment) c.deref-2.ensures) (c.students_len-end.ensures.count ∙ ap (λ (p : Market). length p.students) c.deref-4.ensures) c.self.inside.places c.self.inside.segments test (record {
-            well_formed = c.self.invariant.certified.well_formed;
-            theirs = c.self.invariant.theirs;
-            segmented = c.self.invariant.certified.segmented;
-            optimal = c.self.invariant.certified.optimal;
-          }) tells);
-      one_each = marks-count m c.in_ok-region.region c.self.inside.segments (subst (λ p. MarkRegion p c.args.amendment c.in_ok-region.region) c.deref.ensures c.in_ok-region.ensures.region).one_each c.self.invariant.theirs;
-    }
+    gone-some keys seats c.self.inside.papers test c.self.inside.segments c.self.inside.round c.let_leave.new.round
+    (subst (λ p. StandAt p test c.positions-positions.result.now → AreApart p test → IfSome c.let_leave.new.round (λ new. IsSomeAnd c.self.inside.round (λ old. HasLeft keys seats p test old new)))
+    c.deref-3.ensures (c.let_leave.ensures test) (changed c).at (region-apart c.self.inside.papers c.args.amendment test (changed c).tells)) c.self.invariant.round
+
+-- everybody stays, up to the end
+stayed : (c : After-students_len-end) → students_of c.apply_reversibly.new.self ≡ students_of c.self.inside.papers
+stayed c = ap students_of c.in-Ok.ensures.accepted ∙ students-stay c.self.inside.papers c.args.amendment c.requires.no_entry c.requires.no_withdrawal
+
+ended : (c : After-students_len-end) → c.students_len-end.result ≡ length c.apply_reversibly.new.self.students
+ended c = c.students_len-end.ensures.count ∙ ap (λ (p : Market). length p.students) c.deref-4.ensures
 
 pub let_leave-requires-clause-within : goal.let_leave-requires-clause-within
 let_leave-requires-clause-within c =
     subst (λ p. AreWithin p c.positions-positions.result.now) (sym c.deref-3.ensures)
     (marked-within c.self.inside.papers c.in_ok-region.region c.positions-positions.result.now (subst (λ p. MarkRegion p c.args.amendment c.in_ok-region.region) c.deref.ensures c.in_ok-region.ensures.region).one_each c.positions-positions.ensures.marked)
 
+pub resettle-settled-requires : goal.resettle-settled-requires
+resettle-settled-requires c =
+    let made = (goal.at.resettle-settled-requires c).After-students_len-end in
+    let m = c.self.inside.papers in
+    let test = is_among (marked_in c.in_ok-region.region c.self.inside.segments) in
+    record {
+      changed = subst (λ p. HaveChanged p c.self.inside.places c.self.inside.segments test c.point_in-point.result c.students_len-end.result) (sym c.deref-5.ensures)
+          (in-place-changed m c.apply_reversibly.new.self c.args.amendment c.point_in-point.result c.students_len-end.result c.self.invariant.certified.well_formed (ap (λ (s : Standing). verdict s.papers c.args.amendment) c.self.view_is ∙ c.requires.allowed) c.requires.no_entry
+          c.requires.no_withdrawal c.in-Ok.ensures.accepted (c.point_in-point.ensures ∙ ap (λ p. rewind_point p c.args.amendment) c.deref-2.ensures) (ended made) c.self.inside.places c.self.inside.segments test (record {
+            well_formed = c.self.invariant.certified.well_formed;
+            theirs = c.self.invariant.theirs;
+            segmented = c.self.invariant.certified.segmented;
+            optimal = c.self.invariant.certified.optimal;
+          }) (changed made).tells);
+      one_each = marks-count m c.in_ok-region.region c.self.inside.segments (subst (λ p. MarkRegion p c.args.amendment c.in_ok-region.region) c.deref.ensures c.in_ok-region.ensures.region).one_each c.self.invariant.theirs;
+    }
+
 pub reseat-requires : goal.reseat-requires
 reseat-requires c =
-    let m = c.self.inside.papers in
-    let chains = c.self.inside.segments in
-    let marks = c.in_ok-region.region in
-    let test = is_among (marked_in marks chains) in
-    let allowed = ap (λ (s : Standing). verdict s.papers c.args.amendment) c.self.view_is ∙ c.requires.allowed in
-    let tells = region-tells m c.args.amendment marks chains c.self.invariant.certified.well_formed allowed c.requires.no_entry (subst (λ p. MarkRegion p c.args.amendment c.in_ok-region.region) c.deref.ensures c.in_ok-region.ensures.region) c.self.invariant.theirs in
-    let gone = gone-some keys seats m test chains c.self.inside.round c.let_leave.new.round
-    (subst (λ p. StandAt p test c.positions-positions.result.now → AreApart p test → IfSome c.let_leave.new.round (λ new. IsSomeAnd c.self.inside.round (λ old. HasLeft keys seats p test old new)))
-    c.deref-3.ensures (c.let_leave.ensures test) (stand-at m c.args.amendment test marks c.positions-positions.result.now (subst (λ p. MarkRegion p c.args.amendment c.in_ok-region.region) c.deref.ensures c.in_ok-region.ensures.region).one_each tells (subst (λ p. MarkRegion p c.args.amendment c.in_ok-region.region) c.deref.ensures c.in_ok-region.ensures.region).region c.positions-positions.ensures.marked) (region-apart m c.args.amendment test tells)) c.self.invariant.round in
-    let students : students_of c.apply_reversibly.new.self ≡ students_of m = ap students_of c.in-Ok.ensures.accepted ∙ students-stay m c.args.amendment c.requires.no_entry c.requires.no_withdrawal in
-    let changed = change m c.apply_reversibly.new.self c.args.amendment marks c.positions-positions.result.now chains c.self.invariant.certified.well_formed allowed c.requires.no_entry c.in-Ok.ensures.accepted
-    (subst WellFormed c.deref-4.ensures c.students_len-end.ensures.well_formed) (subst WithinLimits c.deref-4.ensures c.students_len-end.ensures.within_limits) (subst (λ p. MarkRegion p c.args.amendment c.in_ok-region.region) c.deref.ensures c.in_ok-region.ensures.region) c.positions-positions.ensures.marked c.self.invariant.theirs in
-    if-some _ _ c.let_leave.new.round (λ r left. left.1.leave.fits.rolls ∙ sym changed.schools_count ∙ ap (λ (p : Market). length p.schools) (sym c.deref-in-Ok-settled.ensures)) gone
+    let made = (goal.at.reseat-requires c).After-students_len-end in
+    IfSome_then c.let_leave.new.round (gone made) (λ r left. left.1.leave.fits.rolls ∙ sym (changed made).schools_count ∙ ap (λ (p : Market). length p.schools) (sym c.deref-in-Ok-settled.ensures))
 
 pub rejoin-requires : goal.rejoin-requires
 rejoin-requires c =
-    let m = c.self.inside.papers in
-    let chains = c.self.inside.segments in
-    let marks = c.in_ok-region.region in
-    let test = is_among (marked_in marks chains) in
-    let allowed = ap (λ (s : Standing). verdict s.papers c.args.amendment) c.self.view_is ∙ c.requires.allowed in
-    let tells = region-tells m c.args.amendment marks chains c.self.invariant.certified.well_formed allowed c.requires.no_entry (subst (λ p. MarkRegion p c.args.amendment c.in_ok-region.region) c.deref.ensures c.in_ok-region.ensures.region) c.self.invariant.theirs in
-    let gone = gone-some keys seats m test chains c.self.inside.round c.let_leave.new.round
-    (subst (λ p. StandAt p test c.positions-positions.result.now → AreApart p test → IfSome c.let_leave.new.round (λ new. IsSomeAnd c.self.inside.round (λ old. HasLeft keys seats p test old new)))
-    c.deref-3.ensures (c.let_leave.ensures test) (stand-at m c.args.amendment test marks c.positions-positions.result.now (subst (λ p. MarkRegion p c.args.amendment c.in_ok-region.region) c.deref.ensures c.in_ok-region.ensures.region).one_each tells (subst (λ p. MarkRegion p c.args.amendment c.in_ok-region.region) c.deref.ensures c.in_ok-region.ensures.region).region c.positions-positions.ensures.marked) (region-apart m c.args.amendment test tells)) c.self.invariant.round in
-    let students : students_of c.apply_reversibly.new.self ≡ students_of m = ap students_of c.in-Ok.ensures.accepted ∙ students-stay m c.args.amendment c.requires.no_entry c.requires.no_withdrawal in
-    let changed = change m c.apply_reversibly.new.self c.args.amendment marks c.positions-positions.result.now chains c.self.invariant.certified.well_formed allowed c.requires.no_entry c.in-Ok.ensures.accepted
-    (subst WellFormed c.deref-4.ensures c.students_len-end.ensures.well_formed) (subst WithinLimits c.deref-4.ensures c.students_len-end.ensures.within_limits) (subst (λ p. MarkRegion p c.args.amendment c.in_ok-region.region) c.deref.ensures c.in_ok-region.ensures.region) c.positions-positions.ensures.marked c.self.invariant.theirs in
-    let waiting = waits-some keys seats m c.apply_reversibly.new.self test chains (amended_school c.args.amendment) c.let_leave.new.round c.reseat.new.round
-    (subst (λ amended. IfSome c.reseat.new.round (λ new. IsSomeAnd c.let_leave.new.round (λ before. HasSeats keys seats c.apply_reversibly.new.self amended before new))) (ap school_in c.record_of-amended.ensures ∙ amended-in c.args.amendment)
-    (subst (λ p. IfSome c.reseat.new.round (λ new. IsSomeAnd c.let_leave.new.round (λ before. HasSeats keys seats p (school_in c.record_of-amended.result) before new))) c.deref-in-Ok-settled.ensures c.reseat.ensures))
-    gone (λ l r. waits m c.apply_reversibly.new.self c.args.amendment test _ chains l r changed students c.self.invariant.theirs) in
-    let at = stand-still m c.apply_reversibly.new.self test c.positions-positions.result.now students changed.at in
+    let made = (goal.at.rejoin-requires c).After-students_len-end in
+    let n = c.apply_reversibly.new.self in
+    let test = is_among (marked_in c.in_ok-region.region c.self.inside.segments) in
+    let waiting = waits-some keys seats c.self.inside.papers n _ c.args.amendment test _ c.self.inside.segments _ c.let_leave.new.round c.reseat.new.round c.deref-in-Ok-settled.ensures c.record_of-amended.ensures c.reseat.ensures (gone made) (changed made) (stayed made) c.self.invariant.theirs in
+    let at = stand-still c.self.inside.papers n test c.positions-positions.result.now (stayed made) (changed made).at in
     subst (λ p. CanRejoin keys seats p (Contains c.positions-positions.result.now) c.reseat.new.round c.resettle-settled.new.spare) (sym c.deref-in-Ok-settled-2.ensures) (record {
-      fits = if-some _ _ c.reseat.new.round (λ r waits. waits.1.fits) waiting;
-      spare_rolls = if-some _ _ c.resettle-settled.new.spare (λ other inside. record { rolls = inside.fits.rolls; each = inside.fits.each }) (subst (λ p. IfSome c.resettle-settled.new.spare (λ other. StandsInside p test c.resettle-settled.new.places c.students_len-end.result (view_of keys seats other))) c.deref-5.ensures c.in-Ok-settled.ensures.inside);
+      fits = IfSome_then c.reseat.new.round waiting (λ r waits. waits.1.fits);
+      spare_rolls = IfSome_then c.resettle-settled.new.spare (subst (λ p. IfSome c.resettle-settled.new.spare (λ other. StandsInside p test c.resettle-settled.new.places c.students_len-end.result (view_of keys seats other))) c.deref-5.ensures c.in-Ok-settled.ensures.inside) (λ other inside. record { rolls = inside.fits.rolls; each = inside.fits.each });
       within = at.within;
-      room = if-some _ _ c.reseat.new.round (λ r waits p among. waits.1.room p (at.within p among)) waiting;
+      room = IfSome_then c.reseat.new.round waiting (λ r waits p among. waits.1.room p (at.within p among));
     })
 
 pub round_of_everybody-requires-clause-kept : goal.round_of_everybody-requires-clause-kept
 round_of_everybody-requires-clause-kept c =
+    let made = (goal.at.round_of_everybody-requires-clause-kept c).After-students_len-end in
     let m = c.self.inside.papers in
-    let chains = c.self.inside.segments in
-    let marks = c.in_ok-region.region in
-    let test = is_among (marked_in marks chains) in
-    let allowed = ap (λ (s : Standing). verdict s.papers c.args.amendment) c.self.view_is ∙ c.requires.allowed in
-    let tells = region-tells m c.args.amendment marks chains c.self.invariant.certified.well_formed allowed c.requires.no_entry (subst (λ p. MarkRegion p c.args.amendment c.in_ok-region.region) c.deref.ensures c.in_ok-region.ensures.region) c.self.invariant.theirs in
-    let gone = gone-some keys seats m test chains c.self.inside.round c.let_leave.new.round
-    (subst (λ p. StandAt p test c.positions-positions.result.now → AreApart p test → IfSome c.let_leave.new.round (λ new. IsSomeAnd c.self.inside.round (λ old. HasLeft keys seats p test old new)))
-    c.deref-3.ensures (c.let_leave.ensures test) (stand-at m c.args.amendment test marks c.positions-positions.result.now (subst (λ p. MarkRegion p c.args.amendment c.in_ok-region.region) c.deref.ensures c.in_ok-region.ensures.region).one_each tells (subst (λ p. MarkRegion p c.args.amendment c.in_ok-region.region) c.deref.ensures c.in_ok-region.ensures.region).region c.positions-positions.ensures.marked) (region-apart m c.args.amendment test tells)) c.self.invariant.round in
-    let students : students_of c.apply_reversibly.new.self ≡ students_of m = ap students_of c.in-Ok.ensures.accepted ∙ students-stay m c.args.amendment c.requires.no_entry c.requires.no_withdrawal in
-    let changed = change m c.apply_reversibly.new.self c.args.amendment marks c.positions-positions.result.now chains c.self.invariant.certified.well_formed allowed c.requires.no_entry c.in-Ok.ensures.accepted
-    (subst WellFormed c.deref-4.ensures c.students_len-end.ensures.well_formed) (subst WithinLimits c.deref-4.ensures c.students_len-end.ensures.within_limits) (subst (λ p. MarkRegion p c.args.amendment c.in_ok-region.region) c.deref.ensures c.in_ok-region.ensures.region) c.positions-positions.ensures.marked c.self.invariant.theirs in
-    let waiting = waits-some keys seats m c.apply_reversibly.new.self test chains (amended_school c.args.amendment) c.let_leave.new.round c.reseat.new.round
-    (subst (λ amended. IfSome c.reseat.new.round (λ new. IsSomeAnd c.let_leave.new.round (λ before. HasSeats keys seats c.apply_reversibly.new.self amended before new))) (ap school_in c.record_of-amended.ensures ∙ amended-in c.args.amendment)
-    (subst (λ p. IfSome c.reseat.new.round (λ new. IsSomeAnd c.let_leave.new.round (λ before. HasSeats keys seats p (school_in c.record_of-amended.result) before new))) c.deref-in-Ok-settled.ensures c.reseat.ensures))
-    gone (λ l r. waits m c.apply_reversibly.new.self c.args.amendment test _ chains l r changed students c.self.invariant.theirs) in
     let n = c.apply_reversibly.new.self in
-    let cut_all = ap (λ p. cut p c.students_len-end.result) c.deref-5.ensures ∙ whole-cut-of n c.students_len-end.result (c.students_len-end.ensures.count ∙ ap (λ (p : Market). length p.students) c.deref-4.ensures) in
+    let test = is_among (marked_in c.in_ok-region.region c.self.inside.segments) in
+    let waiting = waits-some keys seats c.self.inside.papers n _ c.args.amendment test _ c.self.inside.segments _ c.let_leave.new.round c.reseat.new.round c.deref-in-Ok-settled.ensures c.record_of-amended.ensures c.reseat.ensures (gone made) (changed made) (stayed made) c.self.invariant.theirs in
+    let cut_all = ap (λ p. cut p c.students_len-end.result) c.deref-5.ensures ∙ whole-cut-of n c.students_len-end.result (ended made) in
     let certified = subst (λ p. IsCertified (standing_of p c.resettle-settled.new.places c.resettle-settled.new.segments c.in-Ok-settled.proposals)) cut_all c.in-Ok-settled.ensures.resettled.certified in
     subst (λ p. IfSome c.take.result (λ r. (is_spent r ≡ false) × StandsAfter p c.resettle-settled.new.segments (view_of keys seats r))) (sym c.deref-in-Ok-settled-3.ensures)
     (subst (λ o. IfSome o (λ r. (is_spent r ≡ false) × StandsAfter n c.resettle-settled.new.segments (view_of keys seats r))) (sym c.take.ensures.value)
-    (rejoined-some keys seats m n test chains c.resettle-settled.new.segments c.resettle-settled.new.places c.reseat.new.round c.resettle-settled.new.spare c.rejoin.new.round
+    (rejoined-some keys seats m n test c.self.inside.segments c.resettle-settled.new.segments c.resettle-settled.new.places c.reseat.new.round c.resettle-settled.new.spare c.rejoin.new.round
     (subst (λ p. StandAt p test c.positions-positions.result.now → AreApart p test
     → IfSome c.rejoin.new.round (λ new. IsSomeAnd c.reseat.new.round (λ old. IsSomeAnd c.resettle-settled.new.spare (λ other. HasJoined keys seats p test old other new))))
-    c.deref-in-Ok-settled-2.ensures (c.rejoin.ensures.joined test) (stand-still m n test c.positions-positions.result.now students changed.at) changed.apart) waiting
-    (if-some _ _ c.resettle-settled.new.spare (λ other. joins-inside n test c.resettle-settled.new.places c.students_len-end.result (view_of keys seats other) (take_all c.students_len-end.result (students_of n) (omega (arith, (c.students_len-end.ensures.count ∙ ap (λ (p : Market). length p.students) c.deref-4.ensures), length-students n)))) (subst (λ p. IfSome c.resettle-settled.new.spare (λ other. StandsInside p test c.resettle-settled.new.places c.students_len-end.result (view_of keys seats other))) c.deref-5.ensures c.in-Ok-settled.ensures.inside))
-    (λ r other r'. rejoined m n test chains c.resettle-settled.new.segments c.self.inside.places c.resettle-settled.new.places r other r' c.self.invariant.theirs (c.in-Ok-settled.ensures.resettled.theirs ∙ ap students_of cut_all) changed.same_outside
+    c.deref-in-Ok-settled-2.ensures (c.rejoin.ensures.joined test) (stand-still m n test c.positions-positions.result.now (stayed made) (changed made).at) (changed made).apart) waiting
+    (IfSome_then c.resettle-settled.new.spare (subst (λ p. IfSome c.resettle-settled.new.spare (λ other. StandsInside p test c.resettle-settled.new.places c.students_len-end.result (view_of keys seats other))) c.deref-5.ensures c.in-Ok-settled.ensures.inside) (λ other. joins-inside n test c.resettle-settled.new.places c.students_len-end.result (view_of keys seats other) (take_all c.students_len-end.result (students_of n) (omega (arith, (ended made), length-students n)))))
+    (λ r other r'. rejoined m n test c.self.inside.segments c.resettle-settled.new.segments c.self.inside.places c.resettle-settled.new.places r other r' c.self.invariant.theirs (c.in-Ok-settled.ensures.resettled.theirs ∙ ap students_of cut_all) (changed made).same_outside
     certified.settled certified.matching c.self.invariant.certified.matching c.in-Ok-settled.ensures.resettled.others)))
 
 pub round_of_everybody-requires-clause-stands : goal.round_of_everybody-requires-clause-stands
 round_of_everybody-requires-clause-stands c none =
+    let made = (goal.at.round_of_everybody-requires-clause-stands c).After-students_len-end in
     let new = c.resettle-settled.new.segments in
     let theirs : students_in new ≡ students_in c.self.inside.segments =
     c.in-Ok-settled.ensures.resettled.theirs
-    ∙ ap students_of (ap (λ p. cut p c.students_len-end.result) c.deref-5.ensures ∙ whole-cut-of c.apply_reversibly.new.self c.students_len-end.result (c.students_len-end.ensures.count ∙ ap (λ (p : Market). length p.students) c.deref-4.ensures) ∙ c.in-Ok.ensures.accepted)
-    ∙ students-stay c.self.inside.papers c.args.amendment c.requires.no_entry c.requires.no_withdrawal
+    ∙ ap students_of (ap (λ p. cut p c.students_len-end.result) c.deref-5.ensures ∙ whole-cut-of c.apply_reversibly.new.self c.students_len-end.result (ended made))
+    ∙ stayed made
     ∙ sym c.self.invariant.theirs in
     subst (λ o. IfSome o (λ round. ((i : ℕ) → Contains (students_in new) i → is_among (marked_in c.in_ok-region.region new) i ≡ true) → StandsAfter c.deref-in-Ok-settled-3.result.now new (without_log (view_of keys seats round))))
     (sym (c.rejoin.ensures.spare_stays (sym c.take.ensures.value ∙ none)))
@@ -141,12 +130,14 @@ round_of_everybody-requires-clause-stands c none =
     (c.deref-5.ensures ∙ sym c.deref-in-Ok-settled-3.ensures) c.in-Ok-settled.ensures.stands))
 
 pub invariant_of-self-in-Ok-settled : goal.invariant_of-self-in-Ok-settled
-invariant_of-self-in-Ok-settled c = record {
-  certified = subst (λ n. IsCertified (standing_of n c.resettle-settled.new.places c.resettle-settled.new.segments c.in-Ok-settled.proposals)) (ap (λ p. cut p c.students_len-end.result) c.deref-5.ensures ∙ whole-cut-of c.apply_reversibly.new.self c.students_len-end.result (c.students_len-end.ensures.count ∙ ap (λ (p : Market). length p.students) c.deref-4.ensures)) c.in-Ok-settled.ensures.resettled.certified;
-  theirs = c.in-Ok-settled.ensures.resettled.theirs ∙ ap students_of (ap (λ p. cut p c.students_len-end.result) c.deref-5.ensures ∙ whole-cut-of c.apply_reversibly.new.self c.students_len-end.result (c.students_len-end.ensures.count ∙ ap (λ (p : Market). length p.students) c.deref-4.ensures));
-  round = subst (λ p. IfSome c.round_of_everybody.result (IsKept p c.resettle-settled.new.segments)) c.deref-in-Ok-settled-3.ensures c.round_of_everybody.ensures;
-  districts = subst (λ m. IfSome c.region_of.new.districts (AreDistricts m)) (ap (λ p. after p c.args.amendment) c.deref.ensures ∙ sym c.in-Ok.ensures.accepted) c.in_ok-region.ensures.in_step;
-}
+invariant_of-self-in-Ok-settled c =
+    let whole = ap (λ p. cut p c.students_len-end.result) c.deref-5.ensures ∙ whole-cut-of c.apply_reversibly.new.self c.students_len-end.result (ended (goal.at.invariant_of-self-in-Ok-settled c).After-students_len-end) in
+    record {
+      certified = subst (λ n. IsCertified (standing_of n c.resettle-settled.new.places c.resettle-settled.new.segments c.in-Ok-settled.proposals)) whole c.in-Ok-settled.ensures.resettled.certified;
+      theirs = c.in-Ok-settled.ensures.resettled.theirs ∙ ap students_of whole;
+      round = subst (λ p. IfSome c.round_of_everybody.result (IsKept p c.resettle-settled.new.segments)) c.deref-in-Ok-settled-3.ensures c.round_of_everybody.ensures;
+      districts = subst (λ m. IfSome c.region_of.new.districts (AreDistricts m)) (ap (λ p. after p c.args.amendment) c.deref.ensures ∙ sym c.in-Ok.ensures.accepted) c.in_ok-region.ensures.in_step;
+    }
 
 pub invariant_of-self-in-Err : goal.invariant_of-self-in-Err
 invariant_of-self-in-Err c =
@@ -160,11 +151,10 @@ invariant_of-self-in-Err c =
 
 pub returns-in-Ok-settled : goal.returns-in-Ok-settled
 returns-in-Ok-settled c =
-    let m = c.self.inside.papers in
-    let tells = region-tells m c.args.amendment c.in_ok-region.region c.self.inside.segments c.self.invariant.certified.well_formed (ap (λ (s : Standing). verdict s.papers c.args.amendment) c.self.view_is ∙ c.requires.allowed) c.requires.no_entry (subst (λ p. MarkRegion p c.args.amendment c.in_ok-region.region) c.deref.ensures c.in_ok-region.ensures.region) c.self.invariant.theirs in
+    let made = (goal.at.returns-in-Ok-settled c).After-students_len-end in
     subst (λ (s : Standing). IsAmended {E = AllocError} (Ok tt) s c.args.amendment (standing_of c.apply_reversibly.new.self c.resettle-settled.new.places c.resettle-settled.new.segments c.in-Ok-settled.proposals)) c.self.view_is
-    (settled-anew m c.deref-5.result.now c.apply_reversibly.new.self c.args.amendment (marked_in c.in_ok-region.region c.self.inside.segments) c.self.inside.places c.resettle-settled.new.places c.self.inside.segments c.resettle-settled.new.segments c.point_in-point.result c.students_len-end.result c.self.inside.proposals c.in-Ok-settled.proposals
-    tells c.in-Ok.ensures.accepted (ap (λ p. cut p c.students_len-end.result) c.deref-5.ensures ∙ whole-cut-of c.apply_reversibly.new.self c.students_len-end.result (c.students_len-end.ensures.count ∙ ap (λ (p : Market). length p.students) c.deref-4.ensures)) (c.point_in-point.ensures ∙ ap (λ p. rewind_point p c.args.amendment) c.deref-2.ensures) c.in-Ok-settled.ensures.resettled)
+    (settled-anew c.self.inside.papers c.deref-5.result.now c.apply_reversibly.new.self c.args.amendment (marked_in c.in_ok-region.region c.self.inside.segments) c.self.inside.places c.resettle-settled.new.places c.self.inside.segments c.resettle-settled.new.segments c.point_in-point.result c.students_len-end.result c.self.inside.proposals c.in-Ok-settled.proposals
+    (changed made).tells c.in-Ok.ensures.accepted (ap (λ p. cut p c.students_len-end.result) c.deref-5.ensures ∙ whole-cut-of c.apply_reversibly.new.self c.students_len-end.result (ended made)) (c.point_in-point.ensures ∙ ap (λ p. rewind_point p c.args.amendment) c.deref-2.ensures) c.in-Ok-settled.ensures.resettled)
 
 pub returns : goal.returns
 returns c =

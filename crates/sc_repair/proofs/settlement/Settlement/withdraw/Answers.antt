@@ -1,4 +1,5 @@
 use Rattle.std.proofs.Common.{◌≡◌, ◌-◌, false, Contains, Ok, length, ap, refl, sym, subst, ◌∙◌, IfSome, arith}
+use Rattle.std.proofs.lemmas.Option.{IfSome_then}
 use Rattle.std.specs.Option.{IsSomeAnd}
 use Rattle.std.specs.declared.alloc.AllocError.{AllocError}
 use Rattle.sc_engine.specs.Leaving.{AreWithin, StandAt}
@@ -19,7 +20,7 @@ use Rattle.sc_repair.specs.Standing.{Standing, IsAmended, IsCertified}
 use Rattle.sc_repair.proofs.Admitted.{keys, same-standing, seats, unamended}
 use Rattle.sc_repair.proofs.Changed.{leaver-from, withdrawn, withdrawn-changed, Withdrawn}
 use Rattle.sc_repair.proofs.LiesApart.{region-apart}
-use Rattle.sc_repair.proofs.Rejoining.{change, gone-some, if-some, joins-withdrawn, marked-within, region-tells, rejoined, rejoined-some, room-stood, stand-at, stand-behind, waits-moved, HasGone}
+use Rattle.sc_repair.proofs.Rejoining.{change, gone-some, joins-withdrawn, marked-within, region-tells, rejoined, rejoined-some, room-stood, stand-at, stand-behind, waits-moved, HasGone}
 use Rattle.sc_repair.proofs.Regional.{marks-count, settled-anew}
 use Rattle.sc_repair.proofs.settlement.Settlement.withdraw.Goals as goal
 use Rattle.sc_repair.proofs.settlement.Settlement.withdraw.Goals.{After-move_student}
@@ -65,8 +66,8 @@ let_leave-requires-clause-within c =
 pub move_up-requires : goal.move_up-requires
 move_up-requires c =
     let before = (goal.at.move_up-requires c).After-move_student in
-    if-some _ _ c.let_leave.new.round
-    (λ r gone. omega (arith, gone.1.leave.same_length, room-stood c.self.inside.papers c.self.inside.segments gone.1.before c.self.invariant.certified.well_formed c.self.invariant.theirs gone.1.stood c.point_in-point.result (went before).low)) (gone before)
+    IfSome_then c.let_leave.new.round (gone before)
+    (λ r gone. omega (arith, gone.1.leave.same_length, room-stood c.self.inside.papers c.self.inside.segments gone.1.before c.self.invariant.certified.well_formed c.self.invariant.theirs gone.1.stood c.point_in-point.result (went before).low))
 
 pub rejoin_without-requires : goal.rejoin_without-requires
 rejoin_without-requires c =
@@ -82,12 +83,12 @@ rejoin_without-requires c =
     let waiting = waits-moved keys seats m p n c.args.student c.point_in-point.result last test positions c.self.inside.segments c.let_leave.new.round c.move_up.new.round changed left c.self.invariant.theirs c.move_up.ensures (gone before) in
     let behind = stand-behind m n c.args.student c.point_in-point.result test positions changed p last left in
     subst (λ p. CanRejoin keys seats p (λ q. Contains positions (before_leaving c.point_in-point.result q)) c.move_up.new.round c.resettle-settled.new.spare) (sym c.deref-in-Ok-2.ensures) (record {
-      fits = if-some _ _ c.move_up.new.round (λ r waits. waits.1.fits) waiting;
-      spare_rolls = if-some _ _ c.resettle-settled.new.spare
-          (λ other inside. (joins-withdrawn m n c.args.student c.point_in-point.result test positions changed p last left c.resettle-settled.new.places (view_of keys seats other) inside).rolls)
-          (subst (λ p. IfSome c.resettle-settled.new.spare (λ other. StandsInside p test c.resettle-settled.new.places last (view_of keys seats other))) c.deref-5.ensures c.in-Ok.ensures.inside);
+      fits = IfSome_then c.move_up.new.round waiting (λ r waits. waits.1.fits);
+      spare_rolls = IfSome_then c.resettle-settled.new.spare
+          (subst (λ p. IfSome c.resettle-settled.new.spare (λ other. StandsInside p test c.resettle-settled.new.places last (view_of keys seats other))) c.deref-5.ensures c.in-Ok.ensures.inside)
+          (λ other inside. (joins-withdrawn m n c.args.student c.point_in-point.result test positions changed p last left c.resettle-settled.new.places (view_of keys seats other) inside).rolls);
       within = behind.within;
-      room = if-some _ _ c.move_up.new.round (λ r waits p among. waits.1.room p (behind.within p among)) waiting;
+      room = IfSome_then c.move_up.new.round waiting (λ r waits p among. waits.1.room p (behind.within p among));
     })
 
 pub invariant_of-self-in-Ok : goal.invariant_of-self-in-Ok
@@ -111,8 +112,8 @@ invariant_of-self-in-Ok c =
           → IfSome c.rejoin_without.new.round (λ new. IsSomeAnd c.move_up.new.round (λ old. IsSomeAnd c.resettle-settled.new.spare (λ other. HasJoined keys seats p test old other new))))
           c.deref-in-Ok-2.ensures (c.rejoin_without.ensures test) (stand-behind m n c.args.student c.point_in-point.result test positions changed p last left) changed.apart)
           (waits-moved keys seats m p n c.args.student c.point_in-point.result last test positions c.self.inside.segments c.let_leave.new.round c.move_up.new.round changed left c.self.invariant.theirs c.move_up.ensures (gone before))
-          (if-some _ _ c.resettle-settled.new.spare (λ other. joins-withdrawn m n c.args.student c.point_in-point.result test positions changed p last left c.resettle-settled.new.places (view_of keys seats other))
-          (subst (λ p. IfSome c.resettle-settled.new.spare (λ other. StandsInside p test c.resettle-settled.new.places last (view_of keys seats other))) c.deref-5.ensures c.in-Ok.ensures.inside))
+          (IfSome_then c.resettle-settled.new.spare (subst (λ p. IfSome c.resettle-settled.new.spare (λ other. StandsInside p test c.resettle-settled.new.places last (view_of keys seats other))) c.deref-5.ensures c.in-Ok.ensures.inside)
+          (λ other. joins-withdrawn m n c.args.student c.point_in-point.result test positions changed p last left c.resettle-settled.new.places (view_of keys seats other)))
           (λ r other r'. rejoined m n test c.self.inside.segments c.resettle-settled.new.segments c.self.inside.places c.resettle-settled.new.places r other r' c.self.invariant.theirs (c.in-Ok.ensures.resettled.theirs ∙ ap students_of same) changed.same_outside
           certified.settled certified.matching c.self.invariant.certified.matching c.in-Ok.ensures.resettled.others);
       districts = subst (λ m. IfSome c.region_of.new.districts (AreDistricts m)) (ap (λ p. after p (Withdraw c.args.student)) c.deref.ensures ∙ sym left.accepted) c.in_ok-region.ensures.in_step;
