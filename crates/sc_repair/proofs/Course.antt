@@ -1,5 +1,5 @@
 -- A settling of the students who pass, from a point on: it begins, a student enters or stays, and all have had their turn.
-use Rattle.std.proofs.Common.{◌≡◌, inl, inr, refl, ap, sym, subst, ◌∙◌, ℕ, zero, suc, ◌+◌, ◌==◌, Bool, true, false, not, ◌&&◌, ◌||◌, List, [], ◌∷◌, ◌++◌, cond, length, filter, take, drop, Some, slice_get, append_assoc, arith}
+use Rattle.std.proofs.Common.{◌≡◌, add-zero, inl, inr, refl, ap, sym, subst, ◌∙◌, ℕ, zero, suc, ◌+◌, ◌==◌, Bool, true, false, not, ◌&&◌, ◌||◌, List, [], ◌∷◌, ◌++◌, cond, length, filter, take, drop, Some, slice_get, append_assoc, arith}
 use Rattle.std.proofs.Math.Bool.{or-false}
 use Rattle.std.proofs.lemmas.Bool.{cases_Bool, cond-true, cond-false, eqb-true, and_from, and_left, and_right, or_right, false≢true}
 use Rattle.std.proofs.lemmas.List.{drop-append-le, length-append, map-append, take-append-le, take_more}
@@ -60,16 +60,10 @@ entered-passes first test i j passes =
     ]
 
 -- one more who passes is counted
-passing-one : (test : ℕ → Bool) (students : List ℕ) (k i : ℕ) → slice_get students k ≡ Some i → test i ≡ true → passing test (k + 1) students ≡ passing test k students + 1
-passing-one test students k i here passes =
+passing-next : (test : ℕ → Bool) (students : List ℕ) (k i : ℕ) (b : Bool) → slice_get students k ≡ Some i → test i ≡ b → passing test (k + 1) students ≡ passing test k students + cond b 1 0
+passing-next test students k i b here is =
     length-filter_more test students k i (slice_get_within students k i here)
-    ∙ ap (λ b. passing test k students + cond b 1 0) (ap test (get_or_from_slice_get students k i i here) ∙ passes)
-
-passing-none : (test : ℕ → Bool) (students : List ℕ) (k i : ℕ) → slice_get students k ≡ Some i → test i ≡ false → passing test (k + 1) students ≡ passing test k students
-passing-none test students k i here fails =
-    length-filter_more test students k i (slice_get_within students k i here)
-    ∙ ap (λ b. passing test k students + cond b 1 0) (ap test (get_or_from_slice_get students k i i here) ∙ fails)
-    ∙ omega arith
+    ∙ ap (λ own. passing test k students + cond own 1 0) (ap test (get_or_from_slice_get students k i i here) ∙ is)
 
 -- and is the next of those who pass
 next-passing : (test : ℕ → Bool) (students : List ℕ) (k i : ℕ) → slice_get students k ≡ Some i → test i ≡ true → slice_get (filter test students) (passing test k students) ≡ Some i
@@ -85,14 +79,14 @@ next-passing test (x ∷ xs) (suc k) i here passes = go (test x) (filter test (t
 -- where the next student fails, the papers of those who pass stay the same
 papers-same : (m : Market) (test : ℕ → Bool) (k i : ℕ) → slice_get (students_of m) k ≡ Some i → test i ≡ false → restricted (cut m (k + 1)) test ≡ restricted (cut m k) test
 papers-same m test k i here fails =
-    restricted-cut m test (k + 1) ∙ ap (cut (restricted m test)) (passing-none test (students_of m) k i here fails) ∙ sym (restricted-cut m test k)
+    restricted-cut m test (k + 1) ∙ ap (cut (restricted m test)) (passing-next test (students_of m) k i false here fails ∙ add-zero (passing test k (students_of m))) ∙ sym (restricted-cut m test k)
 
 -- and where the next student passes, their segments go on
 segments-inside : (m : Market) (test : ℕ → Bool) (k i : ℕ) (segments : List (List Rejection)) (chain : List Rejection) → slice_get (students_of m) k ≡ Some i → test i ≡ true
     → IsSegmented (restricted (cut m k) test) segments → IsSettled (restricted (cut m (k + 1)) test) (joined segments ++ chain) → IsSegmented (restricted (cut m (k + 1)) test) (segments ++ chain ∷ [])
 segments-inside m test k i segments chain here passes segmented whole =
     let next : restricted (cut m (k + 1)) test ≡ cut (restricted m test) (passing test k (students_of m) + 1) =
-    restricted-cut m test (k + 1) ∙ ap (cut (restricted m test)) (passing-one test (students_of m) k i here passes) in
+    restricted-cut m test (k + 1) ∙ ap (cut (restricted m test)) (passing-next test (students_of m) k i true here passes) in
     subst (λ n. IsSegmented n (segments ++ chain ∷ [])) (sym next)
     (segments-more (restricted m test) (passing test k (students_of m)) i segments chain
     (ap (λ is. slice_get is (passing test k (students_of m))) (students-restricted m test) ∙ next-passing test (students_of m) k i here passes)

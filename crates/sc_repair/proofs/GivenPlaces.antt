@@ -1,7 +1,7 @@
 -- Students who are given other places, one after the other.
 use Rattle.std.proofs.Common.{◌≡◌, refl, ap, sym, subst, ◌∙◌, ℕ, nat_eq, Bool, true, false, not, ◌&&◌, ◌||◌, cond, List, [], ◌∷◌, ◌++◌, Option, Some, None, is_some}
 use Rattle.std.proofs.Math.Bool.{or-false}
-use Rattle.std.proofs.lemmas.Bool.{eqb-true, or_left, false≢true, true≢false}
+use Rattle.std.proofs.lemmas.Bool.{and_right, eqb-true, or_left, false≢true, true≢false}
 use Rattle.std.proofs.lemmas.List.Folds.{list_any-append}
 use Rattle.sc_papers.specs.Matching.{Matching}
 use Rattle.sc_repair.specs.Locality.{is_among}
@@ -11,33 +11,24 @@ use Rattle.sc_repair.specs.Placing.{with_moved, with_new, AreMovers}
 among-one : (students : List ℕ) (i j : ℕ) → is_among (students ++ i ∷ []) j ≡ (is_among students j || nat_eq j i)
 among-one students i j = list_any-append (nat_eq j) students (i ∷ []) ∙ ap (λ b. is_among students j || b) (or-false (nat_eq j i))
 
-new-cases : (among own : Bool) (had next : Option ℕ)
-    → cond (own && not (is_some (cond (among && not (is_some had)) next had))) next (cond (among && not (is_some had)) next had) ≡ cond ((among || own) && not (is_some had)) next had
-new-cases true true None None = refl
-new-cases true true None (Some s) = refl
-new-cases true true (Some t) next = refl
-new-cases true false None next = refl
-new-cases true false (Some t) next = refl
-new-cases false true None next = refl
-new-cases false true (Some t) next = refl
-new-cases false false had next = refl
+still : (b : Bool) (had its : Option ℕ) → had ≡ its → cond b its had ≡ its
+still true had its same = refl
+still false had its same = same
 
-moved-cases : (among own : Bool) (had next : Option ℕ)
-    → cond (own && is_some (cond (among && is_some had) next had)) next (cond (among && is_some had) next had) ≡ cond ((among || own) && is_some had) next had
-moved-cases true true None next = refl
-moved-cases true true (Some t) None = refl
-moved-cases true true (Some t) (Some s) = refl
-moved-cases true false None next = refl
-moved-cases true false (Some t) next = refl
-moved-cases false true None next = refl
-moved-cases false true (Some t) next = refl
-moved-cases false false had next = refl
+given-cases : (asks : Option ℕ → Bool) (among own : Bool) (had next : Option ℕ)
+    → cond (own && asks (cond (among && asks had) next had)) next (cond (among && asks had) next had) ≡ cond ((among || own) && asks had) next had
+given-cases asks false own had next = refl
+given-cases asks true own had next = go (asks had) refl
+  where
+    go : (b : Bool) → asks had ≡ b → cond (own && asks (cond b next had)) next (cond b next had) ≡ cond b next had
+    go true is = still (own && asks next) next next refl
+    go false is = ap (λ b. cond b next had) (and_right own (asks had) is)
 
 pub new-one : (students : List ℕ) (next a middle after : Matching) (i : ℕ) → ((j : ℕ) → middle j ≡ with_new students next a j)
     → ((j : ℕ) → after j ≡ cond (nat_eq j i && not (is_some (middle j))) (next j) (middle j)) → (j : ℕ) → after j ≡ with_new (students ++ i ∷ []) next a j
 new-one students next a middle after i before given j =
     given j ∙ ap (λ o. cond (nat_eq j i && not (is_some o)) (next j) o) (before j)
-    ∙ new-cases (is_among students j) (nat_eq j i) (a j) (next j)
+    ∙ given-cases (λ o. not (is_some o)) (is_among students j) (nat_eq j i) (a j) (next j)
     ∙ ap (λ b. cond (b && not (is_some (a j))) (next j) (a j)) (sym (among-one students i j))
 
 pub moved-one : (students : List ℕ) (next a middle after : Matching) (i : ℕ) → ((j : ℕ) → middle j ≡ with_moved students next a j)
@@ -45,7 +36,7 @@ pub moved-one : (students : List ℕ) (next a middle after : Matching) (i : ℕ)
 moved-one students next a middle after i before moved j =
     moved j ∙ own-next (nat_eq j i) (λ same. ap next (sym (eqb-true j i same)))
     ∙ ap (λ o. cond (nat_eq j i && is_some o) (next j) o) (before j)
-    ∙ moved-cases (is_among students j) (nat_eq j i) (a j) (next j)
+    ∙ given-cases is_some (is_among students j) (nat_eq j i) (a j) (next j)
     ∙ ap (λ b. cond (b && is_some (a j)) (next j) (a j)) (sym (among-one students i j))
   where
     own-next : (b : Bool) → (b ≡ true → next i ≡ next j) → cond (b && is_some (middle j)) (next i) (middle j) ≡ cond (b && is_some (middle j)) (next j) (middle j)
@@ -59,10 +50,6 @@ given-one next a after i s none stands given j = given j ∙ go (nat_eq j i) (λ
     go : (b : Bool) → (b ≡ true → next j ≡ Some s) → (b ≡ true → a j ≡ None) → cond b (Some s) (a j) ≡ cond (b && not (is_some (a j))) (next j) (a j)
     go true own nothing = sym (own refl) ∙ ap (λ o. cond (not (is_some o)) (next j) (a j)) (sym (nothing refl))
     go false own nothing = refl
-
-still : (b : Bool) (had its : Option ℕ) → had ≡ its → cond b its had ≡ its
-still true had its same = refl
-still false had its same = same
 
 -- one more student, who has what the next matching gives them
 pub movers-stay : (students movers : List ℕ) (next middle after : Matching) (i : ℕ) → AreMovers students movers next middle

@@ -1,5 +1,5 @@
 -- The students after an amendment stand in step with those before it, from the rewind point on.
-use Rattle.std.proofs.Common.{◌≡◌, ◌⊎◌, inl, inr, refl, ap, sym, subst, ◌∙◌, ℕ, zero, suc, ◌+◌, ◌-◌, ◌≤◌, ◌<◌, nat_eq, Bool, true, false, cond, List, [], ◌∷◌, ◌++◌, length, Some, None, slice_get, arith}
+use Rattle.std.proofs.Common.{◌≡◌, add-one, add-zero, ◌⊎◌, inl, inr, refl, ap, sym, subst, ◌∙◌, ℕ, zero, suc, ◌+◌, ◌-◌, ◌≤◌, ◌<◌, nat_eq, Bool, true, false, cond, List, [], ◌∷◌, ◌++◌, length, Some, None, slice_get, arith}
 use Rattle.std.specs.List.{position_or_len}
 use Rattle.std.specs.Map.{keys_of, remove_entry}
 use Rattle.std.proofs.lemmas.Bool.{cases_Bool, cond-true, cond-false, eqb-true, true≢false}
@@ -31,13 +31,10 @@ step-same test old new point same =
     record {
       one_at_most = omega (arith, none);
       each = λ position i from here.
-          inl (ap (slice_get old) (the-place position (length old - length new) none) ∙ ap (λ xs. slice_get xs position) (sym same) ∙ here);
+          inl (ap (slice_get old) (ap (λ gap. position + gap) none ∙ add-zero position) ∙ ap (λ xs. slice_get xs position) (sym same) ∙ here);
       skipped = λ position i from below here. absurd (omega (arith, none, from, below));
       end = omega (arith, ap length same);
     }
-  where
-    the-place : (position gap : ℕ) → gap ≡ 0 → position + gap ≡ position
-    the-place position gap none = omega (arith, none)
 
 -- where one who passes comes last
 push-each : (xs : List ℕ) (i position j : ℕ) → length xs ≤ position → slice_get (xs ++ i ∷ []) position ≡ Some j → (i ≡ j) × (slice_get xs position ≡ None)
@@ -54,13 +51,10 @@ step-entered test old new point i is passes low =
       one_at_most = omega (arith, none);
       each = λ position j from here.
           let (own, past) = push-each old i position j (omega (arith, low, from)) (ap (λ xs. slice_get xs position) (sym is) ∙ here) in
-          inr (ap (slice_get old) (the-place position (length old - length new) none) ∙ past, ap test (sym own) ∙ passes);
+          inr (ap (slice_get old) (ap (λ gap. position + gap) none ∙ add-zero position) ∙ past, ap test (sym own) ∙ passes);
       skipped = λ position j from below here. absurd (omega (arith, none, from, below));
       end = omega (arith, more);
     }
-  where
-    the-place : (position gap : ℕ) → gap ≡ 0 → position + gap ≡ position
-    the-place position gap none = omega (arith, none)
 
 -- where one who passes leaves
 left-each : {X : Type 0} (i : ℕ) (es : List (ℕ × X)) (position j : ℕ) → position_or_len (nat_eq i) (keys_of es) ≤ position → slice_get (keys_of (remove_entry (nat_eq i) es)) position ≡ Some j → slice_get (keys_of es) (suc position) ≡ Some j
@@ -103,16 +97,13 @@ step-left test i es passes =
           omega (arith, less, length-map es (λ e. e.0), length-map (remove_entry (nat_eq i) es) (λ e. e.0)) in
           record {
             one_at_most = omega (arith, one);
-            each = λ position j from here. inl (ap (slice_get (keys_of es)) (further position (length (keys_of es) - length (keys_of (remove_entry (nat_eq i) es))) one) ∙ left-each i es position j from here);
+            each = λ position j from here. inl (ap (slice_get (keys_of es)) (ap (λ gap. position + gap) one ∙ add-one position) ∙ left-each i es position j from here);
             skipped = λ position j from below here.
                 let at : position ≡ position_or_len (nat_eq i) (keys_of es) = omega (arith, one, from, below) in
                 ap test (sym (first-is i (keys_of es) position j at here)) ∙ passes;
             end = omega (arith, one);
           }
     ]
-  where
-    further : (position gap : ℕ) → gap ≡ 1 → position + gap ≡ suc position
-    further position gap one = omega (arith, one)
 
 -- so it is with every amendment
 pub keeps-step : (m : Market) (a : Amendment) (test : ℕ → Bool) → TellsRegion m a test → KeepsStep test (students_of m) (students_of (after m a)) (rewind_point m a) (length (students_of m) - length (students_of (after m a)))

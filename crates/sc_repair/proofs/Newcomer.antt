@@ -1,7 +1,7 @@
 -- What a newcomer's settling comes to: the new standing is certified, all outside the region have what they had, and the proposals are counted.
 use Rattle.std.proofs.Common.{◌≡◌, inl, inr, refl, ap, sym, subst, ◌∙◌, ℕ, ◌+◌, nat_eq, Bool, true, false, not, ◌&&◌, ◌||◌, cond, List, [], ◌∷◌, ◌++◌, length, take, drop, Some, None, Contains, count_by, is_some, append-nil, arith}
 use Rattle.std.specs.List.{list_any}
-use Rattle.std.proofs.lemmas.Bool.{and_left, cases_Bool, cond-true, cond-false, eq-eqb, false_from_ne_true, or_left, or_right}
+use Rattle.std.proofs.lemmas.Bool.{and_left, cases_Bool, cond-true, eq-eqb, false_from_ne_true, or_left, or_right}
 use Rattle.std.proofs.lemmas.List.{drop-append-le, drop_all, length-append, length-map, map-append, take_all}
 use Rattle.std.proofs.lemmas.List.Folds.{list_any-append}
 use Rattle.std.proofs.lemmas.Map.Made.{is_some-lookup}
@@ -15,9 +15,9 @@ use Rattle.sc_papers.specs.Restriction.{cut, joined, outside}
 use Rattle.sc_papers.specs.Verdict.{after, verdict}
 use Rattle.sc_papers.specs.declared.amendment.Amendment.{Amendment}
 use Rattle.sc_papers.specs.declared.rejection.Rejection.{Rejection}
-use Rattle.sc_papers.proofs.Counting.{count-cons_fails, count-cons_passes}
 use Rattle.sc_papers.proofs.Locality.{optimal-outside}
 use Rattle.sc_papers.proofs.Positions.{among-student, student-among}
+use Rattle.sc_papers.proofs.Sums.{sum-add, sum-agree}
 use Rattle.sc_papers.proofs.Students.{how_many-agree, lister-among}
 use Rattle.sc_checkpoint.specs.Chains.{logs_in, students_in, Chain}
 use Rattle.sc_engine.specs.RoundView.{RoundView, next_of, nobody, standing_but}
@@ -35,26 +35,17 @@ use Rattle.sc_repair.proofs.Kept.{certified-of}
 use Rattle.sc_repair.proofs.Resumption.{length-students, next-all, segments-all, students-all}
 use Rattle.sc_repair.proofs.Told.{same-if_told}
 
-count-cons : (p : ℕ → Bool) (x : ℕ) (xs : List ℕ) → count_by p (x ∷ xs) ≡ cond (p x) (1 + count_by p xs) (count_by p xs)
-count-cons p x xs =
-    elim (cases_Bool (p x)) [
-      | inl passes ↦ count-cons_passes p x xs passes ∙ sym (cond-true (p x) (1 + count_by p xs) (count_by p xs) passes)
-      | inr fails ↦ count-cons_fails p x xs fails ∙ sym (cond-false (p x) (1 + count_by p xs) (count_by p xs) fails)
-    ]
-
 -- a count falls into those who pass another test and those who do not
 count-parts : (test p : ℕ → Bool) (xs : List ℕ) → count_by p xs ≡ count_by (λ i. test i && p i) xs + count_by (λ i. not (test i) && p i) xs
-count-parts test p [] = refl
-count-parts test p (x ∷ xs) =
-    count-cons p x xs
-    ∙ go (test x) (p x) (count_by p xs) (count_by (λ i. test i && p i) xs) (count_by (λ i. not (test i) && p i) xs) (count-parts test p xs)
-    ∙ sym (λ t. count-cons (λ i. test i && p i) x xs t + count-cons (λ i. not (test i) && p i) x xs t)
+count-parts test p xs =
+    sum-agree (λ i. cond (p i) 1 0) (λ i. cond (test i && p i) 1 0 + cond (not (test i) && p i) 1 0) xs (λ i among. go (test i) (p i))
+    ∙ sum-add (λ i. cond (test i && p i) 1 0) (λ i. cond (not (test i) && p i) 1 0) xs
   where
-    go : (inside passes : Bool) (all first rest : ℕ) → all ≡ first + rest → cond passes (1 + all) all ≡ cond (inside && passes) (1 + first) first + cond (not inside && passes) (1 + rest) rest
-    go true true all first rest is = omega (arith, is)
-    go true false all first rest is = is
-    go false true all first rest is = omega (arith, is)
-    go false false all first rest is = is
+    go : (inside passes : Bool) → ◌≡◌ {A = ℕ} (cond passes 1 0) (cond (inside && passes) 1 0 + cond (not inside && passes) 1 0)
+    go true true = refl
+    go true false = refl
+    go false true = refl
+    go false false = refl
 
 how_many-parts : (m : Market) (test p : ℕ → Bool) → how_many m p ≡ how_many m (λ i. test i && p i) + how_many m (λ i. outside test i && p i)
 unfolding how_many

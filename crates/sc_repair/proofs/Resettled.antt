@@ -1,5 +1,5 @@
 -- A clearing whose papers change inside a region: what its settling needs, and what it comes to.
-use Rattle.std.proofs.Common.{◌≡◌, ◌⊎◌, inl, inr, refl, ap, sym, subst, ◌∙◌, ℕ, zero, suc, ◌+◌, ◌-◌, ◌≤◌, ◌<◌, nat_eq, Bool, true, false, List, ◌++◌, length, take, drop, Option, Some, None, slice_get, arith}
+use Rattle.std.proofs.Common.{◌≡◌, add-one, add-zero, ◌⊎◌, inl, inr, refl, ap, sym, subst, ◌∙◌, ℕ, zero, suc, ◌+◌, ◌-◌, ◌≤◌, ◌<◌, nat_eq, Bool, true, false, List, ◌++◌, length, take, drop, Option, Some, None, slice_get, arith}
 use Rattle.std.specs.List.{IsDistinct}
 use Rattle.std.proofs.lemmas.List.{length-map, take-append-drop, take-map, take-take}
 use Rattle.std.proofs.lemmas.List.Elements.{filter-append}
@@ -41,15 +41,9 @@ chains-step m n test old point gap k changes theirs count position i from here =
 -- those skipped all pass
 chains-skipped : (m n : Market) (test : ℕ → Bool) (old : List Chain) (gap k : ℕ) → gap ≤ 1 → ((i : ℕ) → 0 < gap → slice_get (students_in old) k ≡ Some i → test i ≡ true)
     → chains_of (outside test) (drop (k + gap) old) ≡ chains_of (outside test) (drop k old)
-chains-skipped m n test old zero k low skipped = ap (λ at. chains_of (outside test) (drop at old)) (same k)
+chains-skipped m n test old zero k low skipped = ap (λ at. chains_of (outside test) (drop at old)) (add-zero k)
+chains-skipped m n test old (suc zero) k low skipped = ap (λ at. chains_of (outside test) (drop at old)) (add-one k) ∙ go (slice_get (students_in old) k) refl
   where
-    same : (k : ℕ) → k + 0 ≡ k
-    same k = omega arith
-chains-skipped m n test old (suc zero) k low skipped = ap (λ at. chains_of (outside test) (drop at old)) (same k) ∙ go (slice_get (students_in old) k) refl
-  where
-    same : (k : ℕ) → k + 1 ≡ suc k
-    same k = omega arith
-
     go : (found : Option ℕ) → slice_get (students_in old) k ≡ found → chains_of (outside test) (drop (suc k) old) ≡ chains_of (outside test) (drop k old)
     go None none = let (here, past) = drop-past old k none in ap (chains_of (outside test)) (past ∙ sym here)
     go (Some i) here = others-past test old k i (skipped i (omega arith) here) (inl here)
