@@ -11,14 +11,19 @@ use Rattle.sc_papers.specs.declared.amendment.Amendment.{Amendment}
 use Rattle.sc_papers.specs.declared.amendment.Amendment.TheVariants.{Withdraw}
 use Rattle.sc_papers.proofs.Cutting.{cut-all, length-students_cut}
 use Rattle.sc_papers.proofs.EntryOrder.{apart-moved, last-back, last-others, last-withdrawn, last-within, length-moved, WellFormed-moved}
-use Rattle.sc_checkpoint.specs.Chains.{Chain}
-use Rattle.sc_repair.specs.Changed.{HaveChanged, IsStandingOf}
+use Rattle.sc_checkpoint.specs.Chains.{students_in, Chain}
+use Rattle.sc_repair.specs.Changed.{standing_of, HaveChanged, IsStandingOf}
 use Rattle.sc_repair.specs.Locality.{ChangesInside, TellsRegion}
 use Rattle.sc_repair.specs.Newcomer.{newcomer}
 use Rattle.sc_repair.specs.Rewinding.{position_of, rewind_point}
+use Rattle.sc_repair.specs.Standing.{IsCertified}
 use Rattle.sc_repair.proofs.InStep.{changes-in-place, changes-inside, none-new}
 use Rattle.sc_repair.proofs.LiesApart.{region-apart}
 use Rattle.sc_repair.proofs.Resumption.{length-students}
+
+-- a standing that is certified, with chains that are their students'
+pub stood : {m : Market} {places : List (ℕ × ℕ)} {chains : List Chain} {proposals : ℕ} → IsCertified (standing_of m places chains proposals) → students_in chains ≡ students_of m → IsStandingOf m places chains
+stood certified theirs = record { well_formed = certified.well_formed; theirs = theirs; segmented = certified.segmented; optimal = certified.optimal }
 
 -- papers cut at their end
 pub whole-cut-of : (n : Market) (end : ℕ) → end ≡ length n.students → cut n end ≡ n

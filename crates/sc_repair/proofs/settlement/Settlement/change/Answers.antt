@@ -22,7 +22,7 @@ use Rattle.sc_repair.specs.Representation.{IsKept}
 use Rattle.sc_repair.specs.Rewinding.{rewind_point}
 use Rattle.sc_repair.specs.Standing.{Standing, IsAmended, IsCertified}
 use Rattle.sc_repair.proofs.Admitted.{keys, same-standing, seats, unamended}
-use Rattle.sc_repair.proofs.Changed.{in-place-changed, whole-cut-of}
+use Rattle.sc_repair.proofs.Changed.{in-place-changed, stood, whole-cut-of}
 use Rattle.sc_repair.proofs.InStep.{students-stay}
 use Rattle.sc_repair.proofs.LiesApart.{region-apart}
 use Rattle.sc_repair.proofs.Rejoining.{change, gone-some, joins-inside, marked-within, rejoined, rejoined-some, stand-still, waits-some, Change, HasGone}
@@ -66,12 +66,7 @@ resettle-settled-requires c =
     record {
       changed = subst (λ p. HaveChanged p c.self.inside.places c.self.inside.segments test c.point_in-point.result c.students_len-end.result) (sym c.deref-5.ensures)
           (in-place-changed m c.apply_reversibly.new.self c.args.amendment c.point_in-point.result c.students_len-end.result c.self.invariant.certified.well_formed (ap (λ (s : Standing). verdict s.papers c.args.amendment) c.self.view_is ∙ c.requires.allowed) c.requires.no_entry
-          c.requires.no_withdrawal c.in-Ok.ensures.accepted (c.point_in-point.ensures ∙ ap (λ p. rewind_point p c.args.amendment) c.deref-2.ensures) (ended made) c.self.inside.places c.self.inside.segments test (record {
-            well_formed = c.self.invariant.certified.well_formed;
-            theirs = c.self.invariant.theirs;
-            segmented = c.self.invariant.certified.segmented;
-            optimal = c.self.invariant.certified.optimal;
-          }) (changed made).tells);
+          c.requires.no_withdrawal c.in-Ok.ensures.accepted (c.point_in-point.ensures ∙ ap (λ p. rewind_point p c.args.amendment) c.deref-2.ensures) (ended made) c.self.inside.places c.self.inside.segments test (stood c.self.invariant.certified c.self.invariant.theirs) (changed made).tells);
       one_each = marks-count m c.in_ok-region.region c.self.inside.segments (subst (λ p. MarkRegion p c.args.amendment c.in_ok-region.region) c.deref.ensures c.in_ok-region.ensures.region).one_each c.self.invariant.theirs;
     }
 

@@ -18,7 +18,7 @@ use Rattle.sc_repair.specs.Rejoining.{before_leaving, CanRejoin, HasJoined, HasL
 use Rattle.sc_repair.specs.Rewinding.{rewind_point}
 use Rattle.sc_repair.specs.Standing.{Standing, IsAmended, IsCertified}
 use Rattle.sc_repair.proofs.Admitted.{keys, same-standing, seats, unamended}
-use Rattle.sc_repair.proofs.Changed.{leaver-from, withdrawn, withdrawn-changed, Withdrawn}
+use Rattle.sc_repair.proofs.Changed.{leaver-from, stood, withdrawn, withdrawn-changed, Withdrawn}
 use Rattle.sc_repair.proofs.LiesApart.{region-apart}
 use Rattle.sc_repair.proofs.Rejoining.{change, gone-some, joins-withdrawn, marked-within, region-tells, rejoined, rejoined-some, room-stood, stand-at, stand-behind, waits-moved, HasGone}
 use Rattle.sc_repair.proofs.Regional.{marks-count, settled-anew}
@@ -49,12 +49,7 @@ move_student-requires-clause-from c =
 pub resettle-settled-requires : goal.resettle-settled-requires
 resettle-settled-requires c = record {
   changed = subst (λ p. HaveChanged p c.self.inside.places c.self.inside.segments (is_among (marked_in c.in_ok-region.region c.self.inside.segments)) c.point_in-point.result (c.students_len-last.result - 1)) (sym c.deref-5.ensures)
-      (withdrawn-changed _ _ _ _ _ _ _ c.self.inside.places c.self.inside.segments (went (goal.at.resettle-settled-requires c).After-move_student) (record {
-        well_formed = c.self.invariant.certified.well_formed;
-        theirs = c.self.invariant.theirs;
-        segmented = c.self.invariant.certified.segmented;
-        optimal = c.self.invariant.certified.optimal;
-      }));
+      (withdrawn-changed _ _ _ _ _ _ _ c.self.inside.places c.self.inside.segments (went (goal.at.resettle-settled-requires c).After-move_student) (stood c.self.invariant.certified c.self.invariant.theirs));
   one_each = marks-count c.self.inside.papers c.in_ok-region.region c.self.inside.segments (subst (λ p. MarkRegion p (Withdraw c.args.student) c.in_ok-region.region) c.deref.ensures c.in_ok-region.ensures.region).one_each c.self.invariant.theirs;
 }
 
