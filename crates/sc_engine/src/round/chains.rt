@@ -33,7 +33,9 @@ impl<R: Roll> Round<R> {
     }
 
     /// Notes that the school rejects the student at the position, who moves on to the next choice.
-    #[inline]
+    ///
+    /// It is taken into the loop over a student's choices, where most rejections are.
+    #[inline(always)]
     fn reject(&mut self, at: usize, entry: Rejection) -> Result<(), AllocError>
         requires { (rank : ℕ) → slice_index_or self.old.ranks at None ≡ Some rank → rank < LONGEST_LIST }
         ensures log { OnOk result (self.new.log.items ≡ self.old.log.items ++ entry ∷ []) }
