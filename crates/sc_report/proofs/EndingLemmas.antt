@@ -1,10 +1,11 @@
 -- The endings of the reasons' lines, and the lines that are made of pieces.
-use Rattle.std.proofs.Common.{◌≡◌, refl, sym, subst, ◌∙◌, ap, ℕ, ◌+◌, ◌-◌, ◌<◌, ◌≤◌, List, [], ◌∷◌, ◌++◌, length, drop, get_or, map, take, add-one, append_assoc, arith, codes, decimal, slice_get, Some}
+use Rattle.std.proofs.Common.{◌≡◌, refl, sym, subst, ◌∙◌, ap, ℕ, ◌+◌, ◌-◌, ◌<◌, ◌≤◌, List, [], ◌∷◌, ◌++◌, length, drop, get_or, map, replicate, take, add-one, append_assoc, arith, codes, decimal, slice_get, Some}
 use Rattle.std.specs.Prelude.{◌%◌, ◌^◌}
 use Rattle.std.specs.List.{AllZip}
 use Rattle.std.specs.Option.{IsSomeAnd}
 use Rattle.std.proofs.Math.Seq.{take-suc}
 use Rattle.std.proofs.lemmas.Fmt.{length-decimal-le}
+use Rattle.std.proofs.lemmas.Nat.{mod_below}
 use Rattle.std.proofs.lemmas.List.{drop-take, drop_at, length-append, length-drop, length-map, length-take-le, take_all, take-append-drop, take-append-le, take-take}
 use Rattle.std.proofs.lemmas.Map.Entries.{length-keys_of}
 use Rattle.std.proofs.lemmas.Option.{slice_get_read, MatchOption-at_some}
@@ -21,12 +22,25 @@ use Rattle.sc_report.specs.declared.reason.Reason.{Reason}
 use Rattle.sc_report.specs.declared.reason.Reason.TheVariants.{Seats, Class, Lottery}
 use Rattle.sc_report.specs.declared.reason.ReasonRow.{ReasonRow}
 
--- a short text stands in a block that it begins
-pub piece-made : (text more bytes : List ℕ) (n : ℕ) → length text < 16 → n ≡ length text → bytes ≡ take 16 (text ++ more) → take (n % 16) bytes ≡ text
-piece-made text more bytes n short count block =
+-- a short text stands in what it begins
+pub piece-made : (text more : List ℕ) (n : ℕ) → length text < 16 → n ≡ length text → take (n % 16) (text ++ more) ≡ text
+piece-made text more n short count =
     let small : n % 16 ≡ length text = omega (arith, short, count) in
-    (λ t. take (small t) (block t)) ∙ take-take (length text) 16 (text ++ more) (omega (arith, short))
-    ∙ take-append-le (length text) text more (omega arith) ∙ take_all (length text) text (omega arith)
+    ap (λ k. take k (text ++ more)) small ∙ take-append-le (length text) text more (omega arith) ∙ take_all (length text) text (omega arith)
+
+-- a number has fewer digits than fill a block, and there is room for a byte after it
+pub number-short : (n : ℕ) → n < 2 ^ 32 → length (decimal n) ≤ 10
+number-short n low = length-decimal-le 10 n (omega arith) (omega (arith, low)) (omega (arith, low))
+
+-- a number that was written before many times one byte stands with one of these in a block
+pub number-made : (n byte start : ℕ) (written block : List ℕ) → n < 2 ^ 32 → start + length (decimal n) ≡ 15 → drop start written ≡ decimal n ++ replicate 17 byte
+    → block ≡ take 16 (drop start written) → take ((16 - start) % 16) block ≡ decimal n ++ byte ∷ []
+number-made n byte start written block low place is block_is =
+    let text = decimal n ++ byte ∷ [] in
+    let short : length text ≡ 16 - start = omega (arith, length-append (decimal n) (byte ∷ []), place, number-short n low) in
+    ap (take ((16 - start) % 16)) (block_is ∙ ap (take 16) (is ∙ sym (append_assoc (decimal n) (byte ∷ []) (replicate 16 byte))))
+    ∙ take-take ((16 - start) % 16) 16 (text ++ replicate 16 byte) (omega (arith, mod_below (16 - start) 16 (omega arith)))
+    ∙ piece-made text (replicate 16 byte) (16 - start) (omega (arith, short, place, number-short n low)) (sym short)
 
 -- how long a part is
 pub part-long : (xs : List ℕ) (a k : ℕ) → a + k ≤ length xs → length (take (a + k - a) (drop a xs)) ≡ k
@@ -53,12 +67,6 @@ ending-short s reason low =
     word Seats = omega arith
     word Class = omega arith
     word Lottery = omega arith
-
--- so are a student's number and a comma
-pub number-short : (i : ℕ) → i < 2 ^ 32 → length (decimal i ++ codes ",") < 16
-number-short i low =
-    let comma : length (codes ",") ≡ 1 = refl in
-    omega (arith, length-decimal-le 10 i (omega arith) (omega (arith, low)) (omega (arith, low)), comma, length-append (decimal i) (codes ","))
 
 -- the endings of the first rows, and of one more
 pub endings-more : (rows : List CutoffRow) (k : ℕ) (row : CutoffRow) (before new : List SchoolEndings) (made : SchoolEndings) → AllZip HasEndings (take k rows) before → HasEndings row made

@@ -6,7 +6,7 @@ ghost use Rattle.sc_report.specs.Reason.{reason_by};
 ghost use Rattle.sc_report.specs.declared.cutoff.CutoffRow.{CutoffRow};
 
 use crate::cutoff::{Cutoff, CutoffRow};
-use crate::piece::{Piece, ROOM};
+use crate::piece::Piece;
 use crate::reason::Reason;
 use crate::reason_lines::push_reason;
 use sc_decimal::push_number;
@@ -36,7 +36,7 @@ fn ending_of(text: &mut Vec<u8>, school: SchoolNo, reason: Reason) -> Result<Pie
     text.clear();
     push_number(text, u64::from(school.get()))?;
     push_reason(text, reason)?;
-    Piece::of(text)
+    Ok(Piece::of(text.as_slice()))
 }
 
 /// A class, why a key does not get past a cutoff whose class is at most that one, and why where it is greater.
@@ -68,7 +68,7 @@ impl Endings {
     pub(crate) fn new(alloc: Global, rows: &[CutoffRow]) -> Result<Endings, AllocError>
         ensures { IfOk result (HaveEndings rows.now) }
     {
-        let mut text = Vec::with_capacity(alloc, ROOM)?;
+        let mut text = Vec::new(alloc);
         let mut schools = Vec::with_capacity(alloc, rows.len())?;
         for row in rows {
             schools.push(endings_of(&mut text, row)?)?;

@@ -1,11 +1,11 @@
 //! Short pieces of text, each in a block of constant size, so that none is copied by a call.
-ghost use Rattle.std.specs.Prelude.{◌≡◌, ◌<◌, ◌≤◌, ◌+◌, ◌++◌, length, take, IfOk};
+ghost use Rattle.std.specs.Prelude.{◌≡◌, ◌<◌, ◌≤◌, ◌+◌, ◌++◌, ◌∷◌, [], decimal, length, take};
 ghost use Rattle.sc_report.specs.Endings.{piece_text};
 
-use std::alloc::AllocError;
+use itoa::write_digits;
 
-/// The room of a text that a piece is made of: its bytes and a block.
-pub(crate) const ROOM: usize = 32;
+/// Where the digits of a number end as it is written: there is room for each number before, and for a block after.
+const DIGITS: usize = 15;
 
 /// A text of fewer than 16 bytes, and bytes of no meaning after it.
 #[derive(Clone, Copy)]
@@ -16,24 +16,36 @@ pub(crate) struct Piece {
 }
 
 impl Piece {
-    /// The piece of a text, which is made longer by a block. The only error is want of memory.
-    pub(crate) fn of(text: &mut Vec<u8>) -> Result<Piece, AllocError>
-        requires { length text.old.items < 16 }
-        ensures { IfOk result (λ piece. piece_text piece ≡ text.old.items) }
+    /// The piece of a text.
+    pub(crate) fn of(text: &[u8]) -> Piece
+        requires { length text.now < 16 }
+        ensures { piece_text result ≡ text.now }
     {
-        let count = text.len() as u8;
-        text.extend_from_slice(&[0; 16])?;
-        let Some(bytes) = text.as_slice().first_chunk::<16>() else {
+        let mut bytes = [0; 16];
+        bytes[..text.len()].copy_from_slice(text);
+        Piece {
+            bytes,
+            count: text.len() as u8,
+        }
+    }
+
+    /// The piece of a number and of a byte after it.
+    pub(crate) fn number_then(number: u32, byte: u8) -> Piece
+        ensures { piece_text result ≡ decimal number ++ byte ∷ [] }
+    {
+        let mut digits = [byte; 32];
+        let start = write_digits(u64::from(number), &mut digits, DIGITS);
+        let Some(bytes) = digits[start..].first_chunk::<16>() else {
             unreachable!()
         };
-        Ok(Piece {
+        Piece {
             bytes: *bytes,
-            count,
-        })
+            count: (DIGITS + 1 - start) as u8,
+        }
     }
 
     /// Writes the block over some bytes, and tells where the text ends there.
-    pub(crate) fn put(self, over: &mut [u8], at: usize) -> usize
+    fn put(self, over: &mut [u8], at: usize) -> usize
         requires { at + 16 ≤ length over.old }
         ensures text { take result over.new ≡ take at over.old ++ piece_text self }
         ensures room { length over.new ≡ length over.old }
@@ -43,4 +55,17 @@ impl Piece {
         // This is the count, and by the remainder the compiler knows it to be within the block.
         at + usize::from(self.count % 16)
     }
+}
+
+/// Writes a line over some bytes, and tells where it ends there.
+pub(crate) fn put_line(over: &mut [u8], at: usize, number: Piece, ending: Piece) -> usize
+    requires { at + 32 ≤ length over.old }
+    ensures text { take result over.new ≡ take at over.old ++ (piece_text number ++ piece_text ending) }
+    ensures room { length over.new ≡ length over.old }
+    ensures end { result ≤ at + 32 }
+{
+    // Both blocks are within these bytes, as the compiler sees.
+    let line = &mut over[at..at + 32];
+    let count = number.put(line, 0);
+    at + ending.put(line, count)
 }

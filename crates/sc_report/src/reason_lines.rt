@@ -1,5 +1,5 @@
 //! The reasons as text.
-ghost use Rattle.std.specs.Prelude.{◌≡◌, ◌≤◌, ◌+◌, ◌++◌, codes, decimal, flat_map, length, map, take, All, IfOk, OnOk};
+ghost use Rattle.std.specs.Prelude.{◌≡◌, ◌++◌, codes, decimal, flat_map, length, map, All, IfOk, OnOk};
 ghost use Rattle.sc_papers.specs.Market.{schools_of};
 ghost use Rattle.sc_papers.specs.Matching.{Matching};
 ghost use Rattle.sc_repair.specs.Standing.{matching_of};
@@ -15,10 +15,9 @@ use crate::cutoff::{CutoffRow, rows_in_order};
 use crate::endings::Endings;
 use crate::entrants::{Entrant, rising_entrants};
 use crate::pages::Pages;
-use crate::piece::{Piece, ROOM};
+use crate::piece::{Piece, put_line};
 use crate::reason::{Reason, held_position, missed_at};
-use sc_decimal::push_number;
-use sc_papers::{FlatPapers, MOST_STUDENTS, StudentNo};
+use sc_papers::{FlatPapers, MOST_STUDENTS};
 use sc_repair::Clearing;
 use sc_tallies::places_of;
 use std::alloc::{AllocError, Global};
@@ -38,29 +37,6 @@ pub fn push_reason(text: &mut Vec<u8>, reason: Reason) -> Result<(), AllocError>
         Reason::Class => text.extend_from_slice(b",class\n"),
         Reason::Lottery => text.extend_from_slice(b",lottery\n"),
     }
-}
-
-/// The piece of a student's number and a comma, made in the place of what the text held.
-fn number_of(text: &mut Vec<u8>, student: StudentNo) -> Result<Piece, AllocError>
-    ensures { IfOk result (λ piece. piece_text piece ≡ decimal student ++ codes ",") }
-{
-    text.clear();
-    push_number(text, u64::from(student.get()))?;
-    text.extend_from_slice(b",")?;
-    Piece::of(text)
-}
-
-/// Writes a line over some bytes, and tells where it ends there.
-fn put_line(over: &mut [u8], at: usize, number: Piece, ending: Piece) -> usize
-    requires { at + 32 ≤ length over.old }
-    ensures text { take result over.new ≡ take at over.old ++ (piece_text number ++ piece_text ending) }
-    ensures room { length over.new ≡ length over.old }
-    ensures end { result ≤ at + 32 }
-{
-    // Both blocks are within these bytes, as the compiler sees.
-    let line = &mut over[at..at + 32];
-    let count = number.put(line, 0);
-    at + ending.put(line, count)
 }
 
 /// Adds the lines of a student, in order of choice, by the endings of the lines about all schools in order of entry and
@@ -114,11 +90,10 @@ pub(crate) fn push_reason_lines(
         ++ reason_lines (flat_map (reasons_of papers.now a) (numbers_of entrants.now))) }
 {
     let endings = Endings::new(alloc, rows)?;
-    let mut text = Vec::with_capacity(alloc, ROOM)?;
     let mut over = [0; LINES];
     pages.last.extend_from_slice(HEADER)?;
     for entrant in entrants {
-        let number = number_of(&mut text, entrant.student)?;
+        let number = Piece::number_then(entrant.student.get(), b',');
         push_student(
             &mut pages.last,
             &mut over,

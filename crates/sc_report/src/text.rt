@@ -1,9 +1,10 @@
-ghost use Rattle.std.specs.Prelude.{◌≡◌, [], ◌++◌, length, map, All, IfOk, OnOk};
+ghost use Rattle.std.specs.Prelude.{◌≡◌, [], ◌++◌, codes, length, map, All, IfOk, OnOk};
 ghost use Rattle.sc_papers.specs.Market.{Market, schools_of};
 ghost use Rattle.sc_papers.specs.Matching.{Matching};
 ghost use Rattle.sc_repair.specs.Standing.{matching_of};
 ghost use Rattle.sc_report.specs.Cutoff.{cutoff_rows, rows_in_order};
 ghost use Rattle.sc_report.specs.CutoffText.{cutoff_lines};
+ghost use Rattle.sc_report.specs.Endings.{piece_text};
 ghost use Rattle.sc_report.specs.Entrants.{numbers_of, AreRising, Holds};
 ghost use Rattle.sc_report.specs.Pages.{text_so_far};
 ghost use Rattle.sc_report.specs.Text.{assignment_line, assignment_lines, assignment_text, place_text, report_text, IsReportText};
@@ -14,8 +15,8 @@ use crate::cutoff_lines::push_cutoffs;
 use crate::entrants::{Entrant, rising_entrants};
 use crate::matched::Matched;
 use crate::pages::Pages;
+use crate::piece::{Piece, put_line};
 use crate::reason_lines::push_reason_lines;
-use sc_decimal::push_number;
 use sc_papers::{FlatPapers, SchoolNo};
 use sc_repair::Clearing;
 use sc_tallies::places_of;
@@ -24,13 +25,13 @@ use std::alloc::{AllocError, Global};
 /// The line above the assignment's lines.
 const HEADER: &[u8; 15] = b"student,school\n";
 
-/// Adds what the student has, or a dash.
-fn push_place(text: &mut Vec<u8>, held: Option<SchoolNo>) -> Result<(), AllocError>
-    ensures { OnOk result (text.new.items ≡ text.old.items ++ place_text held) }
+/// How a student's line ends after the comma: with what they have, or a dash.
+fn ending_by(held: Option<SchoolNo>) -> Piece
+    ensures { piece_text result ≡ place_text held ++ codes "\n" }
 {
     match held {
-        Some(school) => push_number(text, u64::from(school.get())),
-        None => text.extend_from_slice(b"-"),
+        Some(school) => Piece::number_then(school.get(), b'\n'),
+        None => Piece::of(b"-\n"),
     }
 }
 
@@ -39,10 +40,11 @@ fn push_line(text: &mut Vec<u8>, entrant: Entrant) -> Result<(), AllocError>
     ensures { OnOk result ((a : Matching) → Holds a entrant
         → text.new.items ≡ text.old.items ++ assignment_line a entrant.student) }
 {
-    push_number(text, u64::from(entrant.student.get()))?;
-    text.extend_from_slice(b",")?;
-    push_place(text, entrant.held)?;
-    text.extend_from_slice(b"\n")
+    let mut line = [0; 32];
+    let number = Piece::number_then(entrant.student.get(), b',');
+    let end = put_line(&mut line, 0, number, ending_by(entrant.held));
+    text.extend_from_slice(&line[..end])?;
+    Ok(())
 }
 
 /// Adds the header and the line of each student.

@@ -1,8 +1,10 @@
-use Rattle.std.proofs.Common.{ap, arith, take, ◌∙◌}
+use Rattle.std.proofs.Common.{◌++◌, ap, drop, length, refl, replicate, take, ◌∙◌}
+use Rattle.std.specs.Prelude.{◌%◌}
 use Rattle.sc_report.proofs.EndingLemmas.{piece-made}
 use Rattle.sc_report.proofs.piece.Piece.of.Goals as goal
 
 pub returns : goal.returns
 returns c =
-    piece-made c.args.text.now.items _ c.in-Some.bytes.now c.len-count.result c.requires (omega (arith, c.len-count.ensures, c.args.text.now.ok))
-    (c.in-Some.ensures.cases.same ∙ ap (take 16) (c.as_slice.ensures.value ∙ c.in_ok-extend_from_slice.ensures.items))
+    let text = c.args.text.now in
+    let rest = drop (length text) (replicate 16 0) in
+    ap (λ bytes. take (length text % 16) (bytes ++ rest)) c.copy_from_slice.ensures.after ∙ piece-made text rest (length text) c.requires refl

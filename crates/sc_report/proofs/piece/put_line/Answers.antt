@@ -1,7 +1,7 @@
 use Rattle.std.proofs.Common.{ap, arith, take, ◌+◌, ◌++◌, ◌-◌, ◌∙◌}
 use Rattle.sc_report.specs.Endings.{piece_text}
 use Rattle.sc_report.proofs.EndingLemmas.{part-long, put-taken}
-use Rattle.sc_report.proofs.reason_lines.put_line.Goals as goal
+use Rattle.sc_report.proofs.piece.put_line.Goals as goal
 
 pub returns-clause-text : goal.returns-clause-text
 returns-clause-text c =
