@@ -1,7 +1,7 @@
 -- How far two texts are alike, and what a reader that was met so far has.
 use Rattle.std.proofs.Common.{◌≡◌, refl, sym, ap, ◌∙◌, subst, inl, inr, ℕ, zero, suc, ◌+◌, ◌-◌, ◌<◌, ◌≤◌, ◌==◌, List, [], ◌∷◌, ◌++◌, Option, None, Some, length, take, drop, get_or, take-append-drop, arith, append-nil}
 use Rattle.std.proofs.lemmas.Bool.{cases_eq, eq-eqb, ne_eqb, cond-true, cond-false}
-use Rattle.std.proofs.lemmas.List.{take_rest, take_all, length-append, length-take}
+use Rattle.std.proofs.lemmas.List.{take_rest, take_all, length-append, length-take, length-take-le}
 use Rattle.std.specs.Io.KnownBytes.{Consumes, IsAtEnd}
 use Rattle.sc_report.specs.Comparing.{common, differing_line, line_ends, ComparesWith}
 use Rattle.sc_report.specs.Steps.{Meets}
@@ -96,13 +96,7 @@ pub meets-len : (text : List ℕ) (len : ℕ) (b c : Option (List ℕ)) (met : M
 meets-len text len b c met within (came, gave, count, alike, is) =
     let rest = take (length text - len) (drop len text) in
     let whole : length (take len text ++ rest) ≡ length text = ap length (cut text len) in
-    omega (arith, alike, (common-within rest came).0, whole, length-append (take len text) rest, length-take-low text len within)
-  where
-    length-take-low : (xs : List ℕ) (k : ℕ) → k ≤ length xs → length (take k xs) ≡ k
-    length-take-low [] zero low = refl
-    length-take-low [] (suc k) low = absurd (omega (arith, low))
-    length-take-low (x ∷ xs) zero low = refl
-    length-take-low (x ∷ xs) (suc k) low = ap suc (length-take-low xs k (omega (arith, low)))
+    omega (arith, alike, (common-within rest came).0, whole, length-append (take len text) rest, length-take-le len text within)
 
 pub meets-more : (text : List ℕ) (len : ℕ) (a b c : Option (List ℕ)) (met : Met) → Consumes a b (take len text) → Meets (take (length text - len) (drop len text)) b c met
     → met.came ≤ met.alike → Consumes a c (take (len + met.alike) text)

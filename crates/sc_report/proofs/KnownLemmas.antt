@@ -1,5 +1,5 @@
 -- Lemmas on texts that are written and inputs that are read piece by piece.
-use Rattle.std.proofs.Common.{◌≡◌, ℕ, ◌+◌, ◌-◌, ◌≤◌, Bool, true, false, ◌||◌, List, ◌++◌, Option, refl, sym, ap, ◌∙◌, subst, length, take, drop, take-append-drop, arith}
+use Rattle.std.proofs.Common.{◌≡◌, ℕ, ◌+◌, ◌-◌, ◌≤◌, List, ◌++◌, Option, sym, ap, ◌∙◌, subst, length, take, drop, take-append-drop, arith}
 use Rattle.std.proofs.lemmas.List.{drop-take, take-take, take_rest, length-append}
 use Rattle.std.specs.Io.KnownBytes.{Appends, Consumes}
 use Rattle.std.proofs.KnownBytes.{Appends-trans, Consumes-trans}
@@ -37,8 +37,3 @@ ReadsWhole-err items limit a b (Err fault) failed few = few
 pub WritesWhole-err : {T E : Type 0} (a b : Option (List ℕ)) (result : Result T E) (text : List ℕ) → IsErr result → AppendsPrefix a b text → WritesWhole a b result text
 WritesWhole-err a b (Ok done) text failed prefix = cc
 WritesWhole-err a b (Err fault) text failed prefix = prefix
-
--- a test that is joined to a false one is itself
-pub or-false : (b : Bool) → (b || false) ≡ b
-or-false true = refl
-or-false false = refl

@@ -1,24 +1,26 @@
 -- A row stands once for each choice that a student prefers to what they have, and for no other.
-use Rattle.std.proofs.Common.{◌≡◌, inl, inr, refl, sym, ◌∙◌, ap, subst, ℕ, zero, suc, ◌+◌, ◌≤◌, ◌==◌, nat_eq, Bool, false, cond, ◌&&◌, List, [], ◌∷◌, map, Option, None, Some, Contains, slice_get, count_by, sum_by, arith}
-use Rattle.std.specs.List.{before_first, flat_map, IsDistinct}
+use Rattle.std.proofs.Common.{◌≡◌, inl, inr, refl, sym, ◌∙◌, ap, subst, ℕ, zero, suc, ◌+◌, ◌<◌, ◌≤◌, ◌==◌, nat_eq, Bool, false, cond, ◌&&◌, List, [], ◌∷◌, map, Option, None, Some, Contains, slice_get, count_by, sum_by, arith}
+use Rattle.std.specs.List.{before_first, flat_map, position_or_len, IsDistinct}
+use Rattle.std.specs.Option.{option_map_or}
 use Rattle.std.proofs.lemmas.Bool.{cases_Bool, cases_lt, eqb-true, eq-eqb, ne_eqb, false≢true}
+use Rattle.std.proofs.lemmas.List.{get_or-take, length-take}
 use Rattle.std.proofs.lemmas.List.Sorted.{sum_by-IsPermutation}
-use Rattle.std.proofs.lemmas.List.Sums.{sum_by-append, sum_by-cons}
+use Rattle.std.proofs.lemmas.List.Sums.{fails_before_first, sum_by-append, sum_by-cons}
 use Rattle.std.proofs.lemmas.Map.Keys.{IsDistinct-head, IsDistinct-tail}
 use Rattle.std.proofs.lemmas.List.Elements.{All-contains, All-from_recursion}
-use Rattle.std.proofs.lemmas.Option.{none-some, same_Some}
+use Rattle.std.proofs.lemmas.Option.{get_or_from_slice_get, none-some, same_Some, slice_get-get_or}
 use Rattle.sc_papers.specs.Market.{Market, choices_of, students_of}
 use Rattle.sc_papers.specs.Matching.{Matching, IsMatching, Prefers, has}
 use Rattle.sc_papers.specs.WellFormed.{WellFormed}
 use Rattle.sc_papers.proofs.Choices.{contains-at, one-place, place-of}
-use Rattle.sc_papers.proofs.Counting.{contains-cons, count-cons_fails, count-cons_passes, count-none}
+use Rattle.sc_papers.proofs.Counting.{count-cons_fails, count-cons_passes, count-none}
 use Rattle.sc_papers.proofs.Rejections.{has-some, has-true}
 use Rattle.sc_papers.proofs.Students.{choices-differ, lister-among}
 use Rattle.sc_papers.proofs.Sums.{sum-bump, sum-zero}
 use Rattle.sc_report.specs.Reason.{preferred, reason_row, reasons_of, rows_for}
 use Rattle.sc_report.specs.Rising.{rising}
 use Rattle.sc_report.specs.declared.reason.ReasonRow.{ReasonRow}
-use Rattle.sc_report.proofs.ReasonLemmas.{before-fails, before-passes}
+use Rattle.sc_report.proofs.ReasonLemmas.{before-fails}
 use Rattle.sc_report.proofs.RisingLemmas.{rising-permutes}
 
 -- s stands in the list, and up to it none passes
@@ -29,27 +31,14 @@ record IsReached (p : ℕ → Bool) (xs : List ℕ) (s : ℕ) : Type 0 where
 
 -- what stands before the first that passes
 reached-before : (p : ℕ → Bool) (xs : List ℕ) (s : ℕ) → Contains (before_first p xs) s → IsReached p xs s
-reached-before p [] s (k, low, at) = absurd (omega (arith, low))
-reached-before p (x ∷ xs) s among = elim (cases_Bool (p x)) [
-  | inl passes ↦ absurd (nowhere (subst (λ ys. Contains ys s) (before-passes p x xs passes) among))
-  | inr fails ↦ elim (contains-cons x (before_first p xs) s (subst (λ ys. Contains ys s) (before-fails p x xs fails) among)) [
-    | inl at ↦ record { place = 0; stands = ap Some at; fail = first_fails fails }
-    | inr later ↦
-        let rest : IsReached p xs s = reached-before p xs s later in
-        record { place = suc rest.place; stands = rest.stands; fail = later_fail fails rest }
-  ]
-]
-  where
-    nowhere : Contains [] s → ⊥
-    nowhere (k, low, at) = omega (arith, low)
-
-    first_fails : p x ≡ false → (j t : ℕ) → j ≤ 0 → slice_get (x ∷ xs) j ≡ Some t → p t ≡ false
-    first_fails fails zero t low here = ap p (sym (same_Some x t here)) ∙ fails
-    first_fails fails (suc j) t low here = absurd (omega (arith, low))
-
-    later_fail : p x ≡ false → (rest : IsReached p xs s) → (j t : ℕ) → j ≤ suc rest.place → slice_get (x ∷ xs) j ≡ Some t → p t ≡ false
-    later_fail fails rest zero t low here = ap p (sym (same_Some x t here)) ∙ fails
-    later_fail fails rest (suc j) t low here = rest.fail j t (omega (arith, low)) here
+reached-before p xs s (k, low, at) =
+    let n = position_or_len p xs in
+    let before : k < n = omega (arith, low, length-take n xs) in
+    record {
+      place = k;
+      stands = slice_get-get_or xs k s (omega (arith, low, length-take n xs)) ∙ ap Some (sym (get_or-take n xs k s before) ∙ at);
+      fail = λ j t up here. ap p (sym (get_or_from_slice_get xs j t 0 here)) ∙ fails_before_first p xs j 0 (omega (arith, before, up));
+    }
 
 -- one that is not in the list is not in front of it either
 absent-before : (p : ℕ → Bool) (xs : List ℕ) (s : ℕ) → (Contains xs s → ⊥) → count_by (λ t. t == s) (before_first p xs) ≡ 0
@@ -106,13 +95,7 @@ module _ (m : Market) (a : Matching) (well : WellFormed m) (listed : IsMatching 
   prefers-reached : (given : Option ℕ) → a i ≡ given → Prefers m i s given → IsReached (λ t. has a t i) (choices_of m i) s
   prefers-reached None is among =
       let place : (k : ℕ) × (slice_get (choices_of m i) k ≡ Some s) = place-of (choices_of m i) s among in
-      record { place = place.0; stands = place.1; fail = λ j t low at. has-nothing t }
-    where
-      has-nothing : (t : ℕ) → has a t i ≡ false
-      has-nothing t = elim (cases_Bool (has a t i)) [
-        | inl holds ↦ absurd (none-some t (sym is ∙ has-true a t i holds))
-        | inr fails ↦ fails
-      ]
+      record { place = place.0; stands = place.1; fail = λ j t low at. ap (λ given. option_map_or (λ u. u == t) given false) is }
   prefers-reached (Some u) is (j, k, below, at_j, at_k) = record {
     place = j;
     stands = at_j;

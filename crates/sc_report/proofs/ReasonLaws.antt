@@ -1,17 +1,17 @@
 -- In a stable matching one reason applies to each choice that a student prefers to what they have.
-use Rattle.std.proofs.Common.{◌≡◌, inl, inr, refl, sym, ◌∙◌, ap, subst, ℕ, ◌<◌, ◌==◌, nat_eq, Bool, true, false, List, length, get_or, filter, Option, None, Some, arith}
+use Rattle.std.proofs.Common.{◌≡◌, inl, inr, refl, sym, ◌∙◌, ap, subst, ℕ, ◌<◌, ◌==◌, Bool, true, false, List, length, filter, Option, None, Some, arith}
 use Rattle.std.specs.Prelude.{nat_lt}
-use Rattle.std.proofs.lemmas.Bool.{cases_Bool, cond-true, cond-false, eq-eqb, false≢true}
+use Rattle.std.proofs.lemmas.Bool.{cases_Bool, cond-true, cond-false, false≢true, ltb-true}
 use Rattle.std.proofs.lemmas.Bool.Decides.{nat_tests}
 use Rattle.std.proofs.lemmas.List.{length-map}
 use Rattle.std.proofs.lemmas.List.Sums.{length-filter}
-use Rattle.std.proofs.lemmas.Map.Keys.{apart_from_distinct}
-use Rattle.std.proofs.lemmas.Option.{get_or_from_slice_get, none-some, slice_get_within}
+use Rattle.std.proofs.lemmas.Option.{none-some}
 use Rattle.sc_papers.specs.Key.{is_before, is_ahead, key_of}
 use Rattle.sc_papers.specs.Market.{Market, choices_of, seats_of, students_of}
 use Rattle.sc_papers.specs.Matching.{Matching, how_many, has, held, IsStable, Prefers}
 use Rattle.sc_papers.specs.WellFormed.{WellFormed}
 use Rattle.sc_papers.specs.declared.key.Key.{Key}
+use Rattle.sc_papers.proofs.Choices.{one-place}
 use Rattle.sc_papers.proofs.Rejections.{has-true}
 use Rattle.sc_papers.proofs.Students.{choices-differ}
 use Rattle.sc_report.specs.Cutoff.{cutoff, cutoff_by}
@@ -55,9 +55,6 @@ full-says seats count (Some last) key full = elim (cases_Bool (seats == 0)) [
   ]
 ]
 
-lower-class : (a b : Key) → nat_lt a.class b.class ≡ true → a.class < b.class
-lower-class a b less = grind (arith, nat_tests)
-
 same-class : (a b : Key) → nat_lt a.class b.class ≡ false → is_before a b ≡ true → a.class ≡ b.class
 same-class a b not_less before = grind (arith, nat_tests)
 
@@ -66,7 +63,7 @@ applies-by : (cut : Cutoff) (key : Key) → (cut ≡ Free → ⊥) → ((last : 
 applies-by Closed key taken behind = refl
 applies-by Free key taken behind = absurd (taken refl)
 applies-by (Full last) key taken behind = elim (cases_Bool (nat_lt last.class key.class)) [
-  | inl less ↦ subst (Applies (Full last) key) (sym (cond-true (nat_lt last.class key.class) Class Lottery less)) (last, refl, lower-class last key less)
+  | inl less ↦ subst (Applies (Full last) key) (sym (cond-true (nat_lt last.class key.class) Class Lottery less)) (last, refl, ltb-true last.class key.class less)
   | inr not_less ↦ subst (Applies (Full last) key) (sym (cond-false (nat_lt last.class key.class) Class Lottery not_less)) (last, refl, same-class last key not_less (behind last refl), behind last refl)
 ]
 
@@ -84,10 +81,7 @@ module _ (m : Market) (a : Matching) (well : WellFormed m) (stable : IsStable m 
   other-than_held i s prefers has_it = go (subst (Prefers m i s) has_it prefers)
     where
       go : Prefers m i s (Some s) → ⊥
-      go (j, k, below, at_j, at_k) =
-          false≢true (sym (apart_from_distinct nat_eq (choices_of m i) j k s (choices-differ m well i) below (slice_get_within (choices_of m i) k s at_k))
-          ∙ eq-eqb (get_or (choices_of m i) j s) (get_or (choices_of m i) k s)
-          (get_or_from_slice_get (choices_of m i) j s s at_j ∙ sym (get_or_from_slice_get (choices_of m i) k s s at_k)))
+      go (j, k, below, at_j, at_k) = omega (arith, below, one-place (choices_of m i) j k s (choices-differ m well i) at_j at_k)
 
   blocked : (i s j : ℕ) → Prefers m i s (a i) → a j ≡ Some s → is_before (key_of m i s) (key_of m j s) ≡ true → ⊥
   unfolding is_ahead

@@ -6,15 +6,12 @@ ghost use Rattle.sc_report.specs.CutoffText.{cutoff_field, cutoff_line, cutoff_l
 use crate::cutoff::{Cutoff, CutoffRow, cutoffs};
 use crate::lines::push_draw;
 use sc_decimal::push_number;
-use sc_papers::{FlatPapers, Key, MOST_STUDENTS};
+use sc_papers::Key;
 use sc_repair::Clearing;
 use std::alloc::{AllocError, Global};
 
 /// The line above the schools' lines.
 const HEADER: &[u8; 37] = b"school,seats,held,class,draw,student\n";
-
-/// The most bytes of a school's line: its three numbers, a key, the commas and a newline.
-const LONGEST_LINE: usize = 50;
 
 /// Adds a key: its class, its draw and its student.
 fn push_key(text: &mut Vec<u8>, key: Key) -> Result<(), AllocError>
@@ -63,13 +60,6 @@ pub(crate) fn push_cutoffs(text: &mut Vec<u8>, rows: &[CutoffRow]) -> Result<(),
     Ok(())
 }
 
-/// How many bytes the cutoff text takes at most.
-fn room_for_cutoffs(papers: &FlatPapers) -> usize {
-    // This call tells that the papers are within their limits.
-    prove!(papers.students_len() <= MOST_STUDENTS);
-    HEADER.len() + papers.schools_len() * LONGEST_LINE
-}
-
 /// The cutoff text: a header, and for each school by rising number a line with its seats, how many
 /// students have it, and the key of its cutoff, or `closed` or `free` and dashes. The only error is
 /// want of memory. The cost is that of `cutoffs`.
@@ -78,7 +68,7 @@ pub fn cutoff_text(alloc: Global, clearing: &Clearing) -> Result<Vec<u8>, AllocE
         ≡ cutoff_text clearing.now.standing.papers (matching_of clearing.now.standing)) }
 {
     let rows = cutoffs(alloc, clearing)?;
-    let mut text = Vec::with_capacity(alloc, room_for_cutoffs(clearing.papers()))?;
+    let mut text = Vec::new(alloc);
     push_cutoffs(&mut text, rows.as_slice())?;
     Ok(text)
 }

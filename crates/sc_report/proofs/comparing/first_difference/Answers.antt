@@ -1,9 +1,10 @@
 use Rattle.std.proofs.Common.{◌+◌, ◌∙◌, length, subst, take, arith}
+use Rattle.std.proofs.Math.Bool.{or-false}
 use Rattle.std.proofs.lemmas.List.{length-take}
 use Rattle.sc_report.specs.Steps.{GoesOn}
 use Rattle.sc_report.specs.Watched.{device_of}
 use Rattle.sc_report.specs.declared.comparing.Meeting.TheVariants.{Alike}
-use Rattle.sc_report.proofs.KnownLemmas.{GivesAtMost-more, or-false}
+use Rattle.sc_report.proofs.KnownLemmas.{GivesAtMost-more}
 use Rattle.sc_report.proofs.comparing.first_difference.Goals as goal
 
 pub pieces-preserved : goal.pieces-preserved

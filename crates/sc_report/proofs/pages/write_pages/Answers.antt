@@ -1,5 +1,6 @@
 use Rattle.std.proofs.Common.{◌∙◌}
-use Rattle.sc_report.proofs.KnownLemmas.{or-false, WritesWhole-err}
+use Rattle.std.proofs.Math.Bool.{or-false}
+use Rattle.sc_report.proofs.KnownLemmas.{WritesWhole-err}
 use Rattle.sc_report.proofs.PageLemmas.{Appends-page, AppendsPrefix-page}
 use Rattle.sc_report.proofs.pages.write_pages.Goals as goal
 

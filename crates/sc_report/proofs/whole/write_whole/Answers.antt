@@ -1,6 +1,7 @@
 use Rattle.std.proofs.Common.{arith, ◌∙◌}
+use Rattle.std.proofs.Math.Bool.{or-false}
 use Rattle.std.proofs.lemmas.Grind.{common_steps}
-use Rattle.sc_report.proofs.KnownLemmas.{Appends-more, or-false}
+use Rattle.sc_report.proofs.KnownLemmas.{Appends-more}
 use Rattle.sc_report.proofs.whole.write_whole.Goals as goal
 
 pub calls-preserved : goal.calls-preserved
