@@ -1,8 +1,8 @@
 -- Reasons: why a student does not have a choice that they prefer to what they have.
-use Rattle.std.specs.Prelude.{ℕ, ◌<◌, ◌≡◌, ◌==◌, ◌&&◌, true, nat_eq, nat_lt, List, map, flat_map, count_by, position, slice_get, Option, Some, if◌then◌else◌}
+use Rattle.std.specs.Prelude.{ℕ, ◌<◌, ◌≡◌, ◌==◌, ◌&&◌, true, nat_eq, nat_lt, List, map, flat_map, count_by, position, slice_get, Some, if◌then◌else◌}
 use Rattle.std.specs.List.{before_first}
-use Rattle.std.specs.Option.{option_and_then}
-use Rattle.sc_papers.specs.Key.{is_before, key_of}
+use Rattle.sc_papers.specs.Classed.{Classed}
+use Rattle.sc_papers.specs.Key.{class_at, is_before, key_of}
 use Rattle.sc_papers.specs.Market.{Market, choices_of, schools_of, students_of}
 use Rattle.sc_papers.specs.Matching.{Matching, has}
 use Rattle.sc_papers.specs.declared.key.Key.{Key}
@@ -10,7 +10,6 @@ use Rattle.sc_report.specs.Cutoff.{cutoff}
 use Rattle.sc_report.specs.Rising.{rising}
 use Rattle.sc_report.specs.declared.cutoff.Cutoff.{Cutoff}
 use Rattle.sc_report.specs.declared.cutoff.Cutoff.TheVariants.{Closed, Free, Full}
-use Rattle.sc_report.specs.declared.reason.Missed.{Missed}
 use Rattle.sc_report.specs.declared.reason.Reason.{Reason}
 use Rattle.sc_report.specs.declared.reason.Reason.TheVariants.{Seats, Class, Lottery}
 use Rattle.sc_report.specs.declared.reason.ReasonRow.{ReasonRow}
@@ -37,15 +36,16 @@ reason_row m a i s = record { student = i; school = s; reason = reason m a i s }
 unfoldable pub reasons_of : Market → Matching → ℕ → List ReasonRow
 reasons_of m a i = map (reason_row m a i) (preferred m a i)
 
--- where the school that a student has stands in the order of entry, if they have one
-abbrev pub held_at : Market → Option ℕ → Option ℕ
-held_at m held = option_and_then (λ s. position (nat_eq s) (schools_of m)) held
+-- these are the choices that i prefers to what it has, as the papers keep them
+pub record AreMissed (m : Market) (a : Matching) (i : ℕ) (choices : List Classed) : Type 0 where
+  pub positions : map Some (map (λ c. c.position) choices) ≡ map (λ s. position (nat_eq s) (schools_of m)) (preferred m a i)
+  pub classes : map (λ c. c.class) choices ≡ map (class_at m i) (preferred m a i)
 
 -- the student's row at a rank is of this choice
-pub record IsMissed (m : Market) (a : Matching) (i rank : ℕ) (missed : Missed) : Type 0 where
+pub record IsMissed (m : Market) (a : Matching) (i rank : ℕ) (choice : Classed) : Type 0 where
   pub school : ℕ
-  pub place : position (nat_eq school) (schools_of m) ≡ Some missed.position
-  pub key : missed.key ≡ key_of m i school
+  pub place : position (nat_eq school) (schools_of m) ≡ Some choice.position
+  pub class : (key_of m i school).class ≡ choice.class
   pub row : slice_get (reasons_of m a i) rank ≡ Some (reason_row m a i school)
 
 -- the rows of all students by rising number, and of each in order of choice

@@ -10,7 +10,7 @@ use crate::piece::Piece;
 use crate::reason::Reason;
 use crate::reason_lines::push_reason;
 use sc_decimal::push_number;
-use sc_papers::{Key, SchoolNo};
+use sc_papers::SchoolNo;
 use std::alloc::{AllocError, Global};
 
 /// How the lines about a school end, after the student's number and the comma, by the student's class there.
@@ -76,15 +76,15 @@ impl Endings {
         Ok(Endings { schools })
     }
 
-    /// How a line ends about the school at a position and a student who has this key there. In constant time.
-    pub(crate) fn ending(&self, position: usize, key: Key) -> Piece
+    /// How a line ends about the school at a position and a student who has this class there. In constant time.
+    pub(crate) fn ending(&self, position: usize, class: u8) -> Piece
         requires { position < length self.now.schools.items }
-        ensures { (rows : List CutoffRow) (row : CutoffRow) → HaveEndings rows self.now
-            → slice_get rows position ≡ Some row
+        ensures { (rows : List CutoffRow) (row : CutoffRow) (key : Key) → HaveEndings rows self.now
+            → slice_get rows position ≡ Some row → key.class ≡ class
             → piece_text result ≡ line_ending row.school (reason_by row.cutoff key) }
     {
         let school = &self.schools[position];
-        if school.last < key.class {
+        if school.last < class {
             school.beyond
         } else {
             school.within

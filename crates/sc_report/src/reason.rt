@@ -1,16 +1,17 @@
 //! Reasons: why a student does not have a choice that they prefer to what they have.
-ghost use Rattle.std.specs.Prelude.{◌≡◌, ◌<◌, ◌≤◌, ◌++◌, ◌==◌, ℕ, false, flat_map, length, slice_get, None, Some, All, IfOk, IfSome, IsSome, MatchOption, OnOk};
-ghost use Rattle.std.specs.Option.{option_map_or};
+ghost use Rattle.std.specs.Prelude.{◌≡◌, ◌<◌, ◌++◌, ℕ, flat_map, length, slice_get, Some, All, IfOk, OnOk};
+ghost use Rattle.std.specs.List.{position_or_len};
 ghost use Rattle.sc_papers.specs.Market.{Market, choices_of};
-ghost use Rattle.sc_papers.specs.Matching.{Matching};
+ghost use Rattle.sc_papers.specs.Matching.{Matching, has};
+ghost use Rattle.sc_papers.specs.declared.key.Key.{Key as Keyed};
 ghost use Rattle.sc_repair.specs.Standing.{matching_of};
 ghost use Rattle.sc_report.specs.Cutoff.{rows_in_order};
 ghost use Rattle.sc_report.specs.Entrants.{numbers_of, Holds, StandsAt};
-ghost use Rattle.sc_report.specs.Reason.{held_at, reason_by, reason_rows, reasons_of, IsMissed};
+ghost use Rattle.sc_report.specs.Reason.{reason_by, reason_rows, reasons_of, AreMissed, IsMissed};
 
 use crate::cutoff::{Cutoff, CutoffRow, rows_in_order};
 use crate::entrants::{Entrant, rising_entrants};
-use sc_papers::{FlatPapers, Key, Proposal, SchoolNo, StudentNo};
+use sc_papers::{ClassedChoice, FlatPapers, Key, SchoolNo, StudentNo};
 use sc_repair::Clearing;
 use sc_tallies::places_of;
 use std::alloc::{AllocError, Global};
@@ -34,75 +35,59 @@ pub struct ReasonRow {
     pub reason: Reason,
 }
 
-/// Why a key does not get past a cutoff.
-pub fn reason_by(cutoff: Cutoff, key: Key) -> Reason
-    ensures { result ≡ reason_by cutoff key }
+/// Why a key of this class does not get past a cutoff.
+fn reason_in(cutoff: Cutoff, class: u8) -> Reason
+    ensures { (key : Keyed) → key.class ≡ class → result ≡ reason_by cutoff key }
 {
     match cutoff {
         Cutoff::Closed => Reason::Seats,
-        Cutoff::Full { key: last } if last.class < key.class => Reason::Class,
+        Cutoff::Full { key: last } if last.class < class => Reason::Class,
         _ => Reason::Lottery,
     }
 }
 
-/// Where the school that a student has stands in the order of entry, if they have one.
-pub(crate) fn held_position(papers: &FlatPapers, entrant: &Entrant) -> Option<usize>
-    ensures { result ≡ held_at papers.now entrant.now.held }
+/// Why a key does not get past a cutoff.
+pub fn reason_by(cutoff: Cutoff, key: Key) -> Reason
+    ensures { result ≡ reason_by cutoff key }
 {
-    papers.school_position(entrant.held?)
+    reason_in(cutoff, key.class)
 }
 
-/// Whether what a student has is the school at this position.
-fn is_held(held: &Option<usize>, position: usize) -> bool
-    ensures { result ≡ option_map_or (λ p. p == position) held.now false }
+/// How many choices stand before what a student has: all where they have none.
+fn held_rank(papers: &FlatPapers, entrant: Entrant) -> usize
+    requires { StandsAt papers.now entrant }
+    ensures { (a : Matching) → Holds a entrant → result
+        ≡ position_or_len (λ s. has a s entrant.student) (choices_of papers.now entrant.student) }
 {
-    *held == Some(position)
-}
-
-/// A choice that a student prefers to what they have: where its school stands in the order of entry, and the key there.
-#[derive(Clone, Copy)]
-pub(crate) struct Missed {
-    pub position: usize,
-    pub key: Key,
-}
-
-/// The choice at a rank, from 0 and at most the number of a student's rows, or `None` past the last one and where it is
-/// what they have, which stands at this position of the order of entry. In constant time.
-pub(crate) fn missed_at(
-    papers: &FlatPapers,
-    entrant: &Entrant,
-    held: Option<usize>,
-    rank: usize,
-) -> Option<Missed>
-    requires stands { StandsAt papers.now entrant.now }
-    requires held { held ≡ held_at papers.now entrant.now.held }
-    ensures missed { (a : Matching) → Holds a entrant.now
-        → rank ≤ length (reasons_of papers.now a entrant.now.student)
-        → MatchOption result (slice_get (reasons_of papers.now a entrant.now.student) rank ≡ None)
-        (IsMissed papers.now a entrant.now.student rank) }
-    ensures within { IsSome result → rank < length (choices_of papers.now entrant.now.student) }
-    ensures position { IfSome result (λ missed. missed.position < length papers.now.schools) }
-{
-    let Proposal { position, key, .. } = papers.proposal(entrant.position as usize, rank)?;
-    if is_held(&held, position) {
-        return None;
+    let student = entrant.position as usize;
+    let count = papers.classed_choices_at(student).len();
+    match entrant.held {
+        Some(school) => papers.choice_rank_at(student, school).unwrap_or(count),
+        None => count,
     }
-    Some(Missed { position, key })
+}
+
+/// The choices that a student prefers to what they have, best first. The cost is a pass over them.
+pub(crate) fn missed<'a>(papers: &'a FlatPapers, entrant: &Entrant) -> &'a [ClassedChoice]
+    requires { StandsAt papers.now entrant.now }
+    ensures { (a : Matching) → Holds a entrant.now → AreMissed papers.now a entrant.now.student result.now }
+{
+    let choices = papers.classed_choices_at(entrant.position as usize);
+    &choices[..held_rank(papers, *entrant)]
 }
 
 /// A student's row of a choice, by the rows of all schools in order of entry.
-fn row_of(rows: &[CutoffRow], entrant: &Entrant, missed: Missed) -> ReasonRow
-    requires { missed.position < length rows.now }
+fn row_of(rows: &[CutoffRow], student: StudentNo, choice: &ClassedChoice) -> ReasonRow
+    requires { choice.now.position < length rows.now }
     // By whichever papers and matching the rows were made.
     ensures { (m : Market) (a : Matching) (rank : ℕ) → rows.now ≡ rows_in_order m a
-        → IsMissed m a entrant.now.student rank missed
-        → slice_get (reasons_of m a entrant.now.student) rank ≡ Some result }
+        → IsMissed m a student rank choice.now → slice_get (reasons_of m a student) rank ≡ Some result }
 {
-    let row = rows[missed.position];
+    let row = rows[choice.position()];
     ReasonRow {
-        student: entrant.student,
+        student,
         school: row.school,
-        reason: reason_by(row.cutoff, missed.key),
+        reason: reason_in(row.cutoff, choice.class()),
     }
 }
 
@@ -111,19 +96,17 @@ fn push_reasons(
     reasons: &mut Vec<ReasonRow>,
     rows: &[CutoffRow],
     papers: &FlatPapers,
-    entrant: Entrant,
+    entrant: &Entrant,
 ) -> Result<(), AllocError>
     requires rows { length rows.now ≡ length papers.now.schools }
-    requires stands { StandsAt papers.now entrant }
+    requires stands { StandsAt papers.now entrant.now }
     // By whichever matching the rows were made.
-    ensures { OnOk result ((a : Matching) → rows.now ≡ rows_in_order papers.now a → Holds a entrant
-        → reasons.new.items ≡ reasons.old.items ++ reasons_of papers.now a entrant.student) }
+    ensures { OnOk result ((a : Matching) → rows.now ≡ rows_in_order papers.now a → Holds a entrant.now
+        → reasons.new.items ≡ reasons.old.items ++ reasons_of papers.now a entrant.now.student) }
 {
-    let held = held_position(papers, &entrant);
-    let mut rank = 0;
-    'ranks: while let Some(missed) = missed_at(papers, &entrant, held, rank) {
-        reasons.push(row_of(rows, &entrant, missed))?;
-        rank += 1;
+    let choices = missed(papers, entrant);
+    for choice in choices {
+        reasons.push(row_of(rows, entrant.student, choice))?;
     }
     Ok(())
 }
@@ -143,7 +126,7 @@ pub fn reasons(alloc: Global, clearing: &Clearing) -> Result<Vec<ReasonRow>, All
     let rows = in_order.as_slice();
     let mut reasons = Vec::new(alloc);
     for entrant in entrants {
-        push_reasons(&mut reasons, rows, papers, *entrant)?;
+        push_reasons(&mut reasons, rows, papers, entrant)?;
     }
     Ok(reasons)
 }

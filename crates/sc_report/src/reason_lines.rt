@@ -1,10 +1,10 @@
 //! The reasons as text.
-ghost use Rattle.std.specs.Prelude.{◌≡◌, ◌++◌, codes, decimal, flat_map, length, map, All, IfOk, OnOk};
+ghost use Rattle.std.specs.Prelude.{◌≡◌, ◌++◌, codes, flat_map, length, map, All, IfOk, OnOk};
 ghost use Rattle.sc_papers.specs.Market.{schools_of};
 ghost use Rattle.sc_papers.specs.Matching.{Matching};
 ghost use Rattle.sc_repair.specs.Standing.{matching_of};
 ghost use Rattle.sc_report.specs.Cutoff.{rows_in_order};
-ghost use Rattle.sc_report.specs.Endings.{piece_text, HaveEndings};
+ghost use Rattle.sc_report.specs.Endings.{HaveEndings};
 ghost use Rattle.sc_report.specs.Entrants.{numbers_of, Holds, StandsAt};
 ghost use Rattle.sc_report.specs.Pages.{text_so_far};
 ghost use Rattle.sc_report.specs.Reason.{reasons_of};
@@ -16,7 +16,7 @@ use crate::endings::Endings;
 use crate::entrants::{Entrant, rising_entrants};
 use crate::pages::Pages;
 use crate::piece::{Piece, put_line};
-use crate::reason::{Reason, held_position, missed_at};
+use crate::reason::{Reason, missed};
 use sc_papers::{FlatPapers, MOST_STUDENTS};
 use sc_repair::Clearing;
 use sc_tallies::places_of;
@@ -39,35 +39,32 @@ pub fn push_reason(text: &mut Vec<u8>, reason: Reason) -> Result<(), AllocError>
     }
 }
 
-/// Adds the lines of a student, in order of choice, by the endings of the lines about all schools in order of entry and
-/// the piece of the student's number and a comma. They are written over some bytes, and copied from there at once.
+/// Adds the lines of a student, in order of choice, by the endings of the lines about all schools in order of entry. They
+/// are written over some bytes, and copied from there at once.
 fn push_student(
     text: &mut Vec<u8>,
     over: &mut [u8],
-    number: Piece,
     endings: &Endings,
     papers: &FlatPapers,
-    entrant: Entrant,
+    entrant: &Entrant,
 ) -> Result<(), AllocError>
     requires over { length over.old ≡ LINES }
-    requires number { piece_text number ≡ decimal entrant.student ++ codes "," }
     requires endings { length endings.now.schools.items ≡ length papers.now.schools }
-    requires stands { StandsAt papers.now entrant }
+    requires stands { StandsAt papers.now entrant.now }
     // By whichever matching the endings were made.
     ensures text { OnOk result ((a : Matching) → HaveEndings (rows_in_order papers.now a) endings.now
-        → Holds a entrant
-        → text.new.items ≡ text.old.items ++ flat_map reason_line (reasons_of papers.now a entrant.student)) }
+        → Holds a entrant.now → text.new.items
+        ≡ text.old.items ++ flat_map reason_line (reasons_of papers.now a entrant.now.student)) }
     ensures over { length over.new ≡ LINES }
 {
     // This call tells that the papers are within their limits.
     prove!(papers.students_len() <= MOST_STUDENTS);
-    let held = held_position(papers, &entrant);
+    let number = Piece::number_then(entrant.student.get(), b',');
+    let choices = missed(papers, entrant);
     let mut at = 0;
-    let mut rank = 0;
-    'ranks: while let Some(missed) = missed_at(papers, &entrant, held, rank) {
-        let ending = endings.ending(missed.position, missed.key);
+    for choice in choices {
+        let ending = endings.ending(choice.position(), choice.class());
         at = put_line(over, at, number, ending);
-        rank += 1;
     }
     text.extend_from_slice(&over[..at])?;
     Ok(())
@@ -93,15 +90,7 @@ pub(crate) fn push_reason_lines(
     let mut over = [0; LINES];
     pages.last.extend_from_slice(HEADER)?;
     for entrant in entrants {
-        let number = Piece::number_then(entrant.student.get(), b',');
-        push_student(
-            &mut pages.last,
-            &mut over,
-            number,
-            &endings,
-            papers,
-            *entrant,
-        )?;
+        push_student(&mut pages.last, &mut over, &endings, papers, entrant)?;
         pages.turn(alloc)?;
     }
     Ok(())

@@ -1,69 +1,73 @@
-use Rattle.std.proofs.Common.{◌≡◌, ◌≤◌, ◌++◌, refl, [], Some, ap, arith, length, slice_get, sym, take, ◌∙◌}
+use Rattle.std.proofs.Common.{◌≡◌, ◌≤◌, ◌++◌, refl, [], Some, ap, arith, codes, decimal, length, slice_get, sym, take, ◌∙◌}
 use Rattle.std.specs.Option.{option_map}
-use Rattle.std.proofs.lemmas.List.{length-take-le}
-use Rattle.std.proofs.lemmas.Option.{get_or_from_slice_get, slice_get-map, slice_get_within}
 use Rattle.std.specs.Prelude.{flat_map}
+use Rattle.std.proofs.lemmas.List.{length-take-le, take_all}
+use Rattle.std.proofs.lemmas.Option.{get_or_from_slice_get, slice_get-map, slice_get_within}
+use Rattle.sc_papers.specs.Key.{key_of}
 use Rattle.sc_papers.specs.Market.{schools_of}
+use Rattle.sc_papers.specs.Matching.{Matching}
 use Rattle.sc_papers.proofs.Positions.{position-there}
-use Rattle.sc_papers.proofs.Students.{choices-short}
-use Rattle.sc_report.specs.Cutoff.{cutoff, cutoff_row, rows_in_order}
-use Rattle.sc_report.specs.Endings.{line_ending, piece_text}
-use Rattle.sc_report.specs.Reason.{reason_by, reason_row, reasons_of}
+use Rattle.sc_report.specs.Cutoff.{cutoff_row, rows_in_order}
+use Rattle.sc_report.specs.Endings.{piece_text}
+use Rattle.sc_report.specs.Reason.{reason_row, reasons_of}
 use Rattle.sc_report.specs.ReasonText.{reason_line}
 use Rattle.sc_report.proofs.EndingLemmas.{line-joined}
 use Rattle.sc_report.proofs.LineLemmas.{lines-more}
-use Rattle.sc_report.proofs.ReasonLemmas.{rows-end}
+use Rattle.sc_report.proofs.ReasonLemmas.{missed-few, missed-long, missed-there, missed-within}
 use Rattle.sc_report.proofs.reason_lines.push_student.Goals as goal
+
+pub ending-ending-requires : goal.ending-ending-requires
+ending-ending-requires c =
+    let held : Matching = λ _. c.args.entrant.now.held in
+    omega (
+      arith,
+      c.position.ensures,
+      c.requires.endings,
+      missed-within c.args.papers.now held c.args.entrant.now.student c.loop-choice.choice-index c.missed-choices.result.now c.choice-item.result
+          (c.missed-choices.ensures held refl) c.loop-choice-test.true c.choice-item.is,
+    )
 
 pub put_line-at-requires : goal.put_line-at-requires
 put_line-at-requires c =
-    let short = choices-short c.args.papers.now c.students_len.ensures.within_limits c.args.entrant.student in
-    omega (arith, c.ranks.invariant.room, c.ranks.invariant.end, c.in-Some.ensures.within refl, short)
-
-pub overflow_add-rank : goal.overflow_add-rank
-overflow_add-rank c =
-    let short = choices-short c.args.papers.now c.students_len.ensures.within_limits c.args.entrant.student in
-    omega (arith, c.in-Some.ensures.within refl, short)
+    let held : Matching = λ _. c.args.entrant.now.held in
+    let few = missed-few c.args.papers.now held c.args.entrant.now.student c.missed-choices.result.now c.students_len.ensures.within_limits (c.missed-choices.ensures held refl) in
+    omega (arith, c.loop-choice.invariant.room, c.loop-choice.invariant.end, c.loop-choice-test.true, few)
 
 pub slice_bounds-extend_from_slice-end : goal.slice_bounds-extend_from_slice-end
-slice_bounds-extend_from_slice-end c =
-    let short = choices-short c.args.papers.now c.students_len.ensures.within_limits c.args.entrant.student in
-    omega (arith, c.ranks.invariant.room, c.ranks.invariant.end, c.ranks.invariant.low, short)
+slice_bounds-extend_from_slice-end c = omega (arith, c.loop-choice.invariant.room, c.loop-choice.invariant.end, c.loop-choice.invariant.low)
 
 pub slice_bounds-extend_from_slice-end-2 : goal.slice_bounds-extend_from_slice-end-2
 slice_bounds-extend_from_slice-end-2 c =
-    let short = choices-short c.args.papers.now c.students_len.ensures.within_limits c.args.entrant.student in
-    let low : c.ranks.at ≤ length c.ranks.over = omega (arith, c.ranks.invariant.room, c.ranks.invariant.end, c.ranks.invariant.low, short) in
-    omega (arith, length-take-le c.ranks.at c.ranks.over low)
+    let low : c.loop-choice.at ≤ length c.loop-choice.over = omega (arith, c.loop-choice.invariant.room, c.loop-choice.invariant.end, c.loop-choice.invariant.low) in
+    omega (arith, length-take-le c.loop-choice.at c.loop-choice.over low)
 
-pub ranks-preserved : goal.ranks-preserved
-ranks-preserved c =
+pub loop-choice-preserved : goal.loop-choice-preserved
+loop-choice-preserved c =
     let m = c.args.papers.now in
-    let i = c.args.entrant.student in
-    let k = c.ranks.rank in
-    let p = c.in-Some.missed.position in
+    let i = c.args.entrant.now.student in
+    let k = c.loop-choice.choice-index in
+    let one = c.choice-item.result in
+    let held : Matching = λ _. c.args.entrant.now.held in
+    let few = missed-few m held i c.missed-choices.result.now c.students_len.ensures.within_limits (c.missed-choices.ensures held refl) in
     record {
       text = λ a have holds.
           let rows = reasons_of m a i in
-          let got = c.in-Some.ensures.missed a holds (c.ranks.invariant.within a holds) in
+          let got = missed-there m a i k c.missed-choices.result.now one (c.missed-choices.ensures a holds) c.loop-choice-test.true c.choice-item.is in
           let s = got.school in
           let row = reason_row m a i s in
-          let there : slice_get (rows_in_order m a) p ≡ Some (cutoff_row m a s) = slice_get-map (cutoff_row m a) (schools_of m) p ∙ ap (option_map (cutoff_row m a)) (position-there (schools_of m) s p got.place) in
-          let ending = c.ending-ending.ensures (rows_in_order m a) (cutoff_row m a s) have there ∙ ap (λ key. line_ending s (reason_by (cutoff m a s) key)) got.key in
-          let line = line-joined row (piece_text c.args.number) (piece_text c.ending-ending.result) (take c.ranks.at c.ranks.over) (take c.put_line-at.result c.put_line-at.new.over) c.requires.number ending c.put_line-at.ensures.text in
-          lines-more reason_line rows k row [] (take c.ranks.at c.ranks.over) (take c.put_line-at.result c.put_line-at.new.over) (c.ranks.invariant.text a have holds) line
+          let there : slice_get (rows_in_order m a) one.position ≡ Some (cutoff_row m a s) = slice_get-map (cutoff_row m a) (schools_of m) one.position ∙ ap (option_map (cutoff_row m a)) (position-there (schools_of m) s one.position got.place) in
+          let ending = c.ending-ending.ensures (rows_in_order m a) (cutoff_row m a s) (key_of m i s) have (ap (slice_get (rows_in_order m a)) c.position.ensures ∙ there) (got.class ∙ sym c.class.ensures) in
+          let line = line-joined row (piece_text c.number_then-number.result) (piece_text c.ending-ending.result) (take c.loop-choice.at c.loop-choice.over) (take c.put_line-at.result c.put_line-at.new.over) (c.number_then-number.ensures ∙ ap (λ n. decimal n ++ codes ",") c.get.ensures.value) ending c.put_line-at.ensures.text in
+          lines-more reason_line rows k row [] (take c.loop-choice.at c.loop-choice.over) (take c.put_line-at.result c.put_line-at.new.over) (c.loop-choice.invariant.text a have holds) line
           (slice_get_within rows k row got.row) (sym (get_or_from_slice_get rows k row row got.row));
-      room = c.put_line-at.ensures.room ∙ c.ranks.invariant.room;
-      end = omega (arith, c.put_line-at.ensures.end, c.ranks.invariant.end);
-      low = omega (arith, c.in-Some.ensures.within refl);
-      within = λ a holds.
-          let got = c.in-Some.ensures.missed a holds (c.ranks.invariant.within a holds) in
-          omega (arith, slice_get_within (reasons_of m a i) k _ got.row);
+      room = c.put_line-at.ensures.room ∙ c.loop-choice.invariant.room;
+      end = omega (arith, c.put_line-at.ensures.end, c.loop-choice.invariant.end);
+      low = omega (arith, c.loop-choice-test.true, few);
     }
 
 pub returns-clause-text : goal.returns-clause-text
 returns-clause-text c a have holds =
-    let rows = reasons_of c.args.papers.now a c.args.entrant.student in
-    let past = c.in_default.ensures.missed a holds (c.ranks.invariant.within a holds) in
+    let rows = reasons_of c.args.papers.now a c.args.entrant.now.student in
+    let long = missed-long c.args.papers.now a c.args.entrant.now.student c.missed-choices.result.now (c.missed-choices.ensures a holds) in
     c.in_ok-extend_from_slice.ensures.items
-    ∙ ap (λ more. c.args.text.now.items ++ more) (c.ranks.invariant.text a have holds ∙ ap (flat_map reason_line) (rows-end rows c.ranks.rank past))
+    ∙ ap (λ more. c.args.text.now.items ++ more) (c.loop-choice.invariant.text a have holds ∙ ap (flat_map reason_line) (take_all c.loop-choice.choice-index rows (omega (arith, long, c.loop-choice-test.false))))

@@ -1,6 +1,5 @@
 -- The lines so far are those of the student's first rows, by whichever matching the endings were made.
-use Rattle.std.proofs.Common.{◌≡◌, ◌*◌, ◌-◌, ◌≤◌, flat_map, length, take}
-use Rattle.sc_papers.specs.Market.{choices_of}
+use Rattle.std.proofs.Common.{◌≡◌, ◌*◌, ◌≤◌, flat_map, length, take}
 use Rattle.sc_papers.specs.Matching.{Matching}
 use Rattle.sc_report.specs.Cutoff.{rows_in_order}
 use Rattle.sc_report.specs.Endings.{HaveEndings}
@@ -9,14 +8,11 @@ use Rattle.sc_report.specs.Reason.{reasons_of}
 use Rattle.sc_report.specs.ReasonText.{reason_line}
 use Rattle.sc_report.proofs.reason_lines.push_student.Given as goal
 
-abbrev pub invariant-ranks : goal.invariant-ranks
-invariant-ranks l = record {
-  text : (a : Matching) → HaveEndings (rows_in_order l.papers a) l.endings → Holds a l.entrant → take l.at l.over ≡ flat_map reason_line (take l.rank (reasons_of l.papers a l.entrant.student));
+abbrev pub invariant-loop-choice : goal.invariant-loop-choice
+invariant-loop-choice l = record {
+  text : (a : Matching) → HaveEndings (rows_in_order l.papers a) l.endings → Holds a l.entrant
+      → take l.at l.over ≡ flat_map reason_line (take l.choice-index (reasons_of l.papers a l.entrant.student));
   room : length l.over ≡ 640;
-  end : l.at ≤ 32 * l.rank;
-  low : l.rank ≤ length (choices_of l.papers l.entrant.student);
-  within : (a : Matching) → Holds a l.entrant → l.rank ≤ length (reasons_of l.papers a l.entrant.student);
+  end : l.at ≤ 32 * l.choice-index;
+  low : l.choice-index ≤ 20;
 }
-
-abbrev pub decreases-ranks : goal.decreases-ranks
-decreases-ranks l = length (choices_of l.papers l.entrant.student) - l.rank
