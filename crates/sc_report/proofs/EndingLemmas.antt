@@ -12,12 +12,16 @@ use Rattle.std.proofs.lemmas.Option.{slice_get_read, MatchOption-at_some}
 use Rattle.std.proofs.lemmas.Slice.{take-put_mid_below}
 use Rattle.std.proofs.lemmas.Slice.Zip.{all_zipped_more, AllZip-left, AllZip-long}
 use Rattle.sc_papers.specs.Market.{Market, schools_of}
+use Rattle.sc_papers.specs.Matching.{Matching}
 use borrow.Rule.Slice.PartMut.{put_mid, post_of}
 use Rattle.sc_report.specs.Endings.{line_ending, HasEndings, HaveEndings}
+use Rattle.sc_report.specs.Entrants.{Holds}
 use Rattle.sc_report.specs.ReasonText.{reason_line, reason_word}
+use Rattle.sc_report.specs.Text.{assignment_line, place_text}
 use Rattle.sc_report.specs.declared.cutoff.CutoffRow.{CutoffRow}
 use Rattle.sc_report.specs.declared.endings.Endings.{Endings}
 use Rattle.sc_report.specs.declared.endings.SchoolEndings.{SchoolEndings}
+use Rattle.sc_report.specs.declared.entrants.Entrant.{Entrant}
 use Rattle.sc_report.specs.declared.reason.Reason.{Reason}
 use Rattle.sc_report.specs.declared.reason.Reason.TheVariants.{Seats, Class, Lottery}
 use Rattle.sc_report.specs.declared.reason.ReasonRow.{ReasonRow}
@@ -100,3 +104,11 @@ pub line-joined : (row : ReasonRow) (number ending old new : List ℕ) → numbe
 line-joined row number ending old new number_is ending_is new_is =
     new_is ∙ (λ t. old ++ (number_is t ++ ending_is t))
     ∙ ap (λ more. old ++ more) (five-parts (decimal row.student ++ codes ",") (decimal row.school) (codes ",") (reason_word row.reason) (codes "\n"))
+
+-- the student's number with a comma, and what they have or a dash with a newline, are the student's line
+pub assignment-joined : (a : Matching) (one : Entrant) (number ending old new : List ℕ) → Holds a one → number ≡ decimal one.student ++ codes "," → ending ≡ place_text one.held ++ codes "\n"
+    → new ≡ old ++ (number ++ ending) → new ≡ old ++ assignment_line a one.student
+assignment-joined a one number ending old new holds number_is ending_is new_is =
+    let first = decimal one.student ++ codes "," in
+    new_is ∙ (λ t. old ++ (number_is t ++ ending_is t))
+    ∙ ap (λ line. old ++ line) (sym (append_assoc first (place_text one.held) (codes "\n")) ∙ ap (λ held. first ++ place_text held ++ codes "\n") (sym holds))

@@ -15,6 +15,10 @@ use Rattle.sc_report.proofs.LineLemmas.{lines-more}
 pub page-grew : (full : List (Vec ℕ Global)) (last new line : List ℕ) → new ≡ last ++ line → pages_text full ++ new ≡ (pages_text full ++ last) ++ line
 page-grew full last new line grew = ap (λ page. pages_text full ++ page) grew ∙ sym (append_assoc (pages_text full) last line)
 
+-- a text on pages and in a draft gains what the draft gains, whether the draft is then put on a page or not
+pub draft-grew : (pages draft line longer text : List ℕ) → longer ≡ draft ++ line → text ≡ pages ++ longer → text ≡ (pages ++ draft) ++ line
+draft-grew pages draft line longer text grew is = is ∙ ap (λ more. pages ++ more) grew ∙ sym (append_assoc pages draft line)
+
 -- the pages up to one more
 pages-more : (pages : List (Vec ℕ Global)) (k : ℕ) (page : Vec ℕ Global) → k < length pages → page ≡ get_or pages k page
     → pages_text (take k pages) ++ page.items ≡ pages_text (take (k + 1) pages)

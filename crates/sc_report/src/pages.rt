@@ -1,6 +1,7 @@
 //! A long text on pages, so that each of its blocks finds room where smaller ones were let go of.
-ghost use Rattle.std.specs.Prelude.{◌≡◌, ◌||◌, [], IfOk, OnOk, is_err};
+ghost use Rattle.std.specs.Prelude.{◌≡◌, ◌+◌, ◌≤◌, ◌++◌, ◌||◌, [], length, take, IfOk, OnOk, is_err};
 ghost use Rattle.sc_report.specs.Pages.{pages_text, text_so_far};
+ghost use Rattle.sc_report.specs.declared.pages.TheConstants.{LINES};
 ghost use Rattle.sc_report.specs.Watched.{device_of, has_failed};
 ghost use Rattle.sc_report.specs.Whole.{WritesWhole};
 
@@ -10,11 +11,17 @@ use std::alloc::{AllocError, Global};
 use std::io::Write;
 use std::mem;
 
-/// How many bytes fill a page. It ends with the lines of the student that filled it, and so has some more.
-const FULL: usize = 245_000;
+/// The room of a student's lines: of 20 at most, each of two blocks.
+pub(crate) const LINES: usize = 640;
 
-/// The room of a page, 240 KiB: the bytes that fill it, and the lines that it ends with. The first page grows to just this
-/// by doubling, from the 15 bytes of the report's first line.
+/// The room of a draft: lines are written there first, so that few calls copy them to a page.
+pub(crate) const DRAFT: usize = 1_920;
+
+/// How many bytes fill a page. It ends with the draft that filled it, and so has some more.
+const FULL: usize = 243_840;
+
+/// The room of a page, 240 KiB: the bytes that fill it, and a draft. The first page begins with the room of a draft, and
+/// grows to just this by doubling.
 const ROOM: usize = 245_760;
 
 /// A text that grows, on pages.
@@ -61,6 +68,28 @@ impl Pages {
         let next = Vec::with_capacity(alloc, ROOM)?;
         self.full.push(mem::replace(&mut self.last, next))?;
         Ok(())
+    }
+
+    /// Adds a draft that ends here to the last page, if no room is left behind it for a student's lines, and tells where
+    /// the draft ends then.
+    pub(crate) fn add_full(
+        &mut self,
+        alloc: Global,
+        draft: &[u8],
+        end: usize,
+    ) -> Result<usize, AllocError>
+        requires room { LINES ≤ length draft.now }
+        requires within { end ≤ length draft.now }
+        ensures text { IfOk result (λ left. text_so_far self.new ++ take left draft.now
+            ≡ text_so_far self.old ++ take end draft.now) }
+        ensures room { IfOk result (λ left. left + LINES ≤ length draft.now) }
+    {
+        if draft.len() - end >= LINES {
+            return Ok(end);
+        }
+        self.last.extend_from_slice(&draft[..end])?;
+        self.turn(alloc)?;
+        Ok(0)
     }
 
     /// All pages, in order.

@@ -1,5 +1,5 @@
 //! The reasons as text.
-ghost use Rattle.std.specs.Prelude.{◌≡◌, ◌++◌, codes, flat_map, length, map, All, IfOk, OnOk};
+ghost use Rattle.std.specs.Prelude.{◌≡◌, ◌+◌, ◌≤◌, ◌++◌, codes, flat_map, length, map, take, All, IfOk, OnOk};
 ghost use Rattle.sc_papers.specs.Market.{schools_of};
 ghost use Rattle.sc_papers.specs.Matching.{Matching};
 ghost use Rattle.sc_repair.specs.Standing.{matching_of};
@@ -8,13 +8,13 @@ ghost use Rattle.sc_report.specs.Endings.{HaveEndings};
 ghost use Rattle.sc_report.specs.Entrants.{numbers_of, Holds, StandsAt};
 ghost use Rattle.sc_report.specs.Pages.{text_so_far};
 ghost use Rattle.sc_report.specs.Reason.{reasons_of};
-ghost use Rattle.sc_report.specs.declared.reason_lines.TheConstants.{LINES};
+ghost use Rattle.sc_report.specs.declared.pages.TheConstants.{LINES};
 ghost use Rattle.sc_report.specs.ReasonText.{reason_line, reason_lines, reason_text, reason_word};
 
 use crate::cutoff::{CutoffRow, rows_in_order};
 use crate::endings::Endings;
 use crate::entrants::{Entrant, rising_entrants};
-use crate::pages::Pages;
+use crate::pages::{DRAFT, Pages};
 use crate::piece::{Piece, put_line};
 use crate::reason::{Reason, missed};
 use sc_papers::{FlatPapers, MOST_STUDENTS};
@@ -24,9 +24,6 @@ use std::alloc::{AllocError, Global};
 
 /// The line above the reasons' lines.
 const HEADER: &[u8; 22] = b"student,school,reason\n";
-
-/// The room of a student's lines: of 20 at most, each of two blocks.
-const LINES: usize = 640;
 
 /// Adds a comma, a reason's word and a newline, as a line of the reason text ends. The only error is want of memory.
 pub fn push_reason(text: &mut Vec<u8>, reason: Reason) -> Result<(), AllocError>
@@ -39,35 +36,35 @@ pub fn push_reason(text: &mut Vec<u8>, reason: Reason) -> Result<(), AllocError>
     }
 }
 
-/// Adds the lines of a student, in order of choice, by the endings of the lines about all schools in order of entry. They
-/// are written over some bytes, and copied from there at once.
-fn push_student(
-    text: &mut Vec<u8>,
+/// Writes the lines of a student over some bytes, in order of choice, by the endings of the lines about all schools in order
+/// of entry, and tells where they end there.
+fn put_reasons(
     over: &mut [u8],
+    at: usize,
     endings: &Endings,
     papers: &FlatPapers,
     entrant: &Entrant,
-) -> Result<(), AllocError>
-    requires over { length over.old ≡ LINES }
+) -> usize
+    requires over { at + LINES ≤ length over.old }
     requires endings { length endings.now.schools.items ≡ length papers.now.schools }
     requires stands { StandsAt papers.now entrant.now }
     // By whichever matching the endings were made.
-    ensures text { OnOk result ((a : Matching) → HaveEndings (rows_in_order papers.now a) endings.now
-        → Holds a entrant.now → text.new.items
-        ≡ text.old.items ++ flat_map reason_line (reasons_of papers.now a entrant.now.student)) }
-    ensures over { length over.new ≡ LINES }
+    ensures text { (a : Matching) → HaveEndings (rows_in_order papers.now a) endings.now → Holds a entrant.now
+        → take result over.new
+        ≡ take at over.old ++ flat_map reason_line (reasons_of papers.now a entrant.now.student) }
+    ensures room { length over.new ≡ length over.old }
+    ensures end { result ≤ at + LINES }
 {
     // This call tells that the papers are within their limits.
     prove!(papers.students_len() <= MOST_STUDENTS);
     let number = Piece::number_then(entrant.student.get(), b',');
     let choices = missed(papers, entrant);
-    let mut at = 0;
+    let mut end = at;
     for choice in choices {
         let ending = endings.ending(choice.position(), choice.class());
-        at = put_line(over, at, number, ending);
+        end = put_line(over, end, number, ending);
     }
-    text.extend_from_slice(&over[..at])?;
-    Ok(())
+    end
 }
 
 /// Adds the header and the lines of the students, in their order, by the rows of all schools in order of
@@ -87,12 +84,14 @@ pub(crate) fn push_reason_lines(
         ++ reason_lines (flat_map (reasons_of papers.now a) (numbers_of entrants.now))) }
 {
     let endings = Endings::new(alloc, rows)?;
-    let mut over = [0; LINES];
     pages.last.extend_from_slice(HEADER)?;
+    let mut draft = [0; DRAFT];
+    let mut end = 0;
     for entrant in entrants {
-        push_student(&mut pages.last, &mut over, &endings, papers, entrant)?;
-        pages.turn(alloc)?;
+        let after = put_reasons(&mut draft, end, &endings, papers, entrant);
+        end = pages.add_full(alloc, &draft, after)?;
     }
+    pages.last.extend_from_slice(&draft[..end])?;
     Ok(())
 }
 

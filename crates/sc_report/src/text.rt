@@ -7,14 +7,14 @@ ghost use Rattle.sc_report.specs.CutoffText.{cutoff_lines};
 ghost use Rattle.sc_report.specs.Endings.{piece_text};
 ghost use Rattle.sc_report.specs.Entrants.{numbers_of, AreRising, Holds};
 ghost use Rattle.sc_report.specs.Pages.{text_so_far};
-ghost use Rattle.sc_report.specs.Text.{assignment_line, assignment_lines, assignment_text, place_text, report_text, IsReportText};
+ghost use Rattle.sc_report.specs.Text.{assignment_lines, assignment_text, place_text, report_text, IsReportText};
 ghost use Rattle.sc_tallies.specs.Places.{ArePlaces};
 
 use crate::cutoff::{CutoffRow, rising_rows, rows_in_order};
 use crate::cutoff_lines::push_cutoffs;
 use crate::entrants::{Entrant, rising_entrants};
 use crate::matched::Matched;
-use crate::pages::Pages;
+use crate::pages::{DRAFT, Pages};
 use crate::piece::{Piece, put_line};
 use crate::reason_lines::push_reason_lines;
 use sc_papers::{FlatPapers, SchoolNo};
@@ -35,18 +35,6 @@ fn ending_by(held: Option<SchoolNo>) -> Piece
     }
 }
 
-/// Adds the line of a student.
-fn push_line(text: &mut Vec<u8>, entrant: Entrant) -> Result<(), AllocError>
-    ensures { OnOk result ((a : Matching) → Holds a entrant
-        → text.new.items ≡ text.old.items ++ assignment_line a entrant.student) }
-{
-    let mut line = [0; 32];
-    let number = Piece::number_then(entrant.student.get(), b',');
-    let end = put_line(&mut line, 0, number, ending_by(entrant.held));
-    text.extend_from_slice(&line[..end])?;
-    Ok(())
-}
-
 /// Adds the header and the line of each student.
 fn push_assignments(
     pages: &mut Pages,
@@ -56,11 +44,16 @@ fn push_assignments(
     ensures { OnOk result ((a : Matching) → All (Holds a) entrants.now
         → text_so_far pages.new ≡ text_so_far pages.old ++ assignment_lines a (numbers_of entrants.now)) }
 {
+    pages.last.reserve(DRAFT)?;
     pages.last.extend_from_slice(HEADER)?;
+    let mut draft = [0; DRAFT];
+    let mut end = 0;
     for entrant in entrants {
-        push_line(&mut pages.last, *entrant)?;
-        pages.turn(alloc)?;
+        let number = Piece::number_then(entrant.student.get(), b',');
+        let after = put_line(&mut draft, end, number, ending_by(entrant.held));
+        end = pages.add_full(alloc, &draft, after)?;
     }
+    pages.last.extend_from_slice(&draft[..end])?;
     Ok(())
 }
 

@@ -1,7 +1,7 @@
-use Rattle.std.proofs.Common.{◌≡◌, ◌≤◌, ◌++◌, refl, [], Some, ap, arith, codes, decimal, length, slice_get, sym, take, ◌∙◌}
+use Rattle.std.proofs.Common.{◌≡◌, ◌++◌, refl, Some, ap, arith, codes, decimal, slice_get, sym, take, ◌∙◌}
 use Rattle.std.specs.Option.{option_map}
 use Rattle.std.specs.Prelude.{flat_map}
-use Rattle.std.proofs.lemmas.List.{length-take-le, take_all}
+use Rattle.std.proofs.lemmas.List.{take_all}
 use Rattle.std.proofs.lemmas.Option.{get_or_from_slice_get, slice_get-map, slice_get_within}
 use Rattle.sc_papers.specs.Key.{key_of}
 use Rattle.sc_papers.specs.Market.{schools_of}
@@ -14,7 +14,7 @@ use Rattle.sc_report.specs.ReasonText.{reason_line}
 use Rattle.sc_report.proofs.EndingLemmas.{line-joined}
 use Rattle.sc_report.proofs.LineLemmas.{lines-more}
 use Rattle.sc_report.proofs.ReasonLemmas.{missed-few, missed-long, missed-there, missed-within}
-use Rattle.sc_report.proofs.reason_lines.push_student.Goals as goal
+use Rattle.sc_report.proofs.reason_lines.put_reasons.Goals as goal
 
 pub ending-ending-requires : goal.ending-ending-requires
 ending-ending-requires c =
@@ -27,19 +27,11 @@ ending-ending-requires c =
           (c.missed-choices.ensures held refl) c.loop-choice-test.true c.choice-item.is,
     )
 
-pub put_line-at-requires : goal.put_line-at-requires
-put_line-at-requires c =
+pub put_line-end-requires : goal.put_line-end-requires
+put_line-end-requires c =
     let held : Matching = λ _. c.args.entrant.now.held in
     let few = missed-few c.args.papers.now held c.args.entrant.now.student c.missed-choices.result.now c.students_len.ensures.within_limits (c.missed-choices.ensures held refl) in
-    omega (arith, c.loop-choice.invariant.room, c.loop-choice.invariant.end, c.loop-choice-test.true, few)
-
-pub slice_bounds-extend_from_slice-end : goal.slice_bounds-extend_from_slice-end
-slice_bounds-extend_from_slice-end c = omega (arith, c.loop-choice.invariant.room, c.loop-choice.invariant.end, c.loop-choice.invariant.low)
-
-pub slice_bounds-extend_from_slice-end-2 : goal.slice_bounds-extend_from_slice-end-2
-slice_bounds-extend_from_slice-end-2 c =
-    let low : c.loop-choice.at ≤ length c.loop-choice.over = omega (arith, c.loop-choice.invariant.room, c.loop-choice.invariant.end, c.loop-choice.invariant.low) in
-    omega (arith, length-take-le c.loop-choice.at c.loop-choice.over low)
+    omega (arith, c.requires.over, c.loop-choice.invariant.room, c.loop-choice.invariant.end, c.loop-choice-test.true, few)
 
 pub loop-choice-preserved : goal.loop-choice-preserved
 loop-choice-preserved c =
@@ -57,11 +49,11 @@ loop-choice-preserved c =
           let row = reason_row m a i s in
           let there : slice_get (rows_in_order m a) one.position ≡ Some (cutoff_row m a s) = slice_get-map (cutoff_row m a) (schools_of m) one.position ∙ ap (option_map (cutoff_row m a)) (position-there (schools_of m) s one.position got.place) in
           let ending = c.ending-ending.ensures (rows_in_order m a) (cutoff_row m a s) (key_of m i s) have (ap (slice_get (rows_in_order m a)) c.position.ensures ∙ there) (got.class ∙ sym c.class.ensures) in
-          let line = line-joined row (piece_text c.number_then-number.result) (piece_text c.ending-ending.result) (take c.loop-choice.at c.loop-choice.over) (take c.put_line-at.result c.put_line-at.new.over) (c.number_then-number.ensures ∙ ap (λ n. decimal n ++ codes ",") c.get.ensures.value) ending c.put_line-at.ensures.text in
-          lines-more reason_line rows k row [] (take c.loop-choice.at c.loop-choice.over) (take c.put_line-at.result c.put_line-at.new.over) (c.loop-choice.invariant.text a have holds) line
+          let line = line-joined row (piece_text c.number_then-number.result) (piece_text c.ending-ending.result) (take c.loop-choice.end c.loop-choice.over) (take c.put_line-end.result c.put_line-end.new.over) (c.number_then-number.ensures ∙ ap (λ n. decimal n ++ codes ",") c.get.ensures.value) ending c.put_line-end.ensures.text in
+          lines-more reason_line rows k row (take c.args.at c.args.over.now) (take c.loop-choice.end c.loop-choice.over) (take c.put_line-end.result c.put_line-end.new.over) (c.loop-choice.invariant.text a have holds) line
           (slice_get_within rows k row got.row) (sym (get_or_from_slice_get rows k row row got.row));
-      room = c.put_line-at.ensures.room ∙ c.loop-choice.invariant.room;
-      end = omega (arith, c.put_line-at.ensures.end, c.loop-choice.invariant.end);
+      room = c.put_line-end.ensures.room ∙ c.loop-choice.invariant.room;
+      end = omega (arith, c.put_line-end.ensures.end, c.loop-choice.invariant.end);
       low = omega (arith, c.loop-choice-test.true, few);
     }
 
@@ -69,5 +61,5 @@ pub returns-clause-text : goal.returns-clause-text
 returns-clause-text c a have holds =
     let rows = reasons_of c.args.papers.now a c.args.entrant.now.student in
     let long = missed-long c.args.papers.now a c.args.entrant.now.student c.missed-choices.result.now (c.missed-choices.ensures a holds) in
-    c.in_ok-extend_from_slice.ensures.items
-    ∙ ap (λ more. c.args.text.now.items ++ more) (c.loop-choice.invariant.text a have holds ∙ ap (flat_map reason_line) (take_all c.loop-choice.choice-index rows (omega (arith, long, c.loop-choice-test.false))))
+    c.loop-choice.invariant.text a have holds
+    ∙ ap (λ lines. take c.args.at c.args.over.now ++ flat_map reason_line lines) (take_all c.loop-choice.choice-index rows (omega (arith, long, c.loop-choice-test.false)))
