@@ -24,10 +24,8 @@ loop-entrant-preserved c = record {
       let pages = c.loop-entrant.pages in
       let lines = λ (e : Entrant). flat_map reason_line (reasons_of c.args.papers.now a e.student) in
       let before = take c.loop-entrant.end c.loop-entrant.draft in
-      let after = take c.put_reasons-after.result c.put_reasons-after.new.over in
-      let text = text_so_far c.add_full.new.self ++ take c.in_ok-end.end c.put_reasons-after.new.over in
-      let grew = draft-grew (text_so_far pages) before (lines one) after text (c.put_reasons-after.ensures.text a have holds) c.in_ok-end.ensures.text in
-      lines-more lines c.args.entrants.now k one _ (text_so_far pages ++ before) text (c.loop-entrant.invariant.text a are hold) grew c.loop-entrant-test.true c.entrant-item.is;
+      let grew = draft-grew (text_so_far pages) before (lines one) _ _ (c.put_reasons-after.ensures.text a have holds) c.in_ok-end.ensures.text in
+      lines-more lines c.args.entrants.now k one _ (text_so_far pages ++ before) _ (c.loop-entrant.invariant.text a are hold) grew c.loop-entrant-test.true c.entrant-item.is;
   room = c.put_reasons-after.ensures.room ∙ c.loop-entrant.invariant.room;
   low = omega (arith, c.in_ok-end.ensures.room, c.put_reasons-after.ensures.room, c.loop-entrant.invariant.room);
 }

@@ -18,12 +18,10 @@ loop-entrant-preserved c = record {
       let holds : Holds a one = subst (Holds a) (sym c.entrant-item.is) (hold k one c.loop-entrant-test.true) in
       let pages = c.loop-entrant.pages in
       let before = take c.loop-entrant.end c.loop-entrant.draft in
-      let after = take c.put_line-after.result c.put_line-after.new.over in
-      let text = text_so_far c.add_full.new.self ++ take c.in_ok-end.end c.put_line-after.new.over in
-      let line = assignment-joined a one (piece_text c.number_then-number.result) (piece_text c.ending_by.result) before after holds
+      let line = assignment-joined a one (piece_text c.number_then-number.result) (piece_text c.ending_by.result) before _ holds
       (c.number_then-number.ensures ∙ ap (λ n. decimal n ++ codes ",") c.get.ensures.value) c.ending_by.ensures c.put_line-after.ensures.text in
-      let grew = draft-grew (text_so_far pages) before (assignment_line a one.student) after text line c.in_ok-end.ensures.text in
-      lines-more (λ (e : Entrant). assignment_line a e.student) c.args.entrants.now k one _ (text_so_far pages ++ before) text
+      let grew = draft-grew (text_so_far pages) before (assignment_line a one.student) _ _ line c.in_ok-end.ensures.text in
+      lines-more (λ (e : Entrant). assignment_line a e.student) c.args.entrants.now k one _ (text_so_far pages ++ before) _
       (c.loop-entrant.invariant.text a hold) grew c.loop-entrant-test.true c.entrant-item.is;
   room = c.put_line-after.ensures.room ∙ c.loop-entrant.invariant.room;
   low = omega (arith, c.in_ok-end.ensures.room, c.put_line-after.ensures.room, c.loop-entrant.invariant.room);
