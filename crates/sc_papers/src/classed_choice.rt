@@ -48,7 +48,10 @@ impl ClassedChoice {
     /// The same choice, of the class ahead where it is so.
     pub(crate) fn moved_ahead(self, is_ahead: bool) -> Self
         requires { 0 < self.class }
-        ensures { result ≡ record { position = self.position; class = if is_ahead then self.class - 1 else self.class } }
+        ensures { result ≡ record {
+          position = self.position;
+          class = if is_ahead then self.class - 1 else self.class;
+        } }
     {
         ClassedChoice {
             class_and_position: self.class_and_position - u16::from(is_ahead) * POSITIONS,
