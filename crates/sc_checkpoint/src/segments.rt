@@ -3,6 +3,7 @@ use crate::span::{Span, Spans, push_span, replace_spans};
 use crate::standing::{Standing, Standings};
 use sc_papers::{FlatPapers, MOST_STUDENTS, Rejection, StudentNo};
 use std::alloc::{AllocError, Global};
+use std::collections::VecDeque;
 use std::marker::Model;
 
 /// The log of rejections cut into segments, one for each student in order of entry: the rejections of
@@ -15,7 +16,7 @@ use std::marker::Model;
 #[derive(Drop)]
 pub struct Segments {
     alloc: Global,
-    spans: Vec<Span>,
+    spans: VecDeque<Span>,
     entries: Vec<Rejection>,
     // How many entries belong to no segment any more. Nothing but the cost depends on it.
     gone: usize,
@@ -49,7 +50,7 @@ impl Segments {
     {
         Segments {
             alloc,
-            spans: Vec::new(alloc),
+            spans: VecDeque::new(alloc),
             entries: Vec::new(alloc),
             gone: 0,
         }
@@ -139,7 +140,7 @@ impl Segments {
     {
         let mut copy = Segments {
             alloc: self.alloc,
-            spans: Vec::with_capacity(self.alloc, k)?,
+            spans: VecDeque::with_capacity(self.alloc, k)?,
             entries: Vec::with_capacity(self.alloc, self.entries_kept())?,
             gone: 0,
         };
@@ -252,13 +253,16 @@ impl Segments {
         self.copy_prefix(self.len()).ok()
     }
 
-    /// Takes out the segment at a position. It takes no memory; whoever stands behind moves up by one.
+    /// Takes out the segment at a position. It takes no memory. The cost is that of moving the fewer of the spans before
+    /// and behind it.
     #[tactic(auto, using(crate::proofs::Spanned::chains_without))]
     pub fn remove(&mut self, position: usize)
         requires { position < length self.old }
         ensures { self.new ≡ remove self.old position }
     {
-        let span = self.spans.remove(position);
+        let Some(span) = self.spans.remove(position) else {
+            unreachable!()
+        };
         self.gone = self.gone.saturating_add(span.len());
     }
 }

@@ -8,6 +8,7 @@ ghost use Rattle.sc_checkpoint.specs.Spans.{chains_in, shifted, AreWithin};
 
 use sc_papers::{Rejection, StudentNo};
 use std::alloc::{AllocError, Global};
+use std::collections::VecDeque;
 use std::marker::Model;
 
 /// Whose segment it is, and between which of the entries it stands.
@@ -42,7 +43,7 @@ impl Span {
 /// changes no chain.
 #[tactic(auto, using(crate::proofs::Spanned::chains_pushed))]
 pub(crate) fn push_span(
-    spans: &mut Vec<Span>,
+    spans: &mut VecDeque<Span>,
     entries: &mut Vec<Rejection>,
     student: StudentNo,
     rejections: &[Rejection],
@@ -58,7 +59,7 @@ pub(crate) fn push_span(
     spans.reserve(1)?;
     entries.extend_from_slice(rejections)?;
     let end = entries.len();
-    spans.push_reserved(Span {
+    spans.push_back_reserved(Span {
         student,
         start,
         end,
@@ -120,7 +121,7 @@ impl Spans {
 
 /// Gives the spans at some positions up for renewed ones, in turn, each so many entries further on. The answer is how
 /// many entries those had that are given up.
-fn replace_at(spans: &mut Vec<Span>, positions: &[usize], renewed: &[Span], by: usize) -> usize
+fn replace_at(spans: &mut VecDeque<Span>, positions: &[usize], renewed: &[Span], by: usize) -> usize
     requires within { LieBelow (length spans.old.items) positions.now }
     requires one_each { length renewed.now ≡ length positions.now }
     requires ordered { (k : ℕ) (span : Span) → slice_get renewed.now k ≡ Some span → span.start ≤ span.end }
@@ -139,7 +140,7 @@ fn replace_at(spans: &mut Vec<Span>, positions: &[usize], renewed: &[Span], by: 
 /// answer is how many entries have no span any more that had one. A refused growth changes no chain.
 #[tactic(auto, using(crate::proofs::Spanned::chains_replaced, crate::proofs::Spanned::spans_replaced))]
 pub(crate) fn replace_spans(
-    spans: &mut Vec<Span>,
+    spans: &mut VecDeque<Span>,
     entries: &mut Vec<Rejection>,
     positions: &[usize],
     renewed: &Spans,
