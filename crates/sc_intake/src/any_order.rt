@@ -7,6 +7,10 @@
 
 ghost use Rattle.std.specs.Prelude.{◌≡◌, [], IfSome, Ok};
 ghost use Rattle.std.specs.Bool.{OnTrue};
+ghost use Rattle.std.specs.Cow.{cow_slice_items};
+ghost use Rattle.sc_intake.specs.File.{records_below};
+ghost use Rattle.sc_intake.specs.Papers.{opening};
+ghost use Rattle.sc_intake.specs.Plain.{plain_records};
 ghost use Rattle.sc_intake.specs.Together.{papers_below, Fill};
 
 use crate::below::{Below, below_header, likely_students, next_student};
@@ -14,12 +18,14 @@ use crate::lists::ListRow;
 use crate::papers::open_with_room;
 use crate::records::Records;
 use crate::roster::RosterRow;
+use crate::rows::Row;
 use crate::schools::SchoolRows;
 use crate::text_lines::{TextLines, likely_numbers};
 use crate::together::enter_next;
 use crate::unquoted::unquoted_text;
 use sc_papers::{FlatPapers, PlacedChoices, Seed};
 use std::alloc::Global;
+use std::borrow::CowSlice;
 
 /// For how many students the lines of their lists are brought into near memory together.
 const AHEAD: usize = 16;
@@ -84,6 +90,62 @@ fn enter_each(
     }
 }
 
+/// A file below its header, as a text without a quote.
+#[derive(Drop)]
+struct PlainFile<'a> {
+    width: usize,
+    text: CowSlice<'a, u8>,
+}
+
+/// A file below its header, which is written again where it has a quote. `None` says nothing of it.
+fn plain_file<'a, R: Row>(alloc: Global, text: &'a [u8]) -> Option<PlainFile<'a>>
+    ensures { IfSome result (λ file. records_below R.source R.is_header text.now
+        ≡ Ok (file.width, plain_records (cow_slice_items file.text))) }
+{
+    let mut below = below_header::<R>(alloc, text)?;
+    let room = text.len();
+    Some(PlainFile {
+        width: below.width,
+        text: unquoted_text(alloc, &mut below.records, room)?,
+    })
+}
+
+/// The papers with these schools, filled by a roster and lists that have no fault and are of the same students. `None`
+/// says nothing of them.
+fn papers_of_plain(
+    alloc: Global,
+    seed: Seed,
+    schools: &SchoolRows,
+    roster: &PlainFile<'_>,
+    lists: &PlainFile<'_>,
+) -> Option<FlatPapers>
+    ensures { IfSome result (λ papers. Fill roster.now.width lists.now.width
+        (plain_records (cow_slice_items roster.now.text)) (plain_records (cow_slice_items lists.now.text))
+        (opening seed schools.now) papers) }
+{
+    let text = roster.text.as_slice();
+    let listed = TextLines::of(alloc, lists.text.as_slice(), likely_students(text))?;
+    let likely = likely_lists(alloc, text, &listed)?;
+    let mut rows = Below {
+        width: roster.width,
+        records: Records::plain(alloc, text),
+    };
+    let Ok(mut papers) = open_with_room(alloc, seed, schools.as_slice(), listed.len()) else {
+        return None;
+    };
+    if !enter_each(
+        alloc,
+        &mut papers,
+        &mut rows,
+        lists.width,
+        &listed,
+        likely.as_slice(),
+    ) {
+        return None;
+    }
+    Some(papers)
+}
+
 /// The papers of a roster and lists that have no fault and are of the same students. `None` says nothing of them.
 pub(crate) fn papers_in_any_order(
     alloc: Global,
@@ -94,29 +156,7 @@ pub(crate) fn papers_in_any_order(
 ) -> Option<FlatPapers>
     ensures { IfSome result (λ papers. papers_below seed schools.now roster.now lists.now ≡ Ok papers) }
 {
-    let room = likely_students(roster);
-    let mut students = below_header::<RosterRow>(alloc, roster)?;
-    let mut choices = below_header::<ListRow>(alloc, lists)?;
-    let roster = unquoted_text(alloc, &mut students.records, roster.len())?;
-    let lists = unquoted_text(alloc, &mut choices.records, lists.len())?;
-    let listed = TextLines::of(alloc, lists.as_slice(), room)?;
-    let likely = likely_lists(alloc, roster.as_slice(), &listed)?;
-    let mut rows = Below {
-        width: students.width,
-        records: Records::plain(alloc, roster.as_slice()),
-    };
-    let Ok(mut papers) = open_with_room(alloc, seed, schools.as_slice(), listed.len()) else {
-        return None;
-    };
-    if !enter_each(
-        alloc,
-        &mut papers,
-        &mut rows,
-        choices.width,
-        &listed,
-        likely.as_slice(),
-    ) {
-        return None;
-    }
-    Some(papers)
+    let roster = plain_file::<RosterRow>(alloc, roster)?;
+    let lists = plain_file::<ListRow>(alloc, lists)?;
+    papers_of_plain(alloc, seed, schools, &roster, &lists)
 }

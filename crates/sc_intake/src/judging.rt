@@ -109,6 +109,26 @@ fn judge_students_of_lists(
     Ok(())
 }
 
+/// Judges the students of the roster and then the lists, by papers in which none of them is yet.
+fn judge_rows(
+    alloc: Global,
+    papers: &mut FlatPapers,
+    roster: &RosterRows,
+    lists: &ListRows,
+) -> Result<Vec<IntakeFault>, AllocError>
+    ensures { IfOk result (λ faults. faults.items ≡ (students_judged lists.now (record { good = papers.old; faults = [] })
+        roster.now).faults ++ flat_map (faults_of_list roster.now) lists.now) }
+{
+    let rows = roster.as_slice();
+    let lists = lists.as_slice();
+    let positions = list_positions(alloc, lists)?;
+    let numbers = numbers_of(alloc, rows)?;
+    let mut faults = Vec::new(alloc);
+    judge_students(alloc, papers, rows, &positions, lists, &mut faults)?;
+    judge_students_of_lists(rows, &numbers, lists, &mut faults)?;
+    Ok(faults)
+}
+
 /// The faults of what the rows of the three files say together: each student of the roster is judged by those before
 /// them whom the papers do not refuse, and then each list by whether its student is in the roster. A student without a
 /// list is `NoList`, and a refusal is `Refused`, both of the row of the roster; a list whose student is not in the
@@ -127,17 +147,7 @@ pub fn judge_papers(
     let Ok(mut papers) = open_papers(alloc, seed, schools.as_slice()) else {
         return Err(AllocError);
     };
-    let positions = list_positions(alloc, lists.as_slice())?;
-    let numbers = numbers_of(alloc, roster.as_slice())?;
-    let mut faults = Vec::new(alloc);
-    judge_students(
-        alloc,
-        &mut papers,
-        roster.as_slice(),
-        &positions,
-        lists.as_slice(),
-        &mut faults,
-    )?;
-    judge_students_of_lists(roster.as_slice(), &numbers, lists.as_slice(), &mut faults)?;
-    Ok(faults)
+    let judged = judge_rows(alloc, &mut papers, roster, lists);
+    drop(papers);
+    judged
 }

@@ -2,7 +2,7 @@
 
 ghost use Rattle.std.specs.Prelude.{◌≡◌, ◌⊎◌, [], Err, IfErr, IfOk, IfSome, Ok};
 ghost use Rattle.std.specs.Bool.{OnTrue};
-ghost use Rattle.sc_intake.specs.Papers.{papers_in, IsWantOfMemory};
+ghost use Rattle.sc_intake.specs.Papers.{opening, papers_in, IsWantOfMemory};
 ghost use Rattle.sc_intake.specs.Together.{papers_below, EntersNext, Fill};
 
 use crate::any_order::papers_in_any_order;
@@ -65,6 +65,28 @@ fn enter_together(
     }
 }
 
+/// The papers with these schools, and room for so many students, filled by a roster and lists below their headers that
+/// have no fault and whose rows are of the same students, row by row. `None` says nothing of them.
+fn papers_filled(
+    alloc: Global,
+    seed: Seed,
+    schools: &SchoolRows,
+    room: usize,
+    roster: &mut Below<'_>,
+    lists: &mut Below<'_>,
+) -> Option<FlatPapers>
+    ensures { IfSome result (λ papers. Fill roster.old.width lists.old.width
+        roster.old.records.left lists.old.records.left (opening seed schools.now) papers) }
+{
+    let Ok(mut papers) = open_with_room(alloc, seed, schools.as_slice(), room) else {
+        return None;
+    };
+    if !enter_together(alloc, &mut papers, roster, lists) {
+        return None;
+    }
+    Some(papers)
+}
+
 /// The papers of a roster and lists that have no fault and whose rows are of the same students, row by row. `None` says
 /// nothing of them.
 fn papers_together(
@@ -79,13 +101,7 @@ fn papers_together(
     let room = likely_students(roster);
     let mut roster = below_header::<RosterRow>(alloc, roster)?;
     let mut lists = below_header::<ListRow>(alloc, lists)?;
-    let Ok(mut papers) = open_with_room(alloc, seed, schools.as_slice(), room) else {
-        return None;
-    };
-    if !enter_together(alloc, &mut papers, &mut roster, &mut lists) {
-        return None;
-    }
-    Some(papers)
+    papers_filled(alloc, seed, schools, room, &mut roster, &mut lists)
 }
 
 /// The papers that the texts of the three files make under a seed, or the first fault: of the schools, the roster, the
