@@ -15,18 +15,19 @@ use std::marker::Model;
 /// What a proposal reads of a student, in one piece of memory: all but the schools of further siblings.
 #[derive(Drop)]
 pub(crate) struct StudentRow {
-    // Fields are laid out in this order, which fills 64 bytes.
+    // Fields are laid out in this order, which fills 64 bytes. What a proposal reads comes first, since a row may lie
+    // across two lines of near memory.
     draw: u64,
     number: StudentNumber,
+    // How many choices there are.
+    count: u8,
+    more_siblings: bool,
+    choices: [ClassedChoice; LONGEST_LIST],
+    zone: Zone,
     // The school's number, or 0 where there is none: an `Option<SchoolNo>` takes 8 bytes, and the row would not fit.
     continuing: u32,
     // The school of the first sibling, in the same way.
     sibling: u32,
-    zone: Zone,
-    more_siblings: bool,
-    // How many choices there are.
-    count: u8,
-    choices: [ClassedChoice; LONGEST_LIST],
 }
 
 impl Model for StudentRow {
