@@ -61,7 +61,7 @@ pub fn settle_by_first_keys(
 {
     let mut round: Round<HeapRoll> = Round::start(alloc, papers)?;
     let applicants = applicants_by_first_key(alloc, papers)?;
-    enter_applicants(&mut round, papers, applicants.as_slice())?;
+    enter_applicants(alloc, &mut round, papers, applicants.as_slice())?;
     drop(applicants);
     let places = round.into_places(papers)?;
     Ok(places)

@@ -71,6 +71,10 @@ pub trait Roll: Drop {
     fn worst(&self) -> Option<Key>
         ensures { result ≡ slice_get (keys self.now) (length (keys self.now) - 1) };
 
+    /// The last of the keys held, with its guess, where no seat is free: who is put out next, unless it is whoever is
+    /// offered a seat then. Nothing is promised of it, as of a guess.
+    fn likely_out(&self) -> Option<HeldKey>;
+
     /// How many keys are held, at most the capacity.
     fn len(&self) -> usize
         ensures length { result ≡ length (keys self.now) }

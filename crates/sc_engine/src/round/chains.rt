@@ -1,13 +1,13 @@
 //! Chains of proposals, by which students enter a round.
 
-ghost use Rattle.std.specs.Prelude.{◌≡◌, ℕ, ◌+◌, ◌^◌, ◌<◌, [], ◌∷◌, ◌++◌, Contains, None, Some, length, slice_index_or, slice_set, IfOk, IfSome, OnOk};
+ghost use Rattle.std.specs.Prelude.{◌≡◌, ℕ, ◌+◌, ◌^◌, ◌<◌, [], ◌∷◌, ◌++◌, Contains, None, Some, length, slice_index_or, slice_set, position, nat_eq, IfOk, IfSome, OnOk};
 ghost use Rattle.std.specs.Option.{option_map};
-ghost use Rattle.sc_papers.specs.Market.{student_at};
+ghost use Rattle.sc_papers.specs.Market.{student_at, students_of};
 ghost use Rattle.sc_engine.specs.Proposals.{IsProposal};
 ghost use Rattle.sc_engine.specs.RoundView.{OffersAt, roll_at, next_of, FitsBut, only, PassedOver, Proposes, ChainEnds, Enters, IsYetToEnter};
 
 use super::Round;
-use super::ranks::{position_near, proposal_of};
+use super::ranks::{Standing, position_beside, proposal_of};
 use super::rolls::{is_refused, offer_to};
 use sc_papers::{FlatPapers, LONGEST_LIST, Proposal, Rejection};
 use sc_seats::{HeldKey, Roll};
@@ -30,6 +30,18 @@ impl<R: Roll> Round<R> {
         let put_out = offer_to(&mut self.rolls, at, key)?;
         self.proposals += 1;
         Ok(put_out)
+    }
+
+    /// Where whoever the school at a position would put out next stands, if anybody. To look them up before an offer asks
+    /// for their row, and so the wait for it in far memory passes while the roll is put in order.
+    fn likely_out(&self, papers: &FlatPapers, at: usize) -> Option<Standing>
+        ensures { IfSome result (λ standing. position (nat_eq standing.student) (students_of papers.now)
+            ≡ Some standing.at) }
+    {
+        let last = self.rolls.get(at)?.likely_out()?;
+        let student = last.key().student;
+        let at = papers.student_position_near(student, last.guess())?;
+        Some(Standing { student, at })
     }
 
     /// Notes that the school rejects the student at the position, who moves on to the next choice.
@@ -111,14 +123,14 @@ impl<R: Roll> Round<R> {
         let Some(proposal) = proposal else {
             return Ok(None);
         };
+        let likely = self.likely_out(papers, proposal.position);
         let offered = HeldKey::of(proposal.key, proposer);
         let Some(out) = self.offer(proposal.position, offered)? else {
             return Ok(None);
         };
         let school = proposal.school;
         let student = out.key().student;
-        // Those who withdrew since may have made the guess wrong.
-        let next = position_near(papers, student, out.guess());
+        let next = position_beside(papers, student, likely, out.guess());
         self.reject(next, Rejection { student, school })?;
         Ok(Some(next))
     }

@@ -49,17 +49,17 @@ puts-out g c =
     let rolls = rolls_of g.R.Roll.keys g.R.Roll.seats c.offer.new.self.rolls.items in
     proposed-told papers old proposer c.in-Some.proposal.school c.in-Some.proposal.position c.of-offered.result rolls c.in_ok-out.field-0 (Some c.key-student.result) c.requires.fits (sym made.school) made.position (c.of-offered.ensures ∙ made.key) c.in_ok-out.ensures.offered (c.in-Some-2.is ∙ ap Some (sym c.key-student.ensures))
 
-pub position_near-next-requires : goal.position_near-next-requires
-position_near-next-requires g c = stander-student _ _ _ _ (put-out _ _ _ _ _ _ _ (puts-out g (goal.at.position_near-next-requires g c).After-key-student)).stands
+pub position_beside-next-requires-clause-student : goal.position_beside-next-requires-clause-student
+position_beside-next-requires-clause-student g c = stander-student _ _ _ _ (put-out _ _ _ _ _ _ _ (puts-out g (goal.at.position_beside-next-requires-clause-student g c).After-key-student)).stands
 
 pub reject-requires : goal.reject-requires
 reject-requires g c rank is =
     let papers = c.args.papers.now in
     let ranks : List (Option ℕ) = c.args.self.now.ranks in
     let out : ℕ = c.key-student.result.student in
-    let next : ℕ = c.position_near-next.result in
+    let next : ℕ = c.position_beside-next.result in
     stander-short papers ranks out _ rank c.requires.fits.within_limits (put-out _ _ _ _ _ _ _ (puts-out g (goal.at.reject-requires g c).After-key-student)).stands
-    (rank-at papers ranks out next c.position_near-next.ensures ∙ ap (λ (ranks : List (Option ℕ)). get_or ranks next None) (sym c.offer.ensures.ranks) ∙ is)
+    (rank-at papers ranks out next c.position_beside-next.ensures ∙ ap (λ (ranks : List (Option ℕ)). get_or ranks next None) (sym c.offer.ensures.ranks) ∙ is)
 
 pub returns-clause-proposes : goal.returns-clause-proposes
 returns-clause-proposes g c =
@@ -69,15 +69,15 @@ returns-clause-proposes g c =
     let rolls = rolls_of g.R.Roll.keys g.R.Roll.seats c.offer.new.self.rolls.items in
     let out : ℕ = c.key-student.result.student in
     let proposed = puts-out g (goal.at.returns-clause-proposes g c).After-key-student in
-    let next : ℕ = c.position_near-next.result in
+    let next : ℕ = c.position_beside-next.result in
     let new = view_of g.R.Roll.keys g.R.Roll.seats c.reject.new.self in
-    subst (λ (i : ℕ). Proposes papers old new proposer (Some i)) (sym (student-there papers out next c.position_near-next.ensures))
+    subst (λ (i : ℕ). Proposes papers old new proposer (Some i)) (sym (student-there papers out next c.position_beside-next.ensures))
     (goes-on papers old new proposer c.in-Some.proposal.school c.in-Some.proposal.position rolls c.key-student.result proposed
     (ap (rolls_of g.R.Roll.keys g.R.Roll.seats) c.reject.ensures.rolls)
     (c.in_ok-reject.ensures.log ∙ ap (λ log. log ++ record { student = out; school = c.in-Some.proposal.school } ∷ []) c.offer.ensures.log)
     (λ at rank found is.
-    let same : next ≡ at = same_Some next at (sym c.position_near-next.ensures ∙ found) in
-    c.in_ok-reject.ensures.moved rank (ap (λ (ranks : List (Option ℕ)). get_or ranks next None) c.offer.ensures.ranks ∙ sym (rank-at papers old.ranks out next c.position_near-next.ensures) ∙ is)
+    let same : next ≡ at = same_Some next at (sym c.position_beside-next.ensures ∙ found) in
+    c.in_ok-reject.ensures.moved rank (ap (λ (ranks : List (Option ℕ)). get_or ranks next None) c.offer.ensures.ranks ∙ sym (rank-at papers old.ranks out next c.position_beside-next.ensures) ∙ is)
     ∙ ap (λ ranks. set ranks next (Some (rank + 1))) c.offer.ensures.ranks
     ∙ ap (λ k. set old.ranks k (Some (rank + 1))) same)
     (c.reject.ensures.proposals ∙ c.in_ok-out.ensures.proposals))
