@@ -116,8 +116,9 @@ fn judge_rows(
     roster: &RosterRows,
     lists: &ListRows,
 ) -> Result<Vec<IntakeFault>, AllocError>
-    ensures { IfOk result (λ faults. faults.items ≡ (students_judged lists.now (record { good = papers.old; faults = [] })
-        roster.now).faults ++ flat_map (faults_of_list roster.now) lists.now) }
+    ensures { IfOk result (λ faults. faults.items
+        ≡ (students_judged lists.now (record { good = papers.old; faults = [] }) roster.now).faults
+        ++ flat_map (faults_of_list roster.now) lists.now) }
 {
     let rows = roster.as_slice();
     let lists = lists.as_slice();
