@@ -1,6 +1,6 @@
 -- The endings of the reasons' lines, and the lines that are made of pieces.
-use Rattle.std.proofs.Common.{◌≡◌, refl, sym, subst, ◌∙◌, ap, ℕ, ◌+◌, ◌-◌, ◌<◌, ◌≤◌, List, [], ◌∷◌, ◌++◌, length, drop, get_or, map, replicate, take, add-one, append_assoc, arith, codes, decimal, slice_get, Some}
-use Rattle.std.specs.Prelude.{◌%◌, ◌^◌}
+use Rattle.std.proofs.Common.{◌≡◌, refl, sym, subst, ◌∙◌, ap, ℕ, ◌+◌, ◌-◌, ◌<◌, ◌≤◌, List, [], ◌∷◌, ◌++◌, length, drop, get_or, map, replicate, take, add-one, append_assoc, arith, codes, decimal, slice_get, Option, None, Some}
+use Rattle.std.specs.Prelude.{◌%◌, ◌^◌, nat_lt, if◌then◌else◌, true, false, Bool}
 use Rattle.std.specs.List.{AllZip}
 use Rattle.std.specs.Option.{IsSomeAnd}
 use Rattle.std.proofs.Math.Seq.{take-suc}
@@ -8,20 +8,23 @@ use Rattle.std.proofs.lemmas.Fmt.{length-decimal-le}
 use Rattle.std.proofs.lemmas.Nat.{mod_below}
 use Rattle.std.proofs.lemmas.List.{drop-take, drop_at, length-append, length-drop, length-map, length-take-le, take_all, take-append-drop, take-append-le, take-take}
 use Rattle.std.proofs.lemmas.Map.Entries.{length-keys_of}
-use Rattle.std.proofs.lemmas.Option.{slice_get_read, MatchOption-at_some}
+use Rattle.std.proofs.lemmas.Option.{get_or_from_slice_get, slice_get_read, MatchOption-at_some}
 use Rattle.std.proofs.lemmas.Slice.{take-put_mid_below}
 use Rattle.std.proofs.lemmas.Slice.Zip.{all_zipped_more, AllZip-left, AllZip-long}
 use Rattle.sc_papers.specs.Market.{Market, schools_of}
 use Rattle.sc_papers.specs.Matching.{Matching}
+use Rattle.sc_papers.specs.declared.key.Key.{Key}
 use borrow.Rule.Slice.PartMut.{put_mid, post_of}
-use Rattle.sc_report.specs.Endings.{line_ending, HasEndings, HaveEndings}
+use Rattle.sc_report.specs.Endings.{line_ending, piece_text, HasEndings, HaveEndings}
 use Rattle.sc_report.specs.Entrants.{Holds}
+use Rattle.sc_report.specs.Reason.{reason_by}
 use Rattle.sc_report.specs.ReasonText.{reason_line, reason_word}
 use Rattle.sc_report.specs.Text.{assignment_line, place_text}
 use Rattle.sc_report.specs.declared.cutoff.CutoffRow.{CutoffRow}
 use Rattle.sc_report.specs.declared.endings.Endings.{Endings}
 use Rattle.sc_report.specs.declared.endings.SchoolEndings.{SchoolEndings}
 use Rattle.sc_report.specs.declared.entrants.Entrant.{Entrant}
+use Rattle.sc_report.specs.declared.piece.Piece.{Piece}
 use Rattle.sc_report.specs.declared.reason.Reason.{Reason}
 use Rattle.sc_report.specs.declared.reason.Reason.TheVariants.{Seats, Class, Lottery}
 use Rattle.sc_report.specs.declared.reason.ReasonRow.{ReasonRow}
@@ -71,6 +74,27 @@ ending-short s reason low =
     word Seats = omega arith
     word Class = omega arith
     word Lottery = omega arith
+
+-- the endings that are made with the reasons of either class
+pub endings-made : (row : CutoffRow) (last : ℕ) (within beyond : Piece) (first second : Reason) → piece_text within ≡ line_ending row.school first → piece_text beyond ≡ line_ending row.school second
+    → ((key : Key) → (if nat_lt last key.class then second else first) ≡ reason_by row.cutoff key) → HasEndings row (record { last = last; by_class = within ∷ beyond ∷ [] })
+endings-made row last within beyond first second is_within is_beyond reasons key = go (nat_lt last key.class) (reasons key)
+  where
+    go : (greater : Bool) → (if greater then second else first) ≡ reason_by row.cutoff key → IsSomeAnd (slice_get (within ∷ beyond ∷ []) (if greater then 1 else 0)) (λ piece. piece_text piece ≡ line_ending row.school (reason_by row.cutoff key))
+    go true is = is_beyond ∙ ap (line_ending row.school) is
+    go false is = is_within ∙ ap (line_ending row.school) is
+
+-- the ending that stands at the place of a class
+pub ending-at : (row : CutoffRow) (school : SchoolEndings) (key : Key) (k : ℕ) (default : Piece) → HasEndings row school → k ≡ (if nat_lt school.last key.class then 1 else 0)
+    → piece_text (get_or school.by_class k default) ≡ line_ending row.school (reason_by row.cutoff key)
+ending-at row school key k default has place = go (slice_get school.by_class k) refl (subst (λ n. IsSomeAnd (slice_get school.by_class n) Ends) (sym place) (has key))
+  where
+    Ends : Piece → Type 0
+    Ends piece = piece_text piece ≡ line_ending row.school (reason_by row.cutoff key)
+
+    go : (o : Option Piece) → slice_get school.by_class k ≡ o → IsSomeAnd o Ends → Ends (get_or school.by_class k default)
+    go None is ends = elim ends [ ]
+    go (Some piece) is ends = subst Ends (sym (get_or_from_slice_get school.by_class k piece default is)) ends
 
 -- the endings of the first rows, and of one more
 pub endings-more : (rows : List CutoffRow) (k : ℕ) (row : CutoffRow) (before new : List SchoolEndings) (made : SchoolEndings) → AllZip HasEndings (take k rows) before → HasEndings row made

@@ -1,5 +1,6 @@
 -- How the reasons' lines end, each ending written once.
-use Rattle.std.specs.Prelude.{◌≡◌, ℕ, ◌%◌, nat_lt, List, ◌++◌, codes, take, if◌then◌else◌}
+use Rattle.std.specs.Prelude.{◌≡◌, ℕ, ◌%◌, nat_lt, List, ◌++◌, codes, slice_get, take, if◌then◌else◌}
+use Rattle.std.specs.Option.{IsSomeAnd}
 use Rattle.std.specs.Fmt.{decimal}
 use Rattle.std.specs.List.{AllZip}
 use Rattle.sc_papers.specs.declared.key.Key.{Key}
@@ -21,7 +22,7 @@ line_ending s reason = decimal s ++ codes "," ++ reason_word reason ++ codes "\n
 
 -- these are the endings of the lines about the school of a row, by the student's key there
 abbrev pub HasEndings : CutoffRow → SchoolEndings → Type 0
-HasEndings row school = (key : Key) → piece_text (if nat_lt school.last key.class then school.beyond else school.within) ≡ line_ending row.school (reason_by row.cutoff key)
+HasEndings row school = (key : Key) → IsSomeAnd (slice_get school.by_class (if nat_lt school.last key.class then 1 else 0)) (λ piece. piece_text piece ≡ line_ending row.school (reason_by row.cutoff key))
 
 -- and of each of the rows
 abbrev pub HaveEndings : List CutoffRow → Endings → Type 0

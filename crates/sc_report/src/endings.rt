@@ -17,10 +17,8 @@ use std::alloc::{AllocError, Global};
 #[derive(Clone, Copy)]
 struct SchoolEndings {
     last: u8,
-    /// Where the class is at most the last one.
-    within: Piece,
-    /// Where it is greater.
-    beyond: Piece,
+    /// Where the class is at most the last one, and where it is greater.
+    by_class: [Piece; 2],
 }
 
 /// For each school how the lines about it end.
@@ -55,10 +53,11 @@ fn endings_of(text: &mut Vec<u8>, row: &CutoffRow) -> Result<SchoolEndings, Allo
     ensures { IfOk result (HasEndings row.now) }
 {
     let (last, within, beyond) = reasons_by_class(row.cutoff);
+    let within = ending_of(text, row.school, within)?;
+    let beyond = ending_of(text, row.school, beyond)?;
     Ok(SchoolEndings {
         last,
-        within: ending_of(text, row.school, within)?,
-        beyond: ending_of(text, row.school, beyond)?,
+        by_class: [within, beyond],
     })
 }
 
@@ -76,7 +75,8 @@ impl Endings {
         Ok(Endings { schools })
     }
 
-    /// How a line ends about the school at a position and a student who has this class there. In constant time.
+    /// How a line ends about the school at a position and a student who has this class there. In constant time: no branch is
+    /// taken on the class, since nobody can guess it.
     pub(crate) fn ending(&self, position: usize, class: u8) -> Piece
         requires { position < length self.now.schools.items }
         ensures { (rows : List CutoffRow) (row : CutoffRow) (key : Key) → HaveEndings rows self.now
@@ -84,10 +84,7 @@ impl Endings {
             → piece_text result ≡ line_ending row.school (reason_by row.cutoff key) }
     {
         let school = &self.schools[position];
-        if school.last < class {
-            school.beyond
-        } else {
-            school.within
-        }
+        let place = if school.last < class { 1 } else { 0 };
+        school.by_class[place]
     }
 }

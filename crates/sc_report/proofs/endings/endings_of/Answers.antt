@@ -1,0 +1,7 @@
+use Rattle.sc_report.proofs.EndingLemmas.{endings-made}
+use Rattle.sc_report.proofs.endings.endings_of.Goals as goal
+
+pub returns : goal.returns
+returns c =
+    endings-made c.args.row.now c.reasons_by_class-last.result.0 c.in_ok-within.within c.in_ok-beyond.beyond c.reasons_by_class-last.result.1 c.reasons_by_class-last.result.2
+    c.in_ok-within.ensures c.in_ok-beyond.ensures c.reasons_by_class-last.ensures
