@@ -2,7 +2,7 @@
 ghost use Rattle.std.specs.Prelude.{◌≡◌, ℕ, ◌<◌, true, Some, length, slice_get};
 ghost use Rattle.sc_papers.specs.Market.{is_school, schools_of, student_at};
 ghost use Rattle.sc_papers.specs.Matching.{Matching};
-ghost use Rattle.sc_tallies.specs.Tally.{AreTallies};
+ghost use Rattle.sc_tallies.specs.Tally.{AreTallies, IsForEachSchool};
 ghost use Rattle.sc_audit.specs.Least.{LeastOf};
 ghost use Rattle.sc_audit.specs.Tallies.{over_at, would_take};
 
@@ -13,7 +13,7 @@ use sc_tallies::Tally;
 /// The school at the position, if more students have it than it has seats.
 fn over_at(tallies: &[Tally], papers: &FlatPapers, position: usize) -> Option<SchoolNo>
     requires within { position < length papers.now.schools }
-    requires tallies { length tallies.now ≡ length papers.now.schools }
+    requires tallies { IsForEachSchool papers.now tallies.now }
     ensures { (a : Matching) (s : ℕ) → AreTallies papers.now a tallies.now
         → slice_get (schools_of papers.now) position ≡ Some s → result ≡ over_at papers.now a s }
 {
@@ -29,7 +29,7 @@ fn over_at(tallies: &[Tally], papers: &FlatPapers, position: usize) -> Option<Sc
 
 /// The least number of a school that more students have than it has seats.
 pub(crate) fn least_over(tallies: &[Tally], papers: &FlatPapers) -> Option<SchoolNo>
-    requires { length tallies.now ≡ length papers.now.schools }
+    requires { IsForEachSchool papers.now tallies.now }
     ensures { (a : Matching) → AreTallies papers.now a tallies.now
         → LeastOf (schools_of papers.now) (over_at papers.now a) (length papers.now.schools) result }
 {
@@ -50,7 +50,7 @@ pub(crate) fn would_take(
 ) -> bool
     requires student { student < length papers.now.students }
     requires school { is_school papers.now school ≡ true }
-    requires tallies { length tallies.now ≡ length papers.now.schools }
+    requires tallies { IsForEachSchool papers.now tallies.now }
     ensures { (a : Matching) → AreTallies papers.now a tallies.now
         → result ≡ would_take papers.now a (student_at papers.now student) school }
 {

@@ -1,4 +1,5 @@
 pub mod Tables
+pub mod Tallies
 pub mod Offers
 pub mod RollCounts
 pub mod Rolls

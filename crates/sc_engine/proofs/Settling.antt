@@ -1,5 +1,5 @@
 -- All students enter, in whatever order.
-use Rattle.std.proofs.Common.{◌≡◌, inl, inr, refl, ap, sym, subst, ◌∙◌, ℕ, ◌+◌, ◌<◌, ◌==◌, nat_eq, Bool, true, false, cond, ◌||◌, List, [], ◌∷◌, ◌++◌, length, get_or, take, filter, map, Option, Some, None, Contains, slice_get, add-one, arith}
+use Rattle.std.proofs.Common.{◌≡◌, inl, inr, refl, ap, sym, subst, ◌∙◌, ℕ, ◌+◌, ◌<◌, ◌==◌, nat_eq, Bool, true, false, cond, ◌||◌, List, [], ◌∷◌, ◌++◌, length, get_or, take, filter, Option, Some, None, Contains, slice_get, add-one, arith}
 use Rattle.std.specs.List.{list_any, IsDistinct}
 use Rattle.std.specs.List.Sorted.{IsPermutation}
 use Rattle.std.specs.Map.{keys_of}
@@ -13,7 +13,6 @@ use Rattle.std.proofs.lemmas.Map.Keys.{apart_from_distinct}
 use Rattle.sc_papers.specs.Assignment.{assigned}
 use Rattle.sc_papers.specs.Market.{Market, students_of}
 use Rattle.sc_papers.specs.Log.{next_choice, IsSettled}
-use Rattle.sc_papers.specs.Matching.{Matching}
 use Rattle.sc_papers.specs.Restriction.{restricted}
 use Rattle.sc_papers.specs.WellFormed.{WellFormed}
 use Rattle.sc_papers.specs.declared.records.Student.{Student}
@@ -22,6 +21,9 @@ use Rattle.sc_papers.proofs.Optimality.{settled-optimal}
 use Rattle.sc_papers.proofs.Rejections.{any-push}
 use Rattle.sc_engine.specs.RoundView.{RoundView, next_of, has_entered, Fits, entered_papers, Continues, Enters, HaveEntered, SettlesFirst, SettlesThese}
 use Rattle.sc_engine.specs.SettledPlaces.{AreSettledPlaces}
+use Rattle.sc_tallies.specs.Places.{ArePlaces}
+use Rattle.sc_tallies.specs.Tally.{AreTallies}
+use Rattle.sc_tallies.specs.declared.tally.Tally.{Tally}
 use Rattle.sc_engine.proofs.Tables.{next-among, length-mapped}
 use Rattle.sc_papers.proofs.Positions.{any-among}
 use Rattle.sc_engine.proofs.CountingLaws.{exact_none}
@@ -120,12 +122,13 @@ settled-all m r all = subst (λ n. IsSettled n (all.earlier ++ r.log)) (papers-a
 pub next-all : (m : Market) (r : RoundView) (all : HaveEntered m r (students_of m)) → next_of m r.ranks ≡ next_choice m (all.earlier ++ r.log)
 next-all m r all = λ t i. (sym (all.continues.next i) ∙ ap (λ n. next_choice n (all.earlier ++ r.log) i) (papers-all m r all)) t
 
-pub settled_places : (m : Market) (r : RoundView) (made : List (Option ℕ)) → HaveEntered m r (students_of m) → made ≡ map (next_of m r.ranks) (students_of m) → AreSettledPlaces m made
-settled_places m r made all is = record {
+pub settled_places : (m : Market) (r : RoundView) (made : List (Option ℕ)) (tallies : List Tally) → HaveEntered m r (students_of m) → ArePlaces m (next_of m r.ranks) made → AreTallies m (next_of m r.ranks) tallies → AreSettledPlaces m made tallies
+settled_places m r made tallies all are counted = record {
   log = all.earlier ++ r.log;
   settled = settled-all m r all;
   optimal = settled-optimal m all.fits.well_formed (all.earlier ++ r.log) (settled-all m r all);
-  places = is ∙ ap (λ (next : Matching). map next (students_of m)) (next-all m r all);
+  places = subst (λ a. ArePlaces m a made) (next-all m r all) are;
+  tallies = subst (λ a. AreTallies m a tallies) (next-all m r all) counted;
 }
 
 -- what the first students have

@@ -1,9 +1,11 @@
 //! Rounds of proposals.
 
-ghost use Rattle.std.specs.Prelude.{◌≡◌, ℕ, true, false, map, IfOk, OnOk, OnErr};
+ghost use Rattle.std.specs.Prelude.{◌≡◌, ℕ, true, false, IfOk, OnOk, OnErr};
 ghost use Rattle.sc_papers.specs.Assignment.{assigned};
-ghost use Rattle.sc_papers.specs.Market.{is_student, student_at, students_of};
+ghost use Rattle.sc_papers.specs.Market.{is_student, student_at};
 ghost use Rattle.sc_engine.specs.RoundView.{next_of, Fits, Enters, IsYetToEnter, has_entered, without_log};
+ghost use Rattle.sc_tallies.specs.Places.{ArePlaces};
+ghost use Rattle.sc_tallies.specs.Tally.{AreTallies};
 
 mod chains;
 mod leaving;
@@ -14,8 +16,9 @@ mod starting;
 mod taking;
 
 use crate::rank_table::RankTable;
-use crate::settled::Settled;
+use crate::settled::{Settled, SettledPlaces};
 use ranks::{assignment_of, next_in, next_near, places_of, position_near};
+use rolls::tallies_of;
 use sc_papers::{Assignment, FlatPapers, Rejection, SchoolNo, StudentNo};
 use sc_seats::Roll;
 use std::alloc::{AllocError, Global};
@@ -185,23 +188,23 @@ impl<R: Roll> Round<R> {
         Ok(standing)
     }
 
-    /// The choices at which the students of the round stand, in the papers' order of entry. A spent round answers the
-    /// error, and so does want of memory. On an error the round is given up. The cost is a look at each student of the
-    /// papers.
-    pub(crate) fn into_places(
-        self,
-        papers: &FlatPapers,
-    ) -> Result<Vec<Option<SchoolNo>>, AllocError>
+    /// The choices at which the students of the round stand, in the papers' order of entry, and the tallies of the schools,
+    /// which their rolls tell. A spent round answers the error, and so does want of memory. On an error the round is given
+    /// up. The cost is a look at each student of the papers and at each school.
+    pub(crate) fn into_places(self, papers: &FlatPapers) -> Result<SettledPlaces, AllocError>
         requires { is_spent self ≡ false → Fits papers.now (view_of R.keys R.seats self) }
         ensures was_ready { OnOk result (is_spent self ≡ false) }
-        ensures places { IfOk result (λ places. places.items
-            ≡ map (next_of papers.now (view_of R.keys R.seats self).ranks) (students_of papers.now)) }
+        ensures places { IfOk result (λ settled. ArePlaces papers.now
+            (next_of papers.now (view_of R.keys R.seats self).ranks) settled.places.items) }
+        ensures tallies { IfOk result (λ settled. AreTallies papers.now
+            (next_of papers.now (view_of R.keys R.seats self).ranks) settled.tallies.items) }
     {
         if self.spent {
             return Err(AllocError);
         }
+        let tallies = tallies_of(self.alloc, &self.rolls, papers)?;
         let places = places_of(self.alloc, self.ranks.as_slice(), papers)?;
-        Ok(places)
+        Ok(SettledPlaces { places, tallies })
     }
 
     /// The log and the count of proposals of the round, and the choices at which its students stand. A

@@ -15,6 +15,7 @@ use crate::applicants::{applicants_by_first_key, enter_applicants};
 use crate::round::Round;
 use sc_papers::{Assignment, FlatPapers, Rejection, SchoolNo};
 use sc_seats::{HeapRoll, Roll};
+use sc_tallies::Tally;
 use std::alloc::{AllocError, Global};
 
 /// What the proposals came to.
@@ -26,6 +27,15 @@ pub struct Settled {
     pub assignment: Assignment,
     /// How many proposals were made.
     pub proposals: u64,
+}
+
+/// What settling comes to, where nobody asks for the log.
+#[derive(Drop)]
+pub struct SettledPlaces {
+    /// The school that each student has, if any, in the papers' order of entry.
+    pub places: Vec<Option<SchoolNo>>,
+    /// How many students have each school, and the last key among them, in the papers' order of entry.
+    pub tallies: Vec<Tally>,
 }
 
 /// Enters all students in order of entry. The log is settled for the papers, and so its matching,
@@ -48,16 +58,13 @@ pub fn settle(alloc: Global, papers: &FlatPapers) -> Result<Settled, AllocError>
     Ok(settled)
 }
 
-/// Settles papers as `settle` does, to the same matching, and answers the school that each student has, if any, in the
-/// papers' order of entry. The students enter by their priority class at their first choice, and within a class by the
-/// first byte of their draw, so that fewer of them are put out again. The cost is a sort of numbers more; no log is kept,
-/// and no student is put into a table.
+/// Settles papers as `settle` does, to the same matching, and answers the school that each student has, if any, and the
+/// tallies of the schools, which their rolls tell. The students enter by their priority class at their first choice, and
+/// within a class by the first byte of their draw, so that fewer of them are put out again. The cost is a sort of numbers
+/// more; no log is kept, and no student is put into a table.
 #[tactic(auto, using(crate::proofs::Settling::settled_places))]
-pub fn settle_by_first_keys(
-    alloc: Global,
-    papers: &FlatPapers,
-) -> Result<Vec<Option<SchoolNo>>, AllocError>
-    ensures { IfOk result (λ places. AreSettledPlaces papers.now places.items) }
+pub fn settle_by_first_keys(alloc: Global, papers: &FlatPapers) -> Result<SettledPlaces, AllocError>
+    ensures { IfOk result (λ settled. AreSettledPlaces papers.now settled.places.items settled.tallies.items) }
 {
     let mut round: Round<HeapRoll> = Round::start(alloc, papers)?;
     let applicants = applicants_by_first_key(alloc, papers)?;

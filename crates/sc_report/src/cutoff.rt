@@ -6,10 +6,11 @@ ghost use Rattle.sc_papers.specs.WellFormed.{WellFormed};
 ghost use Rattle.sc_repair.specs.Standing.{matching_of};
 ghost use Rattle.sc_report.specs.Cutoff.{cutoff_by, cutoff_rows, rows_in_order};
 ghost use Rattle.sc_tallies.specs.Places.{ArePlaces};
+ghost use Rattle.sc_tallies.specs.Tally.{AreTallies, IsForEachSchool};
 
 use sc_papers::{FlatPapers, Key, SchoolNo, Seats};
 use sc_repair::Clearing;
-use sc_tallies::{places_of, tallies};
+use sc_tallies::{Tally, places_of, tallies};
 use std::alloc::{AllocError, Global};
 
 /// What it takes to have a school.
@@ -44,6 +45,36 @@ pub(crate) fn cutoff_by(seats: u32, held: u32, last: Option<Key>) -> Cutoff
     }
 }
 
+/// The rows of all schools, in order of entry, by their tallies. The only error is want of memory. The cost is one pass over
+/// the schools.
+pub(crate) fn rows_by_tallies(
+    alloc: Global,
+    papers: &FlatPapers,
+    counted: &[Tally],
+) -> Result<Vec<CutoffRow>, AllocError>
+    requires { IsForEachSchool papers.now counted.now }
+    ensures rows { IfOk result (λ rows. (a : Matching) → AreTallies papers.now a counted.now
+        → rows.items ≡ rows_in_order papers.now a) }
+    ensures schools { IfOk result (λ rows. map (λ row. row.school) rows.items ≡ schools_of papers.now) }
+{
+    let mut rows = Vec::with_capacity(alloc, counted.len())?;
+    for position in 0..counted.len() {
+        let Some(school) = papers.school_at(position) else {
+            unreachable!()
+        };
+        let tally = counted[position];
+        let seats = papers.seats_of(school);
+        let cutoff = cutoff_by(seats.get(), tally.held, tally.last);
+        rows.push(CutoffRow {
+            school,
+            seats,
+            held: tally.held,
+            cutoff,
+        })?;
+    }
+    Ok(rows)
+}
+
 /// The rows of all schools, in order of entry, by the schools that the students have, given in their order of entry. The
 /// only error is want of memory. The cost is one pass over the students. Papers are always well-formed, and this call
 /// tells its callers so.
@@ -59,21 +90,7 @@ pub fn rows_in_order(
     ensures well_formed { OnOk result (WellFormed papers.now) }
 {
     let tallies = tallies(alloc, papers, places)?;
-    let mut rows = Vec::with_capacity(alloc, tallies.len())?;
-    for position in 0..tallies.len() {
-        let Some(school) = papers.school_at(position) else {
-            unreachable!()
-        };
-        let tally = tallies[position];
-        let seats = papers.seats_of(school);
-        let cutoff = cutoff_by(seats.get(), tally.held, tally.last);
-        rows.push(CutoffRow {
-            school,
-            seats,
-            held: tally.held,
-            cutoff,
-        })?;
-    }
+    let rows = rows_by_tallies(alloc, papers, tallies.as_slice())?;
     Ok(rows)
 }
 

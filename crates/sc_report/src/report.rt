@@ -5,6 +5,7 @@ ghost use Rattle.sc_report.specs.Report.{WritesReport, is_write_fault};
 ghost use Rattle.sc_report.specs.Watched.{device_of, has_failed};
 ghost use Rattle.sc_report.specs.declared.report.ReportFault.TheVariants as fault;
 ghost use Rattle.sc_tallies.specs.Places.{ArePlaces};
+ghost use Rattle.sc_tallies.specs.Tally.{AreTallies, IsForEachSchool};
 
 use crate::matched::Matched;
 use crate::pages::{Pages, write_pages};
@@ -44,8 +45,8 @@ impl From<AllocError> for ReportFault {
     }
 }
 
-/// Writes the report text of papers and of the school that each student has, of which there is one for each student in
-/// order of entry, `None` where they have none.
+/// Writes the report text of papers, of the school that each student has, of which there is one for each student in order of
+/// entry, `None` where they have none, and of the tallies of the schools by these.
 ///
 /// The text is built first: after `OutOfMemory` nothing was written, and after `Write` a prefix of
 /// it was.
@@ -54,8 +55,10 @@ pub fn write_report_of<W: Write>(
     matched: Matched<'_>,
     to: &mut Watched<W>,
 ) -> Result<(), ReportFault>
-    requires { length matched.places.items ≡ length matched.papers.now.students }
+    requires places { length matched.places.items ≡ length matched.papers.now.students }
+    requires tallies { IsForEachSchool matched.papers.now matched.tallies.items }
     ensures bytes { (a : Matching) → ArePlaces matched.entry.papers.now a matched.entry.places.items
+        → AreTallies matched.entry.papers.now a matched.entry.tallies.items
         → WritesReport matched.entry.papers.now a
         (W.contents (device_of to.old)) (W.contents (device_of to.new)) result }
     ensures failed { has_failed to.new ≡ (has_failed to.old || is_write_fault result) }
@@ -77,6 +80,6 @@ pub fn write_report<W: Write>(
 {
     let papers: &FlatPapers = clearing.papers();
     let places = places_of(alloc, papers, clearing.places())?;
-    let matched = Matched { papers, places };
+    let matched = Matched::counted(alloc, papers, places)?;
     write_report_of(alloc, matched, to)
 }

@@ -9,8 +9,9 @@ ghost use Rattle.sc_report.specs.Entrants.{numbers_of, AreRising, Holds};
 ghost use Rattle.sc_report.specs.Pages.{text_so_far};
 ghost use Rattle.sc_report.specs.Text.{assignment_lines, assignment_text, place_text, report_text, IsReportText};
 ghost use Rattle.sc_tallies.specs.Places.{ArePlaces};
+ghost use Rattle.sc_tallies.specs.Tally.{AreTallies, IsForEachSchool};
 
-use crate::cutoff::{CutoffRow, rising_rows, rows_in_order};
+use crate::cutoff::{CutoffRow, rising_rows, rows_by_tallies};
 use crate::cutoff_lines::push_cutoffs;
 use crate::entrants::{Entrant, rising_entrants};
 use crate::matched::Matched;
@@ -112,11 +113,13 @@ pub(crate) fn fill_report(
 ) -> Result<Pages, AllocError>
     requires empty { text_so_far pages ≡ [] }
     requires places { length matched.places.items ≡ length matched.papers.now.students }
+    requires tallies { IsForEachSchool matched.papers.now matched.tallies.items }
     ensures { IfOk result (λ filled. (a : Matching) → ArePlaces matched.entry.papers.now a matched.entry.places.items
+        → AreTallies matched.entry.papers.now a matched.entry.tallies.items
         → IsReportText matched.entry.papers.now a (text_so_far filled)) }
 {
     let papers = matched.papers;
-    let rows = rows_in_order(alloc, papers, matched.places.as_slice())?;
+    let rows = rows_by_tallies(alloc, papers, matched.tallies.as_slice())?;
     let entrants = rising_entrants(alloc, papers, matched.places.as_slice())?;
     // What a student has stands with them now, and the pages may take the memory.
     drop(matched);
@@ -131,13 +134,19 @@ pub(crate) fn fill_report(
 }
 
 /// The report text of papers and of the school that each student has, of which there is one for each student in order of
-/// entry, `None` where they have none: the assignment text, the cutoff text and the reason text. The only error is want of memory. The cost is one pass over the students for the cutoffs, a sort of the
-/// students' and the schools' numbers, and one pass for the lines.
-pub fn report_text_of(alloc: Global, matched: Matched<'_>) -> Result<Vec<u8>, AllocError>
-    requires { length matched.places.items ≡ length matched.papers.now.students }
-    ensures { IfOk result (λ text. (a : Matching) → ArePlaces matched.entry.papers.now a matched.entry.places.items
-        → IsReportText matched.entry.papers.now a text.items) }
+/// entry, `None` where they have none: the assignment text, the cutoff text and the reason text. The only error is want of
+/// memory. The cost is one pass over the students for the cutoffs, a sort of the students' and the schools' numbers, and one
+/// pass for the lines.
+pub fn report_text_of(
+    alloc: Global,
+    papers: &FlatPapers,
+    places: Vec<Option<SchoolNo>>,
+) -> Result<Vec<u8>, AllocError>
+    requires { length places.items ≡ length papers.now.students }
+    ensures { IfOk result (λ text. (a : Matching) → ArePlaces papers.now a places.items
+        → IsReportText papers.now a text.items) }
 {
+    let matched = Matched::counted(alloc, papers, places)?;
     let pages = fill_report(Pages::whole(alloc), alloc, matched)?;
     pages.into_text(alloc)
 }
@@ -149,7 +158,6 @@ pub fn report_text(alloc: Global, clearing: &Clearing) -> Result<Vec<u8>, AllocE
 {
     let papers: &FlatPapers = clearing.papers();
     let places = places_of(alloc, papers, clearing.places())?;
-    let matched = Matched { papers, places };
-    let text = report_text_of(alloc, matched)?;
+    let text = report_text_of(alloc, papers, places)?;
     Ok(text)
 }

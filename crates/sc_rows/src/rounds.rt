@@ -94,10 +94,10 @@ fn a_newcomer(rt: HostRuntime) {
 
 /// The outcome by the keys at the first choices.
 fn expect_placed(rt: &impl Abort, alloc: Global, papers: &FlatPapers, want: &str) {
-    let places = settle_by_first_keys(alloc, papers).expect(rt, "memory");
-    let said = placed_text(alloc, papers, places.as_slice());
+    let settled = settle_by_first_keys(alloc, papers).expect(rt, "memory");
+    let said = placed_text(alloc, papers, settled.places.as_slice());
     expect_said(rt, "places", said, want);
-    drop(places);
+    drop(settled);
 }
 
 /// The outcome by the order of entry.

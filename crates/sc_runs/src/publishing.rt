@@ -26,7 +26,7 @@ use sc_audit::{AuditedLog, Verdict, audit_and_place};
 use sc_decimal::push_number;
 use sc_intake::Source;
 use sc_papers::{FlatPapers, Rejection, SchoolNo, Seed};
-use sc_report::{Matched, ReadFault, Watched, first_difference, report_text_of};
+use sc_report::{ReadFault, Watched, first_difference, report_text_of};
 use std::alloc::{AllocError, Global};
 use std::io::{Read, Write};
 
@@ -97,17 +97,16 @@ fn finding_of(difference: Option<u64>) -> Finding
 /// Compares a report with that of papers and of the school that each student has.
 fn compare<R: Read>(
     alloc: Global,
-    matched: Matched<'_>,
+    papers: &FlatPapers,
+    places: Vec<Option<SchoolNo>>,
     report: &mut Watched<R>,
 ) -> Result<Option<u64>, RunFault>
-    requires { length matched.places.items ≡ length matched.papers.now.students }
-    ensures compared { IfOk result (λ found. (a : Matching)
-        → ArePlaces matched.entry.papers.now a matched.entry.places.items
-        → IsCompared (report_text matched.entry.papers.now a)
-        (turn_of R.remaining input.Report report.old report.new) found) }
+    requires { length places.items ≡ length papers.now.students }
+    ensures compared { IfOk result (λ found. (a : Matching) → ArePlaces papers.now a places.items
+        → IsCompared (report_text papers.now a) (turn_of R.remaining input.Report report.old report.new) found) }
     ensures ended { IfErr result (EndsComparing (turn_of R.remaining input.Report report.old report.new)) }
 {
-    let text = match report_text_of(alloc, matched) {
+    let text = match report_text_of(alloc, papers, places) {
         Ok(text) => text,
         Err(_) => return Err(RunFault::OutOfMemory),
     };
@@ -141,13 +140,10 @@ fn find_audited<R: Read>(
     match verdict {
         Verdict::BadEntry { line } => Ok(Finding::BadEntry { line }),
         Verdict::Over { school } => Ok(Finding::Over { school }),
-        Verdict::Certified => {
-            let matched = Matched { papers, places };
-            match compare(alloc, matched, report) {
-                Ok(difference) => Ok(finding_of(difference)),
-                Err(fault) => Err(fault),
-            }
-        }
+        Verdict::Certified => match compare(alloc, papers, places, report) {
+            Ok(difference) => Ok(finding_of(difference)),
+            Err(fault) => Err(fault),
+        },
     }
 }
 

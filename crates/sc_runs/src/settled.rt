@@ -5,7 +5,7 @@ ghost use Rattle.sc_runs.specs.Steps.{OutputGets};
 
 use crate::fault::RunFault;
 use crate::writing::{flush_output, write_log};
-use sc_engine::{settle, settle_by_first_keys};
+use sc_engine::{SettledPlaces, settle, settle_by_first_keys};
 use sc_papers::FlatPapers;
 use sc_report::{Matched, ReportFault, Watched, write_report_of};
 use std::alloc::Global;
@@ -20,11 +20,16 @@ pub fn report_papers<W: Write>(
 ) -> Result<(), RunFault>
     ensures { OutputGets (WritesText (IsReport papers.now)) W.contents out.old out.new result }
 {
-    let places = match settle_by_first_keys(alloc, papers) {
-        Ok(places) => places,
+    let SettledPlaces { places, tallies } = match settle_by_first_keys(alloc, papers) {
+        Ok(settled) => settled,
         Err(_) => return Err(RunFault::OutOfMemory),
     };
-    match write_report_of(alloc, Matched { papers, places }, out) {
+    let matched = Matched {
+        papers,
+        places,
+        tallies,
+    };
+    match write_report_of(alloc, matched, out) {
         Ok(()) => flush_output(out),
         Err(ReportFault::Write) => Err(RunFault::WriteOut),
         Err(ReportFault::OutOfMemory) => Err(RunFault::OutOfMemory),

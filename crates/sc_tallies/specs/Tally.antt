@@ -1,5 +1,5 @@
 -- Tallies: how many students have a school, and the last key among them.
-use Rattle.std.specs.Prelude.{◌≡◌, ℕ, ◌+◌, nat_eq, List, map, Option, None, position, count_by}
+use Rattle.std.specs.Prelude.{◌≡◌, ℕ, ◌+◌, nat_eq, List, length, map, Option, None, position, count_by}
 use Rattle.std.specs.Option.{option_and_then, option_map}
 use Rattle.sc_papers.specs.Key.{key_of}
 use Rattle.sc_papers.specs.Market.{Market, schools_of, students_of}
@@ -27,6 +27,10 @@ AreTalliesAmong m a students tallies = tallies ≡ map (tally m a students) (sch
 -- the tallies of the schools, by their positions
 abbrev pub AreTallies : Market → Matching → List Tally → Type 0
 AreTallies m a tallies = AreTalliesAmong m a (students_of m) tallies
+
+-- there is a tally for each school
+abbrev pub IsForEachSchool : Market → List Tally → Type 0
+IsForEachSchool m tallies = length tallies ≡ length m.schools
 
 -- the position of the school that i has, if it is one of the papers, and the key of i there
 unfoldable pub held_at : Market → Matching → ℕ → Option (ℕ × Key)

@@ -9,7 +9,7 @@ returns-in-Ok-write_report_of g c = record {
   bytes =
       let m = c.args.papers.now in
       let made = c.in-Ok.ensures in
-      let (text, is, written) = c.in-Ok-write_report_of.ensures.bytes (next_choice m made.log) made.places in
+      let (text, is, written) = c.in-Ok-write_report_of.ensures.bytes (next_choice m made.log) made.places made.tallies in
       WritesText-of (IsReport m) text _ _ c.flush_output.result (next_choice m made.log, made.optimal, is)
       (WritesExactly-flushed text _ _ _ c.flush_output.result written c.flush_output.ensures.bytes c.flush_output.ensures.kinds);
   failed = search rules;
