@@ -42,7 +42,7 @@ records_from-end cfg zero = refl
 records_from-end cfg (suc n) = refl
 
 -- the bound on the number of records does not matter once it is above the text's length
-records_from-bounds : (cfg : Config) (n m : ℕ) (s : State) (xs : List ℕ) → length xs < n → length xs < m → records_from cfg n s xs ≡ records_from cfg m s xs
+pub records_from-bounds : (cfg : Config) (n m : ℕ) (s : State) (xs : List ℕ) → length xs < n → length xs < m → records_from cfg n s xs ≡ records_from cfg m s xs
 unfolding records_from
 records_from-bounds cfg zero m s xs a b = absurd (omega arith)
 records_from-bounds cfg (suc n) zero s xs a b = absurd (omega arith)

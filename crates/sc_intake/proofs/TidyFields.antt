@@ -14,7 +14,7 @@ use Rattle.sc_decimal.proofs.FirstDigits.{front-count}
 use Rattle.sc_papers.specs.declared.school_no.TheConstants.SchoolNo.{GREATEST as greatest_school}
 use Rattle.sc_intake.specs.Blanks.{is_blank, trim_end, trim_start, trimmed}
 use Rattle.sc_intake.specs.Field.{is_within, number_of, numbers_after, numbers_in, word_of, words, words_after}
-use Rattle.sc_intake.specs.Plain.{ends_field}
+use Rattle.sc_intake.specs.Plain.{is_mark}
 use Rattle.sc_intake.specs.Tidy.{AreSchools, TakesField, TakesNumber}
 use Rattle.sc_intake.specs.declared.blanks.Blanks.TheVariants.{InLine}
 use Rattle.sc_intake.specs.declared.fault.Cause.TheVariants.{Number}
@@ -34,18 +34,19 @@ number-digits text n number = by (is_number text) refl number
     by true is number = let means = number-means text is in record { some = omega (arith, means.some); all = means.digits }
     by false is number = cc number
 
--- a digit ends no field, and is no blank and no space
-digit-plain : (c : ℕ) → is_ascii_digit c ≡ true → (ends_field c ≡ false) × ((is_blank InLine c ≡ false) × ((c == 32) ≡ false))
+-- a digit ends no field and is no quote, no blank and no space
+digit-plain : (c : ℕ) → is_ascii_digit c ≡ true → (is_mark c ≡ false) × ((is_blank InLine c ≡ false) × ((c == 32) ≡ false))
 digit-plain c digit =
     let low = (digit-bounds c digit).least in
+    let quote : (c == 34) ≡ false = grind (arith, nat_tests) in
     let comma : (c == 44) ≡ false = grind (arith, nat_tests) in
     let lf : (c == 10) ≡ false = grind (arith, nat_tests) in
     let cr : (c == 13) ≡ false = grind (arith, nat_tests) in
     let space : (c == 32) ≡ false = grind (arith, nat_tests) in
     let tab : (c == 9) ≡ false = grind (arith, nat_tests) in
-    (rw (comma, lf, cr) refl, (rw (space, tab) refl, space))
+    (rw (quote, comma, lf, cr) refl, (rw (space, tab) refl, space))
 
-pub digits-clean : (digits : List ℕ) → list_all is_ascii_digit digits ≡ true → list_any ends_field digits ≡ false
+pub digits-clean : (digits : List ℕ) → list_all is_ascii_digit digits ≡ true → list_any is_mark digits ≡ false
 digits-clean [] all = refl
 digits-clean (c ∷ cs) all =
     let parts = and_parts (is_ascii_digit c) (list_all is_ascii_digit cs) all in
@@ -100,7 +101,7 @@ words-alone piece (c ∷ cs) all =
 pub record SchoolsBefore (text rest schools : List ℕ) : Type 0 where
   pub part : List ℕ
   pub cut : text ≡ part ++ rest
-  pub clean : list_any ends_field part ≡ false
+  pub clean : list_any is_mark part ≡ false
   pub begins : (w : List ℕ) → NoBlank w → NoBlank (part ++ w)
   pub numbers : (w : List ℕ) → numbers_in (part ++ w) ≡ numbers_after schools (words w)
   pub ranged : list_all (is_within 1 greatest_school) schools ≡ true
@@ -119,7 +120,7 @@ schools-more text rest more old new n so takes school pushed =
     record {
       part = so.part ++ (digits ++ 32 ∷ []);
       cut = so.cut ∙ ap (λ (t : List ℕ). so.part ++ t) takes.cut ∙ sym (on more);
-      clean = list_any-append ends_field so.part (digits ++ 32 ∷ []) ∙ rw (so.clean, list_any-append ends_field digits (32 ∷ []), digits-clean digits are.all) refl;
+      clean = list_any-append is_mark so.part (digits ++ 32 ∷ []) ∙ rw (so.clean, list_any-append is_mark digits (32 ∷ []), digits-clean digits are.all) refl;
       begins = λ w none. rw (on w) (so.begins (digits ++ 32 ∷ w) (no_blank-digits digits (32 ∷ w) are));
       numbers = λ w. ap numbers_in (on w) ∙ so.numbers (digits ++ 32 ∷ w) ∙ ap (numbers_after old) (words-before [] digits w are.all) ∙ numbers-word old digits (words w) are.some
           ∙ numbers-more old digits (words w) n takes.number ∙ ap (λ (ns : List ℕ). numbers_after ns (words w)) (sym pushed);
@@ -142,7 +143,7 @@ schools-last text rest after old new n so takes school pushed =
     record {
       field = so.part ++ digits;
       cut = so.cut ∙ ap (λ (t : List ℕ). so.part ++ t) takes.cut ∙ sym (append_assoc so.part digits after);
-      clean = list_any-append ends_field so.part digits ∙ rw (so.clean, digits-clean digits are.all) refl;
+      clean = list_any-append is_mark so.part digits ∙ rw (so.clean, digits-clean digits are.all) refl;
       reads = rw (whole, pushed) (numbers, rw ranged refl);
     }
 

@@ -1,5 +1,5 @@
 -- Rows of a tidy text, of their fields.
-use Rattle.std.proofs.Common.{◌≡◌, ℕ, ◌==◌, true, false, List, [], ◌∷◌, ◌++◌, length, refl, ap, ◌∙◌, arith, Option, Some, None, Result, Ok, Err}
+use Rattle.std.proofs.Common.{◌≡◌, ℕ, ◌==◌, Bool, true, false, List, [], ◌∷◌, ◌++◌, length, refl, ap, ◌∙◌, arith, Option, Some, None, Result, Ok, Err}
 use Rattle.std.proofs.lemmas.Bool.Decides.{nat_tests}
 use Rattle.csv.specs.Records.{field_at}
 use Rattle.sc_papers.specs.declared.school_no.TheConstants.SchoolNo.{GREATEST as greatest_school}
@@ -8,9 +8,9 @@ use Rattle.sc_intake.specs.Fault.{◌>>=◌}
 use Rattle.sc_intake.specs.Field.{as_school_or_none, as_student, as_zone, is_within, number_of, number_or_none, numbers_after, words_after}
 use Rattle.sc_intake.specs.File.{text_at}
 use Rattle.sc_intake.specs.Lists.{choices_of}
-use Rattle.sc_intake.specs.Plain.{plain_records}
+use Rattle.sc_intake.specs.Plain.{cut, first_line}
 use Rattle.sc_intake.specs.Roster.{student_of}
-use Rattle.sc_intake.specs.Tidy.{AreSchools, EndsLine, EndsRow, HasLine, IsSchoolOrNone, TakesField, TakesNumber, TakesRow}
+use Rattle.sc_intake.specs.Tidy.{AreSchools, EndsRow, HasLine, IsSchoolOrNone, TakesField, TakesNumber, TakesRow}
 use Rattle.sc_intake.specs.declared.blanks.Blanks.TheVariants.{InLine}
 use Rattle.sc_intake.specs.declared.fault.Cause.{Cause}
 use Rattle.sc_intake.specs.declared.roster.RosterRow.{RosterRow}
@@ -37,38 +37,38 @@ one-school text after n takes school =
     record { field = takes.digits; cut = takes.cut; clean = digits-clean takes.digits are.all; reads = rw (some, number, school) refl }
 
 -- a field that is the last of its line
-field-last : {Reads : List ℕ → Type 0} (text after rest : List ℕ) (takes : TakesField text after Reads) → EndsLine after rest → HasLine text rest (takes.field ∷ [])
-field-last text after rest takes ends = let last = line-last takes.field after rest takes.clean ends in rw (← takes.cut) at last
+field-last : {Reads : List ℕ → Type 0} (text rest : List ℕ) (takes : TakesField text rest Reads) → first_line rest ≡ [] → HasLine text rest (takes.field ∷ [])
+field-last text rest takes ends = let last = line-last takes.field rest takes.clean ends in rw (← takes.cut) at last
 
 -- a row of three fields ends after the third
-pub ends-short : (text rest : List ℕ) → EndsLine text rest → EndsRow 3 text rest None
+pub ends-short : (text : List ℕ) → first_line text ≡ [] → EndsRow 3 text text None
 unfolding number_or_none field_at
-ends-short text rest ends = record { fields = []; width_is = refl; reads = refl; line = λ third clean. line-last third text rest clean ends }
+ends-short text ends = record { fields = []; width_is = refl; reads = refl; line = λ third clean. line-last third text clean ends }
 
 -- and one of four after the fourth
-pub ends-long : (text more after rest : List ℕ) (school : Option ℕ) → text ≡ 44 ∷ more → TakesField more after (IsSchoolOrNone school) → EndsLine after rest → EndsRow 4 text rest school
+pub ends-long : (text more rest : List ℕ) (school : Option ℕ) → text ≡ 44 ∷ more → TakesField more rest (IsSchoolOrNone school) → first_line rest ≡ [] → EndsRow 4 text rest school
 unfolding field_at
-ends-long text more after rest school comma takes ends = record {
+ends-long text more rest school comma takes ends = record {
   fields = takes.field ∷ [];
   width_is = refl;
   reads = takes.reads;
-  line = λ third clean. rw comma (line-more third more rest (takes.field ∷ []) clean (field-last more after rest takes ends));
+  line = λ third clean. rw comma (line-more third more rest (takes.field ∷ []) clean (field-last more rest takes ends));
 }
 
 -- a row of the lists
-pub list-row : (row : ℕ) (text after more last rest : List ℕ) (n student : ℕ) (choices : List ℕ) → TakesNumber text after n → after ≡ 44 ∷ more → TakesField more last (AreSchools choices) → EndsLine last rest
-    → as_student n ≡ Ok student → TakesRow choices_of 2 row (plain_records text) (plain_records rest) (record { row = row; student = student; choices = choices })
+pub list-row : (by_lines : Bool) (row : ℕ) (text after more rest : List ℕ) (n student : ℕ) (choices : List ℕ) → TakesNumber text after n → after ≡ 44 ∷ more → TakesField more rest (AreSchools choices) → first_line rest ≡ []
+    → as_student n ≡ Ok student → TakesRow choices_of 2 row (cut by_lines text) (cut by_lines rest) (record { row = row; student = student; choices = choices })
 unfolding field_at
-list-row row text after more last rest n student choices takes comma field ends ranged =
+list-row by_lines row text after more rest n student choices takes comma field ends ranged =
     let digits = takes.digits in
     let are = number-digits digits n takes.number in
     let clean = digits-clean digits are.all in
     let whole : text ≡ digits ++ 44 ∷ more = takes.cut ∙ ap (λ (t : List ℕ). digits ++ t) comma in
-    let tail : HasLine more rest (field.field ∷ []) = field-last more last rest field ends in
+    let tail : HasLine more rest (field.field ∷ []) = field-last more rest field ends in
     let line : HasLine (digits ++ 44 ∷ more) rest (digits ∷ field.field ∷ []) = line-more digits more rest (field.field ∷ []) clean tail in
     record {
       fields = digits ∷ field.field ∷ [];
-      next = ap plain_records whole ∙ first-record digits (44 ∷ more) rest (digits ∷ field.field ∷ []) clean are.some line;
+      next = ap (cut by_lines) whole ∙ first-record by_lines digits (44 ∷ more) rest (digits ∷ field.field ∷ []) clean are.some line;
       reads = rw (trimmed-number digits n takes.number, field.reads.0, ranged, field.reads.1) refl;
     }
 
@@ -77,12 +77,12 @@ abbrev roster_row : ℕ → ℕ → ℕ → List ℕ → Option ℕ → Result R
 roster_row row student zone siblings continuing = Ok (record { row = row; student = student; zone = zone; siblings = siblings; continuing = continuing })
 
 -- a row of the roster
-pub roster-row : (width row : ℕ) (text after_student text_zone after_zone text_siblings after_siblings rest : List ℕ) (n z student zone : ℕ) (siblings : List ℕ) (continuing : Option ℕ)
+pub roster-row : (by_lines : Bool) (width row : ℕ) (text after_student text_zone after_zone text_siblings after_siblings rest : List ℕ) (n z student zone : ℕ) (siblings : List ℕ) (continuing : Option ℕ)
     → TakesNumber text after_student n → after_student ≡ 44 ∷ text_zone → TakesNumber text_zone after_zone z → after_zone ≡ 44 ∷ text_siblings
     → TakesField text_siblings after_siblings (AreSchools siblings) → EndsRow width after_siblings rest continuing → as_student n ≡ Ok student → as_zone z ≡ Ok zone
-    → TakesRow student_of width row (plain_records text) (plain_records rest) (record { row = row; student = student; zone = zone; siblings = siblings; continuing = continuing })
+    → TakesRow student_of width row (cut by_lines text) (cut by_lines rest) (record { row = row; student = student; zone = zone; siblings = siblings; continuing = continuing })
 unfolding field_at
-roster-row width row text after_student text_zone after_zone text_siblings after_siblings rest n z student zone siblings continuing takes comma takes_zone zone_comma field ends ranged zone_ranged =
+roster-row by_lines width row text after_student text_zone after_zone text_siblings after_siblings rest n z student zone siblings continuing takes comma takes_zone zone_comma field ends ranged zone_ranged =
     let digits = takes.digits in
     let zone_digits = takes_zone.digits in
     let are = number-digits digits n takes.number in
@@ -99,7 +99,7 @@ roster-row width row text after_student text_zone after_zone text_siblings after
     let size : (length (digits ∷ zone_digits ∷ field.field ∷ ends.fields) == width) ≡ true = let is = ends.width_is in grind (arith, nat_tests) in
     record {
       fields = digits ∷ zone_digits ∷ field.field ∷ ends.fields;
-      next = ap plain_records whole ∙ first-record digits (44 ∷ text_zone) rest (digits ∷ zone_digits ∷ field.field ∷ ends.fields) clean are.some first;
+      next = ap (cut by_lines) whole ∙ first-record by_lines digits (44 ∷ text_zone) rest (digits ∷ zone_digits ∷ field.field ∷ ends.fields) clean are.some first;
       reads = rw size (reads-student row (digits ∷ zone_digits ∷ field.field ∷ ends.fields) n z student zone siblings continuing (trimmed-number digits n takes.number) (trimmed-number zone_digits z takes_zone.number) field.reads ends.reads ranged zone_ranged);
     }
   where

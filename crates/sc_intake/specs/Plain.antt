@@ -1,6 +1,9 @@
 -- What a text without a quote is cut into: each line that has a byte is a record, whose fields stand between commas.
 -- Contracts of readers see the records of `csv`: this is what their proofs go by, and how a fault's text finds a field.
-use Rattle.std.specs.Prelude.{◌≡◌, ℕ, ◌==◌, Bool, true, ◌||◌, List, [], ◌∷◌, ◌++◌, map, if◌then◌else◌, ⊤}
+use Rattle.std.specs.Prelude.{◌≡◌, ℕ, ◌==◌, Bool, true, false, ◌||◌, List, [], ◌∷◌, ◌++◌, map, if◌then◌else◌, ⊤}
+use Rattle.std.specs.List.{list_any}
+use Rattle.csv.specs.Reading.{default_config, records}
+use Rattle.memchr.specs.Find.{is_byte}
 
 -- LF and CR end a line
 abbrev pub ends_line : ℕ → Bool
@@ -25,6 +28,15 @@ fields_from field (c ∷ cs) = if c == 44 then field ∷ fields_from [] cs else 
 unfoldable pub plain_records : List ℕ → List (List (List ℕ))
 plain_records text = map (fields_from []) (lines_from [] text)
 
+-- the records of a text: each of its lines is one, or it is cut as `csv` cuts it
+abbrev pub cut : Bool → List ℕ → List (List (List ℕ))
+cut true text = plain_records text
+cut false text = records default_config text
+
+-- a byte of a text is a quote
+abbrev pub has_quote : List ℕ → Bool
+has_quote text = list_any (is_byte 34) text
+
 -- the bytes of a text before its first line end
 unfoldable pub first_line : List ℕ → List ℕ
 first_line [] = []
@@ -38,6 +50,10 @@ after_line (c ∷ cs) = if ends_line c then cs else after_line cs
 -- a comma and a line end end a field
 abbrev pub ends_field : ℕ → Bool
 ends_field c = c == 44 || ends_line c
+
+-- a quote, a comma and a line end are no bytes of a field that stands as it is
+abbrev pub is_mark : ℕ → Bool
+is_mark c = c == 34 || ends_field c
 
 -- a text is empty, or begins with a byte that ends a field
 abbrev pub EndsField : List ℕ → Type 0

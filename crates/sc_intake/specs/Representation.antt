@@ -8,6 +8,7 @@ use Rattle.csv.specs.declared.reader.Reader.{Reader}
 use Rattle.sc_intake.specs.Cursor.{Cursor}
 use Rattle.sc_intake.specs.Plain.{fields_from, plain_records}
 use Rattle.sc_intake.specs.Reading.{IsReading, records_of, unread}
+use Rattle.sc_intake.specs.declared.line_records.LineRecords.TheInside as lines
 use Rattle.sc_intake.specs.declared.plain_records.PlainRecords.TheInside as plain
 use Rattle.sc_intake.specs.declared.quoted_records.QuotedRecords.TheInside as quoted
 
@@ -26,6 +27,7 @@ abbrev pub quoted_cursor_of : quoted.Inside → Cursor
 quoted_cursor_of i = record {
   current = fields_of i.fields;
   left = elim i.stopped [ true ↦ [] | false ↦ left_of i.text.now i.reader ];
+  by_lines = true;
 }
 
 -- what is true of its fields: a reader that has not stopped reads on
@@ -43,4 +45,8 @@ fields_beyond (Some line) = fields_from [] line.now
 
 -- the cursor in a text without a quote
 abbrev pub plain_cursor_of : plain.Inside → Cursor
-plain_cursor_of i = record { current = fields_in i.fields.items ++ fields_beyond i.beyond; left = plain_records i.rest.now }
+plain_cursor_of i = record { current = fields_in i.fields.items ++ fields_beyond i.beyond; left = plain_records i.rest.now; by_lines = true }
+
+-- the cursor in a text of which nobody has looked yet whether it has a quote
+abbrev pub line_cursor_of : lines.Inside → Cursor
+line_cursor_of i = record { current = i.line.current; left = records default_config i.rest.now; by_lines = false }

@@ -6,7 +6,7 @@ use Rattle.sc_intake.specs.Fault.{◌>>=◌}
 use Rattle.sc_intake.specs.Field.{all_schools, as_school_or_none, number_of, number_or_none, numbers_in}
 use Rattle.sc_intake.specs.File.{text_at}
 use Rattle.sc_intake.specs.Lists.{choices_of}
-use Rattle.sc_intake.specs.Plain.{after_line, ends_field, fields_from, first_line}
+use Rattle.sc_intake.specs.Plain.{after_line, fields_from, first_line, has_quote, is_mark}
 use Rattle.sc_intake.specs.Rows.{row_at}
 use Rattle.sc_intake.specs.declared.blanks.Blanks.TheVariants.{InLine}
 use Rattle.sc_intake.specs.declared.fault.Cause.{Cause}
@@ -22,7 +22,7 @@ pub record TakesNumber (text after : List ℕ) (n : ℕ) : Type 0 where
 pub record TakesField (text after : List ℕ) (Reads : List ℕ → Type 0) : Type 0 where
   pub field : List ℕ
   pub cut : text ≡ field ++ after
-  pub clean : list_any ends_field field ≡ false
+  pub clean : list_any is_mark field ≡ false
   pub reads : Reads (trimmed InLine field)
 
 -- a field reads as these schools
@@ -33,22 +33,20 @@ AreSchools schools field = (numbers_in field ≡ Ok schools) × (all_schools sch
 abbrev pub IsSchoolOrNone : Option ℕ → List ℕ → Type 0
 IsSchoolOrNone school field = (number_or_none field >>= as_school_or_none) ≡ Ok school
 
--- a text's first line has these fields, and this is the text after it
+-- a text's first line has these fields and no quote, and this is the text from its line end on
 pub record HasLine (text rest : List ℕ) (fields : List (List ℕ)) : Type 0 where
   pub line : fields_from [] (first_line text) ≡ fields
-  pub after : after_line text ≡ rest
+  pub plain : has_quote (first_line text) ≡ false
+  pub after : after_line text ≡ after_line rest
+  pub ends : first_line rest ≡ []
 
--- a text ends the line that it stands in, and this comes after the line end
-abbrev pub EndsLine : List ℕ → List ℕ → Type 0
-EndsLine text rest = (first_line text ≡ []) × (after_line text ≡ rest)
-
--- a text goes on after the third field of a row of the roster, of so many: the row's last field, if it has four, and the
--- line end
+-- a text goes on after the third field of a row of the roster, of so many: the row's last field, if it has four, and then
+-- the text from the line end on
 pub record EndsRow (width : ℕ) (text rest : List ℕ) (continuing : Option ℕ) : Type 0 where
   pub fields : List (List ℕ)
   pub width_is : 3 + length fields ≡ width
   pub reads : IsSchoolOrNone continuing (text_at fields 0)
-  pub line : (third : List ℕ) → list_any ends_field third ≡ false → HasLine (third ++ text) rest (third ∷ fields)
+  pub line : (third : List ℕ) → list_any is_mark third ≡ false → HasLine (third ++ text) rest (third ∷ fields)
 
 -- the first of these records is this row, and these are left
 pub record TakesRow {R : Type 0} (read : ℕ → List (List ℕ) → Result R Cause) (width row : ℕ) (records left : List (List (List ℕ))) (found : R) : Type 0 where

@@ -83,7 +83,7 @@ fn enter_each(
         let Some(text) = lists.from(*line as usize) else {
             return false;
         };
-        list.records.go_on(alloc, text);
+        list.records.go_on_by_lines(alloc, text);
         if !enter_next(alloc, *line as u64 + 2, papers, row, &mut list, &mut placed) {
             return false;
         }

@@ -65,7 +65,7 @@ fn tidy_student(
     ensures row { IfSome result (TakesRow student_of width row records.old.left records.new.left) }
     ensures unchanged { IfNone result (records.new ≡ records.old) }
 {
-    let text = records.plain_text()?;
+    let text = records.text()?;
     let (found, rest) = take_student(alloc, row, width, text)?;
     records.go_on(alloc, rest);
     Some(found)
@@ -85,7 +85,7 @@ fn placed_row(
     ensures within { IfSome result (λ _. AreOfSchools papers.now placed.new) }
     ensures unchanged { IfNone result (records.new ≡ records.old) }
 {
-    let text = records.plain_text()?;
+    let text = records.text()?;
     let Some((student, left)) = take_placed(papers, width, text, placed) else {
         return None;
     };

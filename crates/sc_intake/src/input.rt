@@ -25,8 +25,9 @@ pub(crate) fn records_in<'a>(
     if text.len() > MOST_BYTES {
         return Err(IntakeFault::at(source, 0, Cause::TooLong));
     }
-    if is_marked(without_mark(text)) {
+    let unmarked = without_mark(text);
+    if is_marked(unmarked) {
         return Err(IntakeFault::at(source, 1, Cause::Header));
     }
-    Ok(Records::new(alloc, text))
+    Ok(Records::new(alloc, unmarked))
 }

@@ -15,6 +15,7 @@ mod field;
 mod input;
 mod judging;
 mod known;
+mod line_records;
 mod lists;
 mod log;
 mod papers;

@@ -1,10 +1,10 @@
 //! The records of a text without a quote.
 
-ghost use Rattle.std.specs.Prelude.{◌≡◌, ℕ, ◌≤◌, ◌^◌, ◌++◌, ◌∷◌, [], List, IfOk, drop, false, length, option_map, take};
+ghost use Rattle.std.specs.Prelude.{◌≡◌, ℕ, ◌≤◌, ◌^◌, ◌++◌, ◌∷◌, [], Bool, List, IfOk, drop, false, length, option_map, take};
 ghost use Rattle.std.specs.List.{list_any};
 ghost use Rattle.csv.specs.Records.{field_at};
 ghost use Rattle.memchr.specs.Find.{IsFirstByte, is_byte2};
-ghost use Rattle.sc_intake.specs.Plain.{EndsField, after_line, ends_field, ends_line, fields_from, first_line, plain_records};
+ghost use Rattle.sc_intake.specs.Plain.{EndsField, after_line, cut, ends_field, ends_line, fields_from, first_line};
 ghost use Rattle.sc_intake.specs.Representation.{fields_beyond, fields_in};
 
 use crate::byte_count::count_of;
@@ -47,7 +47,7 @@ impl<'a> Model for PlainRecords<'a> {
 }
 
 /// Whether a byte ends a line.
-fn ends_line(byte: u8) -> bool
+pub(crate) fn ends_line(byte: u8) -> bool
     ensures { result ≡ ends_line byte }
 {
     byte == b'\n' || byte == b'\r'
@@ -56,7 +56,7 @@ fn ends_line(byte: u8) -> bool
 /// How many bytes a text begins with that end lines: an empty line is no record.
 pub(crate) fn line_ends_len(text: &[u8]) -> usize
     ensures within { result ≤ length text.now }
-    ensures records { plain_records (drop result text.now) ≡ plain_records text.now }
+    ensures records { (by_lines : Bool) → cut by_lines (drop result text.now) ≡ cut by_lines text.now }
     ensures begins { (c : ℕ) → (cs : List ℕ) → drop result text.now ≡ c ∷ cs → ends_line c ≡ false }
 {
     for start in 0..text.len() {
@@ -68,8 +68,8 @@ pub(crate) fn line_ends_len(text: &[u8]) -> usize
 }
 
 /// The text from its first byte that ends no line.
-fn without_line_ends(text: &[u8]) -> &[u8]
-    ensures records { plain_records result.now ≡ plain_records text.now }
+pub(crate) fn without_line_ends(text: &[u8]) -> &[u8]
+    ensures records { (by_lines : Bool) → cut by_lines result.now ≡ cut by_lines text.now }
     ensures begins { (c : ℕ) → (cs : List ℕ) → result.now ≡ c ∷ cs → ends_line c ≡ false }
 {
     &text[line_ends_len(text)..]
@@ -105,7 +105,7 @@ fn line_end(text: &[u8]) -> Option<usize>
 }
 
 /// A text's first line, and the text after it.
-fn split_line(text: &[u8]) -> (&[u8], &[u8])
+pub(crate) fn split_line(text: &[u8]) -> (&[u8], &[u8])
     ensures line { result.0.now ≡ first_line text.now }
     ensures rest { result.1.now ≡ after_line text.now }
 {

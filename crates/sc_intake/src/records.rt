@@ -1,11 +1,10 @@
 //! The records of a text, one at a time.
 
 use crate::blanks::{Blanks, trimmed};
-use crate::byte_order_mark::without_mark;
 use crate::fault::{IntakeFault, Source};
+use crate::line_records::LineRecords;
 use crate::plain_records::PlainRecords;
 use crate::quoted_records::QuotedRecords;
-use memchr::memchr;
 use std::alloc::{AllocError, Global};
 use std::marker::Model;
 
@@ -15,9 +14,11 @@ pub(crate) struct Records<'a> {
     cutter: Cutter<'a>,
 }
 
-/// How a text is cut into records. Without a quote it needs no state machine, and nothing of it is copied.
+/// How a text is cut into records: line by line, until one has a quote; line by line, whatever each has; or by `csv`'s state
+/// machine, which alone copies them.
 #[derive(Drop)]
 enum Cutter<'a> {
+    Lines(LineRecords<'a>),
     Plain(PlainRecords<'a>),
     Quoted(QuotedRecords<'a>),
 }
@@ -33,31 +34,26 @@ impl<'a> Model for Records<'a> {
 }
 
 impl<'a> Records<'a> {
-    ghost use Rattle.std.specs.Prelude.{◌≡◌, [], length, option_map, IfOk, IfSome, MatchResult};
-    ghost use Rattle.csv.specs.Reading.{default_config, records, strip_bom};
+    ghost use Rattle.std.specs.Prelude.{◌≡◌, [], false, length, option_map, IfOk, IfSome, MatchResult};
+    ghost use Rattle.csv.specs.Reading.{default_config, records};
     ghost use Rattle.csv.specs.Records.{field_at};
     ghost use Rattle.std.specs.Str.{bytes_eq};
     ghost use Rattle.sc_intake.specs.Cursor.{ReadsNext};
     ghost use Rattle.sc_intake.specs.Fault.{no_memory};
-    ghost use Rattle.sc_intake.specs.File.{text_at};
-    ghost use Rattle.sc_intake.specs.Plain.{plain_records};
+    ghost use Rattle.sc_intake.specs.File.{is_marked, text_at};
+    ghost use Rattle.sc_intake.specs.Plain.{cut, plain_records};
 
-    /// The records of a text, whose first byte order mark is passed over; none is read yet.
-    pub(crate) fn new(alloc: Global, text: &'a [u8]) -> Self
-        ensures { result.left ≡ records default_config (strip_bom text.now) }
+    /// The records of a text, which no byte order mark begins; none is read yet.
+    pub(crate) fn new(alloc: Global, unmarked: &'a [u8]) -> Self
+        requires { is_marked unmarked.now ≡ false }
+        ensures { result.left ≡ records default_config unmarked.now }
     {
-        let unmarked = without_mark(text);
-        match memchr(b'"', unmarked) {
-            None => Records {
-                cutter: Cutter::Plain(PlainRecords::new(alloc, unmarked)),
-            },
-            Some(_) => Records {
-                cutter: Cutter::Quoted(QuotedRecords::new(alloc, text)),
-            },
+        Records {
+            cutter: Cutter::Lines(LineRecords::new(alloc, unmarked)),
         }
     }
 
-    /// The records of a text, which has no quote; none is read yet.
+    /// The records of a text, each of whose lines is one; none is read yet.
     pub(crate) fn plain(alloc: Global, text: &'a [u8]) -> Self
         ensures { result.left ≡ plain_records text.now }
     {
@@ -78,29 +74,48 @@ impl<'a> Records<'a> {
     pub(crate) fn read(&mut self) -> Result<bool, AllocError>
         ensures { IfOk result (ReadsNext self.old self.new) }
     {
-        match &mut self.cutter {
-            Cutter::Plain(records) => records.advance(),
-            Cutter::Quoted(records) => records.advance(),
-        }
+        let mut quoted = match &mut self.cutter {
+            Cutter::Lines(records) => match records.advance()? {
+                Some(found) => return Ok(found),
+                None => records.quoted(),
+            },
+            Cutter::Plain(records) => return records.advance(),
+            Cutter::Quoted(records) => return records.advance(),
+        };
+        let found = quoted.advance()?;
+        self.cutter = Cutter::Quoted(quoted);
+        Ok(found)
     }
 
-    /// The text of the records that are left, which begins with the first of them, where it has no quote.
-    pub(crate) fn plain_text(&self) -> Option<&'a [u8]>
-        ensures { IfSome result (λ text. self.now.left ≡ plain_records text.now) }
+    /// The text of the records that are left, which begins with the first of them, unless `csv`'s machine cuts it.
+    pub(crate) fn text(&self) -> Option<&'a [u8]>
+        ensures { IfSome result (λ text. self.now.left ≡ cut self.now.by_lines text.now) }
     {
         match &self.cutter {
+            Cutter::Lines(records) => Some(records.text()),
             Cutter::Plain(records) => Some(records.text()),
             Cutter::Quoted(_) => None,
         }
     }
 
-    /// Goes on with the records of this text, which has no quote.
+    /// Goes on with the records of this text, which no byte order mark begins. It is cut as the one before was.
     pub(crate) fn go_on(&mut self, alloc: Global, text: &'a [u8])
+        requires { is_marked text.now ≡ false }
+        ensures { self.new.left ≡ cut self.old.by_lines text.now }
+    {
+        match &mut self.cutter {
+            Cutter::Lines(records) => records.go_on(text),
+            _ => self.go_on_by_lines(alloc, text),
+        }
+    }
+
+    /// Goes on with the records of this text, each of whose lines is one.
+    pub(crate) fn go_on_by_lines(&mut self, alloc: Global, text: &'a [u8])
         ensures { self.new.left ≡ plain_records text.now }
     {
         match &mut self.cutter {
             Cutter::Plain(records) => records.go_on(text),
-            Cutter::Quoted(_) => self.cutter = Cutter::Plain(PlainRecords::new(alloc, text)),
+            _ => self.cutter = Cutter::Plain(PlainRecords::new(alloc, text)),
         }
     }
 
@@ -120,6 +135,7 @@ impl<'a> Records<'a> {
         ensures { result ≡ length self.now.current }
     {
         match &self.cutter {
+            Cutter::Lines(records) => records.line().len(),
             Cutter::Plain(records) => records.len(),
             Cutter::Quoted(records) => records.len(),
         }
@@ -130,6 +146,7 @@ impl<'a> Records<'a> {
         ensures { option_map (λ f. f.now) result ≡ field_at self.now.current index }
     {
         match &self.cutter {
+            Cutter::Lines(records) => records.line().get(index),
             Cutter::Plain(records) => records.get(index),
             Cutter::Quoted(records) => records.get(index),
         }

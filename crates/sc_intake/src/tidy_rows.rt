@@ -2,13 +2,16 @@
 //!
 //! Most rows are so, and are read where they stand: no end of a field or of a line is looked for before it is come to.
 
-ghost use Rattle.std.specs.Prelude.{◌≡◌, ◌∷◌, ℕ, IfSome};
-ghost use Rattle.sc_intake.specs.Plain.{plain_records};
+ghost use Rattle.std.specs.Prelude.{◌≡◌, ◌∷◌, ℕ, [], false, Bool, IfSome};
+ghost use Rattle.std.specs.Bool.{OnTrue};
+ghost use Rattle.sc_intake.specs.File.{is_marked};
+ghost use Rattle.sc_intake.specs.Plain.{cut, first_line};
 ghost use Rattle.sc_intake.specs.Roster.{student_of};
-ghost use Rattle.sc_intake.specs.Tidy.{AreSchools, EndsLine, EndsRow, IsSchoolOrNone, TakesField, TakesList, TakesNumber, TakesRow};
+ghost use Rattle.sc_intake.specs.Tidy.{AreSchools, EndsRow, IsSchoolOrNone, TakesField, TakesList, TakesNumber, TakesRow};
 ghost use Rattle.sc_papers.specs.Market.{schools_of};
 ghost use Rattle.sc_papers.specs.Placed.{schools_at, AreOfSchools};
 
+use crate::plain_records::ends_line;
 use crate::ranges;
 use crate::roster::RosterRow;
 use sc_decimal::number_at_front;
@@ -37,15 +40,13 @@ fn after_comma(text: &[u8]) -> Option<&[u8]>
     }
 }
 
-/// The text after the line end that it begins with, where it is not at its own end.
-fn after_line_end(text: &[u8]) -> Option<&[u8]>
-    ensures { IfSome result (λ rest. EndsLine text.now rest.now) }
+/// Whether a text begins with a line end, or is at its own end.
+fn is_at_line_end(text: &[u8]) -> bool
+    ensures { OnTrue result (first_line text.now ≡ []) }
 {
     match text {
-        [] => Some(text),
-        [b'\n', rest @ ..] => Some(rest),
-        [b'\r', rest @ ..] => Some(rest),
-        _ => None,
+        [byte, ..] => ends_line(*byte),
+        [] => true,
     }
 }
 
@@ -134,58 +135,60 @@ fn take_continuing(text: &[u8]) -> Option<(Option<SchoolNo>, &[u8])>
     }
 }
 
-/// The school at which a student continues, by what stands after the third field of so many, and the text after the
-/// row.
+/// The school at which a student continues, by what stands after the third field of so many, and the text from the line
+/// end on.
 fn end_row(width: usize, text: &[u8]) -> Option<(Option<SchoolNo>, &[u8])>
     ensures { IfSome result (λ ended. EndsRow width text.now ended.1.now ended.0) }
 {
     match width {
-        3 => Some((None, after_line_end(text)?)),
-        4 => {
-            let Some((continuing, after)) = take_continuing(after_comma(text)?) else {
-                return None;
-            };
-            Some((continuing, after_line_end(after)?))
-        }
+        3 if is_at_line_end(text) => Some((None, text)),
+        4 => match take_continuing(after_comma(text)?) {
+            Some((continuing, after)) if is_at_line_end(after) => Some((continuing, after)),
+            _ => None,
+        },
         _ => None,
     }
 }
 
 /// The student of the row of the lists that the first record of a text is, under a header of so many fields, and the
-/// text after it. Where the schools of the choices stand is put into `placed`, in place of what was there. `None` says
-/// nothing of the text: the record is not tidy, or no student may have such choices.
+/// text from its line end on. Where the schools of the choices stand is put into `placed`, in place of what was there.
+/// `None` says nothing of the text: the record is not tidy, or no student may have such choices.
 pub(crate) fn take_placed<'a>(
     papers: &FlatPapers,
     width: usize,
     text: &'a [u8],
     placed: &mut PlacedChoices,
 ) -> Option<(StudentNo, &'a [u8])>
-    ensures row { IfSome result (λ taken. (row : ℕ) → TakesList width row (plain_records text.now)
-        (plain_records taken.1.now) taken.0 (schools_at (schools_of papers.now) placed.new)) }
+    ensures row { IfSome result (λ taken. (by_lines : Bool) → (row : ℕ) → TakesList width row (cut by_lines text.now)
+        (cut by_lines taken.1.now) taken.0 (schools_at (schools_of papers.now) placed.new)) }
     ensures within { IfSome result (λ _. AreOfSchools papers.now placed.new) }
+    ensures unmarked { IfSome result (λ taken. is_marked taken.1.now ≡ false) }
 {
     if width != 2 {
         return None;
     }
     let (number, after) = take_number(text)?;
-    let after = place_schools(papers, after_comma(after)?, placed)?;
-    let rest = after_line_end(after)?;
+    let rest = place_schools(papers, after_comma(after)?, placed)?;
+    if !is_at_line_end(rest) {
+        return None;
+    }
     let Ok(student) = ranges::student(number) else {
         return None;
     };
     Some((student, rest))
 }
 
-/// The row of the roster that the first record of a text is, under a header of so many fields, and the text after it.
-/// `None` says nothing of the text: the record is not tidy, or memory is wanting.
+/// The row of the roster that the first record of a text is, under a header of so many fields, and the text from its line
+/// end on. `None` says nothing of the text: the record is not tidy, or memory is wanting.
 pub(crate) fn take_student(
     alloc: Global,
     row: u64,
     width: usize,
     text: &[u8],
 ) -> Option<(RosterRow, &[u8])>
-    ensures { IfSome result (λ taken. TakesRow student_of width row (plain_records text.now)
-        (plain_records taken.1.now) taken.0) }
+    ensures row { IfSome result (λ taken. (by_lines : Bool) → TakesRow student_of width row (cut by_lines text.now)
+        (cut by_lines taken.1.now) taken.0) }
+    ensures unmarked { IfSome result (λ taken. is_marked taken.1.now ≡ false) }
 {
     let (number, after) = take_number(text)?;
     let (zone, after) = take_number(after_comma(after)?)?;

@@ -8,6 +8,7 @@ ghost use Rattle.sc_intake.specs.Unquoted.{AddsLine};
 
 use crate::plain_records::field_len;
 use crate::records::Records;
+use memchr::memchr;
 use std::alloc::Global;
 use std::borrow::CowSlice;
 
@@ -62,8 +63,8 @@ pub(crate) fn unquoted_text<'a>(
 ) -> Option<CowSlice<'a, u8>>
     ensures { IfSome result (λ text. plain_records (cow_slice_items text) ≡ records.old.left) }
 {
-    match records.plain_text() {
-        Some(text) => Some(CowSlice::Borrowed(text)),
-        None => Some(CowSlice::Owned(unquoted(alloc, records, room)?)),
+    match records.text() {
+        Some(text) if memchr(b'"', text).is_none() => Some(CowSlice::Borrowed(text)),
+        _ => Some(CowSlice::Owned(unquoted(alloc, records, room)?)),
     }
 }

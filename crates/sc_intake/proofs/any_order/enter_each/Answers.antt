@@ -23,7 +23,7 @@ rows-preserved c =
     let takes : TakesRow student_of c.next_student.new.below.width (length c.rows.papers.students + 2) c.rows.roster.records.left c.next_student.new.below.records.left c.in-Some-next.row =
     rw same (rw (c.in-Some-next.is, number) at c.in-Some.ensures.row) in
     let enters : EntersNext c.args.width (line + 2) (drop line c.args.lists.now) c.enter_next.new.lists.records.left c.rows.papers c.in-Some-next.row c.enter_next.new.papers =
-    rw (← list_width) (rw (c.go_on.ensures ∙ c.in-Some-from.ensures) at next) in (
+    rw (← list_width) (rw (c.go_on_by_lines.ensures ∙ c.in-Some-from.ensures) at next) in (
       AreEntered-more c.next_student.new.below.width c.args.width c.args.roster.now.records.left c.args.lists.now c.args.papers.now c.rows.roster.records.left c.next_student.new.below.records.left
           c.rows.papers c.enter_next.new.papers c.in-Some-next.row line c.enter_next.new.lists.records.left (rw same so_far) takes enters,
       same ∙ width,

@@ -1,4 +1,4 @@
-use Rattle.std.proofs.Common.{◌≡◌, ◌==◌, ◌∷◌, ◌++◌, false, [], List, ℕ, sym, ap, ◌∙◌, rules, length}
+use Rattle.std.proofs.Common.{◌≡◌, ◌==◌, ◌∷◌, ◌++◌, true, false, [], List, ℕ, sym, ap, ◌∙◌, rules, length}
 use Rattle.std.specs.Borrow.{Bor}
 use Rattle.sc_intake.specs.Plain.{after_line, fields_from, first_line, plain_records}
 use Rattle.sc_intake.specs.Representation.{fields_beyond, fields_in}
@@ -14,7 +14,7 @@ returns-then-is_empty c =
     let line = c.without_line_ends-line.result.now in
     let empty : length line ≡ 0 = search rules in
     let left : c.args.self.now.left ≡ plain_records c.self.inside.rest.now = search rules in
-    left ∙ sym c.without_line_ends-line.ensures.records ∙ none line empty
+    left ∙ sym (c.without_line_ends-line.ensures.records true) ∙ none line empty
 
 pub returns : goal.returns
 returns c =
@@ -25,4 +25,4 @@ returns c =
     let fields : fields_in c.take_line.new.fields.items ++ fields_beyond c.in_ok-end.end.beyond ≡ fields_from [] (first_line line) =
     c.in_ok-end.ensures.fields ∙ ap (λ (kept : List (Bor (List ℕ))). fields_in kept ++ fields_from [] (first_line line)) cleared in
     let rest : c.in_ok-end.end.rest.now ≡ after_line line = c.in_ok-end.ensures.rest in
-    rw (fields, rest) (left ∙ sym c.without_line_ends-line.ensures.records ∙ records-line line some c.without_line_ends-line.ensures.begins)
+    rw (fields, rest) (left ∙ sym (c.without_line_ends-line.ensures.records true) ∙ records-line line some c.without_line_ends-line.ensures.begins)
