@@ -1,16 +1,21 @@
 -- Choices that go by where their schools stand.
-use Rattle.std.proofs.Common.{◌≡◌, ℕ, ◌<◌, ◌==◌, nat_eq, true, List, [], ◌∷◌, ◌++◌, length, map, position, Some, None, refl, sym, ap, ◌∙◌, inl, inr, arith}
-use Rattle.std.specs.Prelude.{slice_index_or}
+use Rattle.std.proofs.Common.{◌≡◌, ℕ, ◌+◌, ◌<◌, ◌==◌, nat_eq, true, List, [], ◌∷◌, ◌++◌, length, map, position, replicate, get_or, Some, None, refl, sym, ap, ◌∙◌, inl, inr, arith}
+use Rattle.std.specs.Prelude.{slice_index_or, slice_set}
 use Rattle.std.specs.List.{list_any, AllPass}
-use Rattle.std.proofs.lemmas.Bool.{cases_Bool}
-use Rattle.std.proofs.lemmas.List.{length-map, map-append}
+use Rattle.std.proofs.lemmas.Bool.{cases_Bool, cases_lt, cases_order, eq-eqb, ne_eqb}
+use Rattle.std.proofs.lemmas.Bool.Decides.{nat_tests}
+use Rattle.std.proofs.lemmas.Grind.{get_or-set_at}
+use Rattle.std.proofs.lemmas.List.{get_or-replicate, get_or-set_other, get_or_past, length-map, length-replicate, map-append}
+use Rattle.std.proofs.lemmas.List.Folds.{list_any-append}
 use Rattle.std.proofs.lemmas.List.Elements.{All-cons, All-head, All-nil, All-tail}
 use Rattle.std.proofs.lemmas.Option.{get_or_from_slice_get, slice_get-get_or}
+use Rattle.std.proofs.Math.Bool.{or-false, or-true}
 use Rattle.sc_papers.specs.Market.{Market, is_school, schools_of}
-use Rattle.sc_papers.specs.Placed.{schools_at, AreOfSchools}
+use Rattle.sc_papers.specs.Placed.{schools_at, AreLastTurns, AreOfSchools}
 use Rattle.sc_papers.specs.Verdict.{first_repeat}
 use Rattle.sc_papers.specs.WellFormed.{WellFormed}
 use Rattle.sc_papers.proofs.ChoicePositions.{any-there}
+use Rattle.sc_papers.proofs.Repeats.{apart}
 use Rattle.sc_papers.proofs.Positions.{among-school, position-among, position-at, position-there, school-place_position}
 
 -- one choice more
@@ -80,3 +85,38 @@ placed-differ m earlier (p ∷ positions) before (s ∷ schools) early are none 
 pub placed-once : (m : Market) (positions schools : List ℕ) → map Some positions ≡ map (λ s. position (nat_eq s) (schools_of m)) schools
     → first_repeat [] positions ≡ None → first_repeat [] schools ≡ None
 placed-once m positions schools are none = placed-differ m [] positions [] schools refl are none
+
+-- no list has had the turn 1
+pub turns-none : (n : ℕ) → AreLastTurns (replicate n 0) 1 []
+turns-none n = record {
+  these = λ p low. rw (zero p) refl;
+  none_later = λ p. omega (arith, zero p);
+}
+  where
+    zero : (p : ℕ) → ◌≡◌ {A = ℕ} (get_or (replicate n 0) p 0) 0
+    zero p = elim (cases_lt p n) [
+      | inl low ↦ get_or-replicate n p 0 0 low
+      | inr past ↦ get_or_past (replicate n 0) p 0 (let none : ℕ = 0 in omega (arith, past, length-replicate n none))
+    ]
+
+-- at the next turn nothing is chosen yet
+pub turns-next : (turns chosen : List ℕ) (turn : ℕ) → AreLastTurns turns turn chosen → AreLastTurns turns (turn + 1) []
+turns-next turns chosen turn are = record {
+  these = λ p low. let before = are.none_later p in grind (arith, nat_tests);
+  none_later = λ p. omega (arith, are.none_later p);
+}
+
+-- and then what was chosen
+pub turns-push : (turns chosen : List ℕ) (turn x : ℕ) → x < length turns → AreLastTurns turns turn chosen → AreLastTurns (slice_set turns x turn) turn (chosen ++ x ∷ [])
+turns-push turns chosen turn x within are = record {
+  these = λ p low. elim (cases_order p x) [
+    | inl same ↦ ap (λ (t : ℕ). t == turn) (get_or-set_at turns x p turn 0 same within) ∙ eq-eqb turn turn refl
+        ∙ sym (list_any-append (λ q. q == p) chosen (x ∷ []) ∙ rw (same, eq-eqb x x refl) (or-true (list_any (λ q. q == x) chosen)))
+    | inr other ↦ ap (λ (t : ℕ). t == turn) (get_or-set_other turns x p turn 0 (apart p x other)) ∙ are.these p low
+        ∙ sym (list_any-append (λ q. q == p) chosen (x ∷ []) ∙ rw (ne_eqb x p (λ same. apart p x other (sym same))) (or-false (list_any (λ q. q == p) chosen)))
+  ];
+  none_later = λ p. elim (cases_order p x) [
+    | inl same ↦ omega (arith, get_or-set_at turns x p turn 0 same within)
+    | inr other ↦ omega (arith, get_or-set_other turns x p turn 0 (apart p x other), are.none_later p)
+  ];
+}

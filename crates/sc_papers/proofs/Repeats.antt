@@ -39,7 +39,7 @@ first_repeat-passed xs i x b h at so_far tells missed =
     let e = get_or_read xs i x h at 0 in
     so_far ∙ rw (first_repeat-at xs i h, ← e, ← tells, missed) refl
 
-apart : (a b : ℕ) → (a < b) ⊎ (b < a) → a ≡ b → ⊥
+pub apart : (a b : ℕ) → (a < b) ⊎ (b < a) → a ≡ b → ⊥
 apart a b either same = elim either [ inl below ↦ absurd (omega (arith, same, below)) | inr above ↦ absurd (omega (arith, same, above)) ]
 
 -- the mark of one number more

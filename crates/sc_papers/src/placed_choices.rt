@@ -1,16 +1,14 @@
 //! Where the schools of a student's choices stand, found in the one pass that tests them.
 
-ghost use Rattle.std.specs.Prelude.{◌≡◌, ◌≤◌, ◌<◌, ◌==◌, ◌%◌, ◌++◌, false, [], ◌∷◌, length, None};
+ghost use Rattle.std.specs.Prelude.{◌≡◌, ◌≤◌, ◌<◌, ◌==◌, ◌++◌, false, [], ◌∷◌, length, None};
 ghost use Rattle.std.specs.Bool.{OnTrue};
 ghost use Rattle.std.specs.List.{list_any};
 ghost use Rattle.sc_papers.specs.Market.{schools_of};
 ghost use Rattle.sc_papers.specs.Placed.{may_choose, schools_at, AreOfSchools};
 ghost use Rattle.sc_papers.specs.Verdict.{first_repeat};
-ghost use Rattle.sc_papers.specs.declared.marks.TheConstants.{MARKS};
 
 use crate::flat_papers::FlatPapers;
-use crate::limits::LONGEST_LIST;
-use crate::marks::MARKS;
+use crate::limits::{LONGEST_LIST, MOST_SCHOOLS, MOST_STUDENTS};
 use crate::position_list::PositionList;
 use crate::school_no::SchoolNo;
 use std::marker::Model;
@@ -61,26 +59,21 @@ impl ChosenPositions {
 #[derive(Drop)]
 pub struct PlacedChoices {
     chosen: ChosenPositions,
-    marked: [bool; MARKS],
+    // Each list has a turn, and a position keeps that of the list in which it was chosen last: so a position is looked for
+    // in one place, and nothing is cleared between two lists.
+    turn: u8,
+    last_turns: [u8; MOST_SCHOOLS],
 }
 
 impl Model for PlacedChoices {
     ghost use Rattle.std.specs.Prelude.{ℕ, List};
-    ghost use Rattle.sc_papers.specs.Marks.{AreMarked};
+    ghost use Rattle.sc_papers.specs.Placed.{AreLastTurns};
 
     ghost Value = { List ℕ };
 
     ghost view = { λ p. p.chosen };
 
-    ghost invariant = { λ p. AreMarked p.marked p.chosen };
-}
-
-/// The mark of a position: two whose marks differ are different.
-fn mark_at(position: u16) -> usize
-    ensures mark { result ≡ position % MARKS }
-    ensures within { result < MARKS }
-{
-    usize::from(position) % MARKS
+    ghost invariant = { λ p. AreLastTurns p.last_turns p.turn p.chosen };
 }
 
 impl PlacedChoices {
@@ -92,29 +85,35 @@ impl PlacedChoices {
             chosen: ChosenPositions {
                 list: PositionList::default(),
             },
-            marked: [false; MARKS],
+            turn: 1,
+            last_turns: [0; MOST_SCHOOLS],
         }
     }
 
-    /// Forgets all choices.
+    /// Forgets all choices. In constant time, but for one call in 255.
     pub fn clear(&mut self)
         ensures { self.new ≡ [] }
     {
         self.chosen.list.clear();
-        self.marked = [false; MARKS];
+        if self.turn < u8::MAX {
+            self.turn += 1;
+        } else {
+            self.last_turns = [0; MOST_SCHOOLS];
+            self.turn = 1;
+        }
     }
 
-    /// Whether a school at a position is chosen. Where the position's mark is not set, they are not looked through.
+    /// Whether the school at a position is chosen.
     #[inline(always)]
     fn has(&self, position: u16) -> bool
+        requires { position < MOST_SCHOOLS }
         ensures { result ≡ list_any (λ p. p == position) self.now }
     {
-        self.marked[mark_at(position)] && self.chosen.as_list().as_slice().contains(&position)
+        self.last_turns[position as usize] == self.turn
     }
 
     /// Adds a school last, and says whether it did: the school is in the papers, it is not chosen yet, and there are
-    /// fewer than 20 choices. In constant time where few positions share a mark, and else the cost is a pass over the
-    /// choices.
+    /// fewer than 20 choices. In constant time.
     ///
     /// It is taken into the loop that reads a list.
     #[inline(always)]
@@ -124,13 +123,15 @@ impl PlacedChoices {
             ≡ schools_at (schools_of papers.now) self.old ++ school ∷ []) }
         ensures within { OnTrue result (AreOfSchools papers.now self.old → AreOfSchools papers.now self.new) }
     {
+        // This call tells that the papers are within their limits.
+        prove!(papers.students_len() <= MOST_STUDENTS);
         let Some(position) = papers.position_of(school) else {
             return false;
         };
         if self.chosen.as_list().as_slice().len() >= LONGEST_LIST || self.has(position) {
             return false;
         }
-        self.marked[mark_at(position)] = true;
+        self.last_turns[position as usize] = self.turn;
         self.chosen.push(position);
         true
     }
