@@ -6,7 +6,7 @@ use std::marker::Model;
 /// The seats of a school, from 0 to 10,000.
 #[derive(Clone, Copy, Debug, PartialEq, Eq, PartialOrd, Ord, Hash)]
 pub struct Seats {
-    number: u32,
+    number: u16,
 }
 
 impl Model for Seats {
@@ -31,7 +31,9 @@ impl Seats {
         ensures { SomeIff result (number ≤ Self.GREATEST) number }
     {
         if number <= Self::GREATEST {
-            Some(Seats { number })
+            Some(Seats {
+                number: number as u16,
+            })
         } else {
             None
         }
@@ -42,6 +44,6 @@ impl Seats {
         ensures value { result ≡ self }
         ensures greatest { result ≤ Self.GREATEST }
     {
-        self.number
+        u32::from(self.number)
     }
 }
