@@ -8,6 +8,7 @@ pub mod Hands
 pub mod ChoicePositions
 pub mod Filling
 mod Placed
+mod SchoolPositions
 pub mod Objections
 pub mod Entering
 pub mod EnteringRepresentation

@@ -8,6 +8,7 @@ pub mod TakingBack
 pub mod Marks
 pub mod WellFormed
 pub mod Classed
+pub mod SchoolPositions
 pub mod StudentRow
 pub mod Entry
 pub mod Representation
