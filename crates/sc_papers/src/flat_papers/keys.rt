@@ -125,7 +125,9 @@ impl FlatPapers {
         ClassedChoice::new(position, 4).moved_ahead(student.zone == school.zone)
     }
 
-    /// What `filled_choices` answers of a student whose class the zone alone tells.
+    /// What `filled_choices` answers of a student whose class the zone alone tells. It is taken into whoever makes a row, so
+    /// that the choices are filled in where they are read and not copied.
+    #[inline(always)]
     fn zoned_choices(&self, student: &Student, positions: &PositionList) -> [ClassedChoice; 20]
         requires positions { AreOfSchools self.now positions.now }
         requires zoned { IsZoned student.now }
@@ -138,7 +140,9 @@ impl FlatPapers {
         choices
     }
 
-    /// The choices by a student of the schools at these positions, and any after the last of them.
+    /// The choices by a student of the schools at these positions, and any after the last of them. It is not inlined, since
+    /// of most students the zone tells.
+    #[inline(never)]
     fn filled_choices(&self, student: &Student, positions: &PositionList) -> [ClassedChoice; 20]
         requires { AreOfSchools self.now positions.now }
         ensures { take (length positions.now) result ≡ map (classed_at self.now student.now) positions.now }
@@ -152,6 +156,7 @@ impl FlatPapers {
 
     /// The choices by a student of the schools at these positions of the order of entry, each from 0. The cost is a look at
     /// each school, and at the student's siblings for each.
+    #[inline(always)]
     pub(crate) fn classed_list(&self, student: &Student, positions: &PositionList) -> ClassedList
         requires { AreOfSchools self.now positions.now }
         ensures { result ≡ map (classed_at self.now student.now) positions.now }
